@@ -25,7 +25,7 @@ count() {
 count "a call with an order that is there" 6 'PrintImmediate|printImmediate|print_immediate'
 count "a call with a new order" 9 'OpenDrawer|openDrawer|open_drawer'
 count "a question about the totals' files" 6 'FindByIndex|findByIndex|find_by_index'
-count "a change of the totals' files" 25 'SetAll|setAll|set_all'
+count "an edit of a file of the totals" 13 'SetAll|setAll|set_all'
 count "a property that is always the same" 3 'CapTransactions'
 count "a property of the device" 6 'NumberOfFiles'
 count "a property that can be set" 8 'AutoDisable|auto_disable'

@@ -5,7 +5,7 @@ use Rattle.pos_dir.specs.declared.file.File.{File}
 use Rattle.pos_dir.specs.declared.limits.Limits.{Limits}
 use Rattle.pos_dir.specs.declared.change.Change.{Change}
 use Rattle.pos_dir.specs.declared.fault.DirectoryFault.{DirectoryFault}
-use Rattle.pos_dir.specs.declared.fault.DirectoryFault.TheVariants.{NoFile, Exists, Range, NoRoom, BadName, NoMemory, Malformed}
+use Rattle.pos_dir.specs.declared.fault.DirectoryFault.TheVariants.{NoMemory}
 use Rattle.pos_dir.specs.Calls.{Applies}
 use Rattle.pos_dir.specs.Files.{DirectoryView}
 use Rattle.pos_dir.specs.Changes.{outcome, and_then, outcome_of_all, fault_of}
@@ -34,10 +34,5 @@ never_memory limits files changes e = never_all limits files changes (told_fault
 -- a group that has a fault is refused with it
 pub not_applicable : (X : Type 0) (old : DirectoryView) (changes : List Change) (fault : DirectoryFault)
     → Some fault ≡ fault_of old.limits old.files changes → Applies {X = X} old changes (Err fault) old
-not_applicable X old changes NoFile e = (sym e, refl)
-not_applicable X old changes Exists e = (sym e, refl)
-not_applicable X old changes Range e = (sym e, refl)
-not_applicable X old changes NoRoom e = (sym e, refl)
-not_applicable X old changes BadName e = (sym e, refl)
 not_applicable X old changes NoMemory e = absurd (never_memory old.limits old.files changes e)
-not_applicable X old changes Malformed e = (sym e, refl)
+not_applicable X old changes other e = (sym e, refl)

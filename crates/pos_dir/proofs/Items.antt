@@ -1,13 +1,14 @@
 -- Items read one behind the other, and the loops that read them.
-use Rattle.std.proofs.Common.{◌≡◌, ℕ, zero, suc, ◌+◌, ◌-◌, ◌<◌, ◌≤◌, List, [], ◌∷◌, ◌++◌, length, Option, Some, None, refl, sym, ap, subst, ◌∙◌, append_assoc}
-use Rattle.std.proofs.Common.{arith}
+use Rattle.std.proofs.Common.{◌≡◌, ℕ, zero, suc, ◌+◌, ◌-◌, ◌≤◌, List, [], ◌∷◌, ◌++◌, length, Option, Some, None, refl, sym, ap, subst, ◌∙◌, append_assoc}
+use Rattle.std.proofs.Common.{arith, ◌<◌, ◌^◌, Bool, true, cond}
+use Rattle.std.specs.Int.{w16, to_be_bytes}
 use Rattle.std.specs.List.{flat_map, AllByRecursion}
 use Rattle.std.specs.Prelude.{IsSome, IfSome}
 use Rattle.std.proofs.lemmas.Bool.{false≢true}
 use Rattle.std.proofs.lemmas.List.{append-nil}
-use Rattle.pos_dir.specs.Fields.{◌>>=◌}
-use Rattle.pos_dir.specs.Reading.{items_at}
-use Rattle.pos_dir.proofs.Readers.{IsBytes, IsReader, Takes, Takes-then, bind_some, some_is}
+use Rattle.pos_dir.specs.Fields.{◌>>=◌, number_at}
+use Rattle.pos_dir.specs.Reading.{items_at, is_end}
+use Rattle.pos_dir.proofs.Readers.{IsBytes, IsReader, Takes, Takes-then, bind_some, passed, some_is, u16_reads}
 
 -- an item before those that were read
 abbrev pub with_first : {A : Type 0} → A → Option (List A × List ℕ) → Option (List A × List ℕ)
@@ -19,33 +20,69 @@ with_front front read = read >>= λ others. Some (front ++ others.0, others.1)
 
 -- ---- what is read is what was spelled
 
--- items that were read are spelled so, one behind the other
-pub items_take : {A : Type 0} (read : List ℕ → Option (A × List ℕ)) (spell : A → List ℕ) (Fits : A → Type 0) → IsReader read spell Fits
-    → (count : ℕ) (bytes : List ℕ) (xs : List A) (rest : List ℕ) → IsBytes bytes → items_at read count bytes ≡ Some (xs, rest)
-    → Takes bytes (flat_map spell xs) rest × (length xs ≡ count) × AllByRecursion Fits xs
-unfolding items_at
-items_take {A = A} read spell Fits reads zero bytes xs rest fits e =
-    subst (λ (y : List A × List ℕ). Takes bytes (flat_map spell y.0) y.1 × (length y.0 ≡ 0) × AllByRecursion Fits y.0)
-    (some_is ([], bytes) (xs, rest) e) (record { parts = refl; rest_fits = fits }, refl, tt)
-items_take {A = A} read spell Fits reads (suc count) bytes xs rest fits e =
-    let a = bind_some (read bytes) (λ first. items_at read count first.1 >>= λ others. Some (first.0 ∷ others.0, others.1)) (xs, rest) e in
-    let b = bind_some (items_at read count a.0.1) (λ others. Some (a.0.0 ∷ others.0, others.1)) (xs, rest) a.2 in
-    let first = reads.takes bytes a.0.0 a.0.1 fits a.1 in
-    let second = items_take read spell Fits reads count a.0.1 b.0.0 b.0.1 first.0.rest_fits b.1 in
-    let joined = Takes-then bytes (spell a.0.0) a.0.1 (flat_map spell b.0.0) b.0.1 first.0 second.0 in
-    subst (λ (y : List A × List ℕ). Takes bytes (flat_map spell y.0) y.1 × (length y.0 ≡ suc count) × AllByRecursion Fits y.0)
-    (some_is (a.0.0 ∷ b.0.0, b.0.1) (xs, rest) b.2)
-    (joined, ap suc second.1, (first.1, second.2))
+module _ {A : Type 0} {read : List ℕ → Option (A × List ℕ)} {spell : A → List ℕ} {Fits : A → Type 0} (reads : IsReader read spell Fits) where
+  -- items that were read are spelled so, one behind the other
+  pub items_take : (count : ℕ) (bytes : List ℕ) (xs : List A) (rest : List ℕ) → IsBytes bytes → items_at read count bytes ≡ Some (xs, rest)
+      → Takes bytes (flat_map spell xs) rest × (length xs ≡ count) × AllByRecursion Fits xs
+  unfolding items_at
+  items_take zero bytes xs rest fits e =
+      subst (λ (y : List A × List ℕ). Takes bytes (flat_map spell y.0) y.1 × (length y.0 ≡ 0) × AllByRecursion Fits y.0)
+      (some_is ([], bytes) (xs, rest) e) (record { parts = refl; rest_fits = fits }, refl, tt)
+  items_take (suc count) bytes xs rest fits e =
+      let a = bind_some (read bytes) (λ first. items_at read count first.1 >>= λ others. Some (first.0 ∷ others.0, others.1)) (xs, rest) e in
+      let b = bind_some (items_at read count a.0.1) (λ others. Some (a.0.0 ∷ others.0, others.1)) (xs, rest) a.2 in
+      let first = reads.takes bytes a.0.0 a.0.1 fits a.1 in
+      let second = items_take count a.0.1 b.0.0 b.0.1 first.0.rest_fits b.1 in
+      let joined = Takes-then bytes (spell a.0.0) a.0.1 (flat_map spell b.0.0) b.0.1 first.0 second.0 in
+      subst (λ (y : List A × List ℕ). Takes bytes (flat_map spell y.0) y.1 × (length y.0 ≡ suc count) × AllByRecursion Fits y.0)
+      (some_is (a.0.0 ∷ b.0.0, b.0.1) (xs, rest) b.2)
+      (joined, ap suc second.1, (first.1, second.2))
 
--- items that are spelled one behind the other are read
-pub items_again : {A : Type 0} (read : List ℕ → Option (A × List ℕ)) (spell : A → List ℕ) (Fits : A → Type 0) → IsReader read spell Fits
-    → (xs : List A) (rest : List ℕ) → AllByRecursion Fits xs → items_at read (length xs) (flat_map spell xs ++ rest) ≡ Some (xs, rest)
-unfolding items_at
-items_again read spell Fits reads [] rest fits = refl
-items_again read spell Fits reads (x ∷ xs) rest fits =
-    let regrouped : flat_map spell (x ∷ xs) ++ rest ≡ spell x ++ (flat_map spell xs ++ rest) = append_assoc (spell x) (flat_map spell xs) rest in
-    ap (items_at read (suc (length xs))) regrouped
-    ∙ rw (reads.again x (flat_map spell xs ++ rest) fits.0, items_again read spell Fits reads xs rest fits.1) refl
+  -- items that are spelled one behind the other are read
+  pub items_again : (xs : List A) (rest : List ℕ) → AllByRecursion Fits xs → items_at read (length xs) (flat_map spell xs ++ rest) ≡ Some (xs, rest)
+  unfolding items_at
+  items_again [] rest fits = refl
+  items_again (x ∷ xs) rest fits =
+      let regrouped : flat_map spell (x ∷ xs) ++ rest ≡ spell x ++ (flat_map spell xs ++ rest) = append_assoc (spell x) (flat_map spell xs) rest in
+      ap (items_at read (suc (length xs))) regrouped ∙ rw (reads.again x (flat_map spell xs ++ rest) fits.0, items_again xs rest fits.1) refl
+
+-- where no bytes are left over there are none
+pub ended : (bytes : List ℕ) → is_end bytes ≡ true → bytes ≡ []
+ended [] test = refl
+ended (byte ∷ bytes) test = absurd cc
+
+-- a count and as many items, which a test lets through
+abbrev pub counted : {A : Type 0} → (List ℕ → Option (A × List ℕ)) → (List A × List ℕ → Bool) → List ℕ → Option (List A)
+counted read keeps bytes = number_at w16 bytes >>= λ count. items_at read count.0 count.1 >>= λ x. cond (keeps x) (Some x.0) None
+
+module _ {A : Type 0} {read : List ℕ → Option (A × List ℕ)} {spell : A → List ℕ} {Fits : A → Type 0} (reads : IsReader read spell Fits)
+    (keeps : List A × List ℕ → Bool) where
+  -- are spelled so, where the test wants no bytes behind them
+  pub counted_take : ((x : List A × List ℕ) → keeps x ≡ true → is_end x.1 ≡ true) → (bytes : List ℕ) (xs : List A) → IsBytes bytes
+      → counted read keeps bytes ≡ Some xs
+      → (keeps (xs, []) ≡ true) × AllByRecursion Fits xs × (length xs < 2 ^ 16) × (bytes ≡ to_be_bytes w16 (length xs) ++ flat_map spell xs)
+  counted_take ends bytes xs fits e =
+      let a = bind_some (number_at w16 bytes) (λ count. items_at read count.0 count.1 >>= λ x. cond (keeps x) (Some x.0) None) xs e in
+      let b = bind_some (items_at read a.0.0 a.0.1) (λ x. cond (keeps x) (Some x.0) None) xs a.2 in
+      let g = passed (keeps b.0) b.0.0 xs b.2 in
+      let none = ended b.0.1 (ends b.0 g.0) in
+      let first = u16_reads.takes bytes a.0.0 a.0.1 fits a.1 in
+      let second = items_take reads a.0.0 a.0.1 b.0.0 b.0.1 first.0.rest_fits b.1 in
+      let parts = (Takes-then bytes (to_be_bytes w16 a.0.0) a.0.1 (flat_map spell b.0.0) b.0.1 first.0 second.0).parts in
+      rw (← g.1) (
+        subst (λ (r : List ℕ). keeps (b.0.0, r) ≡ true) none g.0,
+        second.2,
+        omega (arith, first.1, second.1),
+        parts ∙ ap (λ (r : List ℕ). (to_be_bytes w16 a.0.0 ++ flat_map spell b.0.0) ++ r) none ∙ append-nil (to_be_bytes w16 a.0.0 ++ flat_map spell b.0.0)
+            ∙ ap (λ (k : ℕ). to_be_bytes w16 k ++ flat_map spell b.0.0) (sym second.1),
+      )
+
+  -- and what is spelled so is read
+  pub counted_again : (xs : List A) → length xs < 2 ^ 16 → AllByRecursion Fits xs → keeps (xs, []) ≡ true
+      → counted read keeps (to_be_bytes w16 (length xs) ++ flat_map spell xs) ≡ Some xs
+  counted_again xs short fits kept =
+      let all = rw append-nil at (items_again reads xs [] fits) in
+      rw (u16_reads.again (length xs) (flat_map spell xs) short, all, kept) refl
 
 -- as many items are read as were asked for
 pub length_items : {A : Type 0} (read : List ℕ → Option (A × List ℕ)) (count : ℕ) (bytes : List ℕ) (x : List A × List ℕ)

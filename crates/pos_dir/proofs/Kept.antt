@@ -1,11 +1,11 @@
 -- A change that is applicable leaves the files of a directory.
-use Rattle.std.proofs.Common.{◌≡◌, ℕ, zero, suc, ◌+◌, ◌<◌, ◌≤◌, Bool, true, false, not, ◌&&◌, ◌||◌, List, [], ◌∷◌, ◌++◌, length, drop, get_or, set}
-use Rattle.std.proofs.Common.{Some, Result, Ok, Err, refl, sym, ap, subst, ◌∙◌, arith, length-append}
+use Rattle.std.proofs.Common.{◌≡◌, ℕ, zero, suc, ◌+◌, ◌<◌, ◌≤◌, Bool, true, false, List, [], ◌∷◌, ◌++◌, length, drop, get_or, set}
+use Rattle.std.proofs.Common.{Some, Result, Ok, Err, refl, sym, ap, ◌∙◌, arith, length-append}
 use Rattle.std.specs.Prelude.{slice_get, remove}
 use Rattle.std.specs.List.{list_all, AllByRecursion}
 use Rattle.std.proofs.lemmas.List.Elements.{All-from_recursion}
 use Rattle.std.specs.Str.{bytes_eq}
-use Rattle.std.proofs.lemmas.Bool.{and_parts, and_from, or_parts, or_from, not-true, not_from_false, false_from_ne_true, both_ways}
+use Rattle.std.proofs.lemmas.Bool.Decides.{nat_tests}
 use Rattle.std.proofs.lemmas.List.{at_drop_more, length-set}
 use Rattle.std.proofs.Math.Seq.{take-nil, drop-nil}
 use Rattle.std.proofs.lemmas.List.Edits.{length-remove}
@@ -19,112 +19,79 @@ use Rattle.pos_dir.specs.declared.change.Change.{Change}
 use Rattle.pos_dir.specs.declared.fault.DirectoryFault.{DirectoryFault}
 use Rattle.pos_dir.specs.Files.{is_name, has_name, are_distinct, total_size, IsDirectory}
 use Rattle.pos_dir.specs.Changes.{outcome, and_then, outcome_of_all, IsChange}
-use Rattle.pos_dir.proofs.Outcomes.{Makes, makes, same_file}
+use Rattle.pos_dir.proofs.Outcomes.{Makes, makes}
 use Rattle.pos_dir.proofs.Outcomes.Makes.{Adds, Removes, Renames, Rewrites}
 
 -- ---- names
 
 differs : (a b : List ℕ) → bytes_eq a b ≡ false → bytes_eq b a ≡ false
-differs a b h = false_from_ne_true (bytes_eq b a) (λ same. both_ways (bytes_eq a b) h ((bytes_eq-Decides a b).1 (sym ((bytes_eq-Decides b a).0 same))))
+differs a b h = grind (arith, nat_tests, bytes_eq-Decides a b, bytes_eq-Decides b a)
 
 has_name-append : (files : List File) (file : File) (name : List ℕ) → has_name files name ≡ false → bytes_eq file.name name ≡ false
     → has_name (files ++ file ∷ []) name ≡ false
-has_name-append [] file name old new = or_from (bytes_eq file.name name) false new refl
-has_name-append (f ∷ files) file name old new =
-    let parts = or_parts (bytes_eq f.name name) (has_name files name) old in
-    or_from (bytes_eq f.name name) (has_name (files ++ file ∷ []) name) parts.0 (has_name-append files file name parts.1 new)
+has_name-append [] file name old new = grind (arith, nat_tests)
+has_name-append (f ∷ files) file name old new = grind (arith, nat_tests, has_name-append files file name)
 
 pub are_distinct-append : (files : List File) (file : File) → are_distinct files ≡ true → has_name files file.name ≡ false
     → are_distinct (files ++ file ∷ []) ≡ true
 are_distinct-append [] file distinct new = refl
 are_distinct-append (f ∷ files) file distinct new =
-    let parts = and_parts (not (has_name files f.name)) (are_distinct files) distinct in
-    let apart = or_parts (bytes_eq f.name file.name) (has_name files file.name) new in
-    and_from (not (has_name (files ++ file ∷ []) f.name)) (are_distinct (files ++ file ∷ []))
-    (not_from_false (has_name (files ++ file ∷ []) f.name)
-    (has_name-append files file f.name (not-true (has_name files f.name) parts.0) (differs f.name file.name apart.0)))
-    (are_distinct-append files file parts.1 apart.1)
+    grind (arith, nat_tests, are_distinct-append files file, has_name-append files file f.name, differs f.name file.name)
 
 has_name-remove : (files : List File) (i : ℕ) (name : List ℕ) → has_name files name ≡ false → has_name (remove files i) name ≡ false
 has_name-remove [] i name old = simp (take-nil, drop-nil)
-has_name-remove (f ∷ files) zero name old = (or_parts (bytes_eq f.name name) (has_name files name) old).1
-has_name-remove (f ∷ files) (suc i) name old =
-    let parts = or_parts (bytes_eq f.name name) (has_name files name) old in
-    or_from (bytes_eq f.name name) (has_name (remove files i) name) parts.0 (has_name-remove files i name parts.1)
+has_name-remove (f ∷ files) zero name old = grind (arith, nat_tests)
+has_name-remove (f ∷ files) (suc i) name old = grind (arith, nat_tests, has_name-remove files i name)
 
 are_distinct-remove : (files : List File) (i : ℕ) → are_distinct files ≡ true → are_distinct (remove files i) ≡ true
 are_distinct-remove [] i distinct = simp (take-nil, drop-nil)
-are_distinct-remove (f ∷ files) zero distinct = (and_parts (not (has_name files f.name)) (are_distinct files) distinct).1
-are_distinct-remove (f ∷ files) (suc i) distinct =
-    let parts = and_parts (not (has_name files f.name)) (are_distinct files) distinct in
-    and_from (not (has_name (remove files i) f.name)) (are_distinct (remove files i))
-    (not_from_false (has_name (remove files i) f.name) (has_name-remove files i f.name (not-true (has_name files f.name) parts.0)))
-    (are_distinct-remove files i parts.1)
+are_distinct-remove (f ∷ files) zero distinct = grind (arith, nat_tests)
+are_distinct-remove (f ∷ files) (suc i) distinct = grind (arith, nat_tests, has_name-remove files i f.name, are_distinct-remove files i)
 
 has_name-set : (files : List File) (i : ℕ) (file : File) (name : List ℕ) → has_name files name ≡ false → bytes_eq file.name name ≡ false
     → has_name (set files i file) name ≡ false
 has_name-set [] i file name old new = refl
-has_name-set (f ∷ files) zero file name old new =
-    or_from (bytes_eq file.name name) (has_name files name) new (or_parts (bytes_eq f.name name) (has_name files name) old).1
-has_name-set (f ∷ files) (suc i) file name old new =
-    let parts = or_parts (bytes_eq f.name name) (has_name files name) old in
-    or_from (bytes_eq f.name name) (has_name (set files i file) name) parts.0 (has_name-set files i file name parts.1 new)
+has_name-set (f ∷ files) zero file name old new = grind (arith, nat_tests)
+has_name-set (f ∷ files) (suc i) file name old new = grind (arith, nat_tests, has_name-set files i file name)
 
 -- a file with a new name
 are_distinct-set : (files : List File) (i : ℕ) (file : File) → are_distinct files ≡ true → has_name files file.name ≡ false
     → are_distinct (set files i file) ≡ true
 are_distinct-set [] i file distinct new = refl
-are_distinct-set (f ∷ files) zero file distinct new =
-    let parts = and_parts (not (has_name files f.name)) (are_distinct files) distinct in
-    let apart = or_parts (bytes_eq f.name file.name) (has_name files file.name) new in
-    and_from (not (has_name files file.name)) (are_distinct files) (not_from_false (has_name files file.name) apart.1) parts.1
+are_distinct-set (f ∷ files) zero file distinct new = grind (arith, nat_tests)
 are_distinct-set (f ∷ files) (suc i) file distinct new =
-    let parts = and_parts (not (has_name files f.name)) (are_distinct files) distinct in
-    let apart = or_parts (bytes_eq f.name file.name) (has_name files file.name) new in
-    and_from (not (has_name (set files i file) f.name)) (are_distinct (set files i file))
-    (not_from_false (has_name (set files i file) f.name)
-    (has_name-set files i file f.name (not-true (has_name files f.name) parts.0) (differs f.name file.name apart.0)))
-    (are_distinct-set files i file parts.1 apart.1)
+    grind (arith, nat_tests, are_distinct-set files i file, has_name-set files i file f.name, differs f.name file.name)
 
 -- a file with the name that it had
 has_name-same : (files : List File) (i : ℕ) (old new : File) (name : List ℕ) → slice_get files i ≡ Some old → new.name ≡ old.name
     → has_name (set files i new) name ≡ has_name files name
 has_name-same [] i old new name at same = refl
-has_name-same (f ∷ files) zero old new name at same =
-    let e : new.name ≡ f.name = same ∙ ap (λ (x : File). x.name) (sym (same_file f old at)) in
-    ap (λ n. bytes_eq n name || has_name files name) e
-has_name-same (f ∷ files) (suc i) old new name at same = ap (λ b. bytes_eq f.name name || b) (has_name-same files i old new name at same)
+has_name-same (f ∷ files) zero old new name at same = cc
+has_name-same (f ∷ files) (suc i) old new name at same = cc (has_name-same files i old new name at same)
 
 are_distinct-same : (files : List File) (i : ℕ) (old new : File) → slice_get files i ≡ Some old → new.name ≡ old.name
     → are_distinct (set files i new) ≡ are_distinct files
 are_distinct-same [] i old new at same = refl
-are_distinct-same (f ∷ files) zero old new at same =
-    let e : new.name ≡ f.name = same ∙ ap (λ (x : File). x.name) (sym (same_file f old at)) in
-    ap (λ n. not (has_name files n) && are_distinct files) e
+are_distinct-same (f ∷ files) zero old new at same = cc
 are_distinct-same (f ∷ files) (suc i) old new at same =
-    ap (λ b. not b && are_distinct (set files i new)) (has_name-same files i old new f.name at same)
-    ∙ ap (λ b. not (has_name files f.name) && b) (are_distinct-same files i old new at same)
+    rw (has_name-same files i old new f.name at same, are_distinct-same files i old new at same) refl
 
 -- ---- names that are good
 
 list_all-remove : (p : File → Bool) (files : List File) (i : ℕ) → list_all p files ≡ true → list_all p (remove files i) ≡ true
 list_all-remove p [] i good = simp (take-nil, drop-nil)
-list_all-remove p (f ∷ files) zero good = (and_parts (p f) (list_all p files) good).1
-list_all-remove p (f ∷ files) (suc i) good =
-    let parts = and_parts (p f) (list_all p files) good in
-    and_from (p f) (list_all p (remove files i)) parts.0 (list_all-remove p files i parts.1)
+list_all-remove p (f ∷ files) zero good = grind (arith, nat_tests)
+list_all-remove p (f ∷ files) (suc i) good = grind (arith, nat_tests, list_all-remove p files i)
 
 list_all-set : (p : File → Bool) (files : List File) (i : ℕ) (file : File) → list_all p files ≡ true → p file ≡ true → list_all p (set files i file) ≡ true
 list_all-set p [] i file good new = refl
-list_all-set p (f ∷ files) zero file good new = and_from (p file) (list_all p files) new (and_parts (p f) (list_all p files) good).1
-list_all-set p (f ∷ files) (suc i) file good new =
-    let parts = and_parts (p f) (list_all p files) good in
-    and_from (p f) (list_all p (set files i file)) parts.0 (list_all-set p files i file parts.1 new)
+list_all-set p (f ∷ files) zero file good new = grind (arith, nat_tests)
+list_all-set p (f ∷ files) (suc i) file good new = grind (arith, nat_tests, list_all-set p files i file)
 
 list_all-at : (p : File → Bool) (files : List File) (i : ℕ) (file : File) → slice_get files i ≡ Some file → list_all p files ≡ true → p file ≡ true
 list_all-at p [] i file at good = absurd cc
-list_all-at p (f ∷ files) zero file at good = subst (λ x. p x ≡ true) (same_file f file at) (and_parts (p f) (list_all p files) good).0
-list_all-at p (f ∷ files) (suc i) file at good = list_all-at p files i file at (and_parts (p f) (list_all p files) good).1
+list_all-at p (f ∷ files) zero file at good = grind (arith, nat_tests)
+list_all-at p (f ∷ files) (suc i) file at good = grind (arith, nat_tests, list_all-at p files i file at)
 
 -- ---- a file that keeps its size
 
@@ -153,27 +120,25 @@ replaced limits files i old new was at name size = record {
 
 made_directory : (limits : Limits) (files next : List File) (change : Change) → IsDirectory limits files → IsChange change
     → Makes limits files change next → IsDirectory limits next
-made_directory limits files next change was takes (Adds file good new few small e) = subst (λ (x : List File). IsDirectory limits x) e (record {
+made_directory limits files next change was takes (Adds file good new few small e) = rw (← e) (record {
   count = omega (arith, length-append files (file ∷ []), few);
   size = omega (arith, sum_by_push (λ (x : File). length x.bytes) files file, small);
-  named = list_all-append (λ x. is_name x.name) files (file ∷ [])
-      ∙ and_from (list_all (λ x. is_name x.name) files) (is_name file.name && true) was.named (and_from (is_name file.name) true (good takes.flawless) refl);
+  named = rw list_all-append (grind (arith, nat_tests, was.named, good takes.flawless));
   distinct = are_distinct-append files file was.distinct new;
 })
-made_directory limits files next change was takes (Removes i old at e) = subst (λ (x : List File). IsDirectory limits x) e (record {
+made_directory limits files next change was takes (Removes i old at e) = rw (← e) (record {
   count = omega (arith, length-remove files i (slice_get_within files i old at), was.count);
   size = omega (arith, total_size-remove files i old at, was.size);
   named = list_all-remove (λ x. is_name x.name) files i was.named;
   distinct = are_distinct-remove files i was.distinct;
 })
-made_directory limits files next change was takes (Renames i old file at good new size e) = subst (λ (x : List File). IsDirectory limits x) e (record {
+made_directory limits files next change was takes (Renames i old file at good new size e) = rw (← e) (record {
   count = omega (arith, length-set files i file, was.count);
   size = omega (arith, total_size-set files i old file at size, was.size);
   named = list_all-set (λ x. is_name x.name) files i file was.named (good takes.flawless);
   distinct = are_distinct-set files i file was.distinct new;
 })
-made_directory limits files next change was takes (Rewrites i old file at name size e) =
-    subst (λ (x : List File). IsDirectory limits x) e (replaced limits files i old file was at name size)
+made_directory limits files next change was takes (Rewrites i old file at name size e) = rw (← e) (replaced limits files i old file was at name size)
 
 -- A change that a group takes and that is applicable leaves the files of a directory.
 pub changed : (limits : Limits) (files next : List File) (change : Change) → IsDirectory limits files → IsChange change
@@ -188,9 +153,7 @@ went_on (Err fault) step next h = absurd cc
 -- So does a group.
 pub all_changed : (limits : Limits) (files next : List File) (changes : List Change) → IsDirectory limits files → AllByRecursion IsChange changes
     → outcome_of_all limits files changes ≡ Ok next → IsDirectory limits next
-all_changed limits files next [] was each h =
-    let e : files ≡ next = cc in
-    subst (λ (x : List File). IsDirectory limits x) e was
+all_changed limits files next [] was each h = let e : files ≡ next = cc in rw (← e) was
 all_changed limits files next (change ∷ changes) was each h =
     let first = went_on (outcome limits files change) (λ mid. outcome_of_all limits mid changes) next h in
     all_changed limits first.0 next changes (changed limits files first.0 change was each.0 first.1) each.1 first.2
@@ -199,21 +162,15 @@ all_changed limits files next (change ∷ changes) was each h =
 
 few_made : (limits : Limits) (files next : List File) (change : Change) → length files ≤ limits.files → Makes limits files change next
     → length next ≤ limits.files
-few_made limits files next change was (Adds file good new few small e) =
-    subst (λ (x : List File). length x ≤ limits.files) e (omega (arith, length-append files (file ∷ []), few))
-few_made limits files next change was (Removes i old at e) =
-    subst (λ (x : List File). length x ≤ limits.files) e (omega (arith, length-remove files i (slice_get_within files i old at), was))
-few_made limits files next change was (Renames i old file at good new size e) =
-    subst (λ (x : List File). length x ≤ limits.files) e (omega (arith, length-set files i file, was))
-few_made limits files next change was (Rewrites i old file at name size e) =
-    subst (λ (x : List File). length x ≤ limits.files) e (omega (arith, length-set files i file, was))
+few_made limits files next change was (Adds file good new few small e) = rw (← e) (omega (arith, length-append files (file ∷ []), few))
+few_made limits files next change was (Removes i old at e) = rw (← e) (omega (arith, length-remove files i (slice_get_within files i old at), was))
+few_made limits files next change was (Renames i old file at good new size e) = rw (← e) (omega (arith, length-set files i file, was))
+few_made limits files next change was (Rewrites i old file at name size e) = rw (← e) (omega (arith, length-set files i file, was))
 
 -- Changes that are applicable leave no more files than the limits allow.
 pub few_after_all : (limits : Limits) (files next : List File) (changes : List Change) → length files ≤ limits.files
     → outcome_of_all limits files changes ≡ Ok next → length next ≤ limits.files
-few_after_all limits files next [] was h =
-    let e : files ≡ next = cc in
-    subst (λ (x : List File). length x ≤ limits.files) e was
+few_after_all limits files next [] was h = let e : files ≡ next = cc in rw (← e) was
 few_after_all limits files next (change ∷ changes) was h =
     let first = went_on (outcome limits files change) (λ mid. outcome_of_all limits mid changes) next h in
     few_after_all limits first.0 next changes (few_made limits files first.0 change was (makes limits files first.0 change first.1)) first.2
@@ -225,27 +182,19 @@ pub takes_change : (changes : List Change) (i : ℕ) (change : Change) → AllBy
     → change ≡ get_or changes i change → IsChange change
 takes_change changes i change each lt at = rw at (All-from_recursion IsChange changes each i change lt)
 
+-- the changes from one on: it, and then the rest
+split : (limits : Limits) (files : List File) (changes : List Change) (i : ℕ) (change : Change) → i < length changes → change ≡ get_or changes i change
+    → outcome_of_all limits files (drop i changes) ≡ and_then (outcome limits files change) (λ x. outcome_of_all limits x (drop (i + 1) changes))
+split limits files changes i change lt at = rw (← at) at (at_drop_more (outcome_of_all limits files) changes i change lt)
+
 -- where a change is applicable, the rest makes of its files what the whole makes
 pub goes_on : (limits : Limits) (files next : List File) (changes : List Change) (i : ℕ) (change : Change)
     (total : Result (List File) DirectoryFault) → i < length changes → change ≡ get_or changes i change → outcome limits files change ≡ Ok next
     → outcome_of_all limits files (drop i changes) ≡ total → outcome_of_all limits next (drop (i + 1) changes) ≡ total
-goes_on limits files next changes i change total lt at made so_far =
-    let one : outcome_of_all limits files (drop i changes) ≡ and_then (outcome limits files (get_or changes i change))
-    (λ x. outcome_of_all limits x (drop (i + 1) changes)) = at_drop_more (outcome_of_all limits files) changes i change lt in
-    let step : and_then (outcome limits files (get_or changes i change))
-    (λ x. outcome_of_all limits x (drop (i + 1) changes)) ≡ outcome_of_all limits next (drop (i + 1) changes) =
-    ap (λ x. and_then (outcome limits files x) (λ y. outcome_of_all limits y (drop (i + 1) changes))) (sym at)
-    ∙ ap (λ x. and_then x (λ y. outcome_of_all limits y (drop (i + 1) changes))) made in
-    sym (one ∙ step) ∙ so_far
+goes_on limits files next changes i change total lt at made so_far = sym (rw made at (split limits files changes i change lt at)) ∙ so_far
 
 -- where a change isn't applicable, the whole isn't
 pub stops : (limits : Limits) (files : List File) (changes : List Change) (i : ℕ) (change : Change) (fault : DirectoryFault)
     (total : Result (List File) DirectoryFault) → i < length changes → change ≡ get_or changes i change → outcome limits files change ≡ Err fault
     → outcome_of_all limits files (drop i changes) ≡ total → total ≡ Err fault
-stops limits files changes i change fault total lt at stopped so_far =
-    let one : outcome_of_all limits files (drop i changes) ≡ and_then (outcome limits files (get_or changes i change))
-    (λ x. outcome_of_all limits x (drop (i + 1) changes)) = at_drop_more (outcome_of_all limits files) changes i change lt in
-    let step : and_then (outcome limits files (get_or changes i change)) (λ x. outcome_of_all limits x (drop (i + 1) changes)) ≡ Err fault =
-    ap (λ x. and_then (outcome limits files x) (λ y. outcome_of_all limits y (drop (i + 1) changes))) (sym at)
-    ∙ ap (λ x. and_then x (λ y. outcome_of_all limits y (drop (i + 1) changes))) stopped in
-    sym so_far ∙ one ∙ step
+stops limits files changes i change fault total lt at stopped so_far = sym so_far ∙ rw stopped at (split limits files changes i change lt at)

@@ -1,10 +1,11 @@
 -- Steps of the loops that look through files in the bytes that spell them.
 use Rattle.std.proofs.Common.{◌≡◌, ℕ, ◌+◌, ◌-◌, ◌≤◌, Bool, true, false, not, ◌&&◌, ◌||◌, cond, leb, List, [], ◌∷◌, length, Option, Some, None, refl, sym, ap}
-use Rattle.std.proofs.Common.{subst, ◌∙◌, inl, inr, arith}
+use Rattle.std.proofs.Common.{subst, ◌∙◌, arith}
 use Rattle.std.specs.Prelude.{IfSome}
 use Rattle.std.specs.Option.{option_map}
 use Rattle.std.specs.Str.{bytes_eq}
-use Rattle.std.proofs.lemmas.Bool.{cases_Bool, leb-true, leb-false, le-leb, lt-leb}
+use Rattle.std.proofs.lemmas.Bool.{le-leb, lt-leb}
+use Rattle.std.proofs.lemmas.Bool.Decides.{nat_tests}
 use Rattle.std.proofs.lemmas.List.Sums.{sum_by-cons}
 use Rattle.pos_dir.specs.declared.file.File.{File}
 use Rattle.pos_dir.specs.declared.change.Change.{Change}
@@ -19,11 +20,7 @@ Read = Option (List File × List ℕ)
 -- ---- sizes within the room
 
 leb_less : (a b room : ℕ) → a ≤ room → leb (a + b) room ≡ leb b (room - a)
-leb_less a b room le =
-    elim (cases_Bool (leb b (room - a))) [
-      | inl h ↦ le-leb (a + b) room (omega (arith, leb-true b (room - a) h)) ∙ sym h
-      | inr h ↦ lt-leb (a + b) room (omega (arith, leb-false b (room - a) h)) ∙ sym h
-    ]
+leb_less a b room le = grind (arith, nat_tests)
 
 -- a file that has room takes it from those behind it
 pub end_step : (room : ℕ) (file : File) (read : Read) → length file.bytes ≤ room

@@ -1,16 +1,17 @@
 -- What each change makes of the files. The other proofs go by what is made, and not by which change it is.
-use Rattle.std.proofs.Common.{◌≡◌, ℕ, zero, suc, ◌+◌, ◌<◌, ◌≤◌, Bool, true, false, ◌&&◌, cond, List, [], ◌∷◌, ◌++◌, length, take, drop, set, map}
-use Rattle.std.proofs.Common.{Option, Some, None, Result, Ok, Err, refl, sym, ap, subst, ◌∙◌, arith, length-append}
-use Rattle.std.specs.Prelude.{slice_get, slice_set, remove, replicate, nat_lt, nat_le}
+use Rattle.std.proofs.Common.{◌≡◌, ℕ, zero, suc, ◌+◌, ◌<◌, ◌≤◌, Bool, true, false, cond, List, [], ◌∷◌, ◌++◌, length, take, drop, set, map}
+use Rattle.std.proofs.Common.{Option, Some, None, Result, Ok, Err, refl, sym, subst, ◌∙◌, arith, length-append}
+use Rattle.std.specs.Prelude.{slice_get, slice_set, remove, replicate, nat_le}
 use Rattle.std.specs.Option.{option_map}
-use Rattle.std.proofs.lemmas.Bool.{and_parts, ltb-true, leb-true, le-leb}
+use Rattle.std.proofs.lemmas.Bool.{leb-true}
+use Rattle.std.proofs.lemmas.Bool.Decides.{nat_tests}
 use Rattle.std.proofs.lemmas.List.{length-replicate, length-take, length-drop}
 use Rattle.pos_dir.specs.declared.file.File.{File}
 use Rattle.pos_dir.specs.declared.limits.Limits.{Limits}
 use Rattle.pos_dir.specs.declared.change.Change.{Change}
 use Rattle.pos_dir.specs.declared.change.Change.TheVariants.{Create, Delete, Rename, Write, SetAll}
 use Rattle.pos_dir.specs.declared.fault.DirectoryFault.{DirectoryFault}
-use Rattle.pos_dir.specs.declared.fault.DirectoryFault.TheVariants.{Exists, Range, NoRoom, BadName, NoMemory}
+use Rattle.pos_dir.specs.declared.fault.DirectoryFault.TheVariants.{Exists, Range, BadName, NoMemory}
 use Rattle.pos_dir.specs.Files.{is_name, has_name, total_size}
 use Rattle.pos_dir.specs.Changes.{splice, with_file, outcome, least_size_of, flaw_of}
 use Rattle.pos_dir.specs.Outlines.{shape_of_file, size_in, answer_by_size}
@@ -19,24 +20,17 @@ use Rattle.pos_dir.specs.Outlines.{shape_of_file, size_in, answer_by_size}
 
 chosen : {A : Type 0} (b : Bool) (fault : DirectoryFault) (x : A) (y : A) → ◌≡◌ {A = Result A DirectoryFault} (cond b (Ok x) (Err fault)) (Ok y)
     → (b ≡ true) × (x ≡ y)
-chosen true fault x y h = (refl, cc)
-chosen false fault x y h = absurd cc
+chosen b fault x y h = grind (arith, nat_tests)
 
 refused : {A : Type 0} (b : Bool) (fault : DirectoryFault) (r : Result A DirectoryFault) (y : A) → cond b (Err fault) r ≡ Ok y → (b ≡ false) × (r ≡ Ok y)
-refused true fault r y h = absurd cc
-refused false fault r y h = (refl, h)
+refused b fault r y h = grind (arith, nat_tests)
 
 found : (o : Option File) (f : File → Result (List File) DirectoryFault) (y : List File) → with_file o f ≡ Ok y → (x : File) × (o ≡ Some x) × (f x ≡ Ok y)
 found None f y h = absurd cc
 found (Some x) f y h = (x, refl, h)
 
 good_name : (b : Bool) → ◌≡◌ {A = Option DirectoryFault} (cond b None (Some BadName)) None → b ≡ true
-good_name true h = refl
-good_name false h = absurd cc
-
--- two files at one place are the same
-pub same_file : (x y : File) → Some x ≡ Some y → x ≡ y
-same_file x y h = cc
+good_name b h = grind (arith, nat_tests)
 
 some_place : (x y : ℕ × ℕ) → Some x ≡ Some y → x ≡ y
 some_place x y h = cc
@@ -68,9 +62,7 @@ set_made : (files : List File) (index value : ℕ) (there : Option File)
     → with_file there (λ file. Ok (slice_set files index (record file { bytes = replicate (length file.bytes) value })))
     ≡ with_file there (with_bytes files (index, 0) (λ old. replicate (length old) value))
 set_made files index value None = refl
-set_made files index value (Some file) =
-    sym (ap (λ (b : Bool). cond b (Ok (slice_set files index (record file { bytes = replicate (length file.bytes) value }))) (Err Range))
-    (le-leb 0 (length file.bytes) (omega arith)))
+set_made files index value (Some file) = grind (arith, nat_tests)
 
 in_file : (change : Change) (place : ℕ × ℕ) → Some place ≡ least_size_of change → InFile change place
 in_file (Create name size) place e = absurd cc
@@ -95,20 +87,17 @@ KeepsShapes files (Err fault) expected = expected ≡ Err fault
 same_shapes : (files : List File) (i : ℕ) (old new : File) → slice_get files i ≡ Some old → shape_of_file new ≡ shape_of_file old
     → map shape_of_file (set files i new) ≡ map shape_of_file files
 same_shapes [] i old new at same = refl
-same_shapes (f ∷ files) zero old new at same = ap (λ s. s ∷ map shape_of_file files) (same ∙ ap shape_of_file (same_file old f (sym at)))
-same_shapes (f ∷ files) (suc i) old new at same = ap (λ ss. shape_of_file f ∷ ss) (same_shapes files i old new at same)
+same_shapes (f ∷ files) zero old new at same = cc
+same_shapes (f ∷ files) (suc i) old new at same = cc (same_shapes files i old new at same)
 
 by_bytes : (files : List File) (place : ℕ × ℕ) (bytes_of : List ℕ → List ℕ) (file : File) (enough : Bool) → slice_get files place.0 ≡ Some file
     → (place.1 ≤ length file.bytes → length (bytes_of file.bytes) ≡ length file.bytes) → nat_le place.1 (length file.bytes) ≡ enough
     → KeepsShapes files (cond enough (Ok tt) (Err Range)) (with_bytes files place bytes_of file)
 by_bytes files place bytes_of file true at size e =
-    let new : File = record file { bytes = bytes_of file.bytes } in (
-      set files place.0 new,
-      ap (λ (b : Bool). cond b (Ok (set files place.0 new)) (Err Range)) e,
-      same_shapes files place.0 file new at (ap (λ (n : ℕ). record { name = file.name; size = n }) (size (leb-true place.1 (length file.bytes) e))),
-    )
-by_bytes files place bytes_of file false at size e =
-    ap (λ (b : Bool). cond b (Ok (set files place.0 (record file { bytes = bytes_of file.bytes }))) (Err Range)) e
+    let new : File = record file { bytes = bytes_of file.bytes } in
+    let kept = size (leb-true place.1 (length file.bytes) e) in
+    (set files place.0 new, rw e refl, same_shapes files place.0 file new at (rw kept refl))
+by_bytes files place bytes_of file false at size e = rw e refl
 
 by_file : (files : List File) (place : ℕ × ℕ) (bytes_of : List ℕ → List ℕ) (there : Option File) → slice_get files place.0 ≡ there
     → ((old : List ℕ) → place.1 ≤ length old → length (bytes_of old) ≡ length old)
@@ -146,14 +135,8 @@ rewrites limits files next change place e h =
 
 pub makes : (limits : Limits) (files next : List File) (change : Change) → outcome limits files change ≡ Ok next → Makes limits files change next
 makes limits files next (Create name size) h =
-    let file : File = record { name = name; bytes = replicate size 0 } in
-    let new = refused (has_name files name) Exists
-    (cond (nat_lt (length files) limits.files && nat_le (total_size files + size) limits.bytes) (Ok (files ++ file ∷ [])) (Err NoRoom)) next h in
-    let made = chosen (nat_lt (length files) limits.files && nat_le (total_size files + size) limits.bytes) NoRoom (files ++ file ∷ []) next new.1 in
-    let room = and_parts (nat_lt (length files) limits.files) (nat_le (total_size files + size) limits.bytes) made.0 in
-    let small = leb-true (total_size files + size) limits.bytes room.1 in
-    Adds file (good_name (is_name name)) new.0 (ltb-true (length files) limits.files room.0)
-    (omega (arith, length-replicate {A = ℕ} size 0, small)) made.1
+    Adds (record { name = name; bytes = replicate size 0 }) (good_name (is_name name)) (grind (arith, nat_tests)) (grind (arith, nat_tests))
+    (grind (arith, nat_tests, length-replicate {A = ℕ} size 0)) (grind (arith, nat_tests))
 makes limits files next (Delete index) h =
     let at = found (slice_get files index) (λ file. Ok (remove files index)) next h in
     Removes index at.0 at.1 (cc (at.2))
@@ -163,14 +146,12 @@ makes limits files next (Rename index name) h =
     let new : File = record at.0 { name = name } in
     let free = refused (has_name files name) Exists (Ok (slice_set files index new)) next at.2 in
     Renames index at.0 new at.1 (good_name (is_name name)) free.0 refl (cc (free.1))
-makes limits files next (Write index offset bytes) h = rewrites limits files next (Write index offset bytes) (index, offset + length bytes) refl h
-makes limits files next (SetAll index value) h = rewrites limits files next (SetAll index value) (index, 0) refl h
+makes limits files next other h = rewrites limits files next other _ refl h
 
 -- ---- want of memory is no fault of a change
 
 never_chosen : (b : Bool) (x y : Result (List File) DirectoryFault) → (x ≡ Err NoMemory → ⊥) → (y ≡ Err NoMemory → ⊥) → cond b x y ≡ Err NoMemory → ⊥
-never_chosen true x y never_x never_y = never_x
-never_chosen false x y never_x never_y = never_y
+never_chosen b x y never_x never_y = λ e. grind (arith, nat_tests)
 
 never_there : (o : Option File) (f : File → Result (List File) DirectoryFault) → ((file : File) → f file ≡ Err NoMemory → ⊥) → with_file o f ≡ Err NoMemory → ⊥
 never_there None f never = λ e. cc
@@ -184,12 +165,9 @@ never_by_size limits files change place e h =
     (λ file. never_chosen (nat_le place.1 (length file.bytes)) _ _ (λ e. cc) (λ e. cc)) (sym (it.made limits files) ∙ h)
 
 pub never_one : (limits : Limits) (files : List File) (change : Change) → outcome limits files change ≡ Err NoMemory → ⊥
-never_one limits files (Create name size) =
-    never_chosen (has_name files name) _ _ (λ e. cc)
-    (never_chosen (nat_lt (length files) limits.files && nat_le (total_size files + size) limits.bytes) _ _ (λ e. cc) (λ e. cc))
+never_one limits files (Create name size) = λ e. grind (arith, nat_tests)
 never_one limits files (Delete index) = never_there (slice_get files index) (λ file. Ok (remove files index)) (λ file e. cc)
 never_one limits files (Rename index name) =
     never_there (slice_get files index) (λ file. cond (has_name files name) (Err Exists) (Ok (slice_set files index (record file { name = name }))))
     (λ file. never_chosen (has_name files name) _ _ (λ e. cc) (λ e. cc))
-never_one limits files (Write index offset bytes) = never_by_size limits files (Write index offset bytes) (index, offset + length bytes) refl
-never_one limits files (SetAll index value) = never_by_size limits files (SetAll index value) (index, 0) refl
+never_one limits files other = never_by_size limits files other _ refl

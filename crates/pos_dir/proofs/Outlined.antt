@@ -1,12 +1,12 @@
 -- A check over names and sizes answers as the change of the files that have them.
-use Rattle.std.proofs.Common.{◌≡◌, ℕ, zero, suc, ◌+◌, ◌<◌, ◌≤◌, Bool, true, false, ◌&&◌, ◌||◌, cond, List, [], ◌∷◌, ◌++◌, length, drop, get_or, set, map}
+use Rattle.std.proofs.Common.{◌≡◌, ℕ, zero, suc, ◌+◌, ◌<◌, ◌≤◌, Bool, true, false, ◌||◌, List, [], ◌∷◌, ◌++◌, length, drop, get_or, set, map}
 use Rattle.std.proofs.Common.{Option, Some, None, Result, Ok, Err, refl, sym, ap, subst, ◌∙◌, arith}
-use Rattle.std.specs.Prelude.{slice_get, slice_set, insert, remove, replicate, sum_by, nat_lt, nat_le}
+use Rattle.std.specs.Prelude.{slice_get, slice_set, insert, remove, replicate, sum_by}
 use Rattle.std.specs.List.{list_any}
 use Rattle.std.specs.Option.{option_map}
 use Rattle.std.specs.Result.{result_err}
 use Rattle.std.specs.Str.{bytes_eq}
-use Rattle.std.proofs.lemmas.Bool.{and_from, and_left, and_right, cond-true, cond-false, lt-ltb, le-ltb, le-leb, lt-leb}
+use Rattle.std.proofs.lemmas.Bool.Decides.{nat_tests}
 use Rattle.std.proofs.lemmas.List.{map-set, map_push, length-map, length-replicate}
 use Rattle.std.proofs.lemmas.List.Sums.{sum_by-cons}
 use Rattle.std.proofs.lemmas.Option.{slice_get-map, slice_get_within}
@@ -19,7 +19,7 @@ use Rattle.pos_dir.specs.declared.change.Change.TheVariants.{Create, Delete, Ren
 use Rattle.pos_dir.specs.declared.fault.DirectoryFault.{DirectoryFault}
 use Rattle.pos_dir.specs.declared.fault.DirectoryFault.TheVariants.{Exists, NoRoom}
 use Rattle.pos_dir.specs.Files.{has_name, total_size, IsDirectory}
-use Rattle.pos_dir.specs.Changes.{with_file, outcome, outcome_of_all, least_size_of, IsChange}
+use Rattle.pos_dir.specs.Changes.{outcome, outcome_of_all, least_size_of, IsChange}
 use Rattle.pos_dir.proofs.Outcomes.{KeepsShapes, answered}
 use Rattle.pos_dir.proofs.Kept.{changed, goes_on, stops}
 use Rattle.pos_dir.specs.Outlines.{Shape, shape_of, shape_of_file, is_named, AreOutlines, Agrees, Checks, size_in, answer_by_size}
@@ -97,26 +97,19 @@ file_at outlines files i o same at =
 -- a name that an outline has is taken
 pub create_taken : (limits : Limits) (outlines : List Outline) (files : List File) (name : List ℕ) (size : ℕ) → AreOutlines outlines files
     → is_named outlines name ≡ true → outcome limits files (Create name size) ≡ Err Exists
-create_taken limits outlines files name size same taken = cond-true (has_name files name) _ _ (same_name outlines files name same ∙ taken)
+create_taken limits outlines files name size same taken = rw (same_name outlines files name same ∙ taken) refl
 
 -- where there are as many outlines as files may be there is no room
 pub create_many : (limits : Limits) (outlines : List Outline) (files : List File) (name : List ℕ) (size : ℕ) → AreOutlines outlines files
     → is_named outlines name ≡ false → limits.files ≤ length outlines → outcome limits files (Create name size) ≡ Err NoRoom
 create_many limits outlines files name size same free many =
-    let full : nat_lt (length files) limits.files ≡ false = le-ltb (length files) limits.files (omega (arith, same_count outlines files same, many)) in
-    cond-false (has_name files name) _ _ (same_name outlines files name same ∙ free)
-    ∙ cond-false (nat_lt (length files) limits.files && nat_le (total_size files + size) limits.bytes) _ _
-    (and_left (nat_lt (length files) limits.files) (nat_le (total_size files + size) limits.bytes) full)
+    grind (arith, nat_tests, same_name outlines files name same ∙ free, same_count outlines files same)
 
 -- where the sizes in sum leave too little there is no room
 pub create_large : (limits : Limits) (outlines : List Outline) (files : List File) (name : List ℕ) (size : ℕ) → AreOutlines outlines files
     → is_named outlines name ≡ false → limits.bytes < sum_by (λ outline. outline.size) outlines + size → outcome limits files (Create name size) ≡ Err NoRoom
 create_large limits outlines files name size same free large =
-    let over : nat_le (total_size files + size) limits.bytes ≡ false =
-    lt-leb (total_size files + size) limits.bytes (omega (arith, same_total outlines files same, large)) in
-    cond-false (has_name files name) _ _ (same_name outlines files name same ∙ free)
-    ∙ cond-false (nat_lt (length files) limits.files && nat_le (total_size files + size) limits.bytes) _ _
-    (and_right (nat_lt (length files) limits.files) (nat_le (total_size files + size) limits.bytes) over)
+    grind (arith, nat_tests, same_name outlines files name same ∙ free, same_total outlines files same)
 
 -- else the file is made, and its outline stands behind the others
 pub create_made : (limits : Limits) (outlines : List Outline) (files : List File) (new : Outline) → AreOutlines outlines files
@@ -124,13 +117,8 @@ pub create_made : (limits : Limits) (outlines : List Outline) (files : List File
     → Agrees (Ok tt) (outcome limits files (Create new.name.now new.size)) (outlines ++ new ∷ [])
 create_made limits outlines files new same free few small =
     let file : File = record { name = new.name.now; bytes = replicate new.size 0 } in
-    let low : nat_lt (length files) limits.files ≡ true = lt-ltb (length files) limits.files (omega (arith, same_count outlines files same, few)) in
-    let fits : nat_le (total_size files + new.size) limits.bytes ≡ true =
-    le-leb (total_size files + new.size) limits.bytes (omega (arith, same_total outlines files same, small)) in
     let made : outcome limits files (Create new.name.now new.size) ≡ Ok (files ++ file ∷ []) =
-    cond-false (has_name files new.name.now) _ _ (same_name outlines files new.name.now same ∙ free)
-    ∙ cond-true (nat_lt (length files) limits.files && nat_le (total_size files + new.size) limits.bytes) _ _
-    (and_from (nat_lt (length files) limits.files) (nat_le (total_size files + new.size) limits.bytes) low fits) in
+    grind (arith, nat_tests, same_name outlines files new.name.now same ∙ free, same_count outlines files same, same_total outlines files same) in
     let shape : shape_of new ≡ shape_of_file file = ap (λ (n : ℕ). record { name = new.name.now; size = n }) (sym (length-replicate {A = ℕ} new.size 0)) in (
       files ++ file ∷ [],
       made,
@@ -146,7 +134,7 @@ pub delete_made : (limits : Limits) (outlines : List Outline) (files : List File
 delete_made limits outlines files i o same at =
     let found = file_at outlines files i o same at in (
       remove files i,
-      ap (λ x. with_file x (λ file. Ok (remove files i))) found.1,
+      rw found.1 refl,
       map-remove shape_of outlines i ∙ ap (λ (shapes : List Shape). remove shapes i) same ∙ sym (map-remove shape_of_file files i),
     )
 
@@ -155,8 +143,7 @@ pub rename_taken : (limits : Limits) (outlines : List Outline) (files : List Fil
     → slice_get outlines i ≡ Some o → is_named outlines name ≡ true → outcome limits files (Rename i name) ≡ Err Exists
 rename_taken limits outlines files i o name same at taken =
     let found = file_at outlines files i o same at in
-    ap (λ x. with_file x (λ file. cond (has_name files name) (Err Exists) (Ok (slice_set files i (record file { name = name }))))) found.1
-    ∙ cond-true (has_name files name) _ _ (same_name outlines files name same ∙ taken)
+    rw (found.1, same_name outlines files name same ∙ taken) refl
 
 -- an outline and a file put in the place of those at an index, with one shape
 put_shape : (outlines : List Outline) (files : List File) (i : ℕ) (o : Outline) (file : File) → AreOutlines outlines files
@@ -173,8 +160,7 @@ rename_made limits outlines files i o new same at size free =
     let found = file_at outlines files i o same at in
     let file : File = record found.0 { name = new.name.now } in
     let made : outcome limits files (Rename i new.name.now) ≡ Ok (slice_set files i file) =
-    ap (λ x. with_file x (λ old. cond (has_name files new.name.now) (Err Exists) (Ok (slice_set files i (record old { name = new.name.now }))))) found.1
-    ∙ cond-false (has_name files new.name.now) _ _ (same_name outlines files new.name.now same ∙ free) in
+    rw (found.1, same_name outlines files new.name.now same ∙ free) refl in
     let shape : shape_of new ≡ shape_of_file file =
     ap (λ (n : ℕ). record { name = new.name.now; size = n }) (size ∙ sym (ap (λ (s : Shape). s.size) found.2)) in (
       slice_set files i file,

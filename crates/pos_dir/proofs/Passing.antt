@@ -1,10 +1,10 @@
 -- Files that are read one after another, up to one that isn't there.
-use Rattle.std.proofs.Common.{◌≡◌, Bool, ℕ, ◌+◌, ◌≤◌, true, ◌&&◌, List, [], ◌∷◌, ◌++◌, length, get_or, drop, Option, Some, None, refl, sym, ap, subst, ◌∙◌}
+use Rattle.std.proofs.Common.{◌≡◌, Bool, ℕ, ◌+◌, ◌≤◌, true, List, [], ◌∷◌, ◌++◌, length, get_or, drop, Option, Some, refl, sym, ap, subst, ◌∙◌}
 use Rattle.std.proofs.Common.{arith, inr, length-append}
 use Rattle.std.specs.Int.{w16, to_be_bytes}
 use Rattle.std.specs.List.{flat_map}
-use Rattle.std.specs.Prelude.{nat_le, IfSome}
-use Rattle.std.proofs.lemmas.Bool.{and_from, le-leb, cond-true}
+use Rattle.std.specs.Prelude.{IfSome}
+use Rattle.std.proofs.lemmas.Bool.Decides.{nat_tests}
 use Rattle.std.proofs.lemmas.List.Sums.{sum_by-append, sum_by-cons}
 use Rattle.pos_dir.specs.declared.file.File.{File}
 use Rattle.pos_dir.specs.declared.limits.Limits.{Limits}
@@ -14,9 +14,9 @@ use Rattle.pos_dir.specs.Flaws.{end_of_files, HasFileFlaw, HasFlaw}
 use Rattle.pos_dir.specs.declared.flaw.Flaw.{Flaw}
 use Rattle.pos_dir.specs.declared.flaw.Flaw.TheVariants as flaw
 use Rattle.pos_dir.specs.Fields.{◌>>=◌, number_at}
-use Rattle.pos_dir.specs.Reading.{file_at, items_at, is_sound, is_end}
+use Rattle.pos_dir.specs.Reading.{file_at, items_at}
 use Rattle.pos_dir.specs.Spelling.{file_spelling}
-use Rattle.pos_dir.proofs.Directories.{IsFile, file_reads, directory_is, directory_takes, body}
+use Rattle.pos_dir.proofs.Directories.{file_reads, directory_is, directory_takes, body}
 use Rattle.pos_dir.proofs.Items.{items_take}
 use Rattle.pos_dir.proofs.Readers.{IsBytes, bind_some, some_is, u16_reads}
 
@@ -53,7 +53,7 @@ pub ends_at : (bytes : List ℕ) (count : ℕ) (text : List ℕ) (files : List F
     → items_at file_at (length files) text ≡ Some (files, rest) → length bytes ≡ end_of_files files + length rest
 ends_at bytes count text files rest fits counted read =
     let first = u16_reads.takes bytes count text fits (sym counted) in
-    let second = items_take file_at file_spelling IsFile file_reads (length files) text files rest first.0.rest_fits read in
+    let second = items_take file_reads (length files) text files rest first.0.rest_fits read in
     let one = ap length first.0.parts in
     let two = ap length second.0.parts in
     let three = length-append (to_be_bytes w16 count) text in
@@ -63,11 +63,7 @@ ends_at bytes count text files rest fits counted read =
 -- few and small enough files with nothing behind them, of which no two have one name, are a directory
 found : (limits : Limits) (files : List File) → length files ≤ limits.files → total_size files ≤ limits.bytes → are_distinct files ≡ true
     → body limits (Some (files, [])) ≡ Some files
-found limits files few small distinct =
-    cond-true (is_sound limits files && is_end []) (Some files) None
-    (and_from (is_sound limits files) (is_end [])
-    (and_from (nat_le (length files) limits.files) (nat_le (total_size files) limits.bytes && are_distinct files) (le-leb (length files) limits.files few)
-    (and_from (nat_le (total_size files) limits.bytes) (are_distinct files) (le-leb (total_size files) limits.bytes small) distinct)) refl)
+found limits files few small distinct = grind (arith, nat_tests)
 
 -- so some bytes are left where they spell none
 pub some_left : (limits : Limits) (bytes : List ℕ) (count : ℕ) (text : List ℕ) (files : List File) (rest : List ℕ) → IsBytes bytes

@@ -3,6 +3,7 @@ use Rattle.std.proofs.Common.{◌≡◌, ℕ, suc, ◌+◌, ◌^◌, ◌<◌, �
 use Rattle.std.proofs.Common.{None, refl, sym, ap, subst, ◌∙◌, append_assoc, arith, inl, inr}
 use Rattle.std.specs.Int.{Width, w16, w32, byte_len, from_be_bytes, to_be_bytes}
 use Rattle.std.proofs.lemmas.Bool.{cases_lt, ltb-false, le-ltb}
+use Rattle.std.proofs.lemmas.Bool.Decides.{nat_tests}
 use Rattle.std.proofs.lemmas.List.{take_at, drop_at, take-append-drop, length-append, length-take, get_or-drop, get_or-take, get_or_past}
 use Rattle.std.proofs.lemmas.Nat.{be_bytes_2, be_bytes_4, from_be_bytes-to_be_bytes_2, from_be_bytes-to_be_bytes_4}
 use Rattle.pos_dir.specs.Files.{is_name}
@@ -30,12 +31,10 @@ bind_some (Some x) f y e = (x, refl, e)
 
 -- a test that let a value through
 pub passed : {A : Type 0} (b : Bool) (x y : A) → cond b (Some x) None ≡ Some y → (b ≡ true) × (x ≡ y)
-passed true x y e = (refl, cc)
-passed false x y e = absurd cc
+passed b x y e = grind (arith, nat_tests)
 
 stopped : {A : Type 0} (b : Bool) (x y : A) → cond b None (Some x) ≡ Some y → (b ≡ false) × (x ≡ y)
-stopped true x y e = absurd cc
-stopped false x y e = (refl, cc)
+stopped b x y e = grind (arith, nat_tests)
 
 -- what is there is there once
 pub some_is : {A : Type 0} (x y : A) → Some x ≡ Some y → x ≡ y
@@ -175,8 +174,7 @@ text_takes bytes x rest fits e =
 text_again : (x rest : List ℕ) → length x < 2 ^ 32 → text_at (text_spelling x ++ rest) ≡ Some (x, rest)
 unfolding text_at
 text_again x rest lt =
-    ap text_at (append_assoc (to_be_bytes w32 (length x)) x rest)
-    ∙ ap (λ (o : Option (ℕ × List ℕ)). o >>= λ size. part_at size.0 size.1) (u32_reads.again (length x) (x ++ rest) lt) ∙ part_again x rest
+    ap text_at (append_assoc (to_be_bytes w32 (length x)) x rest) ∙ rw (u32_reads.again (length x) (x ++ rest) lt, part_again x rest) refl
 
 -- a text is read as it is spelled
 pub text_reads : IsReader text_at text_spelling (λ text. length text < 2 ^ 32)
@@ -188,31 +186,24 @@ text_reads = record { takes = text_takes; again = text_again }
 abbrev pub both : {A B C : Type 0} → (List ℕ → Option (A × List ℕ)) → (List ℕ → Option (B × List ℕ)) → (A → B → C) → List ℕ → Option (C × List ℕ)
 both first second make bytes = first bytes >>= λ a. second a.1 >>= λ b. Some (make a.0 b.0, b.1)
 
--- two things that were read one behind the other are spelled so
-pub both_take : {A B C : Type 0} (read_a : List ℕ → Option (A × List ℕ)) (spell_a : A → List ℕ) (FitsA : A → Type 0)
-    (read_b : List ℕ → Option (B × List ℕ)) (spell_b : B → List ℕ) (FitsB : B → Type 0) (make : A → B → C)
-    → IsReader read_a spell_a FitsA → IsReader read_b spell_b FitsB → (bytes : List ℕ) (x : C) (rest : List ℕ) → IsBytes bytes
-    → both read_a read_b make bytes ≡ Some (x, rest)
-    → (a : A) × (b : B) × (make a b ≡ x) × Takes bytes (spell_a a ++ spell_b b) rest × FitsA a × FitsB b
-both_take {C = C} read_a spell_a FitsA read_b spell_b FitsB make reads_a reads_b bytes x rest fits e =
-    let p = bind_some (read_a bytes) (λ a. read_b a.1 >>= λ b. Some (make a.0 b.0, b.1)) (x, rest) e in
-    let q = bind_some (read_b p.0.1) (λ b. Some (make p.0.0 b.0, b.1)) (x, rest) p.2 in
-    let first = reads_a.takes bytes p.0.0 p.0.1 fits p.1 in
-    let second = reads_b.takes p.0.1 q.0.0 q.0.1 first.0.rest_fits q.1 in
-    let made = some_is (make p.0.0 q.0.0, q.0.1) (x, rest) q.2 in
-    let joined = Takes-then bytes (spell_a p.0.0) p.0.1 (spell_b q.0.0) q.0.1 first.0 second.0 in (
-      p.0.0,
-      q.0.0,
-      ap (λ (y : C × List ℕ). y.0) made,
-      subst (λ (y : List ℕ). Takes bytes (spell_a p.0.0 ++ spell_b q.0.0) y) (ap (λ (y : C × List ℕ). y.1) made) joined,
-      first.1,
-      second.1,
-    )
+module _ {A B C : Type 0} {read_a : List ℕ → Option (A × List ℕ)} {spell_a : A → List ℕ} {FitsA : A → Type 0} {read_b : List ℕ → Option (B × List ℕ)}
+    {spell_b : B → List ℕ} {FitsB : B → Type 0} (make : A → B → C) (reads_a : IsReader read_a spell_a FitsA) (reads_b : IsReader read_b spell_b FitsB) where
+  -- two things that were read one behind the other are spelled so
+  pub both_take : (bytes : List ℕ) (x : C) (rest : List ℕ) → IsBytes bytes → both read_a read_b make bytes ≡ Some (x, rest)
+      → (a : A) × (b : B) × (make a b ≡ x) × Takes bytes (spell_a a ++ spell_b b) rest × FitsA a × FitsB b
+  both_take bytes x rest fits e =
+      let p = bind_some (read_a bytes) (λ a. read_b a.1 >>= λ b. Some (make a.0 b.0, b.1)) (x, rest) e in
+      let q = bind_some (read_b p.0.1) (λ b. Some (make p.0.0 b.0, b.1)) (x, rest) p.2 in
+      let first = reads_a.takes bytes p.0.0 p.0.1 fits p.1 in
+      let second = reads_b.takes p.0.1 q.0.0 q.0.1 first.0.rest_fits q.1 in
+      let joined = Takes-then bytes (spell_a p.0.0) p.0.1 (spell_b q.0.0) q.0.1 first.0 second.0 in
+      let made = some_is (make p.0.0 q.0.0, q.0.1) (x, rest) q.2 in
+      let end : Takes bytes (spell_a p.0.0 ++ spell_b q.0.0) rest =
+      subst (λ (y : C × List ℕ). Takes bytes (spell_a p.0.0 ++ spell_b q.0.0) y.1) made joined in
+      (p.0.0, q.0.0, ap (λ (y : C × List ℕ). y.0) made, end, first.1, second.1)
 
--- two things that are spelled one behind the other are read
-pub both_again : {A B C : Type 0} (read_a : List ℕ → Option (A × List ℕ)) (spell_a : A → List ℕ) (FitsA : A → Type 0)
-    (read_b : List ℕ → Option (B × List ℕ)) (spell_b : B → List ℕ) (FitsB : B → Type 0) (make : A → B → C)
-    → IsReader read_a spell_a FitsA → IsReader read_b spell_b FitsB → (a : A) (b : B) (rest : List ℕ) → FitsA a → FitsB b
-    → both read_a read_b make ((spell_a a ++ spell_b b) ++ rest) ≡ Some (make a b, rest)
-both_again read_a spell_a FitsA read_b spell_b FitsB make reads_a reads_b a b rest fits_a fits_b =
-    rw (append_assoc (spell_a a) (spell_b b) rest, reads_a.again a (spell_b b ++ rest) fits_a, reads_b.again b rest fits_b) refl
+  -- two things that are spelled one behind the other are read
+  pub both_again : (a : A) (b : B) (rest : List ℕ) → FitsA a → FitsB b
+      → both read_a read_b make ((spell_a a ++ spell_b b) ++ rest) ≡ Some (make a b, rest)
+  both_again a b rest fits_a fits_b =
+      rw (append_assoc (spell_a a) (spell_b b) rest, reads_a.again a (spell_b b ++ rest) fits_a, reads_b.again b rest fits_b) refl

@@ -1,14 +1,14 @@
 -- Where a control has claimed the area, no other has claimed a file.
-use Rattle.std.proofs.Common.{◌≡◌, ℕ, zero, suc, ◌+◌, Bool, true, false, not, cond, List, [], ◌∷◌, length, map, Option, Some, None, IfSome, refl, sym, ap}
+use Rattle.std.proofs.Common.{◌≡◌, ℕ, zero, suc, ◌+◌, Bool, true, false, cond, List, [], ◌∷◌, length, map, Option, Some, None, IfSome, refl}
 use Rattle.std.proofs.Common.{arith}
 use Rattle.std.specs.Prelude.{nat_eq}
 use Rattle.std.specs.List.{list_any, AllByRecursion}
-use Rattle.std.proofs.lemmas.Bool.{eqb-true, eq-eqb, not-false}
+use Rattle.std.proofs.lemmas.Bool.Decides.{nat_tests}
 use Rattle.pos_dir.specs.declared.change.Change.{Change as FileChange}
 use Rattle.pos_dir.specs.declared.change.Change.TheVariants as file
 use Rattle.pos_dir.specs.declared.file.File.{File as PlainFile}
 use Rattle.pos_image.specs.declared.layout.Layout.{Layout}
-use Rattle.pos_service.specs.Claims.{is_foreign, is_own}
+use Rattle.pos_service.specs.Claims.{is_foreign}
 use Rattle.pos_totals.specs.TotalsClaims.{is_foreign_claim, foreign_area, is_area_taken}
 use Rattle.pos_store.specs.StoreViews.{StoreState as State}
 use Rattle.pos_store.specs.StoreViews.{Off as StoreOff, Ready as StoreReady}
@@ -50,16 +50,10 @@ apart_new (Some holder) first count = no_other_new holder first count
 no_other_claimed : (holder number : ℕ) (claim : Option ℕ) (tags : List Tag) → is_foreign holder claim ≡ false → NoOther holder tags
     → NoOther holder (map (tag_claimed number claim) tags)
 no_other_claimed holder number claim [] own apart = tt
-no_other_claimed holder number claim (tag ∷ tags) own apart = (by (nat_eq tag.handle number), no_other_claimed holder number claim tags own apart.1)
-  where
-    by : (b : Bool) → is_foreign holder (cond b (record tag { claim = claim }) tag).claim ≡ false
-    by true = own
-    by false = apart.0
+no_other_claimed holder number claim (tag ∷ tags) own apart = (grind (arith, nat_tests, apart.0), no_other_claimed holder number claim tags own apart.1)
 
 same_holder : (holder control : ℕ) → is_foreign control (Some holder) ≡ false → is_foreign holder (Some control) ≡ false
-same_holder holder control own =
-    let same = eqb-true holder control (not-false (nat_eq holder control) own) in
-    ap not (eq-eqb control holder (sym same))
+same_holder holder control own = grind (arith, nat_tests)
 
 pub apart_claimed : (area : Option ℕ) (control number : ℕ) (tags : List Tag) → is_foreign control area ≡ false → IsApart area tags
     → IsApart area (map (tag_claimed number (Some control)) tags)
@@ -73,11 +67,7 @@ apart_released (Some holder) number tags apart = no_other_claimed holder number 
 -- all of a control is released
 no_other_dropped : (holder control : ℕ) (tags : List Tag) → NoOther holder tags → NoOther holder (map (tag_released control) tags)
 no_other_dropped holder control [] apart = tt
-no_other_dropped holder control (tag ∷ tags) apart = (by (is_own control tag.claim), no_other_dropped holder control tags apart.1)
-  where
-    by : (b : Bool) → is_foreign holder (cond b (record tag { claim = None }) tag).claim ≡ false
-    by true = refl
-    by false = apart.0
+no_other_dropped holder control (tag ∷ tags) apart = (grind (arith, nat_tests, apart.0), no_other_dropped holder control tags apart.1)
 
 pub apart_dropped : (area : Option ℕ) (control : ℕ) (tags : List Tag) → IsApart area tags
     → IsApart (foreign_area control area) (map (tag_released control) tags)

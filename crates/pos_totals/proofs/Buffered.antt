@@ -4,22 +4,23 @@ use Rattle.std.proofs.Common.{Ok, refl, sym, ap, subst, arith}
 use Rattle.std.specs.Prelude.{is_none, is_some, slice_set}
 use Rattle.std.specs.List.{find, list_any, AllByRecursion}
 use Rattle.std.proofs.lemmas.Bool.{eqb-true}
-use Rattle.std.proofs.Math.ListN.{length-replicate}
 use Rattle.pos_dir.specs.Changes.{outcome_of_all, and_then}
 use Rattle.pos_dir.specs.declared.change.Change.{Change as FileChange}
 use Rattle.pos_image.specs.declared.layout.Layout.{Layout}
-use Rattle.pos_totals.specs.HardTotals.{File, Mode, Off, Ready, Change, Create, Delete, Rename, Write, SetAll, totals_limits, transaction_at}
+use Rattle.pos_totals.specs.HardTotals.{File, Mode, Off, Ready, Change, Create, Delete, Rename, Edit, totals_limits, transaction_at}
 use Rattle.pos_totals.specs.HardTotals.{without_transactions}
-use Rattle.pos_totals.specs.TotalsFiles.{is_called, is_named, is_range, is_range_of, with_each, overwritten}
-use Rattle.pos_totals.specs.TotalsChanges.{change_rows, files_after, files_after_all, next_after, next_after_all}
+use Rattle.pos_totals.specs.TotalsFiles.{is_called, is_named, with_each}
+use Rattle.pos_totals.specs.Edits.{FileEdit, fits, edited}
+use Rattle.pos_totals.proofs.Edited.{keeps_size}
+use Rattle.pos_totals.specs.TotalsChanges.{change_rows, files_after, fits_file, files_after_all, next_after, next_after_all}
 use Rattle.pos_totals.specs.TotalsCommits.{is_of_none}
 use Rattle.pos_service.specs.Refusals.{first_refusal}
 use Rattle.pos_store.specs.Layouts.{limits_of}
-use Rattle.pos_totals.proofs.Grouped.{Makes, made_write, made_set_all, neither, some_file, ranged, range_fits, only_called}
-use Rattle.pos_totals.proofs.Handled.{all_so, same_tags}
-use Rattle.pos_totals.proofs.Outlined.{outline, outlines, same_buffered, same_group, same_gone, same_distinct, outlines_kept, all_files, write_keeps, one_meets}
-use Rattle.pos_totals.proofs.Outlined.{found_has, all_left, all_more}
-use Rattle.pos_totals.specs.Buffers.{IsGiven, IsBuffered, MayHold, HaveBuffers}
+use Rattle.pos_totals.proofs.Grouped.{Makes, made_edit, edit_fits, neither, some_file, fitting, only_called}
+use Rattle.pos_totals.proofs.Handled.{all_so, all_with, same_tags}
+use Rattle.pos_totals.proofs.Outlined.{outline, outlines, same_buffered, same_group, same_gone, same_distinct, outlines_kept, all_files, one_meets}
+use Rattle.pos_totals.proofs.Outlined.{found_has, all_left}
+use Rattle.pos_totals.specs.Buffers.{IsGiven, FitsEach, IsBuffered, MayHold, HaveBuffers}
 use Rattle.pos_totals.specs.Groups.{group_of}
 use Rattle.pos_totals.specs.Views.{plain, handles_of, tags_of, AreDistinct}
 
@@ -35,57 +36,40 @@ new_handle : (next : ℕ) (handle : ℤ) (name bytes : List ℕ) → IsGiven nex
 new_handle next (pos h) name bytes given called = let same = eqb-true next h called in omega (arith, given, same)
 new_handle next (negsuc n) name bytes given called = absurd given
 
--- a SetAll keeps all sizes
-set_keeps : (file : File) (n : ℕ) → outline (record file { bytes = replicate (length file.bytes) n }) ≡ outline file
-set_keeps file n = ap (λ size. (file.handle, size)) (length-replicate (length file.bytes) n)
+-- an edit that fits the file with a handle fits each such file
+pub all_fit : (files : List File) (handle : ℤ) (edit : FileEdit) → AreDistinct (handles_of files) → fits_file (find (is_called handle) files) edit ≡ true
+    → FitsEach files handle edit
+all_fit files handle edit distinct fit =
+    let found = fitting (find (is_called handle) files) edit fit in
+    one_meets (is_called handle) (λ file. fits (length file.bytes) edit ≡ true) files found.0 (only_called files handle distinct) found.1 found.2
 
--- a range that fits the file with a handle fits each such file
-pub all_fit : (files : List File) (handle offset : ℤ) (count : ℕ) → AreDistinct (handles_of files)
-    → is_range_of (find (is_called handle) files) offset (pos count) ≡ true
-    → AllByRecursion (λ file. is_called handle file ≡ true → is_range (length file.bytes) offset (pos count) ≡ true) files
-all_fit files handle offset count distinct fits =
-    let found = ranged (find (is_called handle) files) offset (pos count) fits in
-    one_meets (is_called handle) (λ file. is_range (length file.bytes) offset (pos count) ≡ true) files found.0
-    (only_called files handle distinct) found.1 found.2
-
--- a Write that fits keeps all sizes
-writes_keep : (files : List File) (handle offset : ℤ) (bytes : List ℕ)
-    → AllByRecursion (λ file. is_called handle file ≡ true → is_range (length file.bytes) offset (pos (length bytes)) ≡ true) files
-    → outlines (with_each (is_called handle) (λ file. record file { bytes = overwritten file.bytes (nat_abs offset) bytes }) files) ≡ outlines files
-writes_keep files handle offset bytes fits =
-    outlines_kept (is_called handle) (λ file. record file { bytes = overwritten file.bytes (nat_abs offset) bytes }) files
-    (all_so (λ file. is_called handle file ≡ true → is_range (length file.bytes) offset (pos (length bytes)) ≡ true)
-    (λ file. is_called handle file ≡ true → outline (record file { bytes = overwritten file.bytes (nat_abs offset) bytes }) ≡ outline file) files
-    (λ file fits called. write_keeps file offset bytes (fits called)) fits)
-
--- so does a SetAll
-sets_keep : (files : List File) (handle n : ℤ)
-    → outlines (with_each (is_called handle) (λ file. record file { bytes = replicate (length file.bytes) (nat_abs n) }) files) ≡ outlines files
-sets_keep files handle n =
-    outlines_kept (is_called handle) (λ file. record file { bytes = replicate (length file.bytes) (nat_abs n) }) files
-    (all_files _ files (λ file called. set_keeps file (nat_abs n)))
+-- an edit that fits keeps all sizes
+edits_keep : (files : List File) (handle : ℤ) (edit : FileEdit) → FitsEach files handle edit
+    → outlines (with_each (is_called handle) (λ file. record file { bytes = edited edit file.bytes }) files) ≡ outlines files
+edits_keep files handle edit fit =
+    outlines_kept (is_called handle) (λ file. record file { bytes = edited edit file.bytes }) files
+    (all_so (λ file. is_called handle file ≡ true → fits (length file.bytes) edit ≡ true)
+    (λ file. is_called handle file ≡ true → outline (record file { bytes = edited edit file.bytes }) ≡ outline file) files
+    (λ file fit called. ap (λ size. (file.handle, size)) (keeps_size edit file.bytes (fit called))) fit)
 
 -- what is buffered stays so after a change that nothing refuses
 pub buffered_after : (layout : Layout) (files : List File) (control : ℕ) (spent : Option ℕ) (change : Change) (next : ℕ) (buffered : Change)
     → AreDistinct (handles_of files) → first_refusal (change_rows (totals_limits layout) files control spent change) ≡ None
     → IsBuffered files next buffered → IsBuffered (files_after next files change) (next_after next change) buffered
-buffered_after layout files control spent change next (SetAll handle n) distinct unrefused is = is
-buffered_after layout files control spent (Create name size) next (Write handle offset bytes) distinct unrefused is = (
+buffered_after layout files control spent (Create name size) next (Edit handle edit) distinct unrefused is = (
   given_more next (next + 1) handle (omega arith) is.0,
-  all_more (λ file. is_called handle file ≡ true → is_range (length file.bytes) offset (pos (length bytes)) ≡ true) files _ is.1
+  all_with (λ file. is_called handle file ≡ true → fits (length file.bytes) edit ≡ true) files _ is.1
       (λ called. absurd (new_handle next handle name (replicate (nat_abs size) 0) is.0 called)),
+  is.2,
 )
-buffered_after layout files control spent (Delete name) next (Write handle offset bytes) distinct unrefused is =
-    (is.0, all_left _ (λ file. not (is_named name file)) files is.1)
-buffered_after layout files control spent (Rename other name) next (Write handle offset bytes) distinct unrefused is =
-    same_buffered files (files_after next files (Rename other name)) next (Write handle offset bytes)
+buffered_after layout files control spent (Delete name) next (Edit handle edit) distinct unrefused is =
+    (is.0, all_left _ (λ file. not (is_named name file)) files is.1, is.2)
+buffered_after layout files control spent (Rename other name) next (Edit handle edit) distinct unrefused is =
+    same_buffered files (files_after next files (Rename other name)) next (Edit handle edit)
     (sym (outlines_kept (is_called other) (λ file. record file { name = name }) files (all_files _ files (λ file called. refl)))) is
-buffered_after layout files control spent (Write other place text) next (Write handle offset bytes) distinct unrefused is =
-    same_buffered files (files_after next files (Write other place text)) next (Write handle offset bytes)
-    (sym (writes_keep files other place text (all_fit files other place (length text) distinct
-    (range_fits layout files control spent other place text unrefused)))) is
-buffered_after layout files control spent (SetAll other n) next (Write handle offset bytes) distinct unrefused is =
-    same_buffered files (files_after next files (SetAll other n)) next (Write handle offset bytes) (sym (sets_keep files other n)) is
+buffered_after layout files control spent (Edit other done) next (Edit handle edit) distinct unrefused is =
+    same_buffered files (files_after next files (Edit other done)) next (Edit handle edit)
+    (sym (edits_keep files other done (all_fit files other done distinct (edit_fits layout files control spent other done unrefused)))) is
 buffered_after layout files control spent change next other distinct unrefused is = absurd is
 
 -- ---- one group of all that is buffered
@@ -100,70 +84,43 @@ others_buffered files after next changes same all =
 pub outlines_after : (files : List File) (next : ℕ) (changes : List Change) → AllByRecursion (IsBuffered files next) changes
     → outlines (files_after_all next files changes) ≡ outlines files
 outlines_after files next [] all = refl
-outlines_after files next (Write handle offset bytes ∷ changes) all =
-    let same = writes_keep files handle offset bytes all.0.1 in
-    outlines_after (files_after next files (Write handle offset bytes)) next changes (others_buffered files _ next changes same all.1) ∙ same
-outlines_after files next (SetAll handle n ∷ changes) all =
-    let same = sets_keep files handle n in
-    outlines_after (files_after next files (SetAll handle n)) next changes (others_buffered files _ next changes same all.1) ∙ same
+outlines_after files next (Edit handle edit ∷ changes) all =
+    let same = edits_keep files handle edit all.0.1 in
+    outlines_after (files_after next files (Edit handle edit)) next changes (others_buffered files _ next changes same all.1) ∙ same
 outlines_after files next (other ∷ changes) all = absurd all.0
 
 pub tags_after : (files : List File) (next : ℕ) (changes : List Change) → AllByRecursion (IsBuffered files next) changes
     → tags_of (files_after_all next files changes) ≡ tags_of files
 tags_after files next [] all = refl
-tags_after files next (Write handle offset bytes ∷ changes) all =
-    tags_after (files_after next files (Write handle offset bytes)) next changes
-    (others_buffered files _ next changes (writes_keep files handle offset bytes all.0.1) all.1)
-    ∙ same_tags (is_called handle) (λ file. record file { bytes = overwritten file.bytes (nat_abs offset) bytes }) files (λ file. refl)
-tags_after files next (SetAll handle n ∷ changes) all =
-    tags_after (files_after next files (SetAll handle n)) next changes (others_buffered files _ next changes (sets_keep files handle n) all.1)
-    ∙ same_tags (is_called handle) (λ file. record file { bytes = replicate (length file.bytes) (nat_abs n) }) files (λ file. refl)
+tags_after files next (Edit handle edit ∷ changes) all =
+    tags_after (files_after next files (Edit handle edit)) next changes
+    (others_buffered files _ next changes (edits_keep files handle edit all.0.1) all.1)
+    ∙ same_tags (is_called handle) (λ file. record file { bytes = edited edit file.bytes }) files (λ file. refl)
 tags_after files next (other ∷ changes) all = absurd all.0
 
 pub next_stays : (files : List File) (next : ℕ) (changes : List Change) → AllByRecursion (IsBuffered files next) changes → next_after_all next changes ≡ next
 next_stays files next [] all = refl
-next_stays files next (Write handle offset bytes ∷ changes) all = next_stays files next changes all.1
-next_stays files next (SetAll handle n ∷ changes) all = next_stays files next changes all.1
+next_stays files next (Edit handle edit ∷ changes) all = next_stays files next changes all.1
 next_stays files next (other ∷ changes) all = absurd all.0
 
 is_there : (found : Option File) → is_none found ≡ false → is_some found ≡ true
 is_there None none = absurd cc
 is_there (Some file) none = refl
 
--- the first change is made, and then the others
-first_made : (layout : Layout) (files : List File) (next : ℕ) (change : Change) (changes : List Change) → Makes layout files change next
-    → group_of files changes ≡ group_of (files_after next files change) changes
-    → outcome_of_all (limits_of layout) (plain (files_after next files change)) (group_of (files_after next files change) changes) ≡ Ok
-    (plain (files_after_all next (files_after next files change) changes))
-    → outcome_of_all (limits_of layout) (plain files) (group_of files (change ∷ changes)) ≡ Ok
-    (plain (files_after_all next (files_after next files change) changes))
-first_made layout files next change changes one same others =
-    ap (λ r. and_then r (λ fs. outcome_of_all (limits_of layout) fs (group_of files changes))) one
-    ∙ ap (λ (g : List FileChange). outcome_of_all (limits_of layout) (plain (files_after next files change)) g) same ∙ others
-
 -- where no file is gone, the group of all that is buffered makes of the plain files those after it
 pub makes_all : (layout : Layout) (files : List File) (next : ℕ) (changes : List Change) → AreDistinct (handles_of files)
     → AllByRecursion (IsBuffered files next) changes → list_any (is_of_none files) changes ≡ false
     → outcome_of_all (limits_of layout) (plain files) (group_of files changes) ≡ Ok (plain (files_after_all next files changes))
 makes_all layout files next [] distinct all there = refl
-makes_all layout files next (Write handle offset bytes ∷ changes) distinct all there =
-    let after = files_after next files (Write handle offset bytes) in
+makes_all layout files next (Edit handle edit ∷ changes) distinct all there =
+    let after = files_after next files (Edit handle edit) in
     let both = neither (is_none (find (is_called handle) files)) (list_any (is_of_none files) changes) there in
     let found = some_file (find (is_called handle) files) (is_there (find (is_called handle) files) both.0) in
-    let fits : is_range_of (find (is_called handle) files) offset (pos (length bytes)) ≡ true =
-    ap (λ (o : Option File). is_range_of o offset (pos (length bytes))) found.1
-    ∙ found_has (is_called handle) (λ file. is_range (length file.bytes) offset (pos (length bytes)) ≡ true) files found.0 all.0.1 found.1 in
-    let same = writes_keep files handle offset bytes all.0.1 in
-    first_made layout files next (Write handle offset bytes) changes (made_write layout files handle offset bytes next distinct fits)
-    (same_group files after next changes (sym same) all.1)
-    (makes_all layout after next changes (same_distinct files after (sym same) distinct) (others_buffered files after next changes same all.1)
-    (sym (same_gone files after next changes (sym same) all.1) ∙ both.1))
-makes_all layout files next (SetAll handle n ∷ changes) distinct all there =
-    let after = files_after next files (SetAll handle n) in
-    let both = neither (is_none (find (is_called handle) files)) (list_any (is_of_none files) changes) there in
-    let same = sets_keep files handle n in
-    first_made layout files next (SetAll handle n) changes (made_set_all layout files handle n next distinct (is_there (find (is_called handle) files) both.0))
-    (same_group files after next changes (sym same) all.1)
+    let fit : fits_file (find (is_called handle) files) edit ≡ true =
+    ap (λ (o : Option File). fits_file o edit) found.1
+    ∙ found_has (is_called handle) (λ file. fits (length file.bytes) edit ≡ true) files found.0 all.0.1 found.1 in
+    let same = edits_keep files handle edit all.0.1 in
+    rw (made_edit layout files handle edit next distinct fit, same_group files after next changes (sym same) all.1)
     (makes_all layout after next changes (same_distinct files after (sym same) distinct) (others_buffered files after next changes same all.1)
     (sym (same_gone files after next changes (sym same) all.1) ∙ both.1))
 makes_all layout files next (other ∷ changes) distinct all there = absurd all.0
@@ -210,7 +167,3 @@ pub off_holds : (files : List File) (sequence next following : ℕ) (transaction
 off_holds files sequence next following transactions all =
     all_so (MayHold Off next) (MayHold (Ready files sequence) following) transactions
     (λ transaction none. subst (MayHold (Ready files sequence) following) (sym none) tt) all
-
--- what is held doesn't change with the next handle while the totals are off
-pub still_off : (next following : ℕ) (transactions : List (Option (List Change))) → HaveBuffers Off next transactions → HaveBuffers Off following transactions
-still_off next following transactions all = all

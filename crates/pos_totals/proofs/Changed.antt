@@ -1,13 +1,13 @@
 -- What a change of the totals did, by what its table says and by what the store did.
 use Rattle.std.proofs.Common.{◌≡◌, ◌∙◌, inl, inr, ⊎_elim, ◌⊎◌, ℕ, ◌+◌, ℤ, pos, negsuc, ◌^◌, ◌<◌, ◌≤◌, Bool, true, false, not, ◌&&◌, ◌||◌, cond, List, [], ◌∷◌}
-use Rattle.std.proofs.Common.{◌++◌, length, Option, Some, None, Result, Ok, Err, MatchOption, IfSome, refl, sym, ap, subst, arith}
+use Rattle.std.proofs.Common.{◌++◌, length, Option, Some, None, Result, Ok, Err, IfSome, refl, sym, ap, subst, arith}
 use Rattle.std.specs.Prelude.{slice_set, nat_eq, nat_lt, nat_le, is_none, is_some}
 use Rattle.std.specs.List.{find, AllByRecursion}
 use Rattle.std.specs.Option.{option_map}
 use Rattle.std.proofs.lemmas.Bool.{and_parts, not-false, ltb-true, leb-true, eqb-true, eqb-false, eq-eqb}
 use Rattle.std.proofs.lemmas.List.{length-map}
+use Rattle.std.proofs.lemmas.Bool.Decides.{nat_tests}
 use Rattle.pos_dir.specs.declared.change.Change.{Change as FileChange}
-use Rattle.pos_dir.specs.declared.change.Change.TheVariants as file
 use Rattle.pos_disk.specs.State.{MayLeave}
 use Rattle.pos_disk.specs.declared.device.Disk.{Ghosts}
 use Rattle.pos_dir.specs.Files.{IsDirectory}
@@ -20,12 +20,14 @@ use Rattle.pos_service.specs.declared.answer.Value.TheVariants as value
 use Rattle.pos_service.specs.declared.code.Code.TheVariants as code
 use Rattle.pos_service.specs.declared.memory.NoMemory.{NoMemory}
 use Rattle.pos_service.specs.Claims.{is_foreign}
-use Rattle.pos_totals.specs.HardTotals.{File, Off, Ready, Totals, Change, Create, Delete, Write, SetAll, last_number, totals_limits, after_disk_fault}
+use Rattle.pos_totals.specs.HardTotals.{File, Off, Ready, Totals, Change, Create, Delete, Rename, Edit, last_number, totals_limits, after_disk_fault}
 use Rattle.pos_totals.specs.HardTotals.{transaction_at, with_transaction}
-use Rattle.pos_totals.specs.TotalsFiles.{is_name, is_named, is_called, has_file, has_room, free_data, is_foreign_file, is_range_of}
+use Rattle.pos_totals.specs.TotalsFiles.{is_name, is_named, is_called, has_file, has_room, free_data, is_foreign_file}
+use Rattle.pos_totals.specs.Edits.{FileEdit, edit_cost, edit_in}
+use Rattle.pos_totals.proofs.Edited.{is_edit, keeps_handles}
 use Rattle.pos_service.specs.Numbers.{is_natural, is_up_to}
 use Rattle.pos_totals.specs.TotalsChanges.{is_create, change_rows, refusals_of_change, group_by_change, number_rows, files_after, next_after, after_changes}
-use Rattle.pos_totals.specs.TotalsChanges.{given_by, spent_by, cost_of, cost_of_all, is_over, Changed, DoesChange, Done, RunsOut}
+use Rattle.pos_totals.specs.TotalsChanges.{given_by, spent_by, fits_file, cost_of_all, is_over, Changed, DoesChange, Done, RunsOut}
 use Rattle.pos_totals.specs.TotalsClaims.{is_foreign_claim}
 use Rattle.pos_service.specs.Refusals.{first_refusal, Decided}
 use Rattle.pos_store.specs.Commits.{Commits, IsApplicable, sequence_after}
@@ -36,7 +38,7 @@ use Rattle.pos_store.specs.declared.fault.StoreFault.{StoreFault}
 use Rattle.pos_store.specs.declared.fault.StoreFault.TheVariants as fault
 use Rattle.pos_totals.proofs.Apart.{apart_after, files_apart}
 use Rattle.pos_totals.proofs.Buffered.{all_fit, buffered_after, holds_so, held_with, held_at, none_hold}
-use Rattle.pos_totals.proofs.Grouped.{not_refused, deleted, makes_group, range_fits, value_fits, ranged}
+use Rattle.pos_totals.proofs.Grouped.{not_refused, deleted, makes_group, edit_fits, fitting}
 use Rattle.pos_totals.proofs.Handled.{all_with, given_is, next_is, value_is, are_after}
 use Rattle.pos_totals.proofs.Largest.{most_bytes, most_files}
 use Rattle.pos_totals.proofs.Pairs.{plain_of, tags_in, numbers_in, called_again}
@@ -44,11 +46,11 @@ use Rattle.pos_totals.proofs.Outlined.{found_has}
 use Rattle.pos_totals.proofs.Places.{found_inside}
 use Rattle.pos_totals.proofs.Putting.{open_table, closed_table, follows, their_files, leaves_found, sound_as, view_at, sound_files, idles, rests, group_applies}
 use Rattle.pos_totals.proofs.Putting.{put_down, put_group, doubt_group}
-use Rattle.pos_totals.specs.Buffers.{IsGiven, IsBuffered, IsAsked, is_bufferable, cost_of_made, HasLeft, MayBuffer, Buffers, HaveBuffers, transactions_after}
+use Rattle.pos_totals.specs.Buffers.{IsGiven, IsBuffered, IsEdit, IsAsked, HasLeft, MayBuffer, Buffers, HaveBuffers, transactions_after}
 use Rattle.pos_totals.specs.Buffers.{with_buffered}
 use Rattle.pos_totals.specs.Changes.{Changes, HasFailed, IsOneGroup}
 use Rattle.pos_totals.specs.Checks.{ChecksAt, Passes, answer_of}
-use Rattle.pos_totals.specs.Groups.{file_change, group_of}
+use Rattle.pos_totals.specs.Groups.{index_of, file_change, group_of}
 use Rattle.pos_totals.specs.Numbering.{lacks, HasPlace, given_after, following, value_after}
 use Rattle.pos_totals.specs.Views.{TotalsView, plain, tag_of, tags_of, handles_of, totals_of, view_of, with_tags, AreDistinct, AreHandles, HasDirectory}
 use Rattle.pos_totals.specs.Views.{HasItsFiles, IsSound}
@@ -63,11 +65,7 @@ pub passed : (state : State) (holdings : Holdings) (control : ℕ) (change : Cha
     → ChecksAt (totals_of state holdings) control change (Ok made)
     → first_refusal (refusals_of_change (totals_of state holdings) control change) ≡ None
 passed StoreOff holdings control change made checks = absurd checks.1
-passed (StoreReady files sequence) holdings control change made checks =
-    ap (λ b. cond b (Some (answer.Refused code.Claimed 0))
-    (first_refusal (change_rows (totals_limits holdings.layout) (with_tags holdings.handles.given files) control
-    (spent_by (totals_of (StoreReady files sequence) holdings) control) change))) checks.0
-    ∙ checks.1.unrefused
+passed (StoreReady files sequence) holdings control change made checks = rw checks.0 checks.1.unrefused
 
 -- outside a transaction nothing is buffered
 pub outside : (transaction : Option (List Change)) → is_some transaction ≡ false → transaction ≡ None
@@ -78,35 +76,24 @@ outside (Some buffer) none = absurd cc
 grouped : (totals : Totals) (control : ℕ) (change : Change) (is_buffered : Bool)
     → first_refusal (refusals_of_change totals control change) ≡ None → is_some (transaction_at totals.transactions control) ≡ is_buffered
     → group_by_change totals control change ≡ cond (not is_buffered) (change ∷ []) []
-grouped totals control change is_buffered unrefused is =
-    ap (λ (o : Option Answer). cond (is_none o && not (is_some (transaction_at totals.transactions control))) (change ∷ []) []) unrefused
-    ∙ ap (λ b. cond (not b) (change ∷ []) []) is
+grouped totals control change is_buffered unrefused is = rw (unrefused, is) refl
 
 no_group : (totals : Totals) (control : ℕ) (change : Change) (refusal : Answer)
     → first_refusal (refusals_of_change totals control change) ≡ Some refusal → group_by_change totals control change ≡ []
-no_group totals control change refusal refused =
-    ap (λ (o : Option Answer). cond (is_none o && not (is_some (transaction_at totals.transactions control))) (change ∷ []) []) refused
+no_group totals control change refusal refused = rw refused refl
 
 -- what a change does outside a transaction
 pub does_outside : (DiskFailed : Type 0) (old : Totals) (control : ℕ) (change : Change) (result : Answer) (new : Totals)
     → transaction_at old.transactions control ≡ None
     → Decided (number_rows old change) result (new ≡ old)
     (RunsOut old result new ⊎ Done DiskFailed old (change ∷ []) (given_by old.next change) result new) → DoesChange DiskFailed old control change result new
-does_outside DiskFailed old control change result new none does =
-    subst (λ (t : Option (List Change)). MatchOption t
-    (Decided (number_rows old change) result (new ≡ old) (RunsOut old result new ⊎ Done DiskFailed old (change ∷ []) (given_by old.next change) result new))
-    (λ buffer. (result ≡ answer.Done value.Empty) × (new ≡ with_transaction old control (Some (buffer ++ change ∷ []))))) (sym none) does
+does_outside DiskFailed old control change result new none does = rw none does
 
 -- and what it does inside one
 does_inside : (DiskFailed : Type 0) (old : Totals) (control : ℕ) (change : Change) (buffer : List Change)
     → transaction_at old.transactions control ≡ Some buffer
     → DoesChange DiskFailed old control change (answer.Done value.Empty) (with_transaction old control (Some (buffer ++ change ∷ [])))
-does_inside DiskFailed old control change buffer some =
-    let result : Answer = answer.Done value.Empty in
-    let new = with_transaction old control (Some (buffer ++ change ∷ [])) in
-    subst (λ (t : Option (List Change)). MatchOption t
-    (Decided (number_rows old change) result (new ≡ old) (RunsOut old result new ⊎ Done DiskFailed old (change ∷ []) (given_by old.next change) result new))
-    (λ buffer. (result ≡ answer.Done value.Empty) × (new ≡ with_transaction old control (Some (buffer ++ change ∷ []))))) (sym some) (refl, refl)
+does_inside DiskFailed old control change buffer some = rw some (refl, refl)
 
 -- ---- where nothing changes
 
@@ -165,42 +152,25 @@ wants state holdings control change made checks want DiskFailed = (passed state 
 
 -- ---- a change that is buffered
 
--- in a transaction nothing but a Write or a SetAll is let through
-may_be_buffered : (layout : Layout) (files : List File) (control spent : ℕ) (change : Change) (named : Option ℕ) (made : FileChange)
-    → first_refusal (change_rows (totals_limits layout) files control (Some spent) change) ≡ None → file_change files change ≡ made
-    → IsAsked change named made → is_bufferable named made ≡ true
-may_be_buffered layout files control spent change (Some handle) (file.Write index offset bytes) unrefused is asked = refl
-may_be_buffered layout files control spent change (Some handle) (file.SetAll index n) unrefused is asked = refl
-may_be_buffered layout files control spent change None (file.Write index offset bytes) unrefused is asked = absurd asked
-may_be_buffered layout files control spent change None (file.SetAll index n) unrefused is asked = absurd asked
-may_be_buffered layout files control spent (Write handle offset bytes) named other unrefused is asked = absurd cc
-may_be_buffered layout files control spent (SetAll handle n) named other unrefused is asked = absurd cc
-may_be_buffered layout files control spent other named made unrefused is asked = absurd cc
+-- in a transaction nothing but an edit is let through
+let_through_inside : (layout : Layout) (files : List File) (control spent : ℕ) (change : Change) (made : Checked)
+    → Passes (totals_limits layout) files control (Some spent) change made
+    → (number : ℕ) × (edit : FileEdit) × (made.handle ≡ Some number) × (edit_in made.change ≡ Some edit) × (spent + edit_cost edit ≤ LAYOUT_2.bytes)
+let_through_inside layout files control spent (Edit handle edit) made passes =
+    by made.handle (edit_in made.change) (ap (λ (m : FileChange). is_some (edit_in m)) (sym passes.made) ∙ is_edit (index_of (is_called handle) files) edit)
+    passes.asked
+  where
+    left : spent + edit_cost edit ≤ LAYOUT_2.bytes
+    left = let unrefused = passes.unrefused in grind (arith, nat_tests, most_bytes layout)
 
--- it costs what was asked for
-cost_is : (change : Change) (named : Option ℕ) (made : FileChange) → is_bufferable named made ≡ true → IsAsked change named made
-    → cost_of change ≡ cost_of_made made
-cost_is change (Some handle) (file.Write index offset bytes) may asked = ap cost_of asked
-cost_is change (Some handle) (file.SetAll index n) may asked = ap cost_of asked
-cost_is change named other may asked = absurd cc
-
--- and that is left
-is_left : (layout : Layout) (files : List File) (control spent : ℕ) (change : Change)
-    → first_refusal (change_rows (totals_limits layout) files control (Some spent) change) ≡ None
-    → spent + cost_of change ≤ LAYOUT_2.bytes
-is_left layout files control spent (Write handle offset bytes) unrefused =
-    let fits = not_refused (not (is_range_of (find (is_called handle) files) offset (pos (length bytes)))) _ _ unrefused in
-    let own = not_refused (is_foreign_file control (find (is_called handle) files)) _ _ fits.1 in
-    let left = not_refused (is_over (totals_limits layout) (Some spent) (cost_of (Write handle offset bytes))) _ _ own.1 in
-    let within = leb-true _ _ (not-false (nat_le (spent + cost_of (Write handle offset bytes)) (limits_of layout).bytes) left.0) in
-    omega (arith, within, most_bytes layout)
-is_left layout files control spent (SetAll handle n) unrefused =
-    let good = not_refused (not (has_file (is_called handle) files && is_up_to 255 n)) _ _ unrefused in
-    let own = not_refused (is_foreign_file control (find (is_called handle) files)) _ _ good.1 in
-    let left = not_refused (is_over (totals_limits layout) (Some spent) (cost_of (SetAll handle n))) _ _ own.1 in
-    let within = leb-true _ _ (not-false (nat_le (spent + cost_of (SetAll handle n)) (limits_of layout).bytes) left.0) in
-    omega (arith, within, most_bytes layout)
-is_left layout files control spent other unrefused = absurd cc
+    by : (named : Option ℕ) (found : Option FileEdit) → is_some found ≡ true → IsEdit (Edit handle edit) named found
+        → (number : ℕ) × (inside : FileEdit) × (named ≡ Some number) × (found ≡ Some inside) × (spent + edit_cost inside ≤ LAYOUT_2.bytes)
+    by named None some asked = absurd cc
+    by None (Some inside) some asked = absurd asked
+    by (Some number) (Some inside) some asked =
+        let same : edit ≡ inside = cc in
+        (number, inside, refl, refl, subst (λ (e : FileEdit). spent + edit_cost e ≤ LAYOUT_2.bytes) same left)
+let_through_inside layout files control spent other made passes = absurd (let unrefused = passes.unrefused in cc)
 
 -- the change may be buffered
 pub may_buffer : (state : State) (holdings : Holdings) (control : ℕ) (change : Change) (made : Checked)
@@ -208,26 +178,23 @@ pub may_buffer : (state : State) (holdings : Holdings) (control : ℕ) (change :
     → MayBuffer holdings.transactions control made
 may_buffer StoreOff holdings control change made checks inside = absurd checks.1
 may_buffer (StoreReady files sequence) holdings control change made checks inside =
-    let both = by (transaction_at holdings.transactions control) inside checks.1 in record { bufferable = both.0; left = both.1 }
+    let it = by (transaction_at holdings.transactions control) inside checks.1 in
+    record { handle = it.0; edit = it.1; named = it.2; is = it.3; left = it.4 }
   where
     by : (o : Option (List Change)) → is_some o ≡ true
         → Passes (totals_limits holdings.layout) (with_tags holdings.handles.given files) control (option_map cost_of_all o) change made
-        → (is_bufferable made.handle made.change ≡ true) × HasLeft o (cost_of_made made.change)
+        → (number : ℕ) × (edit : FileEdit) × (made.handle ≡ Some number) × (edit_in made.change ≡ Some edit) × HasLeft o (edit_cost edit)
     by None some passes = absurd cc
     by (Some buffer) some passes =
-        let may = may_be_buffered holdings.layout (with_tags holdings.handles.given files) control (cost_of_all buffer) change made.handle made.change
-        passes.unrefused passes.made passes.asked in (
-          may,
-          let left = is_left holdings.layout (with_tags holdings.handles.given files) control (cost_of_all buffer) change passes.unrefused in omega
-              (arith, left, cost_is change made.handle made.change may passes.asked),
-        )
+        let_through_inside holdings.layout (with_tags holdings.handles.given files) control (cost_of_all buffer) change made passes
 
 -- a buffered change is the one that was asked for
-same_asked : (change other : Change) (named : Option ℕ) (made : FileChange) → is_bufferable named made ≡ true → IsAsked change named made
-    → IsAsked other named made → other ≡ change
-same_asked change other (Some handle) (file.Write index offset bytes) may asked again = again ∙ sym asked
-same_asked change other (Some handle) (file.SetAll index n) may asked again = again ∙ sym asked
-same_asked change other named made may asked again = absurd cc
+same_asked : (change other : Change) (made : Checked) (number : ℕ) (edit : FileEdit) → made.handle ≡ Some number → edit_in made.change ≡ Some edit
+    → IsAsked change made.handle made.change → IsAsked other made.handle made.change → other ≡ change
+same_asked change other made number edit named is asked again =
+    let first = rw (named, is) at asked in
+    let second = rw (named, is) at again in
+    second ∙ sym first
 
 inside_some : (transaction : Option (List Change)) → is_some transaction ≡ true → (buffer : List Change) × (transaction ≡ Some buffer)
 inside_some None some = absurd cc
@@ -247,14 +214,13 @@ is_buffered : (layout : Layout) (files : List File) (control : ℕ) (spent : Opt
     → is_some spent ≡ true
     → IsBuffered files next change
 is_buffered layout files control None change next distinct below unrefused inside = absurd cc
-is_buffered layout files control (Some spent) (Write handle offset bytes) next distinct below unrefused inside =
-    let fits = range_fits layout files control (Some spent) handle offset bytes unrefused in
-    let found = ranged (find (is_called handle) files) offset (pos (length bytes)) fits in (
+is_buffered layout files control (Some spent) (Edit handle edit) next distinct below unrefused inside =
+    let fit = edit_fits layout files control (Some spent) handle edit unrefused in
+    let found = fitting (find (is_called handle) files) edit fit in (
       found_has (is_called handle) (λ file. IsGiven next handle) files found.0 (given_below handle files next below) found.1,
-      all_fit files handle offset (length bytes) distinct fits,
+      all_fit files handle edit distinct fit,
+      (length found.0.bytes, found.2),
     )
-is_buffered layout files control (Some spent) (SetAll handle n) next distinct below unrefused inside =
-    (value_fits layout files control (Some spent) handle n unrefused).1
 is_buffered layout files control (Some spent) other next distinct below unrefused inside = absurd cc
 
 module _ {D : Type 0} (bound : Ghosts D) (disk : D)
@@ -316,14 +282,14 @@ module _ {D : Type 0} (bound : Ghosts D) (disk : D)
       let may = may_buffer (StoreReady files sequence) holdings control change made checks inside in
       let is : new ≡ (with_change some.0).transactions =
       did.1.added ∙ ap (with_buffered holdings.transactions control)
-      (same_asked change did.1.change made.handle made.change may.bufferable checks.1.asked did.1.asked)
+      (same_asked change did.1.change made may.handle may.edit may.named may.is checks.1.asked did.1.asked)
       ∙ ap (λ (t : Option (List Change)). slice_set holdings.transactions control (option_map (λ b. b ++ change ∷ []) t)) some.1 in
       rw (is, did.0) (is_added some.0 some.1)
 
 -- ---- a change outside a transaction
 
 lacks_is : (files : List File) (change : Change) (next : ℕ) → lacks next (file_change files change) ≡ (is_create change && nat_eq next last_number)
-lacks_is files (Create name size) next = refl
+lacks_is files (Edit handle edit) next = (keeps_handles (index_of (is_called handle) files) edit).lack next
 lacks_is files other next = refl
 
 lacks_so : (files : List File) (change : Change) (next : ℕ) (made : Checked) (b : Bool) → file_change files change ≡ made.change
@@ -364,19 +330,16 @@ has_place : (layout : Layout) (files : List File) (control : ℕ) (spent : Optio
     → next < 2 ^ 64
     → HasPlace (tags_of files) next (file_change files change)
 has_place layout files control spent (Create name size) next unrefused left small =
-    let good = not_refused (is_some spent || not (is_name name && is_natural size)) _ _ unrefused in
-    let free = not_refused (has_file (is_named name) files) _ _ good.1 in
-    let room = not_refused (not (has_room (totals_limits layout) files size)) _ _ free.1 in
-    let few = ltb-true (length files) (limits_of layout).files
-    (and_parts (is_up_to (free_data (totals_limits layout) files) size) (nat_lt (length files) (limits_of layout).files)
-    (not-false (has_room (totals_limits layout) files size) room.0)).1 in
+    let few : length files < (limits_of layout).files = grind (arith, nat_tests) in
     let other = eqb-false next last_number left in
     (omega (arith, length-map files tag_of, few, most_files layout), omega (arith, other, small))
 has_place layout files control spent (Delete name) next unrefused left small =
     let found = deleted layout files control spent name unrefused in
     let inside = found_inside (is_named name) files found.0 found.1 in
     omega (arith, length-map files tag_of, inside)
-has_place layout files control spent other next unrefused left small = tt
+has_place layout files control spent (Rename handle name) next unrefused left small = tt
+has_place layout files control spent (Edit handle edit) next unrefused left small =
+    (keeps_handles (index_of (is_called handle) files) edit).place (tags_of files) next
 
 pub place : {layout : Layout} (state : State) (holdings : Holdings) (control : ℕ) (change : Change) (made : Checked) → IsSound layout state holdings
     → ChecksAt (totals_of state holdings) control change (Ok made) → lacks holdings.handles.next made.change ≡ false → holdings.handles.next < 2 ^ 64
@@ -497,13 +460,6 @@ module _ {D : Type 0} (bound : Ghosts D) (disk : D)
   failed : (new : StoreView D) (cause : StoreFault) → (is_create change && nat_eq next last_number) ≡ false → Commits bound ready_store group (Err cause) new
       → Changes bound (view_of ready_store holdings) control change (answer_of cause)
       (view_of new (refused_holdings holdings cause)) × IsSound new.layout new.state (refused_holdings holdings cause)
-  failed new fault.Off left commits = absurd (put_down bound disk files sequence tail holdings change [] sound.handles one (Err fault.Off) new commits.answer)
-  failed new fault.AlreadyLayout2 left commits =
-      absurd (put_down bound disk files sequence tail holdings change [] sound.handles one (Err fault.AlreadyLayout2) new commits.answer)
-  failed new fault.Unformatted left commits =
-      absurd (put_down bound disk files sequence tail holdings change [] sound.handles one (Err fault.Unformatted) new commits.answer)
-  failed new fault.Damaged left commits =
-      absurd (put_down bound disk files sequence tail holdings change [] sound.handles one (Err fault.Damaged) new commits.answer)
   failed new fault.NoMemory left commits =
       let same : new ≡ ready_store = ⊎_elim (λ is. absurd cc) (λ e. e) (commits.unchanged refl) in
       rw same (
@@ -528,6 +484,7 @@ module _ {D : Type 0} (bound : Ghosts D) (disk : D)
         },
         record { found = tt; handles = tt; buffers = none_hold Off next holdings.transactions; apart = tt },
       )
+  failed new other left commits = absurd (put_down bound disk files sequence tail holdings change [] sound.handles one (Err other) new commits.answer)
 
 -- ---- the same for a store in any state, by what the checks found
 

@@ -1,15 +1,16 @@
 -- Claims: the tags with other claims are those of the files with other claims.
-use Rattle.std.proofs.Common.{◌≡◌, ◌∙◌, ℕ, ◌<◌, ℤ, pos, Bool, true, false, not, ◌&&◌, ◌||◌, cond, List, [], ◌∷◌, ◌++◌, length, map, Option, Some, None, Ok}
+use Rattle.std.proofs.Common.{◌≡◌, ◌∙◌, ℕ, ◌<◌, ℤ, pos, not, ◌&&◌, ◌||◌, List, [], ◌∷◌, ◌++◌, length, map, Option, Some, None, Ok}
 use Rattle.std.proofs.Common.{refl, sym, ap, subst, arith}
-use Rattle.std.specs.Prelude.{nat_eq, slice_set}
+use Rattle.std.specs.Prelude.{slice_set}
 use Rattle.std.specs.List.{find, list_any, AllByRecursion}
 use Rattle.std.proofs.lemmas.List.{length-map}
+use Rattle.std.proofs.lemmas.Bool.Decides.{nat_tests}
 use Rattle.pos_dir.specs.declared.file.File.{File as PlainFile}
 use Rattle.pos_image.specs.declared.layout.Layout.{Layout}
 use Rattle.pos_service.specs.declared.answer.Answer.TheVariants as answer
 use Rattle.pos_service.specs.declared.answer.Value.TheVariants as value
-use Rattle.pos_service.specs.Claims.{is_foreign, is_own, is_timeout}
-use Rattle.pos_totals.specs.HardTotals.{File, Mode, Off, Ready, Change, with_files, files_of}
+use Rattle.pos_service.specs.Claims.{is_foreign, is_timeout}
+use Rattle.pos_totals.specs.HardTotals.{Mode, Off, Ready, Change, with_files, files_of}
 use Rattle.pos_totals.specs.TotalsArrangements.{ClaimFile, ReleaseFile, claimed, refusals_of_arrangement, after_arrangement, Arranges}
 use Rattle.pos_totals.specs.TotalsFiles.{is_called, with_each, has_file, is_foreign_file}
 use Rattle.pos_totals.specs.TotalsClaims.{is_own_claim, is_foreign_claim, foreign_area, without_control}
@@ -24,7 +25,7 @@ use Rattle.pos_totals.proofs.Putting.{open_table}
 use Rattle.pos_totals.specs.Buffers.{HaveBuffers}
 use Rattle.pos_totals.specs.Checks.{files_in, IsSeen, LetsThroughAt}
 use Rattle.pos_totals.specs.Tables.{HandleTable, tag_claimed, tag_released}
-use Rattle.pos_totals.specs.Views.{called, with_tags, numbers_of, mode_of, totals_of, AreDistinct, AreApart, HasHandles, IsSound}
+use Rattle.pos_totals.specs.Views.{with_tags, numbers_of, mode_of, totals_of, AreDistinct, AreApart, HasHandles, IsSound}
 use Rattle.pos_totals.specs.declared.files.Files.{Files}
 use Rattle.pos_totals.specs.declared.handles.Tag.{Tag}
 use Rattle.pos_totals.specs.declared.holdings.Holdings.{Holdings}
@@ -35,25 +36,13 @@ claimed_files : (handle : ℕ) (claim : Option ℕ) (tags : List Tag) (files : L
     → with_tags (map (tag_claimed handle claim) tags) files ≡ with_each (is_called (pos handle)) (claimed claim) (with_tags tags files)
 claimed_files handle claim [] files = refl
 claimed_files handle claim (tag ∷ tags) [] = refl
-claimed_files handle claim (tag ∷ tags) (file ∷ files) = by (nat_eq tag.handle handle) (claimed_files handle claim tags files)
-  where
-    by : (b : Bool) → with_tags (map (tag_claimed handle claim) tags) files ≡ with_each (is_called (pos handle)) (claimed claim) (with_tags tags files)
-        → ◌≡◌ {A = List File} (called (cond b (record tag { claim = claim }) tag) file ∷ with_tags (map (tag_claimed handle claim) tags) files)
-        (cond b (claimed claim (called tag file)) (called tag file) ∷ with_each (is_called (pos handle)) (claimed claim) (with_tags tags files))
-    by true rest = ap (λ fs. claimed claim (called tag file) ∷ fs) rest
-    by false rest = ap (λ fs. called tag file ∷ fs) rest
+claimed_files handle claim (tag ∷ tags) (file ∷ files) = grind (arith, nat_tests, claimed_files handle claim tags files)
 
 released_files : (control : ℕ) (tags : List Tag) (files : List PlainFile)
     → with_tags (map (tag_released control) tags) files ≡ with_each (is_own_claim control) (claimed None) (with_tags tags files)
 released_files control [] files = refl
 released_files control (tag ∷ tags) [] = refl
-released_files control (tag ∷ tags) (file ∷ files) = by (is_own control tag.claim) (released_files control tags files)
-  where
-    by : (b : Bool) → with_tags (map (tag_released control) tags) files ≡ with_each (is_own_claim control) (claimed None) (with_tags tags files)
-        → ◌≡◌ {A = List File} (called (cond b (record tag { claim = None }) tag) file ∷ with_tags (map (tag_released control) tags) files)
-        (cond b (claimed None (called tag file)) (called tag file) ∷ with_each (is_own_claim control) (claimed None) (with_tags tags files))
-    by true rest = ap (λ fs. claimed None (called tag file) ∷ fs) rest
-    by false rest = ap (λ fs. called tag file ∷ fs) rest
+released_files control (tag ∷ tags) (file ∷ files) = grind (arith, nat_tests, released_files control tags files)
 
 claimed_mode : (handle : ℕ) (claim : Option ℕ) (tags : List Tag) (state : State)
     → mode_of (map (tag_claimed handle claim) tags) state ≡ with_files (with_each (is_called (pos handle)) (claimed claim)) (mode_of tags state)
@@ -69,32 +58,18 @@ released_mode control tags (StoreReady files sequence) = ap (λ fs. Ready fs seq
 
 claimed_numbers : (handle : ℕ) (claim : Option ℕ) (tags : List Tag) → numbers_of (map (tag_claimed handle claim) tags) ≡ numbers_of tags
 claimed_numbers handle claim [] = refl
-claimed_numbers handle claim (tag ∷ tags) = by (nat_eq tag.handle handle) (claimed_numbers handle claim tags)
-  where
-    by : (b : Bool) → numbers_of (map (tag_claimed handle claim) tags) ≡ numbers_of tags
-        → ◌≡◌ {A = List ℕ} ((cond b (record tag { claim = claim }) tag).handle ∷ numbers_of (map (tag_claimed handle claim) tags))
-        (tag.handle ∷ numbers_of tags)
-    by true rest = ap (λ ns. tag.handle ∷ ns) rest
-    by false rest = ap (λ ns. tag.handle ∷ ns) rest
+claimed_numbers handle claim (tag ∷ tags) = grind (arith, nat_tests, claimed_numbers handle claim tags)
 
 pub released_numbers : (control : ℕ) (tags : List Tag) → numbers_of (map (tag_released control) tags) ≡ numbers_of tags
 released_numbers control [] = refl
-released_numbers control (tag ∷ tags) = by (is_own control tag.claim) (released_numbers control tags)
-  where
-    by : (b : Bool) → numbers_of (map (tag_released control) tags) ≡ numbers_of tags
-        → ◌≡◌ {A = List ℕ} ((cond b (record tag { claim = None }) tag).handle ∷ numbers_of (map (tag_released control) tags)) (tag.handle ∷ numbers_of tags)
-    by true rest = ap (λ ns. tag.handle ∷ ns) rest
-    by false rest = ap (λ ns. tag.handle ∷ ns) rest
+released_numbers control (tag ∷ tags) = grind (arith, nat_tests, released_numbers control tags)
 
 same_outlines : (xs ys : List Tag) (files : List PlainFile) → numbers_of xs ≡ numbers_of ys → outlines (with_tags xs files) ≡ outlines (with_tags ys files)
 same_outlines [] [] files same = refl
 same_outlines [] (y ∷ ys) files same = absurd cc
 same_outlines (x ∷ xs) [] files same = absurd cc
 same_outlines (x ∷ xs) (y ∷ ys) [] same = refl
-same_outlines (x ∷ xs) (y ∷ ys) (file ∷ files) same =
-    let first : x.handle ≡ y.handle = cc in
-    let others : numbers_of xs ≡ numbers_of ys = cc in
-    ap (λ n. (n, length file.bytes) ∷ outlines (with_tags xs files)) first ∙ ap (λ os. (y.handle, length file.bytes) ∷ os) (same_outlines xs ys files others)
+same_outlines (x ∷ xs) (y ∷ ys) (file ∷ files) same = let others : numbers_of xs ≡ numbers_of ys = cc in cc (same_outlines xs ys files others)
 
 -- tags of the same handles are as sound
 pub sound_retagged : {layout : Layout} (state : State) (holdings : Holdings) (tags : List Tag) → numbers_of tags ≡ numbers_of holdings.handles.given
@@ -175,9 +150,8 @@ file_released state holdings control handle number table through given next soun
 foreign_tags : (control : ℕ) (tags : List Tag) (files : List PlainFile) → length tags ≡ length files
     → list_any (λ tag. is_foreign control tag.claim) tags ≡ list_any (is_foreign_claim control) (with_tags tags files)
 foreign_tags control [] [] same = refl
-foreign_tags control [] (file ∷ files) same = absurd (omega (arith, same))
-foreign_tags control (tag ∷ tags) [] same = absurd (omega (arith, same))
 foreign_tags control (tag ∷ tags) (file ∷ files) same = ap (λ b. is_foreign control tag.claim || b) (foreign_tags control tags files (omega (arith, same)))
+foreign_tags control tags files same = absurd (omega (arith, same))
 
 -- another control has claimed a file of those that are seen
 pub foreign_seen : (mode : Mode) (files : Files) (control : ℕ) → IsSeen mode (Some (files_in files)) → length files.tags.now ≡ length files.directory.now.files
@@ -187,12 +161,6 @@ foreign_seen (Ready fs sequence) files control seen same =
     foreign_tags control files.tags.now files.directory.now.files same ∙ ap (list_any (is_foreign_claim control)) seen
 
 -- ---- the end of all that a control has
-
--- one more place, where there is no transaction
-pub held_more : (mode : Mode) (next : ℕ) (transactions : List (Option (List Change))) → HaveBuffers mode next transactions
-    → HaveBuffers mode next (transactions ++ None ∷ [])
-held_more mode next [] all = (none_held mode next, tt)
-held_more mode next (first ∷ others) all = (all.0, held_more mode next others all.1)
 
 pub control_dropped : {layout : Layout} (state : State) (holdings : Holdings) (control : ℕ) (table : HandleTable)
     → table.given ≡ map (tag_released control) holdings.handles.given → table.next ≡ holdings.handles.next → IsSound layout state holdings

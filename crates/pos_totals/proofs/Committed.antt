@@ -1,7 +1,7 @@
 -- What a commit did, by what its table says and by what the store did.
-use Rattle.std.proofs.Common.{◌≡◌, ◌∙◌, inl, inr, ⊎_elim, ◌⊎◌, ℕ, zero, suc, true, false, cond, List, [], ◌∷◌, length, Option, Some, None, Ok, Err, refl, sym}
+use Rattle.std.proofs.Common.{◌≡◌, ◌∙◌, inl, inr, ⊎_elim, ◌⊎◌, ℕ, zero, suc, true, false, List, [], ◌∷◌, length, Option, Some, None, Ok, Err, refl, sym}
 use Rattle.std.proofs.Common.{ap, subst, arith}
-use Rattle.std.specs.Prelude.{nat_eq, is_none, slice_set}
+use Rattle.std.specs.Prelude.{nat_eq, slice_set}
 use Rattle.std.specs.List.{list_any, AllByRecursion}
 use Rattle.std.proofs.lemmas.Bool.{eq-eqb}
 use Rattle.std.proofs.lemmas.List.{length-map}
@@ -14,7 +14,6 @@ use Rattle.pos_disk.specs.declared.device.Disk.{Ghosts}
 use Rattle.pos_service.specs.declared.answer.Answer.{Answer}
 use Rattle.pos_service.specs.declared.answer.Answer.TheVariants as answer
 use Rattle.pos_service.specs.declared.answer.Value.TheVariants as value
-use Rattle.pos_service.specs.declared.code.Code.TheVariants as code
 use Rattle.pos_service.specs.declared.memory.NoMemory.{NoMemory}
 use Rattle.pos_service.specs.Claims.{is_foreign}
 use Rattle.pos_totals.specs.TotalsRows.{while_ready}
@@ -56,23 +55,19 @@ gathers files (first ∷ others) group some made = record { first = first; other
 -- nothing refuses the commit
 pub unrefused : (files : List File) (control : ℕ) (changes : List Change) → list_any (is_of_none files) changes ≡ false
     → list_any (is_of_foreign files control) changes ≡ false → first_refusal (commit_rows files control (Some changes)) ≡ None
-unrefused files control changes there own =
-    ap (λ b. cond b (Some (answer.Refused code.NoExist 0))
-    (cond (list_any (is_of_foreign files control) changes) (Some (answer.Refused code.Claimed 0)) None)) there
-    ∙ ap (λ b. cond b (Some (answer.Refused code.Claimed 0)) None) own
+unrefused files control changes there own = rw (there, own) refl
 
 -- ---- the table of a commit
 
 -- the group of a commit that is refused
 no_group : (totals : Totals) (control : ℕ) (refusal : Answer) → first_refusal (refusals_of_commit totals control) ≡ Some refusal
     → group_by_commit totals control ≡ []
-no_group totals control refusal refused = ap (λ (o : Option Answer). cond (is_none o) (changes_in (transaction_of totals control)) []) refused
+no_group totals control refusal refused = rw refused refl
 
 -- and of one that is let through
 whole_group : (totals : Totals) (control : ℕ) (buffer : List Change) → first_refusal (refusals_of_commit totals control) ≡ None
     → transaction_at totals.transactions control ≡ Some buffer → group_by_commit totals control ≡ buffer
-whole_group totals control buffer passes some =
-    ap (λ (o : Option Answer). cond (is_none o) (changes_in (transaction_of totals control)) []) passes ∙ ap changes_in some
+whole_group totals control buffer passes some = rw (passes, some) refl
 
 -- the files of what is let through are there
 all_there : (files : List PlainFile) (sequence : ℕ) (holdings : Holdings) (control : ℕ) (buffer : List Change)
@@ -80,10 +75,8 @@ all_there : (files : List PlainFile) (sequence : ℕ) (holdings : Holdings) (con
     → transaction_at holdings.transactions control ≡ Some buffer
     → list_any (is_of_none (with_tags holdings.handles.given files)) buffer ≡ false
 all_there files sequence holdings control buffer passes some =
-    let xs = with_tags holdings.handles.given files in
-    let rows : first_refusal (commit_rows xs control (transaction_at holdings.transactions control)) ≡ None =
-    (not_refused (is_foreign control holdings.area) _ _ passes).1 in
-    (not_refused (list_any (is_of_none xs) buffer) _ _ (subst (λ (t : Option (List Change)). first_refusal (commit_rows xs control t) ≡ None) some rows)).0
+    let rows = rw some at (not_refused (is_foreign control holdings.area) _ _ passes).1 in
+    (not_refused (list_any (is_of_none (with_tags holdings.handles.given files)) buffer) _ _ rows).0
 
 -- while the totals are off each commit is refused
 off_refused : (holdings : Holdings) (control : ℕ) → first_refusal (refusals_of_commit (totals_of StoreOff holdings) control) ≡ None → ⊥
@@ -102,18 +95,23 @@ one_group files sequence holdings control buffer directory sound passes some =
     (all_there files sequence holdings control buffer passes some)
 
 -- in a transaction, whatever it has
-in_some : (totals : Totals) (control : ℕ) → first_refusal (refusals_of_commit totals control) ≡ None → (mode : Mode) → totals.mode ≡ mode
-    → (transaction : Option (List Change)) → transaction_at totals.transactions control ≡ transaction
-    → (buffer : List Change) × (transaction_at totals.transactions control ≡ Some buffer)
-in_some totals control passes Off is transaction some =
-    absurd (let rest = (not_refused (is_foreign control totals.area) _ _ passes).1 in let off = subst
-    (λ (m : Mode). first_refusal (while_ready m (λ files. commit_rows files control (transaction_of totals control))) ≡ None) is rest in cc)
-in_some totals control passes (Ready files sequence) is None some =
-    absurd (
-    let rest = (not_refused (is_foreign control totals.area) _ _ passes).1 in
-    let ready = subst (λ (m : Mode). first_refusal (while_ready m (λ files. commit_rows files control (transaction_of totals control))) ≡ None) is rest in
-    let none = subst (λ (t : Option (List Change)). first_refusal (commit_rows files control t) ≡ None) some ready in cc)
-in_some totals control passes (Ready files sequence) is (Some buffer) some = (buffer, some)
+in_some : (files : List File) (control : ℕ) (transaction : Option (List Change)) → first_refusal (commit_rows files control transaction) ≡ None
+    → (buffer : List Change) × (transaction ≡ Some buffer)
+in_some files control None passes = absurd cc
+in_some files control (Some buffer) passes = (buffer, refl)
+
+-- the group of a commit that is let through is one
+let_through : (layout : Layout) (state : State) (holdings : Holdings) (control : ℕ) → HasDirectory holdings.layout state
+    → IsSound layout state holdings
+    → first_refusal (refusals_of_commit (totals_of state holdings) control) ≡ None
+    → IsOneGroup (totals_of state holdings) (group_by_commit (totals_of state holdings) control)
+let_through layout StoreOff holdings control directory sound passes = absurd (off_refused holdings control passes)
+let_through layout (StoreReady files sequence) holdings control directory sound passes =
+    let totals = totals_of (StoreReady files sequence) holdings in
+    let some = in_some (with_tags holdings.handles.given files) control (transaction_at holdings.transactions control)
+    (not_refused (is_foreign control holdings.area) _ _ passes).1 in
+    rw (whole_group totals control some.0 passes some.1) (one_group files sequence holdings control some.0 directory
+    (sound_as layout holdings.layout (StoreReady files sequence) holdings refl sound) passes some.1)
 
 -- ---- where the disk isn't used
 
@@ -146,8 +144,7 @@ module _ {D : Type 0} (bound : Ghosts D) (disk : D)
   ends passes none new is = rw is (
     record {
       answer = open_table (refusals_of_commit totals control) _ _ _ passes
-          (subst (λ (t : Option (List Change)). DoesCommit (HasFailed bound disk disk) totals (with_transaction totals control None) (changes_in t)
-          (answer.Done value.Empty) (with_transaction totals control None)) (sym none) (refl, refl));
+          (rw none (refl, refl));
       disk = rw (whole_group totals control [] passes none)
           (idles bound disk only totals (with_transaction totals control None) [] _ refl refl (λ refused. absurd (refused tt)) their);
     },
@@ -161,32 +158,12 @@ module _ {D : Type 0} (bound : Ghosts D) (disk : D)
     },
   )
 
--- the group of a commit that is let through is one
-let_through : (layout : Layout) (state : State) (holdings : Holdings) (control : ℕ) → HasDirectory holdings.layout state
-    → IsSound layout state holdings
-    → first_refusal (refusals_of_commit (totals_of state holdings) control) ≡ None
-    → IsOneGroup (totals_of state holdings) (group_by_commit (totals_of state holdings) control)
-let_through layout StoreOff holdings control directory sound passes = absurd (off_refused holdings control passes)
-let_through layout (StoreReady files sequence) holdings control directory sound passes =
-    let totals = totals_of (StoreReady files sequence) holdings in
-    let some = in_some totals control passes totals.mode refl (transaction_at holdings.transactions control) refl in
-    rw (whole_group totals control some.0 passes some.1) (one_group files sequence holdings control some.0 directory
-    (sound_as layout holdings.layout (StoreReady files sequence) holdings refl sound) passes some.1)
-
--- a commit that finds no memory
-pub finds_none : {D : Type 0} (bound : Ghosts D) (disk : D)
-    (only : bound.honest disk → (bytes : List ℕ) → (bound.state disk).left_since (bound.state disk).moment bytes → MayLeave (bound.state disk) bytes)
-    (layout : Layout) (state : State) (holdings : Holdings) (control : ℕ) → HasDirectory holdings.layout state → IsSound layout state holdings
-    → (bound.honest disk → LeavesItsFiles layout state (bound.state disk))
-    → first_refusal (refusals_of_commit (totals_of state holdings) control) ≡ None → (want : NoMemory)
-    → CommitsBuffer bound (view_at disk state holdings) control (Err want) (view_at disk state holdings)
-finds_none bound disk only layout state holdings control directory sound leaves passes want = record {
-  answer = (passes, refl);
-  disk = rests bound disk only (totals_of state holdings) (group_by_commit (totals_of state holdings) control) (Err want)
-      (let_through layout state holdings control directory sound passes)
-      (λ h. their_files holdings.layout holdings.handles.given state holdings.handles.next (bound.state disk) sound.handles
-      (leaves_found layout holdings.layout state (bound.state disk) sound.found (leaves h)));
-}
+  -- a commit that finds no memory
+  pub finds_none : first_refusal (refusals_of_commit totals control) ≡ None → (want : NoMemory) → CommitsBuffer bound view control (Err want) view
+  finds_none passes want = record {
+    answer = (passes, refl);
+    disk = rests bound disk only totals (group_by_commit totals control) (Err want) (let_through layout state holdings control directory sound passes) their;
+  }
 
 -- ---- a group on the disk
 
@@ -236,7 +213,7 @@ module _ {D : Type 0} (bound : Ghosts D) (disk : D)
       → RunsOut ready result new ⊎ Done DiskFailed ended (first ∷ others) value.Empty result new → Committed DiskFailed ready control (Ok result) new
   answered DiskFailed result new does =
       open_table (refusals_of_commit ready control) _ _ _ passes
-      (subst (λ (t : Option (List Change)). DoesCommit DiskFailed ready ended (changes_in t) result new) (sym some) does)
+      (rw some does)
 
   -- the sequence after it
   abbrev then_sequence : ℕ
@@ -294,13 +271,6 @@ module _ {D : Type 0} (bound : Ghosts D) (disk : D)
   pub failed : (new : StoreView D) (cause : StoreFault) → Commits bound ready_store (group_of there (first ∷ others)) (Err cause) new
       → CommitsBuffer bound (view_of ready_store holdings) control (answer_of cause)
       (view_of new (refused_holdings holdings cause)) × IsSound new.layout new.state (refused_holdings holdings cause)
-  failed new fault.Off commits = absurd (put_down bound disk files sequence tail holdings first others sound.handles one (Err fault.Off) new commits.answer)
-  failed new fault.AlreadyLayout2 commits =
-      absurd (put_down bound disk files sequence tail holdings first others sound.handles one (Err fault.AlreadyLayout2) new commits.answer)
-  failed new fault.Unformatted commits =
-      absurd (put_down bound disk files sequence tail holdings first others sound.handles one (Err fault.Unformatted) new commits.answer)
-  failed new fault.Damaged commits =
-      absurd (put_down bound disk files sequence tail holdings first others sound.handles one (Err fault.Damaged) new commits.answer)
   failed new fault.NoMemory commits =
       let same : new ≡ ready_store = ⊎_elim (λ is. absurd cc) (λ e. e) (commits.unchanged refl) in
       rw same (finds_none bound disk only holdings.layout (StoreReady files sequence) holdings control directory sound leaves passes (record {}), sound)
@@ -328,6 +298,7 @@ module _ {D : Type 0} (bound : Ghosts D) (disk : D)
         },
         record { found = tt; handles = tt; buffers = none_hold Off next holdings.transactions; apart = tt },
       )
+  failed new other commits = absurd (put_down bound disk files sequence tail holdings first others sound.handles one (Err other) new commits.answer)
 
 -- ---- the same for a store in any state, by the plan
 

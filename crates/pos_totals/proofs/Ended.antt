@@ -10,8 +10,8 @@ use Rattle.pos_totals.specs.Buffers.{with_buffered}
 pub set_again : (transactions : List (Option (List Change))) (control : ℕ) (buffer : List Change) → transaction_at transactions control ≡ Some buffer
     → set transactions control (Some buffer) ≡ transactions
 set_again [] control buffer is = absurd cc
-set_again (first ∷ others) zero buffer is = ap (λ t. t ∷ others) (sym is)
-set_again (first ∷ others) (suc control) buffer is = ap (λ ts. first ∷ ts) (set_again others control buffer is)
+set_again (first ∷ others) zero buffer is = cc
+set_again (first ∷ others) (suc control) buffer is = cc (set_again others control buffer is)
 
 -- a buffer that is put back as it was
 pub put_back : (old : List (Option (List Change))) (control : ℕ) (buffer : List Change) (taken : List (Option (List Change))) (now : List Change)

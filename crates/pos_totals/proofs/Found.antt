@@ -21,18 +21,16 @@ use Rattle.pos_totals.specs.declared.holdings.Holdings.{Holdings}
 pub index_by_name : (tags : List Tag) (files : List PlainFile) (name : List ℕ) → length tags ≡ length files
     → index_of (is_named name) (with_tags tags files) ≡ position_or_len (λ file. bytes_eq file.name name) files
 index_by_name [] [] name same = refl
-index_by_name [] (file ∷ files) name same = absurd (omega (arith, same))
-index_by_name (tag ∷ tags) [] name same = absurd (omega (arith, same))
 index_by_name (tag ∷ tags) (file ∷ files) name same =
     ap (λ n. cond (not (bytes_eq file.name name)) (1 + n) 0) (index_by_name tags files name (omega (arith, same)))
+index_by_name tags files name same = absurd (omega (arith, same))
 
 pub index_by_handle : (tags : List Tag) (files : List PlainFile) (handle : ℕ) → length tags ≡ length files
     → index_of (is_called (pos handle)) (with_tags tags files) ≡ position_or_len (λ tag. nat_eq tag.handle handle) tags
 index_by_handle [] [] handle same = refl
-index_by_handle [] (file ∷ files) handle same = absurd (omega (arith, same))
-index_by_handle (first ∷ tags) [] handle same = absurd (omega (arith, same))
 index_by_handle (first ∷ tags) (file ∷ files) handle same =
     ap (λ n. cond (not (nat_eq first.handle handle)) (1 + n) 0) (index_by_handle tags files handle (omega (arith, same)))
+index_by_handle tags files handle same = absurd (omega (arith, same))
 
 -- no file has a handle below 0
 pub none_below : (handle : ℤ) (files : List File) → is_natural handle ≡ false → find (is_called handle) files ≡ None

@@ -1,15 +1,16 @@
 -- What each change does to the files is what its group does to the directory.
-use Rattle.std.proofs.Common.{◌≡◌, ◌∙◌, ℕ, suc, ◌+◌, ◌≤◌, ℤ, pos, negsuc, nat_abs, Bool, true, false, not, ◌&&◌, ◌||◌, cond, List, [], ◌∷◌, ◌++◌, length, take}
+use Rattle.std.proofs.Common.{◌≡◌, ◌∙◌, ℕ, suc, ◌≤◌, ℤ, pos, negsuc, nat_abs, Bool, true, false, not, ◌&&◌, ◌||◌, cond, List, [], ◌∷◌, ◌++◌, length, take}
 use Rattle.std.proofs.Common.{drop, set, replicate, map, Option, Some, None, Result, Ok, Err, refl, sym, ap, subst, arith}
-use Rattle.std.specs.Prelude.{slice_get, slice_set, remove, nat_lt, nat_le, nat_eq, bytes_eq, is_some}
+use Rattle.std.specs.Prelude.{slice_get, slice_set, remove, nat_eq, is_some}
 use Rattle.std.specs.List.{find, AllByRecursion}
 use Rattle.std.specs.Option.{option_map}
-use Rattle.std.proofs.lemmas.Bool.{and_parts, and_from, not-true, not-false, le-leb, leb-true, eqb-true, cond-true, cond-false}
+use Rattle.std.proofs.lemmas.Bool.{and_parts, not-true, not-false, leb-true, eqb-true, cond-false}
 use Rattle.std.proofs.lemmas.List.{map-set, map-append, take-map, drop-map, length-map}
 use Rattle.std.proofs.lemmas.List.Sums.{sum_by-cons}
 use Rattle.std.proofs.lemmas.Option.{slice_get-map}
 use Rattle.std.proofs.lemmas.Slice.Eq.{bytes_eq-Decides}
-use Rattle.pos_dir.specs.Changes.{splice, with_file, outcome, outcome_of_all, and_then}
+use Rattle.std.proofs.lemmas.Bool.Decides.{nat_tests}
+use Rattle.pos_dir.specs.Changes.{with_file, outcome, outcome_of_all}
 use Rattle.pos_dir.specs.Files.{IsDirectory, has_name, are_distinct, total_size}
 use Rattle.pos_dir.specs.declared.change.Change.{Change as FileChange}
 use Rattle.pos_dir.specs.declared.fault.DirectoryFault.{DirectoryFault}
@@ -18,11 +19,12 @@ use Rattle.pos_dir.specs.declared.file.File.{File as PlainFile}
 use Rattle.pos_dir.specs.declared.limits.Limits.{Limits}
 use Rattle.pos_image.specs.declared.layout.Layout.{Layout}
 use Rattle.pos_service.specs.declared.answer.Answer.{Answer}
-use Rattle.pos_totals.specs.HardTotals.{File, Change, Create, Delete, Rename, Write, SetAll, totals_limits}
-use Rattle.pos_totals.specs.TotalsFiles.{is_name, is_range, is_range_of, is_named, is_called, has_file, has_room, free_data, size_in_sum, with_each}
-use Rattle.pos_totals.specs.TotalsFiles.{overwritten}
-use Rattle.pos_service.specs.Numbers.{is_natural, is_up_to}
-use Rattle.pos_totals.specs.TotalsChanges.{change_rows, files_after}
+use Rattle.pos_totals.specs.HardTotals.{File, Change, Create, Delete, Rename, Edit, totals_limits}
+use Rattle.pos_totals.specs.TotalsFiles.{is_name, is_named, is_called, has_file, free_data, size_in_sum, with_each}
+use Rattle.pos_totals.specs.Edits.{FileEdit, fits, edited}
+use Rattle.pos_totals.proofs.Edited.{makes_edit}
+use Rattle.pos_service.specs.Numbers.{is_up_to}
+use Rattle.pos_totals.specs.TotalsChanges.{change_rows, files_after, fits_file}
 use Rattle.pos_service.specs.Refusals.{first_refusal}
 use Rattle.pos_store.specs.Layouts.{limits_of}
 use Rattle.pos_totals.proofs.Places.{OnlyOne, found_at, one_changed, one_gone}
@@ -33,25 +35,18 @@ use Rattle.pos_totals.specs.Views.{plain, plain_file, handles_of, AreDistinct}
 
 -- a row that doesn't refuse, and the rows behind it
 pub not_refused : (applies : Bool) (answer : Answer) (rest : Option Answer) → cond applies (Some answer) rest ≡ None → (applies ≡ false) × (rest ≡ None)
-not_refused true answer rest none = absurd cc
-not_refused false answer rest none = (refl, none)
+not_refused applies answer rest none = grind (arith, nat_tests)
 
 -- neither of two conditions of a row holds
 pub neither : (x y : Bool) → (x || y) ≡ false → (x ≡ false) × (y ≡ false)
-neither true y none = absurd cc
-neither false y none = (refl, none)
+neither x y none = grind (arith, nat_tests)
 
 -- ---- names and handles
 
 -- the directory's test for a name
 pub plain_name : (files : List File) (name : List ℕ) → has_name (plain files) name ≡ has_file (is_named name) files
 plain_name [] name = refl
-plain_name (first ∷ files) name = by (bytes_eq first.name name) (plain_name files name)
-  where
-    by : (b : Bool) → has_name (plain files) name ≡ has_file (is_named name) files
-        → (b || has_name (plain files) name) ≡ is_some (cond b (Some first) (find (is_named name) files))
-    by true rest = refl
-    by false rest = rest
+plain_name (first ∷ files) name = grind (arith, nat_tests, plain_name files name)
 
 pub no_file : (found : Option File) → is_some found ≡ false → found ≡ None
 no_file None none = refl
@@ -99,22 +94,15 @@ map-remove f xs i =
     map-append f (take i xs) (drop (suc i) xs) ∙ ap (λ ys. ys ++ map f (drop (suc i) xs)) (sym (take-map f i xs))
     ∙ ap (λ ys. take i (map f xs) ++ ys) (sym (drop-map f (suc i) xs))
 
-one_change : (limits : Limits) (files after : List PlainFile) (change : FileChange) → outcome limits files change ≡ Ok after
-    → outcome_of_all limits files (change ∷ []) ≡ Ok after
-one_change limits files after change made = ap (λ r. and_then r (λ next. Ok next)) made
-
--- the directory's change of a file at an index
-at_index : (files : List File) (i : ℕ) (f : File) (change : PlainFile → Result (List PlainFile) DirectoryFault) → slice_get files i ≡ Some f
-    → with_file (slice_get (plain files) i) change ≡ change (plain_file f)
-at_index files i f change at = ap (λ o. with_file o change) (slice_get-map plain_file files i ∙ ap (option_map plain_file) at)
-
 pub plain_size : (files : List File) → total_size (plain files) ≡ size_in_sum files
 plain_size [] = refl
 plain_size (first ∷ files) =
-    let here = sum_by-cons (λ (x : PlainFile). length x.bytes) (plain_file first) (plain files) in
-    let there = sum_by-cons (λ (x : File). length x.bytes) first files in
-    let rest = plain_size files in
-    omega (arith, here, there, rest)
+    omega (
+      arith,
+      sum_by-cons (λ (x : PlainFile). length x.bytes) (plain_file first) (plain files),
+      sum_by-cons (λ (x : File). length x.bytes) first files,
+      plain_size files,
+    )
 
 -- what the directory makes is what the change makes
 abbrev pub Makes : Layout → List File → Change → ℕ → Type 0
@@ -128,38 +116,33 @@ made_create : (layout : Layout) (files : List File) (control : ℕ) (spent : Opt
     → total_size (plain files) ≤ (limits_of layout).bytes
     → first_refusal (change_rows (totals_limits layout) files control spent (Create name size)) ≡ None → Makes layout files (Create name size) next
 made_create layout files control spent name size next small unrefused =
-    let good = not_refused (is_some spent || not (is_name name && is_natural size)) _ _ unrefused in
-    let free = not_refused (has_file (is_named name) files) _ _ good.1 in
-    let room = not_refused (not (has_room (totals_limits layout) files size)) _ _ free.1 in
-    let parts = and_parts (is_up_to (free_data (totals_limits layout) files) size) (nat_lt (length files) (limits_of layout).files)
-    (not-false (has_room (totals_limits layout) files size) room.0) in
-    let few : nat_lt (length (plain files)) (limits_of layout).files ≡ true = ap (λ n. nat_lt n (limits_of layout).files) (length-map files plain_file) ∙
-    parts.1 in
-    let fits : nat_le (total_size (plain files) + nat_abs size) (limits_of layout).bytes ≡ true =
-    le-leb _ _ (omega (arith, small, plain_size files, up_to (free_data (totals_limits layout) files) size parts.0)) in
     let new : PlainFile = record { name = name; bytes = replicate (nat_abs size) 0 } in
-    cond-false (has_name (plain files) name) _ _ (plain_name files name ∙ free.0)
-    ∙ cond-true (nat_lt (length (plain files)) (limits_of layout).files && nat_le (total_size (plain files) + nat_abs size) (limits_of layout).bytes) _ _
-    (and_from _ _ few fits)
-    ∙ ap (λ (fs : List PlainFile). Ok fs)
+    let made : outcome (limits_of layout) (plain files) (file_change files (Create name size)) ≡ Ok (plain files ++ new ∷ []) = grind (
+      arith,
+      nat_tests,
+      plain_name files name,
+      plain_size files,
+      length-map files plain_file,
+      up_to (free_data (totals_limits layout) files) size,
+    ) in
+    made ∙ ap (λ (fs : List PlainFile). Ok fs)
     (sym (map-append plain_file files (record { handle = next; name = name; bytes = replicate (nat_abs size) 0; claim = None } ∷ [])))
 
 -- the file of a delete that nothing refuses
 pub deleted : (layout : Layout) (files : List File) (control : ℕ) (spent : Option ℕ) (name : List ℕ)
     → first_refusal (change_rows (totals_limits layout) files control spent (Delete name)) ≡ None → (file : File) × (find (is_named name) files ≡ Some file)
 deleted layout files control spent name unrefused =
-    let outside = not_refused (is_some spent) _ _ unrefused in
-    let there = not_refused (not (has_file (is_named name) files)) _ _ outside.1 in
-    some_file (find (is_named name) files) (not-false (has_file (is_named name) files) there.0)
+    let there : has_file (is_named name) files ≡ true = grind (arith, nat_tests) in
+    some_file (find (is_named name) files) there
 
 made_delete : (layout : Layout) (files : List File) (control : ℕ) (spent : Option ℕ) (name : List ℕ) (next : ℕ) → are_distinct (plain files) ≡ true
     → first_refusal (change_rows (totals_limits layout) files control spent (Delete name)) ≡ None → Makes layout files (Delete name) next
 made_delete layout files control spent name next distinct unrefused =
     let found = deleted layout files control spent name unrefused in
     let index = index_of (is_named name) files in
-    at_index files index found.0 (λ f. Ok (remove (plain files) index)) (found_at (is_named name) files found.0 found.1)
-    ∙ ap (λ (fs : List PlainFile). Ok fs) (sym (map-remove plain_file files index))
-    ∙ ap (λ (fs : List File). Ok (plain fs)) (sym (one_gone (is_named name) files found.0 (only_named files name distinct) found.1))
+    rw (slice_get-map plain_file files index, found_at (is_named name) files found.0 found.1) (ap (λ (fs : List PlainFile). Ok fs)
+    (sym (map-remove plain_file files index) ∙ ap (λ (fs : List File). plain fs)
+    (sym (one_gone (is_named name) files found.0 (only_named files name distinct) found.1))))
 
 -- the one file with a handle, changed in its place
 set_plain : (files : List File) (handle : ℤ) (f : File) (change : File → File) → AreDistinct (handles_of files) → find (is_called handle) files ≡ Some f
@@ -171,62 +154,31 @@ set_plain files handle f change distinct found =
 made_rename : (layout : Layout) (files : List File) (control : ℕ) (spent : Option ℕ) (handle : ℤ) (name : List ℕ) (next : ℕ) → AreDistinct (handles_of files)
     → first_refusal (change_rows (totals_limits layout) files control spent (Rename handle name)) ≡ None → Makes layout files (Rename handle name) next
 made_rename layout files control spent handle name next distinct unrefused =
-    let good = not_refused (is_some spent || not (has_file (is_called handle) files && is_name name)) _ _ unrefused in
-    let free = not_refused (has_file (is_named name) files) _ _ good.1 in
-    let both = neither (is_some spent) _ good.0 in
-    let parts = and_parts (has_file (is_called handle) files) (is_name name) (not-false (has_file (is_called handle) files && is_name name) both.1) in
-    let found = some_file (find (is_called handle) files) parts.0 in
-    let index = index_of (is_called handle) files in
-    at_index files index found.0 (λ f. cond (has_name (plain files) name) (Err fault.Exists)
-    (Ok (slice_set (plain files) index (record f { name = name })))) (found_at (is_called handle) files found.0 found.1)
-    ∙ cond-false (has_name (plain files) name) _ _ (plain_name files name ∙ free.0)
-    ∙ ap (λ (fs : List PlainFile). Ok fs) (set_plain files handle found.0 (λ f. record f { name = name }) distinct found.1)
-
--- a range of a file's bytes is of a file that is there
-pub ranged : (found : Option File) (offset count : ℤ) → is_range_of found offset count ≡ true
-    → (f : File) × (found ≡ Some f) × (is_range (length f.bytes) offset count ≡ true)
-ranged None offset count fits = absurd cc
-ranged (Some f) offset count fits = (f, refl, fits)
-
-pub range_end : (size : ℕ) (offset : ℤ) (count : ℕ) → is_range size offset (pos count) ≡ true → nat_le (nat_abs offset + count) size ≡ true
-range_end size (pos offset) count fits = fits
-range_end size (negsuc n) count fits = absurd cc
-
-pub made_write : (layout : Layout) (files : List File) (handle offset : ℤ) (bytes : List ℕ) (next : ℕ) → AreDistinct (handles_of files)
-    → is_range_of (find (is_called handle) files) offset (pos (length bytes)) ≡ true → Makes layout files (Write handle offset bytes) next
-made_write layout files handle offset bytes next distinct fits =
-    let found = ranged (find (is_called handle) files) offset (pos (length bytes)) fits in
-    let index = index_of (is_called handle) files in
-    at_index files index found.0
-    (λ f. cond (nat_le (nat_abs offset + length bytes) (length f.bytes))
-    (Ok (slice_set (plain files) index (record f { bytes = splice f.bytes (nat_abs offset) bytes }))) (Err fault.Range))
-    (found_at (is_called handle) files found.0 found.1)
-    ∙ cond-true (nat_le (nat_abs offset + length bytes) (length found.0.bytes)) _ _ (range_end (length found.0.bytes) offset (length bytes) found.2)
-    ∙ ap (λ (fs : List PlainFile). Ok fs)
-    (set_plain files handle found.0 (λ f. record f { bytes = overwritten f.bytes (nat_abs offset) bytes }) distinct found.1)
-
-pub made_set_all : (layout : Layout) (files : List File) (handle n : ℤ) (next : ℕ) → AreDistinct (handles_of files) → has_file (is_called handle) files ≡ true
-    → Makes layout files (SetAll handle n) next
-made_set_all layout files handle n next distinct there =
+    let there : has_file (is_called handle) files ≡ true = grind (arith, nat_tests) in
+    let free : has_name (plain files) name ≡ false = grind (arith, nat_tests, plain_name files name) in
     let found = some_file (find (is_called handle) files) there in
+    rw (slice_get-map plain_file files (index_of (is_called handle) files), found_at (is_called handle) files found.0 found.1, free)
+    (ap (λ (fs : List PlainFile). Ok fs) (set_plain files handle found.0 (λ f. record f { name = name }) distinct found.1))
+
+-- an edit that fits is of a file that is there
+pub fitting : (found : Option File) (edit : FileEdit) → fits_file found edit ≡ true → (f : File) × (found ≡ Some f) × (fits (length f.bytes) edit ≡ true)
+fitting None edit fit = absurd cc
+fitting (Some f) edit fit = (f, refl, fit)
+
+pub made_edit : (layout : Layout) (files : List File) (handle : ℤ) (edit : FileEdit) (next : ℕ) → AreDistinct (handles_of files)
+    → fits_file (find (is_called handle) files) edit ≡ true → Makes layout files (Edit handle edit) next
+made_edit layout files handle edit next distinct fit =
+    let found = fitting (find (is_called handle) files) edit fit in
     let index = index_of (is_called handle) files in
-    at_index files index found.0 (λ f. Ok (slice_set (plain files) index (record f { bytes = replicate (length f.bytes) (nat_abs n) })))
-    (found_at (is_called handle) files found.0 found.1)
-    ∙ ap (λ (fs : List PlainFile). Ok fs) (set_plain files handle found.0 (λ f. record f { bytes = replicate (length f.bytes) (nat_abs n) }) distinct found.1)
+    makes_edit (limits_of layout) (plain files) index edit (plain_file found.0)
+    (slice_get-map plain_file files index ∙ ap (option_map plain_file) (found_at (is_called handle) files found.0 found.1)) found.2
+    ∙ ap (λ (fs : List PlainFile). Ok fs) (set_plain files handle found.0 (λ f. record f { bytes = edited edit f.bytes }) distinct found.1)
 
--- the range of a Write that nothing refuses, and the file and the value of a SetAll
-pub range_fits : (layout : Layout) (files : List File) (control : ℕ) (spent : Option ℕ) (handle offset : ℤ) (bytes : List ℕ)
-    → first_refusal (change_rows (totals_limits layout) files control spent (Write handle offset bytes)) ≡ None
-    → is_range_of (find (is_called handle) files) offset (pos (length bytes)) ≡ true
-range_fits layout files control spent handle offset bytes unrefused =
-    not-false _ (not_refused (not (is_range_of (find (is_called handle) files) offset (pos (length bytes)))) _ _ unrefused).0
-
-pub value_fits : (layout : Layout) (files : List File) (control : ℕ) (spent : Option ℕ) (handle n : ℤ)
-    → first_refusal (change_rows (totals_limits layout) files control spent (SetAll handle n)) ≡ None
-    → (has_file (is_called handle) files ≡ true) × (is_up_to 255 n ≡ true)
-value_fits layout files control spent handle n unrefused =
-    and_parts (has_file (is_called handle) files) (is_up_to 255 n)
-    (not-false (has_file (is_called handle) files && is_up_to 255 n) (not_refused (not (has_file (is_called handle) files && is_up_to 255 n)) _ _ unrefused).0)
+-- the file of an edit that nothing refuses
+pub edit_fits : (layout : Layout) (files : List File) (control : ℕ) (spent : Option ℕ) (handle : ℤ) (edit : FileEdit)
+    → first_refusal (change_rows (totals_limits layout) files control spent (Edit handle edit)) ≡ None
+    → fits_file (find (is_called handle) files) edit ≡ true
+edit_fits layout files control spent handle edit unrefused = grind (arith, nat_tests)
 
 -- Where nothing refuses a change, it makes of the plain files those after it.
 pub makes : (layout : Layout) (files : List File) (control : ℕ) (spent : Option ℕ) (change : Change) (next : ℕ) → IsDirectory (limits_of layout) (plain files)
@@ -234,15 +186,12 @@ pub makes : (layout : Layout) (files : List File) (control : ℕ) (spent : Optio
 makes layout files control spent (Create name size) next sound distinct unrefused = made_create layout files control spent name size next sound.size unrefused
 makes layout files control spent (Delete name) next sound distinct unrefused = made_delete layout files control spent name next sound.distinct unrefused
 makes layout files control spent (Rename handle name) next sound distinct unrefused = made_rename layout files control spent handle name next distinct unrefused
-makes layout files control spent (Write handle offset bytes) next sound distinct unrefused =
-    made_write layout files handle offset bytes next distinct (range_fits layout files control spent handle offset bytes unrefused)
-makes layout files control spent (SetAll handle n) next sound distinct unrefused =
-    made_set_all layout files handle n next distinct (value_fits layout files control spent handle n unrefused).0
+makes layout files control spent (Edit handle edit) next sound distinct unrefused =
+    made_edit layout files handle edit next distinct (edit_fits layout files control spent handle edit unrefused)
 
 -- so does its group
 pub makes_group : (layout : Layout) (files : List File) (control : ℕ) (spent : Option ℕ) (change : Change) (next : ℕ)
     → IsDirectory (limits_of layout) (plain files)
     → AreDistinct (handles_of files) → first_refusal (change_rows (totals_limits layout) files control spent change) ≡ None
     → outcome_of_all (limits_of layout) (plain files) (group_of files (change ∷ [])) ≡ Ok (plain (files_after next files change))
-makes_group layout files control spent change next sound distinct unrefused =
-    one_change (limits_of layout) (plain files) _ (file_change files change) (makes layout files control spent change next sound distinct unrefused)
+makes_group layout files control spent change next sound distinct unrefused = rw (makes layout files control spent change next sound distinct unrefused) refl

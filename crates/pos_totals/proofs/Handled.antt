@@ -1,14 +1,19 @@
 -- The tags after a change are those of the files after it, their handles distinct and below the next one.
-use Rattle.std.proofs.Common.{◌≡◌, ◌∙◌, ℕ, zero, suc, ◌+◌, ◌<◌, nat_abs, Bool, true, false, cond, List, [], ◌∷◌, ◌++◌, length, replicate, Option, None, refl}
+use Rattle.std.proofs.Common.{◌≡◌, ◌∙◌, ℕ, zero, suc, ◌+◌, ◌<◌, nat_abs, Bool, true, List, [], ◌∷◌, ◌++◌, length, replicate, Option, None, refl}
 use Rattle.std.proofs.Common.{sym, ap, subst, arith}
 use Rattle.std.specs.Prelude.{remove}
 use Rattle.std.specs.List.{AllByRecursion}
 use Rattle.std.proofs.lemmas.List.{map-append, length-map}
 use Rattle.std.proofs.Math.Seq.{take-nil, drop-nil}
+use Rattle.std.proofs.lemmas.Bool.Decides.{nat_tests}
 use Rattle.pos_dir.specs.Files.{are_distinct}
+use Rattle.pos_dir.specs.declared.change.Change.{Change as FileChange}
+use Rattle.pos_dir.specs.declared.change.Change.TheVariants as file
 use Rattle.pos_image.specs.declared.layout.Layout.{Layout}
-use Rattle.pos_totals.specs.HardTotals.{File, Change, Create, Delete, Rename, Write, SetAll, totals_limits}
-use Rattle.pos_totals.specs.TotalsFiles.{is_named, is_called, with_each, overwritten}
+use Rattle.pos_totals.specs.HardTotals.{File, Change, Create, Delete, Rename, Edit, totals_limits}
+use Rattle.pos_totals.specs.TotalsFiles.{is_named, is_called, with_each}
+use Rattle.pos_totals.specs.Edits.{edited}
+use Rattle.pos_totals.proofs.Edited.{keeps_handles}
 use Rattle.pos_totals.specs.TotalsChanges.{change_rows, files_after, next_after, given_by}
 use Rattle.pos_service.specs.Refusals.{first_refusal}
 use Rattle.pos_totals.proofs.Grouped.{deleted, only_named, map-remove}
@@ -25,12 +30,7 @@ use Rattle.pos_totals.specs.declared.handles.Tag.{Tag}
 pub same_tags : (test : File → Bool) (change : File → File) (files : List File) → ((file : File) → tag_of (change file) ≡ tag_of file)
     → tags_of (with_each test change files) ≡ tags_of files
 same_tags test change [] keeps = refl
-same_tags test change (first ∷ files) keeps = by (test first) (same_tags test change files keeps)
-  where
-    by : (b : Bool) → tags_of (with_each test change files) ≡ tags_of files
-        → ◌≡◌ {A = List Tag} (tag_of (cond b (change first) first) ∷ tags_of (with_each test change files)) (tag_of first ∷ tags_of files)
-    by true rest = ap (λ t. t ∷ tags_of (with_each test change files)) (keeps first) ∙ ap (λ ts. tag_of first ∷ ts) rest
-    by false rest = ap (λ ts. tag_of first ∷ ts) rest
+same_tags test change (first ∷ files) keeps = grind (arith, nat_tests, keeps first, same_tags test change files keeps)
 
 pub given_is : (layout : Layout) (files : List File) (control : ℕ) (spent : Option ℕ) (change : Change) (next : ℕ) → are_distinct (plain files) ≡ true
     → first_refusal (change_rows (totals_limits layout) files control spent change) ≡ None
@@ -43,17 +43,16 @@ given_is layout files control spent (Delete name) next distinct unrefused =
     ∙ ap tags_of (sym (one_gone (is_named name) files found.0 (only_named files name distinct) found.1))
 given_is layout files control spent (Rename handle name) next distinct unrefused =
     sym (same_tags (is_called handle) (λ file. record file { name = name }) files (λ file. refl))
-given_is layout files control spent (Write handle offset bytes) next distinct unrefused =
-    sym (same_tags (is_called handle) (λ file. record file { bytes = overwritten file.bytes (nat_abs offset) bytes }) files (λ file. refl))
-given_is layout files control spent (SetAll handle n) next distinct unrefused =
-    sym (same_tags (is_called handle) (λ file. record file { bytes = replicate (length file.bytes) (nat_abs n) }) files (λ file. refl))
+given_is layout files control spent (Edit handle edit) next distinct unrefused =
+    (keeps_handles (index_of (is_called handle) files) edit).given (tags_of files) next
+    ∙ sym (same_tags (is_called handle) (λ file. record file { bytes = edited edit file.bytes }) files (λ file. refl))
 
 pub next_is : (files : List File) (change : Change) (next : ℕ) → following next (file_change files change) ≡ next_after next change
-next_is files (Create name size) next = refl
+next_is files (Edit handle edit) next = (keeps_handles (index_of (is_called handle) files) edit).next next
 next_is files other next = refl
 
 pub value_is : (files : List File) (change : Change) (next : ℕ) → value_after next (file_change files change) ≡ given_by next change
-value_is files (Create name size) next = refl
+value_is files (Edit handle edit) next = (keeps_handles (index_of (is_called handle) files) edit).value next
 value_is files other next = refl
 
 -- ---- facts of all handles
@@ -90,25 +89,20 @@ numbers_with tags next = map-append (λ (tag : Tag). tag.handle) tags (new_tag n
 numbers_without : (tags : List Tag) (i : ℕ) → numbers_of (remove tags i) ≡ remove (numbers_of tags) i
 numbers_without tags i = map-remove (λ (tag : Tag). tag.handle) tags i
 
-distinct_after : (files : List File) (change : Change) (tags : List Tag) (next : ℕ) → AreDistinct (numbers_of tags)
-    → AllByRecursion (λ handle. handle < next) (numbers_of tags) → AreDistinct (numbers_of (given_after tags next (file_change files change)))
-distinct_after files (Create name size) tags next distinct below =
-    subst AreDistinct (sym (numbers_with tags next)) (distinct_with (numbers_of tags) next distinct below)
-distinct_after files (Delete name) tags next distinct below =
-    subst AreDistinct (sym (numbers_without tags (index_of (is_named name) files)))
-    (distinct_without (numbers_of tags) (index_of (is_named name) files) distinct)
-distinct_after files other tags next distinct below = distinct
+distinct_after : (made : FileChange) (tags : List Tag) (next : ℕ) → AreDistinct (numbers_of tags)
+    → AllByRecursion (λ handle. handle < next) (numbers_of tags) → AreDistinct (numbers_of (given_after tags next made))
+distinct_after (file.Create name size) tags next distinct below = rw (numbers_with tags next) (distinct_with (numbers_of tags) next distinct below)
+distinct_after (file.Delete index) tags next distinct below = rw (numbers_without tags index) (distinct_without (numbers_of tags) index distinct)
+distinct_after other tags next distinct below = distinct
 
-below_after : (files : List File) (change : Change) (tags : List Tag) (next : ℕ) → AllByRecursion (λ handle. handle < next) (numbers_of tags)
-    → AllByRecursion (λ handle. handle < following next (file_change files change)) (numbers_of (given_after tags next (file_change files change)))
-below_after files (Create name size) tags next below =
-    subst (AllByRecursion (λ handle. handle < next + 1)) (sym (numbers_with tags next))
+below_after : (made : FileChange) (tags : List Tag) (next : ℕ) → AllByRecursion (λ handle. handle < next) (numbers_of tags)
+    → AllByRecursion (λ handle. handle < following next made) (numbers_of (given_after tags next made))
+below_after (file.Create name size) tags next below = rw (numbers_with tags next)
     (all_with (λ handle. handle < next + 1) (numbers_of tags) next
     (all_so (λ handle. handle < next) (λ handle. handle < next + 1) (numbers_of tags) (λ handle lt. omega (arith, lt)) below) (omega arith))
-below_after files (Delete name) tags next below =
-    subst (AllByRecursion (λ handle. handle < next)) (sym (numbers_without tags (index_of (is_named name) files)))
-    (all_without (λ handle. handle < next) (numbers_of tags) (index_of (is_named name) files) below)
-below_after files other tags next below = below
+below_after (file.Delete index) tags next below =
+    rw (numbers_without tags index) (all_without (λ handle. handle < next) (numbers_of tags) index below)
+below_after other tags next below = below
 
 -- The tags after a change are tags of the files after it.
 pub are_after : (layout : Layout) (files : List File) (control : ℕ) (spent : Option ℕ) (change : Change) (next : ℕ) → are_distinct (plain files) ≡ true
@@ -118,6 +112,6 @@ pub are_after : (layout : Layout) (files : List File) (control : ℕ) (spent : O
 are_after layout files control spent change next distinct handles unrefused = record {
   count = ap length (given_is layout files control spent change next distinct unrefused) ∙ length-map (files_after next files change) tag_of
       ∙ sym (length-map (files_after next files change) plain_file);
-  distinct = distinct_after files change (tags_of files) next handles.distinct handles.below;
-  below = below_after files change (tags_of files) next handles.below;
+  distinct = distinct_after (file_change files change) (tags_of files) next handles.distinct handles.below;
+  below = below_after (file_change files change) (tags_of files) next handles.below;
 }

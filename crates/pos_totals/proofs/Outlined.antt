@@ -1,16 +1,14 @@
 -- What is buffered depends on the handles and the sizes of the files alone.
-use Rattle.std.proofs.Common.{◌≡◌, ◌∙◌, ℕ, ◌+◌, ◌≤◌, ℤ, pos, negsuc, nat_abs, Bool, true, false, not, cond, List, [], ◌∷◌, ◌++◌, length, take, drop, map, Some}
+use Rattle.std.proofs.Common.{◌≡◌, ℕ, ℤ, pos, negsuc, Bool, true, false, cond, List, [], ◌∷◌, ◌++◌, length, map, Some}
 use Rattle.std.proofs.Common.{None, refl, sym, ap, subst, arith}
 use Rattle.std.specs.Prelude.{is_none, nat_eq}
 use Rattle.std.specs.List.{find, filter, list_any, AllByRecursion}
-use Rattle.std.proofs.lemmas.Bool.{leb-true}
-use Rattle.std.proofs.lemmas.List.{length-append, length-take, length-drop}
 use Rattle.std.proofs.lemmas.Option.{same_Some}
-use Rattle.pos_dir.specs.declared.change.Change.TheVariants as file
-use Rattle.pos_totals.specs.HardTotals.{File, Change, Write, SetAll}
-use Rattle.pos_totals.specs.TotalsFiles.{is_called, is_range, with_each, overwritten}
+use Rattle.std.proofs.lemmas.Bool.Decides.{nat_tests}
+use Rattle.pos_totals.specs.HardTotals.{File, Change, Edit}
+use Rattle.pos_totals.specs.TotalsFiles.{is_called, with_each}
+use Rattle.pos_totals.specs.Edits.{fits}
 use Rattle.pos_totals.specs.TotalsCommits.{is_of_none}
-use Rattle.pos_totals.proofs.Grouped.{range_end}
 use Rattle.pos_totals.proofs.Places.{OnlyOne}
 use Rattle.pos_totals.specs.Buffers.{IsBuffered}
 use Rattle.pos_totals.specs.Groups.{index_of, group_of}
@@ -34,75 +32,54 @@ same_others x y xs ys same = cc
 -- a handle's index
 same_index : (handle : ℤ) (xs ys : List File) → outlines xs ≡ outlines ys → index_of (is_called handle) xs ≡ index_of (is_called handle) ys
 same_index handle [] [] same = refl
-same_index handle [] (y ∷ ys) same = absurd cc
-same_index handle (x ∷ xs) [] same = absurd cc
 same_index (pos h) (x ∷ xs) (y ∷ ys) same =
-    ap (λ (p : ℕ × ℕ). cond (not (nat_eq p.0 h)) (1 + index_of (is_called (pos h)) xs) 0) (same_first x y xs ys same)
-    ∙ ap (λ n. cond (not (nat_eq y.handle h)) (1 + n) 0) (same_index (pos h) xs ys (same_others x y xs ys same))
-same_index (negsuc n) (x ∷ xs) (y ∷ ys) same = ap (λ n. 1 + n) (same_index (negsuc n) xs ys (same_others x y xs ys same))
+    cc (ap (λ (p : ℕ × ℕ). p.0) (same_first x y xs ys same), same_index (pos h) xs ys (same_others x y xs ys same))
+same_index (negsuc n) (x ∷ xs) (y ∷ ys) same = cc (same_index (negsuc n) xs ys (same_others x y xs ys same))
+same_index handle xs ys same = absurd cc
 
 -- whether there is a file with a handle
 same_none : (handle : ℤ) (xs ys : List File) → outlines xs ≡ outlines ys → is_none (find (is_called handle) xs) ≡ is_none (find (is_called handle) ys)
 same_none handle [] [] same = refl
-same_none handle [] (y ∷ ys) same = absurd cc
-same_none handle (x ∷ xs) [] same = absurd cc
-same_none (pos h) (x ∷ xs) (y ∷ ys) same =
-    by (nat_eq x.handle h) (nat_eq y.handle h) (ap (λ (p : ℕ × ℕ). nat_eq p.0 h) (same_first x y xs ys same))
-    (same_none (pos h) xs ys (same_others x y xs ys same))
-  where
-    by : (a b : Bool) → a ≡ b → is_none (find (is_called (pos h)) xs) ≡ is_none (find (is_called (pos h)) ys)
-        → is_none (cond a (Some x) (find (is_called (pos h)) xs)) ≡ is_none (cond b (Some y) (find (is_called (pos h)) ys))
-    by true true alike rest = refl
-    by true false alike rest = absurd cc
-    by false true alike rest = absurd cc
-    by false false alike rest = rest
+same_none (pos h) (x ∷ xs) (y ∷ ys) same = grind (arith, nat_tests, same_none (pos h) xs ys (same_others x y xs ys same))
 same_none (negsuc n) (x ∷ xs) (y ∷ ys) same = same_none (negsuc n) xs ys (same_others x y xs ys same)
+same_none handle xs ys same = absurd cc
 
--- whether a range fits each file with a handle
-same_fit : (handle offset : ℤ) (count : ℕ) (xs ys : List File) → outlines xs ≡ outlines ys
-    → AllByRecursion (λ file. is_called handle file ≡ true → is_range (length file.bytes) offset (pos count) ≡ true) xs
-    → AllByRecursion (λ file. is_called handle file ≡ true → is_range (length file.bytes) offset (pos count) ≡ true) ys
-same_fit handle offset count [] [] same all = tt
-same_fit handle offset count [] (y ∷ ys) same all = absurd cc
-same_fit handle offset count (x ∷ xs) [] same all = absurd cc
-same_fit (pos h) offset count (x ∷ xs) (y ∷ ys) same all = (
-  subst (λ (p : ℕ × ℕ). nat_eq p.0 h ≡ true → is_range p.1 offset (pos count) ≡ true) (same_first x y xs ys same) all.0,
-  same_fit (pos h) offset count xs ys (same_others x y xs ys same) all.1,
+-- what holds of the size of each file with a handle
+same_sizes : (P : ℕ → Type 0) (handle : ℤ) (xs ys : List File) → outlines xs ≡ outlines ys
+    → AllByRecursion (λ file. is_called handle file ≡ true → P (length file.bytes)) xs
+    → AllByRecursion (λ file. is_called handle file ≡ true → P (length file.bytes)) ys
+same_sizes P handle [] [] same all = tt
+same_sizes P (pos h) (x ∷ xs) (y ∷ ys) same all = (
+  subst (λ (p : ℕ × ℕ). nat_eq p.0 h ≡ true → P p.1) (same_first x y xs ys same) all.0,
+  same_sizes P (pos h) xs ys (same_others x y xs ys same) all.1,
 )
-same_fit (negsuc n) offset count (x ∷ xs) (y ∷ ys) same all = (λ called. absurd cc, same_fit (negsuc n) offset count xs ys (same_others x y xs ys same) all.1)
+same_sizes P (negsuc n) (x ∷ xs) (y ∷ ys) same all = (λ called. absurd cc, same_sizes P (negsuc n) xs ys (same_others x y xs ys same) all.1)
+same_sizes P handle xs ys same all = absurd cc
 
 -- what is buffered for files may be buffered for files that are like them
 pub same_buffered : (xs ys : List File) (next : ℕ) (change : Change) → outlines xs ≡ outlines ys → IsBuffered xs next change → IsBuffered ys next change
-same_buffered xs ys next (Write handle offset bytes) same buffered = (buffered.0, same_fit handle offset (length bytes) xs ys same buffered.1)
-same_buffered xs ys next (SetAll handle n) same buffered = buffered
+same_buffered xs ys next (Edit handle edit) same buffered = (buffered.0, same_sizes (λ size. fits size edit ≡ true) handle xs ys same buffered.1, buffered.2)
 same_buffered xs ys next other same buffered = absurd buffered
 
 -- its group is the same, and it is of files that are gone in both alike
 pub same_group : (xs ys : List File) (next : ℕ) (changes : List Change) → outlines xs ≡ outlines ys → AllByRecursion (IsBuffered xs next) changes
     → group_of xs changes ≡ group_of ys changes
 same_group xs ys next [] same all = refl
-same_group xs ys next (Write handle offset bytes ∷ changes) same all =
-    ap (λ i. file.Write i (nat_abs offset) bytes ∷ group_of xs changes) (same_index handle xs ys same)
-    ∙ ap (λ g. file.Write (index_of (is_called handle) ys) (nat_abs offset) bytes ∷ g) (same_group xs ys next changes same all.1)
-same_group xs ys next (SetAll handle n ∷ changes) same all =
-    ap (λ i. file.SetAll i (nat_abs n) ∷ group_of xs changes) (same_index handle xs ys same)
-    ∙ ap (λ g. file.SetAll (index_of (is_called handle) ys) (nat_abs n) ∷ g) (same_group xs ys next changes same all.1)
+same_group xs ys next (Edit handle edit ∷ changes) same all = cc (same_index handle xs ys same, same_group xs ys next changes same all.1)
 same_group xs ys next (other ∷ changes) same all = absurd all.0
 
 pub same_gone : (xs ys : List File) (next : ℕ) (changes : List Change) → outlines xs ≡ outlines ys → AllByRecursion (IsBuffered xs next) changes
     → list_any (is_of_none xs) changes ≡ list_any (is_of_none ys) changes
 same_gone xs ys next [] same all = refl
-same_gone xs ys next (Write handle offset bytes ∷ changes) same all = cc (same_none handle xs ys same, same_gone xs ys next changes same all.1)
-same_gone xs ys next (SetAll handle n ∷ changes) same all = cc (same_none handle xs ys same, same_gone xs ys next changes same all.1)
+same_gone xs ys next (Edit handle edit ∷ changes) same all = cc (same_none handle xs ys same, same_gone xs ys next changes same all.1)
 same_gone xs ys next (other ∷ changes) same all = absurd all.0
 
 -- files that are alike have the same handles
 same_numbers : (xs ys : List File) → outlines xs ≡ outlines ys → handles_of xs ≡ handles_of ys
 same_numbers [] [] same = refl
-same_numbers [] (y ∷ ys) same = absurd cc
-same_numbers (x ∷ xs) [] same = absurd cc
 same_numbers (x ∷ xs) (y ∷ ys) same =
-    ap (λ (p : ℕ × ℕ). p.0 ∷ handles_of xs) (same_first x y xs ys same) ∙ ap (λ hs. y.handle ∷ hs) (same_numbers xs ys (same_others x y xs ys same))
+    cc (ap (λ (p : ℕ × ℕ). p.0) (same_first x y xs ys same), same_numbers xs ys (same_others x y xs ys same))
+same_numbers xs ys same = absurd cc
 
 pub same_distinct : (xs ys : List File) → outlines xs ≡ outlines ys → AreDistinct (handles_of xs) → AreDistinct (handles_of ys)
 same_distinct xs ys same distinct = subst AreDistinct (same_numbers xs ys same) distinct
@@ -113,37 +90,12 @@ same_distinct xs ys same distinct = subst AreDistinct (same_numbers xs ys same) 
 pub outlines_kept : (test : File → Bool) (change : File → File) (files : List File)
     → AllByRecursion (λ file. test file ≡ true → outline (change file) ≡ outline file) files → outlines (with_each test change files) ≡ outlines files
 outlines_kept test change [] keeps = refl
-outlines_kept test change (first ∷ files) keeps = by (test first) refl (outlines_kept test change files keeps.1)
-  where
-    by : (b : Bool) → test first ≡ b → outlines (with_each test change files) ≡ outlines files
-        → ◌≡◌ {A = List (ℕ × ℕ)} (outline (cond b (change first) first) ∷ outlines (with_each test change files)) (outline first ∷ outlines files)
-    by true is rest = ap (λ o. o ∷ outlines (with_each test change files)) (keeps.0 is) ∙ ap (λ os. outline first ∷ os) rest
-    by false is rest = ap (λ os. outline first ∷ os) rest
+outlines_kept test change (first ∷ files) keeps = grind (arith, nat_tests, keeps.0, outlines_kept test change files keeps.1)
 
 -- what holds of all files holds of all
 pub all_files : (P : File → Type 0) (files : List File) → ((file : File) → P file) → AllByRecursion P files
 all_files P [] each = tt
 all_files P (first ∷ files) each = (each first, all_files P files each)
-
--- the bytes that are overwritten stay as many
-length_kept : (old bytes : List ℕ) (offset : ℕ) → offset + length bytes ≤ length old → length (overwritten old offset bytes) ≡ length old
-length_kept old bytes offset fits =
-    let rest = drop (offset + length bytes) old in
-    let same : length (take offset old ++ bytes ++ rest) ≡ length old =
-    omega (
-      arith,
-      length-append (take offset old ++ bytes) rest,
-      length-append (take offset old) bytes,
-      length-take offset old,
-      length-drop (offset + length bytes) old,
-    ) in
-    same
-
--- a write that fits keeps the size
-pub write_keeps : (file : File) (offset : ℤ) (bytes : List ℕ) → is_range (length file.bytes) offset (pos (length bytes)) ≡ true
-    → outline (record file { bytes = overwritten file.bytes (nat_abs offset) bytes }) ≡ outline file
-write_keeps file offset bytes fits =
-    ap (λ n. (file.handle, n)) (length_kept file.bytes bytes (nat_abs offset) (leb-true _ _ (range_end (length file.bytes) offset (length bytes) fits)))
 
 -- ---- the one file that a test finds
 
@@ -189,8 +141,3 @@ all_left P test (first ∷ files) all = by (test first) (all_left P test files a
     by : (b : Bool) → AllByRecursion P (filter test files) → AllByRecursion P (cond b (first ∷ filter test files) (filter test files))
     by true rest = (all.0, rest)
     by false rest = rest
-
--- and of those with one more
-pub all_more : (P : File → Type 0) (files : List File) (file : File) → AllByRecursion P files → P file → AllByRecursion P (files ++ file ∷ [])
-all_more P [] file all one = (one, tt)
-all_more P (first ∷ files) file all one = (all.0, all_more P files file all.1 one)

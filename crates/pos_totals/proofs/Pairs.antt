@@ -12,21 +12,18 @@ use Rattle.pos_totals.specs.declared.handles.Tag.{Tag}
 
 pub plain_of : (tags : List Tag) (files : List PlainFile) → length tags ≡ length files → plain (with_tags tags files) ≡ files
 plain_of [] [] same = refl
-plain_of [] (file ∷ files) same = absurd (omega (arith, same))
-plain_of (tag ∷ tags) [] same = absurd (omega (arith, same))
 plain_of (tag ∷ tags) (file ∷ files) same = ap (λ rest. file ∷ rest) (plain_of tags files (omega (arith, same)))
+plain_of tags files same = absurd (omega (arith, same))
 
 pub tags_in : (tags : List Tag) (files : List PlainFile) → length tags ≡ length files → tags_of (with_tags tags files) ≡ tags
 tags_in [] [] same = refl
-tags_in [] (file ∷ files) same = absurd (omega (arith, same))
-tags_in (tag ∷ tags) [] same = absurd (omega (arith, same))
 tags_in (tag ∷ tags) (file ∷ files) same = ap (λ rest. tag ∷ rest) (tags_in tags files (omega (arith, same)))
+tags_in tags files same = absurd (omega (arith, same))
 
 pub numbers_in : (tags : List Tag) (files : List PlainFile) → length tags ≡ length files → handles_of (with_tags tags files) ≡ numbers_of tags
 numbers_in [] [] same = refl
-numbers_in [] (file ∷ files) same = absurd (omega (arith, same))
-numbers_in (tag ∷ tags) [] same = absurd (omega (arith, same))
 numbers_in (tag ∷ tags) (file ∷ files) same = ap (λ rest. tag.handle ∷ rest) (numbers_in tags files (omega (arith, same)))
+numbers_in tags files same = absurd (omega (arith, same))
 
 pub called_again : (files : List File) → with_tags (tags_of files) (plain files) ≡ files
 called_again [] = refl
@@ -34,9 +31,8 @@ called_again (file ∷ files) = ap (λ rest. file ∷ rest) (called_again files)
 
 pub length-with_tags : (tags : List Tag) (files : List PlainFile) → length tags ≡ length files → length (with_tags tags files) ≡ length files
 length-with_tags [] [] same = refl
-length-with_tags [] (file ∷ files) same = absurd (omega (arith, same))
-length-with_tags (tag ∷ tags) [] same = absurd (omega (arith, same))
 length-with_tags (tag ∷ tags) (file ∷ files) same = omega (arith, length-with_tags tags files (omega (arith, same)))
+length-with_tags tags files same = absurd (omega (arith, same))
 
 -- a file and its tag at an index
 pub pair_at : (tags : List Tag) (files : List PlainFile) (i : ℕ) (tag : Tag) (name bytes : List ℕ) → slice_get tags i ≡ Some tag
@@ -45,10 +41,7 @@ pub pair_at : (tags : List Tag) (files : List PlainFile) (i : ℕ) (tag : Tag) (
     → slice_get (with_tags tags files) i ≡ Some (record { handle = tag.handle; name = name; bytes = bytes; claim = tag.claim })
 pair_at [] files i tag name bytes at named held = absurd cc
 pair_at (first ∷ tags) [] i tag name bytes at named held = absurd cc
-pair_at (first ∷ tags) (file ∷ files) zero tag name bytes at named held =
-    ap (λ (t : Tag). Some (record { handle = t.handle; name = file.name; bytes = file.bytes; claim = t.claim })) (same_Some first tag at)
-    ∙ ap (λ n. Some (record { handle = tag.handle; name = n; bytes = file.bytes; claim = tag.claim })) (same_Some file.name name named)
-    ∙ ap (λ b. Some (record { handle = tag.handle; name = name; bytes = b; claim = tag.claim })) (same_Some file.bytes bytes held)
+pair_at (first ∷ tags) (file ∷ files) zero tag name bytes at named held = cc
 pair_at (first ∷ tags) (file ∷ files) (suc i) tag name bytes at named held = pair_at tags files i tag name bytes at named held
 
 -- the bytes of one file are at most those of all
@@ -56,13 +49,8 @@ pub one_of_sum : (files : List PlainFile) (i : ℕ) (bytes : List ℕ) → optio
     → length bytes ≤ total_size files
 one_of_sum [] i bytes held = absurd cc
 one_of_sum (file ∷ files) zero bytes held =
-    let sum = sum_by-cons (λ (x : PlainFile). length x.bytes) file files in
-    let same = ap (λ (b : List ℕ). length b) (same_Some file.bytes bytes held) in
-    omega (arith, sum, same)
-one_of_sum (file ∷ files) (suc i) bytes held =
-    let sum = sum_by-cons (λ (x : PlainFile). length x.bytes) file files in
-    let rest = one_of_sum files i bytes held in
-    omega (arith, sum, rest)
+    omega (arith, sum_by-cons (λ (x : PlainFile). length x.bytes) file files, ap (λ (b : List ℕ). length b) (same_Some file.bytes bytes held))
+one_of_sum (file ∷ files) (suc i) bytes held = omega (arith, sum_by-cons (λ (x : PlainFile). length x.bytes) file files, one_of_sum files i bytes held)
 
 -- an index that no file has
 pub none_at : (tags : List Tag) (files : List PlainFile) (i : ℕ) {A : Type 0} (f : PlainFile → A) → length tags ≡ length files

@@ -1,12 +1,12 @@
 -- A file that a test finds: its index, and the files with it changed or without it.
-use Rattle.std.proofs.Common.{◌≡◌, ◌∙◌, ℕ, suc, ◌+◌, ◌<◌, ◌≤◌, Bool, true, false, not, cond, List, [], ◌∷◌, length, set, Option, Some, None, refl, sym, ap}
+use Rattle.std.proofs.Common.{◌≡◌, ◌∙◌, ℕ, suc, ◌+◌, ◌<◌, ◌≤◌, Bool, true, false, not, cond, List, [], ◌∷◌, length, set, Option, Some, None, refl, sym}
 use Rattle.std.proofs.Common.{subst, arith}
-use Rattle.std.specs.Prelude.{slice_get, remove, nat_lt, ⊤}
+use Rattle.std.specs.Prelude.{slice_get, remove, ⊤}
 use Rattle.std.specs.List.{find, filter, position, position_or_len}
-use Rattle.std.proofs.lemmas.Bool.{ltb-false}
 use Rattle.std.proofs.lemmas.List.Folds.{find_at}
 use Rattle.std.proofs.lemmas.List.Sums.{prefix_len-le-length}
 use Rattle.std.proofs.lemmas.Option.{slice_get_within, same_Some}
+use Rattle.std.proofs.lemmas.Bool.Decides.{nat_tests}
 use Rattle.pos_totals.specs.HardTotals.{File}
 use Rattle.pos_totals.specs.TotalsFiles.{with_each}
 use Rattle.pos_totals.specs.Groups.{index_of}
@@ -37,15 +37,11 @@ found_meets test (first ∷ files) file found = by (test first) refl found (foun
 -- the place that a search through another list tells is the index
 pub is_at : {A : Type 0} (p : A → Bool) (test : File → Bool) (xs : List A) (files : List File) (i : ℕ) → index_of test files ≡ position_or_len p xs
     → position p xs ≡ Some i → i ≡ index_of test files
-is_at p test xs files i index found = by (nat_lt (position_or_len p xs) (length xs)) found
-  where
-    by : (b : Bool) → cond b (Some (position_or_len p xs)) None ≡ Some i → i ≡ index_of test files
-    by true is = sym (same_Some (position_or_len p xs) i is) ∙ sym index
-    by false is = absurd cc
+is_at p test xs files i index found = grind (arith, nat_tests)
 
 -- a look at the index gives the file
 pub at_index : (test : File → Bool) (files : List File) (i : ℕ) → i ≡ index_of test files → slice_get files i ≡ find test files
-at_index test files i index = ap (slice_get files) index ∙ sym (find_at test files)
+at_index test files i index = rw index (sym (find_at test files))
 
 none_past : (test : File → Bool) (files : List File) → length files ≤ index_of test files → find test files ≡ None
 none_past test files past = by (find test files) refl
@@ -56,64 +52,33 @@ none_past test files past = by (find test files) refl
 
 pub is_none : {A : Type 0} (p : A → Bool) (test : File → Bool) (xs : List A) (files : List File) → length files ≡ length xs
     → index_of test files ≡ position_or_len p xs → position p xs ≡ None → find test files ≡ None
-is_none p test xs files same index none = by (nat_lt (position_or_len p xs) (length xs)) refl none
-  where
-    by : (b : Bool) → nat_lt (position_or_len p xs) (length xs) ≡ b → cond b (Some (position_or_len p xs)) None ≡ None → find test files ≡ None
-    by true lt is = absurd cc
-    by false lt is = none_past test files (omega (arith, same, index, ltb-false (position_or_len p xs) (length xs) lt))
+is_none p test xs files same index none = none_past test files (grind (arith, nat_tests))
 
 -- a search through another list that finds nothing tells the end
 pub is_past : {A : Type 0} (p : A → Bool) (test : File → Bool) (xs : List A) (files : List File) → index_of test files ≡ position_or_len p xs
     → position p xs ≡ None → length xs ≡ index_of test files
-is_past p test xs files index none = by (nat_lt (position_or_len p xs) (length xs)) refl none
-  where
-    by : (b : Bool) → nat_lt (position_or_len p xs) (length xs) ≡ b → cond b (Some (position_or_len p xs)) None ≡ None → length xs ≡ index_of test files
-    by true lt is = absurd cc
-    by false lt is = omega (arith, index, ltb-false (position_or_len p xs) (length xs) lt, prefix_len-le-length (λ x. not (p x)) xs)
+is_past p test xs files index none = grind (arith, nat_tests, prefix_len-le-length (λ x. not (p x)) xs)
 
 -- no file is changed where none meets the test
 none_changed : (test : File → Bool) (change : File → File) (files : List File) → find test files ≡ None → with_each test change files ≡ files
 none_changed test change [] none = refl
-none_changed test change (first ∷ files) none = by (test first) none (none_changed test change files)
-  where
-    by : (b : Bool) → cond b (Some first) (find test files) ≡ None → (find test files ≡ None → with_each test change files ≡ files)
-        → ◌≡◌ {A = List File} (cond b (change first) first ∷ with_each test change files) (first ∷ files)
-    by true is rest = absurd cc
-    by false is rest = ap (λ fs. first ∷ fs) (rest is)
+none_changed test change (first ∷ files) none = grind (arith, nat_tests, none_changed test change files)
 
 -- where one file meets the test, it is changed in its place
 pub one_changed : (test : File → Bool) (change : File → File) (files : List File) (file : File) → OnlyOne test files → find test files ≡ Some file
     → with_each test change files ≡ set files (index_of test files) (change file)
 one_changed test change [] file only found = absurd cc
-one_changed test change (first ∷ files) file only found = by (test first) only.0 found (one_changed test change files file only.1)
-  where
-    by : (b : Bool) → (b ≡ true → find test files ≡ None) → cond b (Some first) (find test files) ≡ Some file
-        → (find test files ≡ Some file → with_each test change files ≡ set files (index_of test files) (change file))
-        → ◌≡◌ {A = List File} (cond b (change first) first ∷ with_each test change files)
-        (set (first ∷ files) (cond (not b) (1 + index_of test files) 0) (change file))
-    by true alone is rest = ap (λ (x : File). change x ∷ with_each test change files) (same_Some first file is)
-        ∙ ap (λ fs. change file ∷ fs) (none_changed test change files (alone refl))
-    by false alone is rest = ap (λ fs. first ∷ fs) (rest is) ∙ ap (λ n. set (first ∷ files) n (change file)) (sym (one_more (index_of test files)))
+one_changed test change (first ∷ files) file only found =
+    grind (arith, nat_tests, one_changed test change files file only.1, none_changed test change files, only.0, one_more (index_of test files))
 
 -- no file goes where none meets the test
 none_gone : (test : File → Bool) (files : List File) → find test files ≡ None → filter (λ file. not (test file)) files ≡ files
 none_gone test [] none = refl
-none_gone test (first ∷ files) none = by (test first) none (none_gone test files)
-  where
-    by : (b : Bool) → cond b (Some first) (find test files) ≡ None → (find test files ≡ None → filter (λ file. not (test file)) files ≡ files)
-        → ◌≡◌ {A = List File} (cond (not b) (first ∷ filter (λ file. not (test file)) files) (filter (λ file. not (test file)) files)) (first ∷ files)
-    by true is rest = absurd cc
-    by false is rest = ap (λ fs. first ∷ fs) (rest is)
+none_gone test (first ∷ files) none = grind (arith, nat_tests, none_gone test files)
 
 -- where one file meets the test, it goes from its place
 pub one_gone : (test : File → Bool) (files : List File) (file : File) → OnlyOne test files → find test files ≡ Some file
     → filter (λ file. not (test file)) files ≡ remove files (index_of test files)
 one_gone test [] file only found = absurd cc
-one_gone test (first ∷ files) file only found = by (test first) only.0 found (one_gone test files file only.1)
-  where
-    by : (b : Bool) → (b ≡ true → find test files ≡ None) → cond b (Some first) (find test files) ≡ Some file
-        → (find test files ≡ Some file → filter (λ file. not (test file)) files ≡ remove files (index_of test files))
-        → ◌≡◌ {A = List File} (cond (not b) (first ∷ filter (λ file. not (test file)) files) (filter (λ file. not (test file)) files))
-        (remove (first ∷ files) (cond (not b) (1 + index_of test files) 0))
-    by true alone is rest = none_gone test files (alone refl)
-    by false alone is rest = ap (λ fs. first ∷ fs) (rest is) ∙ ap (λ n. remove (first ∷ files) n) (sym (one_more (index_of test files)))
+one_gone test (first ∷ files) file only found =
+    grind (arith, nat_tests, one_gone test files file only.1, none_gone test files, only.0, one_more (index_of test files))

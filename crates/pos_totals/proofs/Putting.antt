@@ -1,6 +1,6 @@
 -- A group that is put on the disk: what the store did, and what it says of the totals.
-use Rattle.std.proofs.Common.{◌≡◌, ◌⊎◌, inl, inr, ⊎_elim, ℕ, ◌+◌, Bool, true, false, cond, List, [], ◌∷◌, map, Option, Some, None, Result, Ok, Err, IsErrOf}
-use Rattle.std.proofs.Common.{MatchOption, MatchResult, refl, sym, ap, subst, arith}
+use Rattle.std.proofs.Common.{◌≡◌, ◌⊎◌, inl, inr, ⊎_elim, ℕ, ◌+◌, Bool, true, false, cond, List, [], ◌∷◌, map, Some, None, Result, Ok, Err, IsErrOf}
+use Rattle.std.proofs.Common.{MatchResult, refl, sym, ap, subst, arith}
 use Rattle.std.specs.Prelude.{nat_eq, IsOk}
 use Rattle.std.proofs.lemmas.Bool.{eqb-true}
 use Rattle.pos_dir.specs.Changes.{outcome_of_all}
@@ -39,13 +39,11 @@ use Rattle.pos_totals.specs.declared.holdings.Holdings.{Holdings}
 -- ---- tables
 
 pub open_table : (rows : List Row) (result : Answer) (Same Done : Type 0) → first_refusal rows ≡ None → Done → Decided rows result Same Done
-open_table rows result Same Done none done =
-    record { outcome = subst (λ (o : Option Answer). MatchOption o Done (λ refusal. (result ≡ refusal) × Same)) (sym none) done }
+open_table rows result Same Done none done = record { outcome = rw none done }
 
 pub closed_table : (rows : List Row) (result refusal : Answer) (Same Done : Type 0) → first_refusal rows ≡ Some refusal → result ≡ refusal → Same
     → Decided rows result Same Done
-closed_table rows result refusal Same Done some is same =
-    record { outcome = subst (λ (o : Option Answer). MatchOption o Done (λ r. (result ≡ r) × Same)) (sym some) (is, same) }
+closed_table rows result refusal Same Done some is same = record { outcome = rw some (is, same) }
 
 -- ---- the view
 

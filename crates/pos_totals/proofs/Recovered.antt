@@ -52,25 +52,11 @@ ready_recovers bound disk layout (StoreReady files sequence) holdings sound othe
 told_finds : (P : Standing → Type 0) (holdings : Holdings) (why : StoreFault) (result : RecoveryFault) (layout : Layout) (state : State)
     → store.FindsStanding P (Err why) layout state → told_as why ≡ Some result
     → FindsFiles P (totals_of StoreOff holdings) (Err result) (totals_of state holdings)
-told_finds P holdings cause.Off result layout state finds tells = absurd finds
-told_finds P holdings cause.Exhausted result layout state finds tells = absurd finds
-told_finds P holdings cause.AlreadyLayout2 result layout state finds tells = absurd finds
-told_finds P holdings cause.Unformatted result layout state finds tells =
-    let is : fault.Unformatted ≡ result = cc in
-    subst (λ (f : RecoveryFault). FindsFiles P (totals_of StoreOff holdings) (Err f) (totals_of state holdings)) is
-    (finds.0, ap (λ (s : State). totals_of s holdings) finds.1)
-told_finds P holdings cause.Damaged result layout state finds tells =
-    let is : fault.Damaged ≡ result = cc in
-    subst (λ (f : RecoveryFault). FindsFiles P (totals_of StoreOff holdings) (Err f) (totals_of state holdings)) is
-    (finds.0, ap (λ (s : State). totals_of s holdings) finds.1)
-told_finds P holdings cause.NoMemory result layout state finds tells =
-    let is : fault.NoMemory ≡ result = cc in
-    subst (λ (f : RecoveryFault). FindsFiles P (totals_of StoreOff holdings) (Err f) (totals_of state holdings)) is
-    (ap (λ (s : State). totals_of s holdings) finds)
-told_finds P holdings cause.Device result layout state finds tells =
-    let is : fault.Device ≡ result = cc in
-    subst (λ (f : RecoveryFault). FindsFiles P (totals_of StoreOff holdings) (Err f) (totals_of state holdings)) is
-    (ap (λ (s : State). totals_of s holdings) finds)
+told_finds P holdings cause.Unformatted result layout state finds tells = let is : fault.Unformatted ≡ result = cc in rw (← is, finds.1) (finds.0, refl)
+told_finds P holdings cause.Damaged result layout state finds tells = let is : fault.Damaged ≡ result = cc in rw (← is, finds.1) (finds.0, refl)
+told_finds P holdings cause.NoMemory result layout state finds tells = let is : fault.NoMemory ≡ result = cc in rw (← is, finds) refl
+told_finds P holdings cause.Device result layout state finds tells = let is : fault.Device ≡ result = cc in rw (← is, finds) refl
+told_finds P holdings other result layout state finds tells = absurd finds
 
 -- the holdings with other tags, and with another layout too
 abbrev pub with_table : Holdings → HandleTable → Holdings
@@ -127,22 +113,15 @@ off_recovers bound disk layout tail holdings result mid told new recovers same f
 -- ---- the same for a store in any state
 
 no_files : (P : Standing → Type 0) (why : StoreFault) (layout : Layout) (state : State) → store.FindsStanding P (Err why) layout state → state ≡ StoreOff
-no_files P cause.Off layout state finds = absurd finds
-no_files P cause.Exhausted layout state finds = absurd finds
-no_files P cause.AlreadyLayout2 layout state finds = absurd finds
 no_files P cause.Unformatted layout state finds = finds.1
 no_files P cause.Damaged layout state finds = finds.1
 no_files P cause.NoMemory layout state finds = finds
 no_files P cause.Device layout state finds = finds
+no_files P other layout state finds = absurd finds
 
 told_device : (why : StoreFault) → told_as why ≡ Some fault.Device → why ≡ cause.Device
-told_device cause.Off tells = absurd cc
-told_device cause.Exhausted tells = absurd cc
-told_device cause.AlreadyLayout2 tells = absurd cc
-told_device cause.Unformatted tells = absurd cc
-told_device cause.Damaged tells = absurd cc
-told_device cause.NoMemory tells = absurd cc
 told_device cause.Device tells = refl
+told_device other tells = absurd cc
 
 -- the disk's fault is told as that of the disk, and no other fault is
 same_device : (why : StoreFault) (result : RecoveryFault) → told_as why ≡ Some result
@@ -161,10 +140,7 @@ is_told bound disk layout (StoreReady files sequence) tail why mid off recovers 
 is_told bound disk layout StoreOff tail cause.Off mid off recovers = absurd recovers.answer
 is_told bound disk layout StoreOff tail cause.Exhausted mid off recovers = absurd recovers.answer
 is_told bound disk layout StoreOff tail cause.AlreadyLayout2 mid off recovers = absurd recovers.answer
-is_told bound disk layout StoreOff tail cause.Unformatted mid off recovers = refl
-is_told bound disk layout StoreOff tail cause.Damaged mid off recovers = refl
-is_told bound disk layout StoreOff tail cause.NoMemory mid off recovers = refl
-is_told bound disk layout StoreOff tail cause.Device mid off recovers = refl
+is_told bound disk layout StoreOff tail other mid off recovers = refl
 
 -- the store met a fault
 pub store_failed : {D : Type 0} (bound : Ghosts D) (disk : D) (layout : Layout) (state : State) (tail : ℕ) (holdings : Holdings) (why : StoreFault)

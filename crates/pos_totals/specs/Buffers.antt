@@ -1,5 +1,5 @@
 -- What may be buffered in transactions.
-use Rattle.std.specs.Prelude.{◌≡◌, ◌<◌, ◌≤◌, ◌+◌, ℕ, ℤ, pos, negsuc, nat_abs, Bool, true, false, List, [], ◌∷◌, ◌++◌, length, Option, Some, None, IfSome}
+use Rattle.std.specs.Prelude.{◌≡◌, ◌<◌, ◌≤◌, ◌+◌, ℕ, ℤ, pos, negsuc, nat_abs, true, List, [], ◌∷◌, ◌++◌, length, Option, Some, None, IfSome}
 use Rattle.std.specs.Prelude.{Result, Ok, Err, slice_set, ⊤}
 use Rattle.std.specs.List.{AllByRecursion}
 use Rattle.std.specs.Option.{option_map}
@@ -8,56 +8,55 @@ use Rattle.pos_service.specs.declared.answer.Answer.{Answer}
 use Rattle.pos_service.specs.declared.answer.Answer.TheVariants as answer
 use Rattle.pos_service.specs.declared.answer.Value.TheVariants as value
 use Rattle.pos_service.specs.declared.memory.NoMemory.{NoMemory}
-use Rattle.pos_totals.specs.HardTotals.{File, Mode, Off, Ready, Change, Create, Delete, Rename, Write, SetAll, transaction_at, without_transactions}
-use Rattle.pos_totals.specs.TotalsFiles.{is_called, is_range}
-use Rattle.pos_service.specs.Numbers.{is_up_to}
+use Rattle.pos_totals.specs.HardTotals.{File, Mode, Off, Ready, Change, Create, Delete, Rename, Edit, transaction_at, without_transactions}
+use Rattle.pos_totals.specs.Edits.{FileEdit, fits, edit_cost, edit_change, edit_in, edit_owned}
+use Rattle.pos_totals.specs.TotalsFiles.{is_called}
 use Rattle.pos_totals.specs.TotalsChanges.{cost_of_all}
 use Rattle.pos_dir.specs.declared.change.Change.{Change as FileChange}
 use Rattle.pos_dir.specs.declared.change.Change.TheVariants as file
 use Rattle.pos_store.specs.declared.fault.StoreFault.{StoreFault}
 use Rattle.pos_store.specs.declared.fault.StoreFault.TheVariants as fault
 use Rattle.pos_totals.specs.declared.request.Checked.{Checked}
-use Rattle.pos_totals.specs.declared.transactions.Action.{Action}
-use Rattle.pos_totals.specs.declared.transactions.Action.TheVariants as action
+use Rattle.pos_totals.specs.declared.edits.OwnedEdit.{OwnedEdit}
 
--- the change that does something to the file with a handle
-abbrev pub buffered_change : ℕ → Action → Change
-buffered_change handle (action.Write offset bytes) = Write (pos handle) (pos offset) bytes
-buffered_change handle (action.SetAll n) = SetAll (pos handle) (pos n)
+-- the edit of the file with a handle
+abbrev pub buffered_change : ℕ → OwnedEdit → Change
+buffered_change handle edit = Edit (pos handle) (edit_owned edit)
 
 -- a buffered change is of the file with a handle
 abbrev pub IsOf : Change → ℕ → Type 0
 IsOf (Create name size) number = ⊥
 IsOf (Delete name) number = ⊥
 IsOf (Rename handle name) number = ⊥
-IsOf (Write handle offset bytes) number = handle ≡ pos number
-IsOf (SetAll handle n) number = handle ≡ pos number
+IsOf (Edit handle edit) number = handle ≡ pos number
 
 -- the change of the directory that a buffered change is, the file's index being known
 abbrev pub placed_change : ℕ → Change → FileChange
 placed_change index (Create name size) = file.Create name (nat_abs size)
 placed_change index (Delete name) = file.Delete index
 placed_change index (Rename handle name) = file.Rename index name
-placed_change index (Write handle offset bytes) = file.Write index (nat_abs offset) bytes
-placed_change index (SetAll handle n) = file.SetAll index (nat_abs n)
+placed_change index (Edit handle edit) = edit_change index edit
 
 -- a handle that was given, the next one being known
 abbrev pub IsGiven : ℕ → ℤ → Type 0
 IsGiven next (pos handle) = handle < next
 IsGiven next (negsuc n) = ⊥
 
--- bytes in this number fit into each file with a handle, from an offset on
-abbrev pub FitEach : List File → ℤ → ℤ → ℕ → Type 0
-FitEach files handle offset count = AllByRecursion
-    (λ file. is_called handle file ≡ true → is_range (length file.bytes) offset (pos count) ≡ true) files
+-- an edit fits some file
+abbrev pub FitsSome : FileEdit → Type 0
+FitsSome edit = (size : ℕ) × (fits size edit ≡ true)
 
--- what is buffered is a Write of bytes that fit each file with its handle, or a SetAll to the value of a byte
+-- an edit fits each file with a handle
+abbrev pub FitsEach : List File → ℤ → FileEdit → Type 0
+FitsEach files handle edit =
+    AllByRecursion (λ file. is_called handle file ≡ true → fits (length file.bytes) edit ≡ true) files
+
+-- what is buffered is an edit that fits each file with its handle, which was given
 abbrev pub IsBuffered : List File → ℕ → Change → Type 0
 IsBuffered files next (Create name size) = ⊥
 IsBuffered files next (Delete name) = ⊥
 IsBuffered files next (Rename handle name) = ⊥
-IsBuffered files next (Write handle offset bytes) = IsGiven next handle × FitEach files handle offset (length bytes)
-IsBuffered files next (SetAll handle n) = is_up_to 255 n ≡ true
+IsBuffered files next (Edit handle edit) = IsGiven next handle × FitsEach files handle edit × FitsSome edit
 
 -- what a control may have buffered, by the mode of the totals
 abbrev pub MayHold : Mode → ℕ → Option (List Change) → Type 0
@@ -68,35 +67,28 @@ MayHold (Ready files sequence) next transaction = IfSome transaction (AllByRecur
 abbrev pub HaveBuffers : Mode → ℕ → List (Option (List Change)) → Type 0
 HaveBuffers mode next transactions = AllByRecursion (MayHold mode next) transactions
 
--- a change of the directory may be buffered, of a file with this handle
-abbrev pub is_bufferable : Option ℕ → FileChange → Bool
-is_bufferable (Some handle) (file.Write index offset bytes) = true
-is_bufferable (Some handle) (file.SetAll index n) = true
-is_bufferable named other = false
+-- a change is the edit of the file with this handle, where there is the edit
+abbrev pub IsEdit : Change → Option ℕ → Option FileEdit → Type 0
+IsEdit change named None = ⊤
+IsEdit change None (Some edit) = ⊥
+IsEdit change (Some handle) (Some edit) = change ≡ Edit (pos handle) edit
 
 -- a change of the directory that may be buffered, of a file with this handle, was asked for as this one
 abbrev pub IsAsked : Change → Option ℕ → FileChange → Type 0
-IsAsked change (Some handle) (file.Write index offset bytes) = change ≡ Write (pos handle) (pos offset) bytes
-IsAsked change (Some handle) (file.SetAll index n) = change ≡ SetAll (pos handle) (pos n)
-IsAsked change None (file.Write index offset bytes) = ⊥
-IsAsked change None (file.SetAll index n) = ⊥
-IsAsked change named other = ⊤
-
--- what it costs
-abbrev pub cost_of_made : FileChange → ℕ
-cost_of_made (file.Write index offset bytes) = length bytes + 16
-cost_of_made (file.SetAll index n) = 16
-cost_of_made other = 0
+IsAsked change named made = IsEdit change named (edit_in made)
 
 -- a transaction has so much left, whatever the layout of the disk
 abbrev pub HasLeft : Option (List Change) → ℕ → Type 0
 HasLeft None cost = ⊥
 HasLeft (Some buffer) cost = cost_of_all buffer + cost ≤ LAYOUT_2.bytes
 
--- A checked change may be buffered, and the control is in a transaction that has enough left for it.
+-- A checked change is an edit, and the control is in a transaction that has enough left for it.
 pub record MayBuffer (transactions : List (Option (List Change))) (control : ℕ) (made : Checked) : Type 0 where
-  pub bufferable : is_bufferable made.handle made.change ≡ true
-  pub left : HasLeft (transaction_at transactions control) (cost_of_made made.change)
+  pub handle : ℕ
+  pub edit : FileEdit
+  pub named : made.handle ≡ Some handle
+  pub is : edit_in made.change ≡ Some edit
+  pub left : HasLeft (transaction_at transactions control) (edit_cost edit)
 
 -- the transactions with one more change behind those that a control has buffered
 abbrev pub with_buffered : List (Option (List Change)) → ℕ → Change → List (Option (List Change))

@@ -12,7 +12,7 @@ use Rattle.pos_service.specs.declared.answer.Answer.TheVariants as answer
 use Rattle.pos_service.specs.declared.code.Code.TheVariants as code
 use Rattle.pos_service.specs.declared.memory.NoMemory.{NoMemory}
 use Rattle.pos_service.specs.Claims.{is_foreign}
-use Rattle.pos_totals.specs.HardTotals.{File, Mode, Off, Ready, Totals, Change, Create, Delete, Rename, Write, SetAll, TotalsLimits, totals_limits}
+use Rattle.pos_totals.specs.HardTotals.{File, Mode, Off, Ready, Totals, Change, Create, Delete, Rename, Edit, TotalsLimits, totals_limits}
 use Rattle.pos_totals.specs.HardTotals.{transaction_of, files_of}
 use Rattle.pos_totals.specs.TotalsChanges.{change_rows, refusals_of_change, spent_by}
 use Rattle.pos_totals.specs.TotalsArrangements.{Arrangement, arrangement_rows, refusals_of_arrangement}
@@ -26,6 +26,7 @@ use Rattle.pos_store.specs.StoreViews.{StoreView}
 use Rattle.pos_store.specs.declared.fault.StoreFault.{StoreFault}
 use Rattle.pos_store.specs.declared.fault.StoreFault.TheVariants as fault
 use Rattle.pos_totals.specs.Buffers.{IsAsked}
+use Rattle.pos_totals.specs.Edits.{edit_of}
 use Rattle.pos_totals.specs.Groups.{index_of, file_change, group_of}
 use Rattle.pos_totals.specs.Views.{with_tags}
 use Rattle.pos_totals.specs.declared.committing.Commitment.{Commitment}
@@ -44,8 +45,7 @@ abbrev pub change_of : Request → Change
 change_of (request.Create name size) = Create name.now size
 change_of (request.Delete name) = Delete name.now
 change_of (request.Rename handle name) = Rename handle name.now
-change_of (request.Write handle offset bytes) = Write handle offset bytes.now
-change_of (request.SetAll handle n) = SetAll handle n
+change_of (request.Edit handle edit) = Edit handle (edit_of edit)
 
 -- the files with their tags
 abbrev pub files_in : Files → List File

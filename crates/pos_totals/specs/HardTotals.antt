@@ -5,6 +5,7 @@ use Rattle.std.specs.Prelude.{if◌then◌else◌}
 use Rattle.std.specs.Option.{option_flatten}
 use Rattle.pos_image.specs.declared.layout.Layout.{Layout}
 use Rattle.pos_store.specs.Layouts.{limits_of}
+use Rattle.pos_totals.specs.Edits.{FileEdit}
 
 -- How much totals may hold, which goes by the layout of their disk: the most bytes of all files in sum (TotalsSize),
 -- the most files, and the most that the changes of one transaction may cost in sum.
@@ -49,13 +50,12 @@ pub data Mode : Type 0 where
   Off : Mode
   Ready : (files : List File) (sequence : ℕ) → Mode
 
--- a change of the files, as a call asks for it: create, delete, rename, write, setAll
+-- a change of the files, as a call asks for it: create, delete, rename, or an edit of a file
 pub data Change : Type 0 where
   Create : (name : List ℕ) (size : ℤ) → Change
   Delete : (name : List ℕ) → Change
   Rename : (handle : ℤ) (name : List ℕ) → Change
-  Write : (handle offset : ℤ) (bytes : List ℕ) → Change
-  SetAll : (handle value : ℤ) → Change
+  Edit : (handle : ℤ) (edit : FileEdit) → Change
 
 -- The totals: the layout that the last recovery found which succeeded, that of a new disk before the first; what is
 -- known of the files, the handle that the next new file gets, the control that has claimed the area (the whole

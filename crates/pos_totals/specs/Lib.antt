@@ -1,9 +1,11 @@
 pub mod Buffers
 pub mod Changes
 pub mod Checks
+pub mod Edits
 pub mod Groups
 pub mod HardTotals
 pub mod Numbering
+pub mod Ranges
 pub mod Recoveries
 pub mod Tables
 pub mod TotalsArrangements

@@ -1,4 +1,4 @@
--- Changes of the files: create, delete, rename, write, setAll (chapter Hard Totals).
+-- Changes of the files: create, delete, rename, and edits of a file (chapter Hard Totals).
 use Rattle.std.specs.Prelude.{◌≡◌, ◌⊎◌, ℕ, ◌+◌, pos, nat_abs, Bool, true, false, not, ◌&&◌, ◌||◌, List, [], ◌∷◌, ◌++◌, length, replicate, sum_by, Option, Some}
 use Rattle.std.specs.Prelude.{None, is_some, is_none, nat_eq, nat_le, Result, MatchOption, MatchResult, if◌then◌else◌}
 use Rattle.std.specs.List.{find, filter}
@@ -11,11 +11,12 @@ use Rattle.pos_service.specs.declared.call.Call.{Call}
 use Rattle.pos_service.specs.declared.call.Call.TheVariants as call
 use Rattle.pos_service.specs.declared.code.Code.TheVariants as code
 use Rattle.pos_service.specs.declared.memory.NoMemory.{NoMemory}
-use Rattle.pos_service.specs.Numbers.{is_natural, is_up_to}
+use Rattle.pos_service.specs.Numbers.{is_natural}
 use Rattle.pos_service.specs.Refusals.{Row, when, first_refusal, Decided}
-use Rattle.pos_totals.specs.HardTotals.{TotalsLimits, totals_limits, last_number, IsAmong, File, Mode, Off, Ready, Change, Create, Delete, Rename, Write}
-use Rattle.pos_totals.specs.HardTotals.{SetAll, Totals, transaction_of, in_transaction, sequences_after, after_disk_fault, with_transaction, is_last}
-use Rattle.pos_totals.specs.TotalsFiles.{is_name, is_named, is_called, has_file, is_foreign_file, has_room, is_range_of, overwritten, with_each}
+use Rattle.pos_totals.specs.HardTotals.{TotalsLimits, totals_limits, last_number, IsAmong, File, Mode, Off, Ready, Change, Create, Delete, Rename}
+use Rattle.pos_totals.specs.HardTotals.{Edit, Totals, transaction_of, in_transaction, sequences_after, after_disk_fault, with_transaction, is_last}
+use Rattle.pos_totals.specs.Edits.{FileEdit, edit_asked, fits, edit_cost, edited}
+use Rattle.pos_totals.specs.TotalsFiles.{is_name, is_named, is_called, has_file, is_foreign_file, has_room, with_each}
 use Rattle.pos_totals.specs.TotalsRows.{when_no_room, while_ready, when_foreign_area}
 
 -- the change that a call asks for, where it asks for one; error detection has no effect
@@ -23,25 +24,26 @@ abbrev pub change_asked : Call → Option Change
 change_asked (call.Create name size detection) = Some (Create name size)
 change_asked (call.Delete name) = Some (Delete name)
 change_asked (call.Rename handle name) = Some (Rename handle name)
-change_asked (call.Write handle offset bytes) = Some (Write handle offset bytes)
-change_asked (call.SetAll handle n) = Some (SetAll handle n)
-change_asked asked = None
+change_asked asked = option_map (λ edit. Edit edit.0 edit.1) (edit_asked asked)
 
 -- the file that a change is of, where there is the file; a new one isn't there yet
 abbrev pub changed_file : List File → Change → Option File
 changed_file files (Create name size) = None
 changed_file files (Delete name) = find (is_named name) files
 changed_file files (Rename handle name) = find (is_called handle) files
-changed_file files (Write handle offset bytes) = find (is_called handle) files
-changed_file files (SetAll handle n) = find (is_called handle) files
+changed_file files (Edit handle edit) = find (is_called handle) files
+
+-- there is the file, and the edit fits it
+abbrev pub fits_file : Option File → FileEdit → Bool
+fits_file None edit = false
+fits_file (Some file) edit = fits (length file.bytes) edit
 
 -- what a buffered change costs
 abbrev pub cost_of : Change → ℕ
 cost_of (Create name size) = 0
 cost_of (Delete name) = 0
 cost_of (Rename handle name) = 0
-cost_of (Write handle offset bytes) = length bytes + 16
-cost_of (SetAll handle n) = 16
+cost_of (Edit handle edit) = edit_cost edit
 
 -- what changes cost in sum
 abbrev pub cost_of_all : List Change → ℕ
@@ -74,15 +76,10 @@ change_rows limits files control spent (Rename handle name) =
     ∷ when (has_file (is_named name) files) code.Exists
     ∷ when (is_foreign_file control (find (is_called handle) files)) code.Claimed
     ∷ []
-change_rows limits files control spent (Write handle offset bytes) =
-    when (not (is_range_of (find (is_called handle) files) offset (pos (length bytes)))) code.Illegal
+change_rows limits files control spent (Edit handle edit) =
+    when (not (fits_file (find (is_called handle) files) edit)) code.Illegal
     ∷ when (is_foreign_file control (find (is_called handle) files)) code.Claimed
-    ∷ when_no_room (is_over limits spent (cost_of (Write handle offset bytes)))
-    ∷ []
-change_rows limits files control spent (SetAll handle n) =
-    when (not (has_file (is_called handle) files && is_up_to 255 n)) code.Illegal
-    ∷ when (is_foreign_file control (find (is_called handle) files)) code.Claimed
-    ∷ when_no_room (is_over limits spent (cost_of (SetAll handle n)))
+    ∷ when_no_room (is_over limits spent (edit_cost edit))
     ∷ []
 
 -- the same by the totals, whose layout has the limits, and the number of the control that calls
@@ -99,18 +96,15 @@ files_after next files (Create name size) =
     files ++ record { handle = next; name = name; bytes = replicate (nat_abs size) 0; claim = None } ∷ []
 files_after next files (Delete name) = filter (λ file. not (is_named name file)) files
 files_after next files (Rename handle name) = with_each (is_called handle) (λ file. record file { name = name }) files
-files_after next files (Write handle offset bytes) =
-    with_each (is_called handle) (λ file. record file { bytes = overwritten file.bytes (nat_abs offset) bytes }) files
-files_after next files (SetAll handle n) =
-    with_each (is_called handle) (λ file. record file { bytes = replicate (length file.bytes) (nat_abs n) }) files
+files_after next files (Edit handle edit) =
+    with_each (is_called handle) (λ file. record file { bytes = edited edit file.bytes }) files
 
 -- the change makes a new file
 abbrev pub is_create : Change → Bool
 is_create (Create name size) = true
 is_create (Delete name) = false
 is_create (Rename handle name) = false
-is_create (Write handle offset bytes) = false
-is_create (SetAll handle n) = false
+is_create (Edit handle edit) = false
 
 -- the next handle after a change: a new file has used up its own
 abbrev pub next_after : ℕ → Change → ℕ

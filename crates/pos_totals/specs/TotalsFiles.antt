@@ -1,10 +1,11 @@
 -- What is asked of the files of Hard Totals (chapter Hard Totals).
-use Rattle.std.specs.Prelude.{ℕ, ◌+◌, ◌-◌, ℤ, pos, negsuc, Bool, false, ◌&&◌, List, ◌++◌, length, map, take, drop, sum_by, slice_get, Option, Some, None}
+use Rattle.std.specs.Prelude.{ℕ, ◌-◌, ℤ, pos, negsuc, Bool, false, ◌&&◌, List, length, map, sum_by, slice_get, Option, Some, None}
 use Rattle.std.specs.Prelude.{is_some, nat_eq, nat_lt, nat_le, bytes_eq, if◌then◌else◌}
 use Rattle.std.specs.List.{find, list_all}
 use Rattle.pos_service.specs.Claims.{is_own, is_foreign}
 use Rattle.pos_service.specs.Numbers.{is_up_to}
 use Rattle.pos_totals.specs.HardTotals.{TotalsLimits, File}
+use Rattle.pos_totals.specs.Ranges.{is_range}
 
 -- a byte that a name may have
 abbrev pub is_name_byte : ℕ → Bool
@@ -13,12 +14,6 @@ is_name_byte byte = nat_le 0x20 byte && nat_le byte 0x7f
 -- a good name: 1 to 10 bytes of 0x20 to 0x7F
 abbrev pub is_name : List ℕ → Bool
 is_name name = nat_le 1 (length name) && (nat_le (length name) 10 && list_all is_name_byte name)
-
--- a range of bytes within a size: neither the offset nor the count is below 0
-abbrev pub is_range : ℕ → ℤ → ℤ → Bool
-is_range size (pos offset) (pos count) = nat_le (offset + count) size
-is_range size (pos offset) (negsuc n) = false
-is_range size (negsuc n) count = false
 
 -- the file has the name
 abbrev pub is_named : List ℕ → File → Bool
@@ -63,10 +58,6 @@ has_room limits files size = is_up_to (free_data limits files) size && nat_lt (l
 abbrev pub is_range_of : Option File → ℤ → ℤ → Bool
 is_range_of None offset count = false
 is_range_of (Some file) offset count = is_range (length file.bytes) offset count
-
--- the bytes with others in the place of those from an offset on
-abbrev pub overwritten : List ℕ → ℕ → List ℕ → List ℕ
-overwritten old offset bytes = take offset old ++ bytes ++ drop (offset + length bytes) old
 
 -- the files with each that meets a test changed
 abbrev pub with_each : (File → Bool) → (File → File) → List File → List File

@@ -3,16 +3,17 @@ ghost use Rattle.std.specs.Prelude.{◌≡◌, ◌<◌, length, IfOk, MatchResul
 ghost use Rattle.pos_dir.specs.Changes.{flaw_of};
 ghost use Rattle.pos_store.specs.Commits.{Commits, IsApplicable};
 ghost use Rattle.pos_totals.specs.Changes.{Changes};
-ghost use Rattle.pos_totals.specs.Buffers.{is_bufferable, transactions_after, Buffers, IsAsked, MayBuffer};
+ghost use Rattle.pos_totals.specs.Buffers.{transactions_after, Buffers, MayBuffer};
 ghost use Rattle.pos_totals.specs.Checks.{change_of, answer_of, ChecksAt};
 ghost use Rattle.pos_totals.specs.Views.{HasDirectory, IsSound, totals_of, view_of};
 
 use crate::checking::check;
+use crate::edits::OwnedEdit;
 use crate::files::see_files;
 use crate::holdings::Holdings;
 use crate::request::{Caller, Checked, Request};
-use crate::transactions::{Action, Buffered, Transactions};
-use pos_dir::{Bytes, Change, Group};
+use crate::transactions::{Buffered, Transactions};
+use pos_dir::{Change, Group};
 use pos_disk::Disk;
 use pos_service::claims::is_foreign;
 use pos_service::{Answer, Code, NoMemory, Value};
@@ -108,34 +109,12 @@ fn buffer_change(
     requires { MayBuffer transactions.old control checked.now }
     ensures { Buffers transactions.old control checked.now result transactions.new }
 {
-    let change = copy_change(alloc, checked)?;
-    transactions.push(control, change)?;
-    Ok(Answer::Done(Value::Empty))
-}
-
-/// A change that may be buffered, with its bytes in memory of its own.
-fn copy_change(alloc: Global, checked: &Checked<'_>) -> Result<Buffered, NoMemory>
-    requires { is_bufferable checked.now.handle checked.now.change ≡ true }
-    ensures { IfOk result (λ change. IsAsked change checked.now.handle checked.now.change) }
-{
     let Some(handle) = checked.handle else {
         unreachable!()
     };
-    match &checked.change {
-        Change::Write {
-            index: _,
-            offset,
-            bytes,
-        } => {
-            let bytes = Bytes::from_vec(Vec::from_slice(alloc, bytes.as_slice())?);
-            let offset = *offset;
-            Ok(Buffered::new(handle, Action::Write { offset, bytes }))
-        }
-        Change::SetAll { index: _, value } => {
-            Ok(Buffered::new(handle, Action::SetAll { value: *value }))
-        }
-        _ => unreachable!(),
-    }
+    let edit = OwnedEdit::copy(alloc, &checked.change)?;
+    transactions.push(control, Buffered::new(handle, edit))?;
+    Ok(Answer::Done(Value::Empty))
 }
 
 /// Checks a change by its table.

@@ -1,14 +1,14 @@
 //! The tables of the changes: what is refused, and what is to be done where nothing is.
-ghost use Rattle.std.specs.Prelude.{◌≡◌, ◌≤◌, ◌+◌};
-ghost use Rattle.pos_dir.specs.declared.limits.TheConstants.{LAYOUT_2};
-ghost use Rattle.pos_totals.specs.HardTotals.{Create, Delete, Rename, Write, SetAll, totals_limits};
+ghost use Rattle.std.specs.Prelude.{◌≡◌};
+ghost use Rattle.pos_totals.specs.HardTotals.{Create, Delete, Rename, totals_limits};
+ghost use Rattle.pos_totals.specs.HardTotals as model;
+ghost use Rattle.pos_totals.specs.Edits.{edit_of};
 ghost use Rattle.pos_totals.specs.TotalsChanges.{is_over};
 ghost use Rattle.pos_totals.specs.Checks.{files_in, limits_in, change_of, AreFiles, Checks};
 
+use crate::edits::Edit;
 use crate::files::{Files, find_handle, find_name, has_room, totals_size};
-use crate::numbers::{to_byte, to_range};
 use crate::request::{Caller, Checked, Request};
-use crate::transactions::COST_OF_CHANGE;
 use pos_dir::{Change, LentBytes, is_name};
 use pos_image::Layout;
 use pos_service::claims::is_foreign;
@@ -28,12 +28,7 @@ pub fn check<'a>(
         Request::Create { name, size } => check_create(files, caller, name, *size),
         Request::Delete { name } => check_delete(files, caller, name),
         Request::Rename { handle, name } => check_rename(files, caller, *handle, name),
-        Request::Write {
-            handle,
-            offset,
-            bytes,
-        } => check_write(files, caller, *handle, *offset, bytes),
-        Request::SetAll { handle, value } => check_set_all(files, caller, *handle, *value),
+        Request::Edit { handle, edit } => check_edit(files, caller, *handle, edit),
     }
 }
 
@@ -125,78 +120,41 @@ fn check_rename<'a>(
     })
 }
 
-/// A file with the handle, and a range of its bytes.
-fn check_write<'a>(
+/// A file with the handle, which the edit fits.
+fn check_edit<'a>(
     files: Files<'_>,
     caller: Caller,
     handle: i128,
-    offset: i128,
-    bytes: &'a [u8],
+    edit: &Edit<'a>,
 ) -> Result<Checked<'a>, Answer>
     requires { AreFiles files }
-    ensures { Checks (limits_in files.entry) (files_in files.entry) caller (Write handle offset bytes.now) result }
+    ensures { Checks (limits_in files.entry) (files_in files.entry) caller (model.Edit handle (edit_of edit.now)) result }
 {
     let Some(found) = find_handle(files, handle) else {
         return Err(Answer::Refused(Code::Illegal, 0));
     };
-    let Some((start, _)) = to_range(found.bytes.len(), offset, bytes.len() as i128) else {
+    let Some(change) = edit.place(found.index, found.bytes.len()) else {
         return Err(Answer::Refused(Code::Illegal, 0));
     };
     if is_foreign(caller.control, found.claim) {
         return Err(Answer::Refused(Code::Claimed, 0));
     }
-    if is_too_costly(files.layout, caller.spent, bytes.len()) {
+    if is_too_costly(files.layout, caller.spent, edit.cost()) {
         return Err(Answer::Refused(Code::Extended, ETOT_NOROOM));
     }
     Ok(Checked {
         handle: Some(found.handle),
-        change: Change::Write {
-            index: found.index,
-            offset: start as u32,
-            bytes: LentBytes::from_slice(bytes),
-        },
+        change,
     })
 }
 
-/// A file with the handle, and the value of a byte.
-fn check_set_all<'a>(
-    files: Files<'_>,
-    caller: Caller,
-    handle: i128,
-    value: i128,
-) -> Result<Checked<'a>, Answer>
-    requires { AreFiles files }
-    ensures { Checks (limits_in files.entry) (files_in files.entry) caller (SetAll handle value) result }
-{
-    let Some(found) = find_handle(files, handle) else {
-        return Err(Answer::Refused(Code::Illegal, 0));
-    };
-    let Some(value) = to_byte(value) else {
-        return Err(Answer::Refused(Code::Illegal, 0));
-    };
-    if is_foreign(caller.control, found.claim) {
-        return Err(Answer::Refused(Code::Claimed, 0));
-    }
-    if is_too_costly(files.layout, caller.spent, 0) {
-        return Err(Answer::Refused(Code::Extended, ETOT_NOROOM));
-    }
-    Ok(Checked {
-        handle: Some(found.handle),
-        change: Change::SetAll {
-            index: found.index,
-            value,
-        },
-    })
-}
-
-/// Whether a change of so many bytes costs more than is left to the transaction in which so much is spent.
-fn is_too_costly(layout: Layout, spent: Option<usize>, bytes: usize) -> bool
-    requires { bytes ≤ LAYOUT_2.bytes }
-    ensures { result ≡ is_over (totals_limits layout) spent (bytes + 16) }
+/// Whether a cost is more than is left to the transaction in which so much is spent.
+fn is_too_costly(layout: Layout, spent: Option<usize>, cost: usize) -> bool
+    ensures { result ≡ is_over (totals_limits layout) spent cost }
 {
     let most = totals_size(layout);
     match spent {
-        Some(spent) => spent > most || bytes + COST_OF_CHANGE > most - spent,
+        Some(spent) => spent > most || cost > most - spent,
         None => false,
     }
 }

@@ -7,6 +7,7 @@ mod changing;
 mod checking;
 mod claims;
 mod committing;
+mod edits;
 mod fault;
 mod files;
 mod handles;
@@ -21,6 +22,7 @@ mod transactions;
 
 pub use arranging::Arrangement;
 pub use asking::Question;
+pub use edits::Edit;
 pub use fault::RecoveryFault;
 pub use request::Request;
 pub use totals::Totals;

@@ -1,6 +1,6 @@
 //! The numbers of calls.
 ghost use Rattle.std.specs.Prelude.{◌≡◌, ◌<◌, pos, false, MatchOption};
-ghost use Rattle.pos_totals.specs.TotalsFiles.{is_range};
+ghost use Rattle.pos_totals.specs.Ranges.{is_range};
 ghost use Rattle.pos_service.specs.Numbers.{is_up_to};
 ghost use Rattle.pos_totals.specs.Checks.{IsRange};
 

@@ -5,6 +5,7 @@ ghost use Rattle.pos_service.specs.Calls.{takes_memory};
 ghost use Rattle.pos_totals.specs.TotalsChanges.{change_asked};
 ghost use Rattle.pos_totals.specs.Checks.{change_of};
 
+use crate::edits::Edit;
 use pos_dir::Change;
 use pos_service::Call;
 
@@ -23,46 +24,20 @@ pub enum Request<'a> {
     /// Refused with E_ILLEGAL in a transaction of the control, for a bad name or a size below 0, E_EXISTS where a file
     /// has the name, E_EXTENDED ETOT_NOROOM where the size is above FreeData or there are as many files as the layout
     /// of the disk allows, E_FAILURE where no handle or no sequence is left or the disk fails.
-    Create {
-        name: &'a [u8],
-        size: i128,
-    },
+    Create { name: &'a [u8], size: i128 },
     /// `delete`: removes a file with its claim; those behind it close up.
     ///
     /// Refused with E_ILLEGAL in a transaction of the control, E_NOEXIST where no file has the name, E_CLAIMED where
     /// another control has claimed the file, E_FAILURE where no sequence is left or the disk fails.
-    Delete {
-        name: &'a [u8],
-    },
+    Delete { name: &'a [u8] },
     /// `rename`: gives a file another name.
     ///
     /// Refused with E_ILLEGAL in a transaction of the control, where no file has the handle or for a bad name, E_EXISTS
     /// where a file has the name, this one too, E_CLAIMED where another control has claimed the file, E_FAILURE where
     /// no sequence is left or the disk fails.
-    Rename {
-        handle: i128,
-        name: &'a [u8],
-    },
-    /// `write`: puts bytes in the place of those of a file from an offset on.
-    ///
-    /// Refused with E_ILLEGAL where no file has the handle, or the bytes don't lie within the file, E_CLAIMED where
-    /// another control has claimed the file; in a transaction of the control E_EXTENDED ETOT_NOROOM where it costs more
-    /// than is left (the number of bytes and 16, at most TotalsSize in sum); else E_FAILURE where no sequence is left
-    /// or the disk fails.
-    Write {
-        handle: i128,
-        offset: i128,
-        bytes: &'a [u8],
-    },
-    /// `setAll`: makes each byte of a file the same.
-    ///
-    /// Refused with E_ILLEGAL where no file has the handle, or the value isn't 0 to 255, E_CLAIMED where another
-    /// control has claimed the file; in a transaction of the control E_EXTENDED ETOT_NOROOM where less than 16 is left
-    /// of its cost; else E_FAILURE where no sequence is left or the disk fails.
-    SetAll {
-        handle: i128,
-        value: i128,
-    },
+    Rename { handle: i128, name: &'a [u8] },
+    /// Edits the file with a handle.
+    Edit { handle: i128, edit: Edit<'a> },
 }
 
 impl<'a> Request<'a> {
@@ -83,16 +58,10 @@ impl<'a> Request<'a> {
                 handle: *handle,
                 name: name.as_slice(),
             }),
-            Call::Write(handle, offset, bytes) => Some(Request::Write {
-                handle: *handle,
-                offset: *offset,
-                bytes: bytes.as_slice(),
-            }),
-            Call::SetAll(handle, value) => Some(Request::SetAll {
-                handle: *handle,
-                value: *value,
-            }),
-            _ => None,
+            _ => match Edit::of(call) {
+                Some((handle, edit)) => Some(Request::Edit { handle, edit }),
+                None => None,
+            },
         }
     }
 }

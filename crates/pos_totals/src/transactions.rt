@@ -8,28 +8,17 @@ ghost use Rattle.pos_totals.specs.HardTotals.{transaction_at, without_transactio
 ghost use Rattle.pos_totals.specs.TotalsArrangements.{may_begin};
 ghost use Rattle.pos_totals.specs.Buffers.{buffered_change, placed_change, with_buffered, HasLeft, IsOf};
 
-use pos_dir::{Bytes, Change, LentBytes};
+use crate::edits::OwnedEdit;
+use pos_dir::Change;
 use pos_service::NoMemory;
 use std::alloc::Global;
 use std::marker::Model;
 
-/// What a change costs beside its bytes.
-pub const COST_OF_CHANGE: usize = 16;
-
-/// What a buffered change does to its file.
-#[derive(Drop)]
-pub enum Action {
-    /// Puts bytes in the place of those from an offset on.
-    Write { offset: u32, bytes: Bytes },
-    /// Makes each byte the same.
-    SetAll { value: u8 },
-}
-
-/// A change that waits for the commit of its transaction. Contracts see the change.
+/// An edit that waits for the commit of its transaction. Contracts see the change.
 #[derive(Drop)]
 pub struct Buffered {
     handle: u64,
-    action: Action,
+    edit: OwnedEdit,
 }
 
 impl Model for Buffered {
@@ -38,15 +27,15 @@ impl Model for Buffered {
 
     ghost Value = { Change };
 
-    ghost view = { λ b. buffered_change b.handle b.action };
+    ghost view = { λ b. buffered_change b.handle b.edit };
 }
 
 impl Buffered {
-    /// What is to be done to the file with a handle.
-    pub fn new(handle: u64, action: Action) -> Self
-        ensures { result ≡ buffered_change handle action }
+    /// The edit of the file with a handle.
+    pub fn new(handle: u64, edit: OwnedEdit) -> Self
+        ensures { result ≡ buffered_change handle edit }
     {
-        Buffered { handle, action }
+        Buffered { handle, edit }
     }
 
     /// The handle of its file.
@@ -60,17 +49,7 @@ impl Buffered {
     pub fn lend(&self, index: u16) -> Change<'_>
         ensures { result ≡ placed_change index self.now }
     {
-        match &self.action {
-            Action::Write { offset, bytes } => Change::Write {
-                index,
-                offset: *offset,
-                bytes: LentBytes::from_slice(bytes.as_slice()),
-            },
-            Action::SetAll { value } => Change::SetAll {
-                index,
-                value: *value,
-            },
-        }
+        self.edit.lend(index)
     }
 
     /// What it costs.
@@ -78,10 +57,7 @@ impl Buffered {
         requires { cost_of self.now ≤ LAYOUT_2.bytes }
         ensures { result ≡ cost_of self.now }
     {
-        match &self.action {
-            Action::Write { offset: _, bytes } => bytes.as_slice().len() + COST_OF_CHANGE,
-            Action::SetAll { value: _ } => COST_OF_CHANGE,
-        }
+        self.edit.cost()
     }
 }
 

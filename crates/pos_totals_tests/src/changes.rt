@@ -2,7 +2,7 @@
 use crate::two_files::spell;
 use pos_disk::Disk;
 use pos_service::{Answer, NoMemory};
-use pos_totals::{Arrangement, RecoveryFault, Request, Totals};
+use pos_totals::{Arrangement, Edit, RecoveryFault, Request, Totals};
 use std::alloc::{AllocError, Global};
 use std::test::Fail;
 
@@ -43,10 +43,12 @@ fn spelled_after(alloc: Global, change: Change) -> Result<Vec<u8>, AllocError> {
 }
 
 /// Writes over two bytes of the first file.
-pub const OVERWRITES: Request<'static> = Request::Write {
+pub const OVERWRITES: Request<'static> = Request::Edit {
     handle: 1,
-    offset: 1,
-    bytes: &[8, 9],
+    edit: Edit::Write {
+        offset: 1,
+        bytes: &[8, 9],
+    },
 };
 
 // What a change asks for, where the files have the handles 1 and 2.
@@ -62,9 +64,9 @@ fn request_of(change: Change) -> Option<Request<'static>> {
             name: b"C",
         }),
         Change::Write => Some(OVERWRITES),
-        Change::SetAll => Some(Request::SetAll {
+        Change::SetAll => Some(Request::Edit {
             handle: 1,
-            value: 7,
+            edit: Edit::SetAll { value: 7 },
         }),
         Change::Commit => None,
     }
@@ -84,9 +86,9 @@ fn commit_both<D: Disk>(totals: &mut Totals<D>) -> Result<Answer, NoMemory> {
     totals.change(0, OVERWRITES)?;
     totals.change(
         0,
-        Request::SetAll {
+        Request::Edit {
             handle: 2,
-            value: 7,
+            edit: Edit::SetAll { value: 7 },
         },
     )?;
     totals.commit_trans(0)

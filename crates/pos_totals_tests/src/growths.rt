@@ -3,7 +3,7 @@ use crate::changes::{BEFORE, CHANGES, Change, OVERWRITES, carry_out, is_after};
 use crate::two_files::{disk_of_layout_2, disk_with_files, over, spell};
 use pos_disk::MemDisk;
 use pos_service::{Answer, Value};
-use pos_totals::{Arrangement, Question, RecoveryFault, Request, Totals};
+use pos_totals::{Arrangement, Edit, Question, RecoveryFault, Request, Totals};
 use std::alloc::Global;
 use std::test::Fail;
 
@@ -61,10 +61,9 @@ fn fill_up(totals: &mut Totals<MemDisk>, bytes: &[u8]) -> Result<Answer, Fail> {
     )?;
     totals.change(
         0,
-        Request::Write {
+        Request::Edit {
             handle,
-            offset,
-            bytes,
+            edit: Edit::Write { offset, bytes },
         },
     )?;
     Ok(totals.ask(

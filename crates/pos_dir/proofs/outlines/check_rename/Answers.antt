@@ -1,7 +1,6 @@
-use Rattle.std.proofs.Common.{◌≡◌, ◌∙◌, sym, ap, arith, List, Some, true, false, refl}
+use Rattle.std.proofs.Common.{◌∙◌, sym, ap, arith, Some, refl}
 use Rattle.std.proofs.lemmas.Option.{slice_get-get_or}
 use Rattle.pos_dir.specs.declared.outlines.Outline.{Outline}
-use Rattle.pos_dir.specs.Outlines.{is_named}
 use Rattle.pos_dir.proofs.Outlined.{outline_at, rename_taken, rename_made}
 use Rattle.pos_dir.proofs.outlines.check_rename.Goals as goal
 
@@ -9,17 +8,13 @@ pub returns-then-is_taken : goal.returns-then-is_taken
 returns-then-is_taken g c = λ limits files same.
     let outlines = c.args.outlines.now.items in
     let at = outline_at outlines c.args.index (omega (arith, c.len.ensures.value, c.if-index-len.false)) in
-    let taken : is_named outlines c.args.name.now ≡ true =
-    ap (λ (x : List Outline). is_named x c.args.name.now) (sym c.as_slice.ensures.value) ∙ sym c.is_named-is_taken.ensures ∙ c.if-is_taken.true in
-    rename_taken limits outlines files c.args.index at.0 c.args.name.now same at.1 taken
+    rename_taken limits outlines files c.args.index at.0 c.args.name.now same at.1 (cc)
 
 pub returns : goal.returns
 returns g c = λ limits files same.
     let outlines = c.args.outlines.now.items in
-    let free : is_named outlines c.args.name.now ≡ false =
-    ap (λ (x : List Outline). is_named x c.args.name.now) (sym c.as_slice.ensures.value) ∙ sym c.is_named-is_taken.ensures ∙ c.if-is_taken.false in
     let o = c.remove-size.result in
     let new : Outline = record { name = c.args.name; size = o.size } in
     let at = slice_get-get_or outlines c.args.index o (omega (arith, c.len.ensures.value, c.if-index-len.false))
     ∙ ap (λ (x : Outline). Some x) (sym c.remove-size.ensures.value) in
-    rw (c.insert.ensures.items, c.remove-size.ensures.items) (rename_made limits outlines files c.args.index o new same at refl free)
+    rw (c.insert.ensures.items, c.remove-size.ensures.items) (rename_made limits outlines files c.args.index o new same at refl (cc))

@@ -17,21 +17,14 @@ returns-in-Err-clause-changes g c =
     c.in-Err.ensures.directory c.requires.sound c.leaves_its_files.ensures
     (refused (totals_of store.state holdings) c.args.control (change_of c.args.request) c.in-Err.refusal c.in-Err.ensures.checks)
 
-pub returns-then-is_open-clause-sound : goal.returns-then-is_open-clause-sound
-returns-then-is_open-clause-sound g c =
+pub returns-then-is_open : goal.returns-then-is_open
+returns-then-is_open g c =
     let store = c.args.store.now in
-    (store_buffers g.D.Disk store.disk (λ h bytes left. g.met.D.Disk.only_now store.disk bytes h left) c.args.holdings.now c.args.control
+    let both = store_buffers g.D.Disk store.disk (λ h bytes left. g.met.D.Disk.only_now store.disk bytes h left) c.args.holdings.now c.args.control
     (change_of c.args.request) c.in-Ok.checked
     store.layout store.state c.in-Ok.ensures.directory c.requires.sound c.leaves_its_files.ensures c.in-Ok.ensures.checks
-    (sym c.is_open.ensures ∙ c.if-is_open.true) c.buffer_change.result c.buffer_change.new.transactions c.buffer_change.ensures).1
-
-pub returns-then-is_open-clause-changes : goal.returns-then-is_open-clause-changes
-returns-then-is_open-clause-changes g c =
-    let store = c.args.store.now in
-    (store_buffers g.D.Disk store.disk (λ h bytes left. g.met.D.Disk.only_now store.disk bytes h left) c.args.holdings.now c.args.control
-    (change_of c.args.request) c.in-Ok.checked
-    store.layout store.state c.in-Ok.ensures.directory c.requires.sound c.leaves_its_files.ensures c.in-Ok.ensures.checks
-    (sym c.is_open.ensures ∙ c.if-is_open.true) c.buffer_change.result c.buffer_change.new.transactions c.buffer_change.ensures).0
+    (sym c.is_open.ensures ∙ c.if-is_open.true) c.buffer_change.result c.buffer_change.new.transactions c.buffer_change.ensures in
+    record { sound = both.1; changes = both.0 }
 
 pub returns-in-Err-make_group-clause-changes : goal.returns-in-Err-make_group-clause-changes
 returns-in-Err-make_group-clause-changes g c =
@@ -73,58 +66,31 @@ keep-requires g c =
     (ap (lacks c.args.holdings.now.handles.next) (sym same) ∙ sym c.lack.ensures.lacks ∙ c.if-lack.false)
     (let bound = c.lack.ensures.bound in omega (arith, bound)))
 
-pub returns-in-Ok-put_group-clause-sound : goal.returns-in-Ok-put_group-clause-sound
-returns-in-Ok-put_group-clause-sound g c =
+pub returns-in-Ok-put_group : goal.returns-in-Ok-put_group
+returns-in-Ok-put_group g c =
     let same = the_change c.in-Ok-make_group.group c.in-Some.change.now c.in-Ok.checked.change
     c.in-Some.ensures c.in-Ok-make_group.ensures in
     let store = c.args.store.now in
     let commits = subst (λ (changes : List Change). Commits g.D.Disk store changes
     (Ok tt) c.put_group.new.store) c.in-Ok-make_group.ensures c.in-Ok-put_group.ensures.commits in
-    rw (c.keep.ensures.given, c.keep.ensures.next, same, c.in-Ok-put_group.ensures.transactions)
-    (store_done g.D.Disk store.disk (λ h bytes left. g.met.D.Disk.only_now store.disk bytes h left) c.args.holdings.now c.args.control
+    let both = store_done g.D.Disk store.disk (λ h bytes left. g.met.D.Disk.only_now store.disk bytes h left) c.args.holdings.now c.args.control
     (change_of c.args.request) c.in-Ok.checked
     store.layout store.state store.tail c.put_group.new.store c.in-Ok.ensures.directory c.requires.sound c.leaves_its_files.ensures c.in-Ok.ensures.checks
     (sym c.is_open.ensures ∙ c.if-is_open.false)
-    (ap (lacks c.args.holdings.now.handles.next) (sym same) ∙ sym c.lack.ensures.lacks ∙ c.if-lack.false) commits).1
-
-pub returns-in-Ok-put_group-clause-changes : goal.returns-in-Ok-put_group-clause-changes
-returns-in-Ok-put_group-clause-changes g c =
-    let same = the_change c.in-Ok-make_group.group c.in-Some.change.now c.in-Ok.checked.change
-    c.in-Some.ensures c.in-Ok-make_group.ensures in
-    let store = c.args.store.now in
-    let commits = subst (λ (changes : List Change). Commits g.D.Disk store changes
-    (Ok tt) c.put_group.new.store) c.in-Ok-make_group.ensures c.in-Ok-put_group.ensures.commits in
+    (ap (lacks c.args.holdings.now.handles.next) (sym same) ∙ sym c.lack.ensures.lacks ∙ c.if-lack.false) commits in
     rw (c.keep.ensures.given, c.keep.ensures.next, c.keep.ensures.value, same, c.in-Ok-put_group.ensures.transactions)
-    (store_done g.D.Disk store.disk (λ h bytes left. g.met.D.Disk.only_now store.disk bytes h left) c.args.holdings.now c.args.control
-    (change_of c.args.request) c.in-Ok.checked
-    store.layout store.state store.tail c.put_group.new.store c.in-Ok.ensures.directory c.requires.sound c.leaves_its_files.ensures c.in-Ok.ensures.checks
-    (sym c.is_open.ensures ∙ c.if-is_open.false)
-    (ap (lacks c.args.holdings.now.handles.next) (sym same) ∙ sym c.lack.ensures.lacks ∙ c.if-lack.false) commits).0
+    (record { sound = both.1; changes = both.0 })
 
-pub returns-clause-sound : goal.returns-clause-sound
-returns-clause-sound g c =
+pub returns : goal.returns
+returns g c =
     let same = the_change c.in-Ok-make_group.group c.in-Some.change.now c.in-Ok.checked.change
     c.in-Some.ensures c.in-Ok-make_group.ensures in
     let store = c.args.store.now in
     let commits = subst (λ (changes : List Change). Commits g.D.Disk store changes
     (Err c.in-Err-put_group.fault) c.put_group.new.store) c.in-Ok-make_group.ensures c.in-Err-put_group.ensures.commits in
-    rw c.in-Err-put_group.ensures.transactions
-    (store_refused g.D.Disk store.disk (λ h bytes left. g.met.D.Disk.only_now store.disk bytes h left) c.args.holdings.now c.args.control
+    let both = store_refused g.D.Disk store.disk (λ h bytes left. g.met.D.Disk.only_now store.disk bytes h left) c.args.holdings.now c.args.control
     (change_of c.args.request) c.in-Ok.checked
     store.layout store.state store.tail c.put_group.new.store c.in-Err-put_group.fault c.in-Ok.ensures.directory c.requires.sound c.leaves_its_files.ensures
     c.in-Ok.ensures.checks (sym c.is_open.ensures ∙ c.if-is_open.false)
-    (ap (lacks c.args.holdings.now.handles.next) (sym same) ∙ sym c.lack.ensures.lacks ∙ c.if-lack.false) commits).1
-
-pub returns-clause-changes : goal.returns-clause-changes
-returns-clause-changes g c =
-    let same = the_change c.in-Ok-make_group.group c.in-Some.change.now c.in-Ok.checked.change
-    c.in-Some.ensures c.in-Ok-make_group.ensures in
-    let store = c.args.store.now in
-    let commits = subst (λ (changes : List Change). Commits g.D.Disk store changes
-    (Err c.in-Err-put_group.fault) c.put_group.new.store) c.in-Ok-make_group.ensures c.in-Err-put_group.ensures.commits in
-    rw (c.answer_fault.ensures, c.in-Err-put_group.ensures.transactions)
-    (store_refused g.D.Disk store.disk (λ h bytes left. g.met.D.Disk.only_now store.disk bytes h left) c.args.holdings.now c.args.control
-    (change_of c.args.request) c.in-Ok.checked
-    store.layout store.state store.tail c.put_group.new.store c.in-Err-put_group.fault c.in-Ok.ensures.directory c.requires.sound c.leaves_its_files.ensures
-    c.in-Ok.ensures.checks (sym c.is_open.ensures ∙ c.if-is_open.false)
-    (ap (lacks c.args.holdings.now.handles.next) (sym same) ∙ sym c.lack.ensures.lacks ∙ c.if-lack.false) commits).0
+    (ap (lacks c.args.holdings.now.handles.next) (sym same) ∙ sym c.lack.ensures.lacks ∙ c.if-lack.false) commits in
+    rw (c.answer_fault.ensures, c.in-Err-put_group.ensures.transactions) (record { sound = both.1; changes = both.0 })

@@ -24,43 +24,26 @@ returns-in-Ok-Refused-clause-commits g c =
     (λ h bytes left. g.met.D.Disk.only_now store.disk bytes h left) store.layout store.state c.args.holdings.now c.args.control
     c.commit_buffer.ensures.directory c.requires.sound c.leaves_its_files.ensures c.in-Ok-Refused.refusal did.0)
 
-pub returns-in-Ok-Done-clause-sound : goal.returns-in-Ok-Done-clause-sound
-returns-in-Ok-Done-clause-sound g c =
+pub returns-in-Ok-Done : goal.returns-in-Ok-Done
+returns-in-Ok-Done g c =
     let store = c.args.store.now in
     let did = became g.D.Disk store c.commit_buffer.new.store (totals_of store.state c.args.holdings.now) c.args.control _ _ _
     c.in-Ok-Done.is c.in-Ok-Done.field-0-is c.commit_buffer.ensures.commits in
-    (store_ended g.D.Disk store.disk (λ h bytes left. g.met.D.Disk.only_now store.disk bytes h left) store.layout store.state store.tail
+    let both = store_ended g.D.Disk store.disk (λ h bytes left. g.met.D.Disk.only_now store.disk bytes h left) store.layout store.state store.tail
     c.args.holdings.now c.args.control c.commit_buffer.new.store c.commit_buffer.ensures.directory c.requires.sound c.leaves_its_files.ensures
-    did.0 did.1 c.set.new.self c.set.ensures).1
+    did.0 did.1 c.set.new.self c.set.ensures in
+    record { sound = both.1; commits = both.0 }
 
-pub returns-in-Ok-Done-clause-commits : goal.returns-in-Ok-Done-clause-commits
-returns-in-Ok-Done-clause-commits g c =
-    let store = c.args.store.now in
-    let did = became g.D.Disk store c.commit_buffer.new.store (totals_of store.state c.args.holdings.now) c.args.control _ _ _
-    c.in-Ok-Done.is c.in-Ok-Done.field-0-is c.commit_buffer.ensures.commits in
-    (store_ended g.D.Disk store.disk (λ h bytes left. g.met.D.Disk.only_now store.disk bytes h left) store.layout store.state store.tail
-    c.args.holdings.now c.args.control c.commit_buffer.new.store c.commit_buffer.ensures.directory c.requires.sound c.leaves_its_files.ensures
-    did.0 did.1 c.set.new.self c.set.ensures).0
-
-pub returns-in-Ok-Failed-clause-sound : goal.returns-in-Ok-Failed-clause-sound
-returns-in-Ok-Failed-clause-sound g c =
+pub returns-in-Ok-Failed : goal.returns-in-Ok-Failed
+returns-in-Ok-Failed g c =
     let store = c.args.store.now in
     let did = became g.D.Disk store c.commit_buffer.new.store (totals_of store.state c.args.holdings.now) c.args.control _ _ _
     c.in-Ok-Failed.is c.in-Ok-Failed.field-0-is c.commit_buffer.ensures.commits in
-    rw c.end_at.ensures (store_failed g.D.Disk store.disk
+    let both = store_failed g.D.Disk store.disk
     (λ h bytes left. g.met.D.Disk.only_now store.disk bytes h left) c.args.holdings.now c.args.control
     did.1.group store.layout store.state store.tail c.commit_buffer.new.store c.in-Ok-Failed.fault c.commit_buffer.ensures.directory c.requires.sound
-    c.leaves_its_files.ensures did.0 did.1.gathered did.1.commits).1
-
-pub returns-in-Ok-Failed-clause-commits : goal.returns-in-Ok-Failed-clause-commits
-returns-in-Ok-Failed-clause-commits g c =
-    let store = c.args.store.now in
-    let did = became g.D.Disk store c.commit_buffer.new.store (totals_of store.state c.args.holdings.now) c.args.control _ _ _
-    c.in-Ok-Failed.is c.in-Ok-Failed.field-0-is c.commit_buffer.ensures.commits in
-    rw (c.answer_fault.ensures, c.end_at.ensures) (store_failed g.D.Disk store.disk
-    (λ h bytes left. g.met.D.Disk.only_now store.disk bytes h left) c.args.holdings.now c.args.control
-    did.1.group store.layout store.state store.tail c.commit_buffer.new.store c.in-Ok-Failed.fault c.commit_buffer.ensures.directory c.requires.sound
-    c.leaves_its_files.ensures did.0 did.1.gathered did.1.commits).0
+    c.leaves_its_files.ensures did.0 did.1.gathered did.1.commits in
+    rw (c.answer_fault.ensures, c.end_at.ensures) (record { sound = both.1; commits = both.0 })
 
 pub returns-in-Err-clause-commits : goal.returns-in-Err-clause-commits
 returns-in-Err-clause-commits g c =

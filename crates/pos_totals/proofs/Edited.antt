@@ -1,0 +1,57 @@
+-- What an edit does to its file, to the directory, and to the handles.
+use Rattle.std.proofs.Common.{◌≡◌, ℕ, ◌+◌, ℤ, pos, negsuc, nat_abs, true, false, List, ◌++◌, length, take, drop, Some, Ok, refl, arith}
+use Rattle.std.specs.Prelude.{is_some, slice_get, slice_set, nat_le}
+use Rattle.std.proofs.lemmas.Bool.{cond-true, leb-true}
+use Rattle.std.proofs.lemmas.List.{length-append, length-take, length-drop}
+use Rattle.std.proofs.Math.ListN.{length-replicate}
+use Rattle.pos_dir.specs.Changes.{outcome}
+use Rattle.pos_dir.specs.declared.change.Change.{Change as FileChange}
+use Rattle.pos_dir.specs.declared.file.File.{File as PlainFile}
+use Rattle.pos_dir.specs.declared.limits.Limits.{Limits}
+use Rattle.pos_service.specs.declared.answer.Value.TheVariants as value
+use Rattle.pos_totals.specs.Edits.{FileEdit, Write, SetAll, fits, edited, edit_change, edit_in}
+use Rattle.pos_totals.specs.Numbering.{lacks, HasPlace, given_after, following, value_after}
+use Rattle.pos_totals.specs.Ranges.{is_range}
+use Rattle.pos_totals.specs.declared.handles.Tag.{Tag}
+
+range_end : (size : ℕ) (offset : ℤ) (count : ℕ) → is_range size offset (pos count) ≡ true → nat_le (nat_abs offset + count) size ≡ true
+range_end size (pos offset) count fits = fits
+range_end size (negsuc n) count fits = absurd cc
+
+-- one that fits keeps the size of its file
+pub keeps_size : (edit : FileEdit) (old : List ℕ) → fits (length old) edit ≡ true → length (edited edit old) ≡ length old
+keeps_size (Write offset bytes) old fit =
+    let within = leb-true _ _ (range_end (length old) offset (length bytes) fit) in
+    let rest = drop (nat_abs offset + length bytes) old in
+    omega (
+      arith,
+      length-append (take (nat_abs offset) old ++ bytes) rest,
+      length-append (take (nat_abs offset) old) bytes,
+      length-take (nat_abs offset) old,
+      length-drop (nat_abs offset + length bytes) old,
+    )
+keeps_size (SetAll n) old fit = length-replicate (length old) (nat_abs n)
+
+-- the directory after it has the file with the bytes after it
+pub makes_edit : (limits : Limits) (files : List PlainFile) (index : ℕ) (edit : FileEdit) (file : PlainFile) → slice_get files index ≡ Some file
+    → fits (length file.bytes) edit ≡ true
+    → outcome limits files (edit_change index edit) ≡ Ok (slice_set files index (record file { bytes = edited edit file.bytes }))
+makes_edit limits files index (Write offset bytes) file at fit = rw at (cond-true _ _ _ (range_end (length file.bytes) offset (length bytes) fit))
+makes_edit limits files index (SetAll n) file at fit = rw at refl
+
+-- the change of the directory is read as an edit
+pub is_edit : (index : ℕ) (edit : FileEdit) → is_some (edit_in (edit_change index edit)) ≡ true
+is_edit index (Write offset bytes) = refl
+is_edit index (SetAll n) = refl
+
+-- A change of the directory leaves the handles as they are.
+pub record KeepsHandles (made : FileChange) : Type 0 where
+  pub lack : (next : ℕ) → lacks next made ≡ false
+  pub place : (given : List Tag) (next : ℕ) → HasPlace given next made
+  pub given : (given : List Tag) (next : ℕ) → given_after given next made ≡ given
+  pub next : (next : ℕ) → following next made ≡ next
+  pub value : (next : ℕ) → value_after next made ≡ value.Empty
+
+pub keeps_handles : (index : ℕ) (edit : FileEdit) → KeepsHandles (edit_change index edit)
+keeps_handles index (Write offset bytes) = record { lack = λ n. refl; place = λ g n. tt; given = λ g n. refl; next = λ n. refl; value = λ n. refl }
+keeps_handles index (SetAll n) = record { lack = λ n. refl; place = λ g n. tt; given = λ g n. refl; next = λ n. refl; value = λ n. refl }
