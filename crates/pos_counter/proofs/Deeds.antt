@@ -1,39 +1,22 @@
 -- What calls come to: they leave a cursor at a place of its display, and want memory only where they may.
-use Rattle.std.proofs.Common.{◌≡◌, ◌≤◌, ℕ, nat_abs, List, Option, Some, None, true, false, arith, refl, sym, subst, ◌∙◌}
-use Rattle.std.specs.Option.{option_map}
-use Rattle.std.specs.Prelude.{IsTrue, MatchResult, Ok, Err, Result, ⊤, slice_get}
-use Rattle.std.proofs.lemmas.Bool.{false≢true}
-use Rattle.pos_service.specs.declared.call.Call.{Call}
+use Rattle.pos_counter.proofs.Common.{Answer, Call, CallsAt, CallsFor, CarriesOut, Category, Change, Code, Control, Cursor, Deed, Err, Hardware, IsInRange}
+use Rattle.pos_counter.proofs.Common.{IsPlaceOn, IsTrue, Kind, List, MatchResult, NoMemory, None, Ok, Option, Place, Result, SameHardware, Some, arith}
+use Rattle.pos_counter.proofs.Common.{device_deed, device_rows, false, false≢true, first_refusal, is_index, is_up_to, nat_abs, option_map, origin, refl, serves}
+use Rattle.pos_counter.proofs.Common.{slice_get, subst, sym, true, ℕ, ◌∙◌, ◌≡◌, ◌≤◌, ⊤}
+use Rattle.pos_dir.specs.Changes.{outcome}
+use Rattle.pos_service.specs.Deeds.{MayWantFor, may_want}
+use Rattle.pos_service.specs.DisplayCalls.{display_deed, display_rows, scrolls, shows}
+use Rattle.pos_service.specs.Displays.{attribute_of, direction_of}
+use Rattle.pos_service.specs.Kinds.{is_display}
+use Rattle.pos_service.specs.declared.answer.Answer.TheVariants as answer
 use Rattle.pos_service.specs.declared.call.Call.TheVariants as call
-use Rattle.pos_service.specs.declared.category.Category.{Category}
 use Rattle.pos_service.specs.declared.category.Category.TheVariants as category
-use Rattle.pos_service.specs.declared.deed.Change.{Change}
 use Rattle.pos_service.specs.declared.deed.Change.TheVariants as change
-use Rattle.pos_service.specs.declared.deed.Deed.{Deed}
 use Rattle.pos_service.specs.declared.deed.Deed.TheVariants as deed
 use Rattle.pos_service.specs.declared.display_text.Attribute.{Attribute}
-use Rattle.pos_service.specs.declared.display_text.Cursor.{Cursor}
-use Rattle.pos_service.specs.declared.display_text.Place.{Place}
-use Rattle.pos_service.specs.declared.kind.Kind.{Kind}
 use Rattle.pos_service.specs.declared.kind.Kind.TheVariants as kind
-use Rattle.pos_service.specs.declared.answer.Answer.TheVariants as answer
-use Rattle.pos_service.specs.Controls.{Control}
-use Rattle.pos_service.specs.DisplayCalls.{display_deed, display_rows, scrolls, shows}
-use Rattle.pos_service.specs.Displays.{attribute_of, direction_of, origin}
-use Rattle.pos_service.specs.Kinds.{is_display}
-use Rattle.pos_service.specs.Numbers.{is_index, is_up_to}
-use Rattle.pos_service.specs.Peripherals.{IsInRange}
-use Rattle.pos_service.specs.Refusals.{first_refusal}
-use Rattle.pos_service.specs.declared.answer.Answer.{Answer}
-use Rattle.pos_service.specs.declared.code.Code.{Code}
-use Rattle.pos_service.specs.declared.memory.NoMemory.{NoMemory}
-use Rattle.pos_service.specs.Calls.{serves}
-use Rattle.pos_service.specs.Deeds.{Does as CarriesOut, MayWantFor, may_want}
-use Rattle.pos_service.specs.Hardware.{SameHardware, Hardware}
-use Rattle.pos_counter.specs.AtDevices.{CallsAt, CallsFor}
-use Rattle.pos_counter.specs.Steps.{IsPlaceOn, device_deed, device_rows}
-use Rattle.pos_counter.proofs.Lifts.{match_at_none, match_at_some}
 use Rattle.pos_counter.proofs.Cursors.{IsPlace, NoneApplies, first_place, text_place, unless_not, with_column, with_row}
+use Rattle.pos_counter.proofs.Lifts.{match_at_none, match_at_some}
 
 -- what a call changes of its control leaves the cursor at a place of what the device is
 abbrev pub StaysOn : Option Kind → Place → Change → Type 0

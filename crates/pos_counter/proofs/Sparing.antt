@@ -1,30 +1,15 @@
 -- Requests that spare the disk are steps whatever the disk is.
-use Rattle.std.proofs.Common.{◌≡◌, ◌⊎◌, ◌∙◌, ◌&&◌, inl, inr, ⊎_elim, ℕ, List, [], ◌∷◌, Option, Some, None, true, false, not, ap, sym, subst, refl}
-use Rattle.std.specs.Prelude.{IsSome, is_some, slice_get}
-use Rattle.pos_service.specs.declared.call.Call.{Call}
-use Rattle.pos_service.specs.declared.call.Call.TheVariants as call
-use Rattle.pos_service.specs.declared.category.Category.{Category}
-use Rattle.pos_service.specs.declared.category.Category.TheVariants as category
-use Rattle.pos_service.specs.declared.peripheral.Peripheral.{Ghosts}
-use Rattle.pos_service.specs.Controls.{Control}
-use Rattle.pos_service.specs.declared.answer.Answer.{Answer}
-use Rattle.pos_service.specs.Refusals.{first_refusal}
-use Rattle.pos_disk.specs.declared.device.Disk.{Ghosts as DiskGhosts}
-use Rattle.pos_store.specs.Standing.{Standing}
-use Rattle.pos_totals.specs.HardTotals.{is_ready}
-use Rattle.pos_counter.specs.declared.counter.Counter.{Counter}
-use Rattle.pos_counter.specs.Counters.{machine as machine_of_counter, IsRun, RunsAnyhow}
-use Rattle.pos_totals.specs.TotalsCalls.{Nothing, file_call}
-use Rattle.pos_counter.specs.History.{changes_asked}
-use Rattle.pos_counter.specs.DiskUse.{AsksNothing, ChangesTotalsAlone, SparesDisk}
-use Rattle.pos_counter.specs.Leaving.{part_with, IsSettled, Spared}
-use Rattle.pos_counter.specs.Machine.{Machine}
+use Rattle.pos_counter.proofs.Common.{◌&&◌, Answer, AsksNothing, Call, CallOf, Category, ChangesTotalsAlone, Control, Counter, DiskGhosts, Ghosts, IsRun}
+use Rattle.pos_counter.proofs.Common.{IsSettled, IsSome, List, Machine, None, Nothing, Option, Request, Response, Run, Some, Spared, SparesDisk, Standing, Step}
+use Rattle.pos_counter.proofs.Common.{TotalsPart, [], ap, changes_asked, false, file_call, first_refusal, inl, inr, is_enabling, is_ready, is_some, is_totals}
+use Rattle.pos_counter.proofs.Common.{machine_of_counter, not, part_with, refl, refusals, settled, slice_get, subst, sym, ℕ, ◌∙◌, ◌∷◌, ◌≡◌, ◌⊎◌, ⊎_elim}
+use Rattle.pos_counter.specs.Counters.{RunsAnyhow}
 use Rattle.pos_counter.specs.Sparing.{AllSpare, RunSparing, StepSparing}
-use Rattle.pos_counter.specs.Steps.{CallOf, Request, Response, Run, Step, refusals}
-use Rattle.pos_counter.specs.Totals.{TotalsPart, is_enabling, is_totals, settled}
-use Rattle.pos_counter.proofs.PrefixSteps.{none_of_totals, own_of}
-use Rattle.pos_counter.proofs.Serving.{settled_twice}
+use Rattle.pos_service.specs.declared.call.Call.TheVariants as call
+use Rattle.pos_service.specs.declared.category.Category.TheVariants as category
+use Rattle.pos_counter.proofs.Leaving.{settled_twice}
 use Rattle.pos_counter.proofs.Lifts.{match_at_some, match_weaker}
+use Rattle.pos_counter.proofs.Steps.{none_of_totals, own_of}
 
 -- ---- runs
 

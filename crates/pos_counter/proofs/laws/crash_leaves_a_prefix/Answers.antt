@@ -21,4 +21,4 @@ returns-clause-moments g c left steps old leaves run =
 
 pub returns-clause-beside : goal.returns-clause-beside
 returns-clause-beside g c old request response step =
-    beside_is_step g.D.Disk _ old c.args.counter.now request response (λ bytes honest since. g.met.D.Disk.only_now old.totals.disk bytes honest since) step
+    beside_is_step g.D.Disk _ old c.args.counter.now request response (g.met.D.Disk.only_now _) step

@@ -1,5 +1,4 @@
-use Rattle.std.proofs.Common.{◌<◌, length, refl, arith}
-use Rattle.pos_counter.specs.KeptDevices.{devices_in}
+use Rattle.pos_counter.proofs.Common.{◌<◌, arith, devices_in, length, refl}
 use Rattle.pos_counter.proofs.Lifts.{kept_at, match_at_some, set_machine}
 use Rattle.pos_counter.proofs.Serving.{beside_sound}
 use Rattle.pos_counter.proofs.counter.Counter.deliver.Goals as goal
