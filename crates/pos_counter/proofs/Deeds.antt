@@ -11,12 +11,13 @@ use Rattle.pos_service.specs.Kinds.{is_display}
 use Rattle.pos_service.specs.declared.answer.Answer.TheVariants as answer
 use Rattle.pos_service.specs.declared.call.Call.TheVariants as call
 use Rattle.pos_service.specs.declared.category.Category.TheVariants as category
+use Rattle.pos_service.specs.declared.code.Code.TheVariants as code
 use Rattle.pos_service.specs.declared.deed.Change.TheVariants as change
 use Rattle.pos_service.specs.declared.deed.Deed.TheVariants as deed
 use Rattle.pos_service.specs.declared.display_text.Attribute.{Attribute}
 use Rattle.pos_service.specs.declared.kind.Kind.TheVariants as kind
 use Rattle.pos_counter.proofs.Cursors.{IsPlace, NoneApplies, first_place, text_place, unless_not, with_column, with_row}
-use Rattle.pos_counter.proofs.Lifts.{match_at_none, match_at_some}
+use Rattle.pos_counter.proofs.Lifts.{decided_none, decided_some}
 
 -- what a call changes of its control leaves the cursor at a place of what the device is
 abbrev pub StaysOn : Option Kind → Place → Change → Type 0
@@ -90,11 +91,7 @@ deed_called k is c asked d served range allowed e = no_display is c.cursor.place
 pub called_refused : (n place : ℕ) (asked : Call) (c : Control) (code : Code) (old : List Control) (before : Hardware) → slice_get old n ≡ Some c
     → first_refusal (device_rows c.category (Some before.kind) c asked) ≡ Some (answer.Refused code 0)
     → CallsAt n asked place (Ok (answer.Refused code 0)) old before old before
-called_refused n place asked c code old before at refused =
-    match_at_some _ c _ _ at (record {
-      outcome = match_at_some (first_refusal (device_rows c.category (Some before.kind) c asked))
-          (answer.Refused code 0) _ _ refused (refl, record { controls = refl; hardware = refl });
-    })
+called_refused n place asked c code old before found refused = rw found (decided_some refused refl (record { controls = refl; hardware = refl }))
 
 -- one that comes to a deed
 pub called_done : (n place : ℕ) (asked : Call) (c : Control) (d : Deed) (outcome : Result Answer NoMemory) (old new : List Control)
@@ -102,13 +99,10 @@ pub called_done : (n place : ℕ) (asked : Call) (c : Control) (d : Deed) (outco
     → device_deed c.category (Some before.kind) c asked ≡ Some d → MayWantFor asked d
     → MatchResult outcome (λ result. CarriesOut d n place result old before new after)
     (λ want. IsTrue (may_want d) × SameHardware old before new after) → CallsAt n asked place outcome old before new after
-called_done n place asked c d outcome old new before after at none is wants done = match_at_some _ c _ _ at (by outcome done)
+called_done n place asked c d outcome old new before after found none is wants done = rw found (by outcome done)
   where
     by : (o : Result Answer NoMemory)
         → MatchResult o (λ result. CarriesOut d n place result old before new after) (λ want. IsTrue (may_want d) × SameHardware old before new after)
         → CallsFor n asked place o c old before new after
-    by (Ok result) h = record {
-      outcome = match_at_none (first_refusal (device_rows c.category (Some before.kind) c asked)) _ _ none
-          (match_at_some _ d _ _ is h);
-    }
+    by (Ok result) h = decided_none none (rw is h)
     by (Err want) h = (wants h.0, none, h.1)

@@ -7,7 +7,6 @@ use Rattle.pos_counter.specs.Steps.{FindsFit}
 use Rattle.pos_profile.proofs.CallerLemmas.{put_back, with_twice}
 use Rattle.pos_profile.specs.Registries.{MayServe, with_peripheral}
 use Rattle.pos_service.specs.Hardware.{StaysInService}
-use Rattle.pos_store.proofs.Passing.{stays}
 
 -- what stands at it
 pub hardware_there : (list : List Registered) (totals : Option (List ℕ)) (place : ℕ)

@@ -3,18 +3,19 @@ use Rattle.pos_counter.proofs.Common.{Answer, Answered, Call, CallOf, CallsAt, C
 use Rattle.pos_counter.proofs.Common.{Hardware, IsDoneAt, IsSome, IsSound, IsTrue, KeptControl, Kind, List, Machine, MatchOption-at_some, NoMemory, None, Ok}
 use Rattle.pos_counter.proofs.Common.{OnHardware, Option, Result, Row, SameHardware, Some, Step, TotalsPart, WorksAt, answered, ap, category_rows, controls_of}
 use Rattle.pos_counter.proofs.Common.{device_at, device_rows, due_request_at, false, first_refusal, hardware_in, has_call, holder_at, holder_of, inl, inr}
-use Rattle.pos_counter.proofs.Common.{is_common, is_none, is_some, is_totals, kind_in, kind_of, machine_with, needs_of, place_of, refl, refusals}
-use Rattle.pos_counter.proofs.Common.{serves, set, set-get_or, slice_get, subst, sym, table, true, ◌||◌, ℕ, ◌∙◌, ◌≡◌}
+use Rattle.pos_counter.proofs.Common.{is_common, is_none, is_some, is_totals, kind_in, kind_of, machine, machine_with, needs_of, place_of, refl, refusals}
+use Rattle.pos_counter.proofs.Common.{serves, set, set-get_or, slice_get, subst, sym, table, takes, true, ◌||◌, ℕ, ◌∙◌, ◌≡◌}
 use Rattle.std.proofs.lemmas.Option.{get_or_from_slice_get}
 use Rattle.pos_counter.specs.AtDevices.{MayBeCalled}
 use Rattle.pos_counter.specs.Machine.{hardware_named}
-use Rattle.pos_counter.specs.Responses.{attached}
 use Rattle.pos_counter.specs.Steps.{FindsWork, takes_memory}
 use Rattle.pos_service.specs.Calls.{takes_memory as own_takes_memory}
+use Rattle.pos_service.specs.Deeds.{changed}
 use Rattle.pos_service.specs.declared.call.Call.TheVariants as call
 use Rattle.pos_service.specs.declared.category.Category.TheVariants as category
+use Rattle.pos_service.specs.declared.kind.Kind.TheVariants as kind
 use Rattle.pos_service.specs.declared.worked.Worked.TheVariants as worked
-use Rattle.pos_counter.proofs.Lifts.{decided_some, decided_step, match_at_some, match_cases}
+use Rattle.pos_counter.proofs.Lifts.{decided_some, decided_step, match_cases}
 use Rattle.pos_counter.proofs.Sound.{seated}
 
 -- what stands at the device that a name finds
@@ -144,8 +145,8 @@ pub device_step : (hs gs : List KeptControl) (ds es : List Device) (cl : List (O
     (r : Result Answer NoMemory) → is_common asked ≡ false → slice_get (controls_of hs) n ≡ Some c → is_totals c.category ≡ false → c.device ≡ Some place
     → IsLet (machine_with hs cl ds part) n c asked
     → IsDoneAt ds place (CallsAt n asked place r) hs gs es → Step (machine_with hs cl ds part) (CallOf n asked) (answered r) (machine_with gs cl es part)
-device_step hs gs ds es cl part n place c asked r own at is device lets done =
-    by_outcome r (MatchOption-at_some ⊥ (λ control. CallsFor n asked place r control (controls_of hs) done.before (controls_of gs) done.after) c at done.does)
+device_step hs gs ds es cl part n place c asked r own found is device lets done =
+    by_outcome r (MatchOption-at_some ⊥ (λ control. CallsFor n asked place r control (controls_of hs) done.before (controls_of gs) done.after) c found done.does)
   where
     m : Machine
     m = machine_with hs cl ds part
@@ -185,10 +186,10 @@ device_step hs gs ds es cl part n place c asked r own at is device lets done =
     by_outcome : (o : Result Answer NoMemory) → CallsFor n asked place o c (controls_of hs) done.before (controls_of gs) done.after
         → Step m (CallOf n asked) (answered o) m'
     by_outcome (Ok result) h =
-        decided_step m m' n c asked result rows _ _ at unrefused same
+        decided_step m m' n c asked result rows _ _ found unrefused same
         (λ does. (own_call m n c asked own).does result m' (does_at_device c.category m m' n c asked result is (at_hardware result does))) h
     by_outcome (Err want) h =
-        match_at_some _ c _ _ at (
+        rw found (
           (own_call m n c asked own).takes h.0,
           unrefused ∙ h.1,
           same h.2,

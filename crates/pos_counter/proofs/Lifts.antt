@@ -6,6 +6,7 @@ use Rattle.pos_counter.proofs.Common.{length, length-map, machine_with, map-set,
 use Rattle.pos_counter.proofs.Common.{set-get_or, slice_get, slice_get-map, subst, sym, with_control, ℕ, ◌∙◌, ◌∷◌, ◌≡◌, ◌⊎◌, ⊤}
 use Rattle.std.proofs.lemmas.List.{get_or_default, map_push}
 use Rattle.std.proofs.lemmas.Option.{slice_get-get_or}
+use Rattle.pos_counter.specs.History.{told}
 use Rattle.pos_service.specs.declared.answer.Answer.TheVariants as answer
 use Rattle.pos_service.specs.declared.call.Call.TheVariants as call
 use Rattle.pos_totals.specs.HardTotals.{with_control as with_place}
@@ -23,18 +24,6 @@ match_cases (Some a) P R h = inr (a, refl, h)
 pub match_weaker : {A : Type 0} (o : Option A) (P Q : Type 0) (R S : A → Type 0) → (P → Q) → ((a : A) → R a → S a) → MatchOption o P R → MatchOption o Q S
 match_weaker None P Q R S f g h = f h
 match_weaker (Some a) P Q R S f g h = g a h
-
--- a match at what is some
-pub match_at_some : {A : Type 0} (o : Option A) (a : A) (P : Type 0) (R : A → Type 0) → o ≡ Some a → R a → MatchOption o P R
-match_at_some o a P R e r = subst (λ x. MatchOption x P R) (sym e) r
-
--- the same at an equal option
-pub match_by : {A : Type 0} (o u : Option A) (P : Type 0) (R : A → Type 0) → o ≡ u → MatchOption u P R → MatchOption o P R
-match_by o u P R e h = subst (λ x. MatchOption x P R) (sym e) h
-
--- a match at what is none
-pub match_at_none : {A : Type 0} (o : Option A) (P : Type 0) (R : A → Type 0) → o ≡ None → P → MatchOption o P R
-match_at_none o P R e p = subst (λ x. MatchOption x P R) (sym e) p
 
 -- a table's decision, weakened
 pub decided_weaker : {rows : List Row} {result : Answer} {Same Done Kept Did : Type 0} → (Done → Did) → (Same → Kept) → Decided rows result Same Done
@@ -95,27 +84,11 @@ pub kept_machine : (hs : List KeptControl) (cl : List (Option ℕ)) (ds : List D
     → machine_with (set hs n g) cl ds part ≡ machine_with hs cl ds part
 kept_machine hs cl ds part n g h same is = ap (λ (ks : List KeptControl). machine_with ks cl ds part) (ap (set hs n) (same ∙ is) ∙ set-get_or hs n h)
 
--- a call that is decided on one control is decided on the machine
-pub decided_at : (hs : List KeptControl) (ds : List Device) (cl : List (Option ℕ)) (part : TotalsPart) (n : ℕ) (g h : KeptControl) (rows : List Row)
-    (r : Answer)
-    (Done : Type 0) (c : Control) → h ≡ get_or hs n h → Decided rows r (g ≡ h) (Done × (g.control ≡ c))
-    → Decided rows r (machine_with (set hs n g) cl ds part ≡ machine_with hs cl ds part)
-    (Done × (machine_with (set hs n g) cl ds part ≡ with_control (machine_with hs cl ds part) n c))
-decided_at hs ds cl part n g h rows r Done c e x = record {
-  outcome = match_weaker (first_refusal rows) _ _ _ _
-      (λ y. (y.0, set_machine hs cl ds part n g c y.1))
-      (λ refusal y. (y.0, kept_machine hs cl ds part n g h y.1 e))
-      x.outcome;
-}
-
 -- a call that other rows decide, with the same refusal, is a step
 pub decided_step : (m m' : Machine) (n : ℕ) (c : Control) (asked : Call) (r : Answer) (rows : List Row) (Same Done : Type 0)
     → slice_get m.controls n ≡ Some c → first_refusal (refusals m n c asked) ≡ first_refusal rows → (Same → m' ≡ m) → (Done → Does m n c asked r m')
     → Decided rows r Same Done → Step m (CallOf n asked) (Answered r) m'
-decided_step m m' n c asked r rows Same Done at refused same does d = match_at_some _ c _ _ at (record {
-  outcome = match_by (first_refusal (refusals m n c asked)) _ _ _ refused
-      (match_weaker (first_refusal rows) _ _ _ _ does (λ refusal y. (y.0, same y.1)) d.outcome);
-})
+decided_step m m' n c asked r rows Same Done found refused same does d = rw found (record { outcome = rw refused (decided_weaker does same d).outcome })
 
 -- a new control is a step
 pub made_step : (hs gs : List KeptControl) (cl : List (Option ℕ)) (ds : List Device) (part : TotalsPart) (k : Category) (h : KeptControl) (number : ℕ)
@@ -135,4 +108,4 @@ made_step hs gs cl ds part k h number room many is new = (
 pub get_step : (m : Machine) (n : ℕ) (c : Control) (p : Property) (r : Result Answer NoMemory) → slice_get m.controls n ≡ Some c
     → Gets (get_rows n (holder_of m c) c (facts_of m n c) p) p (property_of c (facts_of m n c) p) r → Step m (CallOf n (call.Get p)) (answered r) m
 get_step m n c p (Ok result) at d = decided_step m m n c (call.Get p) result _ _ _ at refl (λ same. refl) (λ told. (told, refl)) d
-get_step m n c p (Err want) at h = match_at_some _ c _ _ at (h.0, h.1, refl)
+get_step m n c p (Err want) found h = rw found (h.0, h.1, refl)

@@ -5,7 +5,6 @@ use Rattle.pos_counter.proofs.Common.{and_from, and_parts, and_then, ap, append-
 use Rattle.pos_counter.proofs.Common.{history_with, length, limits_of, moved_with, nat_le, nat_lt, outcome_of_all, refl, replicate, subst, sym, true, ℕ, ◌∙◌}
 use Rattle.pos_counter.proofs.Common.{◌∷◌, ◌≡◌, ◌≡◌}
 use Rattle.std.proofs.lemmas.Bool.{le-leb, leb-true, lt-ltb, ltb-true}
-use Rattle.pos_counter.specs.Responses.{made}
 use Rattle.pos_dir.specs.Changes.{outcome}
 use Rattle.pos_dir.specs.Files.{AreWider, has_name, total_size}
 use Rattle.pos_dir.specs.declared.change.Change.TheVariants.{Create}

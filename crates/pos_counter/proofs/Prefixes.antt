@@ -9,7 +9,6 @@ use Rattle.std.proofs.lemmas.Slice.Eq.{bytes_eq-Decides}
 use Rattle.std.specs.Cmp.Lexicographic.{pointwise_decides}
 use Rattle.pos_counter.specs.History.{FilesEvent, FilesFound, GroupAccepted, GroupInDoubt, decided, has_made, is_same, listed, told, with_settled}
 use Rattle.pos_counter.specs.History.{without_doubt}
-use Rattle.pos_counter.specs.Responses.{made}
 use Rattle.pos_totals.specs.HardTotals.{files_of}
 use Rattle.pos_counter.proofs.Leaving.{Rest, settles}
 

@@ -187,7 +187,10 @@ module _ {D P : Type 0} (bound : DiskGhosts D) (peripherals : Ghosts P) (old new
         any_moment = (found_one bound old.totals new.totals there.off r recovers left leaves).passes.any_moment;
       };
       spared = λ left failures spares. absurd (uses left failures spares);
-      otherwise = λ left failures. inr (rw there.at (there.totals, alone (part_with old.totals.totals left failures) (part_with new.totals.totals left failures)));
+      otherwise = λ left failures. inr (rw there.at (
+        there.totals,
+        alone (part_with old.totals.totals left failures) (part_with new.totals.totals left failures),
+      ));
       unchanged = λ undone was ready. absurd (rw there.off at was);
       kept = recovers.kept;
     };

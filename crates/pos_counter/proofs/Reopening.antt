@@ -7,7 +7,6 @@ use Rattle.pos_counter.proofs.Common.{history_along, history_of, history_with, i
 use Rattle.pos_counter.proofs.Common.{refl, refusals, settled, slice_get, subst, sym, true, ℕ, ◌∙◌, ◌∷◌, ◌≡◌, ◌≤◌, ◌⊎◌}
 use Rattle.pos_counter.specs.Counters.{Begins}
 use Rattle.pos_counter.specs.Reopening.{FindsThem, HasCause, HasThem, enabling}
-use Rattle.pos_counter.specs.Responses.{made}
 use Rattle.pos_dir.proofs.Kept.{few_after_all}
 use Rattle.pos_disk.proofs.Moments.{rest_leaves}
 use Rattle.pos_disk.specs.State.{IsAtRest}

@@ -34,7 +34,6 @@ use Rattle.pos_service.specs.declared.order.Reply.TheVariants as reply
 use Rattle.pos_service.specs.declared.order.Reply.{Reply}
 use Rattle.pos_service.specs.declared.scan.Scan.{Scan}
 use Rattle.pos_service.specs.declared.worked.Worked.{Worked as WorkResult}
-use Rattle.pos_store.proofs.Passing.{stays}
 use Rattle.pos_counter.proofs.Cursors.{NoneApplies, place_opened, place_set}
 use Rattle.pos_counter.proofs.Deeds.{DeedStaysOn, StaysOn, deed_called}
 use Rattle.pos_counter.proofs.Lifts.{match_cases}

@@ -8,7 +8,7 @@ use Rattle.pos_counter.specs.Sparing.{AllSpare, RunSparing, StepSparing}
 use Rattle.pos_service.specs.declared.call.Call.TheVariants as call
 use Rattle.pos_service.specs.declared.category.Category.TheVariants as category
 use Rattle.pos_counter.proofs.Leaving.{settled_twice}
-use Rattle.pos_counter.proofs.Lifts.{match_at_some, match_weaker}
+use Rattle.pos_counter.proofs.Lifts.{match_weaker}
 use Rattle.pos_counter.proofs.Steps.{none_of_totals, own_of}
 
 -- ---- runs
@@ -76,7 +76,7 @@ asks_none part n c asked other none = ap (changes_asked part.totals n) none
 -- a call of another category spares the disk
 pub spares_elsewhere : (m : Machine) (n : ℕ) (c : Control) (asked : Call) → slice_get m.controls n ≡ Some c → (c.category ≡ category.HardTotals → ⊥)
     → SparesDisk m (CallOf n asked)
-spares_elsewhere m n c asked at other = match_at_some _ c _ _ at (by (first_refusal (refusals m n c asked)) refl)
+spares_elsewhere m n c asked found other = rw found (by (first_refusal (refusals m n c asked)) refl)
   where
     elsewhere : is_totals c.category ≡ false
     elsewhere = not_totals c.category other

@@ -76,7 +76,8 @@ module _ (old new : TotalsPart) (is : IsSettled old.totals old.left) where
     all = change ∷ others
 
     settles_so : new.totals.layout ≡ old.totals.layout → IsSettled new.totals new.left
-    settles_so layout = settles new.totals.layout new.totals.mode new.left (in_doubt old.totals.layout old.totals.next old.left all old.totals.mode) (rw layout left)
+    settles_so layout = settles new.totals.layout new.totals.mode new.left
+        (in_doubt old.totals.layout old.totals.next old.left all old.totals.mode) (rw layout left)
 
     -- what the group makes of the files
     made_at : (files : List File) (sequence : ℕ) → old.totals.mode ≡ Ready files sequence
@@ -140,11 +141,11 @@ module _ (old new : TotalsPart) (is : IsSettled old.totals old.left) where
   comes_told P changes result group left (Buffers transactions none same) =
       rests changes old new (Answered result) (λ some. absurd (some none)) is (kept changes transactions left same)
   comes_told P changes result group left (Groups change others some transactions given (inl done)) =
-      rw (some, done.0) (done_told change others transactions (subst (IsOneGroup old.totals) some group) (left ∙ ap (λ cs. left_after old cs new.totals.mode) some)
-      given done.1)
+      rw (some, done.0) (done_told change others transactions (subst (IsOneGroup old.totals) some group)
+      (left ∙ ap (λ cs. left_after old cs new.totals.mode) some) given done.1)
   comes_told P changes result group left (Groups change others some transactions given (inr failed)) =
-      rw some (failed_told change others transactions (subst (IsOneGroup old.totals) some group) (left ∙ ap (λ cs. left_after old cs new.totals.mode) some)
-      result failed.0 failed.2)
+      rw some (failed_told change others transactions (subst (IsOneGroup old.totals) some group)
+      (left ∙ ap (λ cs. left_after old cs new.totals.mode) some) result failed.0 failed.2)
 
 files_told : (asked : FileCall) (old new : TotalsPart) (n : ℕ) (result : Answer) → IsSettled old.totals old.left
     → TotalsDo asked old n result new → Told (changes_asked old.totals n asked) old (Answered result) new

@@ -10,7 +10,7 @@ use Rattle.pos_service.specs.declared.call.Call.TheVariants as call
 use Rattle.pos_service.specs.declared.category.Category.TheVariants as category
 use Rattle.pos_totals.specs.Changes.{IsDone}
 use Rattle.pos_counter.proofs.Hardware.{IsLet, let_refusals, own_call}
-use Rattle.pos_counter.proofs.Lifts.{decided_step, match_at_some}
+use Rattle.pos_counter.proofs.Lifts.{decided_step}
 use Rattle.pos_counter.proofs.Serving.{OnlyNow, quiet_serves}
 
 -- behind the check of an open control of Hard Totals, the totals' refusals decide
@@ -27,8 +27,8 @@ called_step m part n c asked (Ok result) own at is lets h =
     (ap (λ (p : TotalsPart). let o : Machine = record m { totals = p } in o))
     (λ does. (own_call m n c asked own).does result (record m { totals = part })
     (subst (λ k. CategoryDoes k m n c asked result (record m { totals = part })) (sym is) (does, refl))) h
-called_step m part n c asked (Err want) own at is lets h =
-    match_at_some _ c _ _ at (
+called_step m part n c asked (Err want) own found is lets h =
+    rw found (
       (own_call m n c asked own).takes h.0,
       totals_refusals m n c asked own is lets ∙ h.1,
       ap (λ (p : TotalsPart). let o : Machine = record m { totals = p } in o) h.2,
@@ -71,20 +71,20 @@ files_serve bound peripherals old now n c asked outcome own at is lets only (inl
     sound sound.devices
     (λ left failures so. called_step (machine peripherals old (part_with old.totals.totals left failures)) (part_with now.totals left failures) n c asked
     outcome own at is (lets left failures) (quiet.answer left failures so))
-files_serve bound peripherals old now n c asked outcome own at is lets only (inr puts) sound = record {
+files_serve bound peripherals old now n c asked outcome own found is lets only (inr puts) sound = record {
   step = record {
     steps = λ left leaves.
         let f = puts.steps left leaves in
         record {
           after = f.after;
           leaves = f.leaves;
-          step = called_step (machine peripherals old (part_of bound old.totals left)) (part_of bound now f.after) n c asked outcome own at is
+          step = called_step (machine peripherals old (part_of bound old.totals left)) (part_of bound now f.after) n c asked outcome own found is
               (lets left (bound.state old.totals.disk).failures) f.answer;
           any_moment = f.any_moment;
         };
     spared = λ left failures spares.
-        absurd (puts.uses (spares_own (machine peripherals old (part_with old.totals.totals left failures)) n c asked own at is (lets left failures) spares));
-    otherwise = λ left failures. inr (match_at_some _ c _ _ at (is, inl refl));
+        absurd (puts.uses (spares_own (machine peripherals old (part_with old.totals.totals left failures)) n c asked own found is (lets left failures) spares));
+    otherwise = λ left failures. inr (rw found (is, inl refl));
     unchanged = λ undone was ready. elim (puts.unchanged (not_done outcome undone)) [
       | inl turns ↦ absurd (still_ready old.totals.totals.mode now.totals.mode turns ready)
       | inr same ↦ same

@@ -8,12 +8,14 @@ returns-in-NewControl-clause-step g c = rw (c.in-NewControl.is, c.of_control.ens
 pub returns-in-InputTo-clause-step : goal.returns-in-InputTo-clause-step
 returns-in-InputTo-clause-step g c =
     let old = c.args.self.now in
-    beside_is_step g.D.Disk g.P.Peripheral old _ _ _ (g.met.D.Disk.only_now _) (rw (c.in-InputTo.is, c.of_input.ensures.answer) (rw c.as_slice.ensures at c.input.ensures.step))
+    beside_is_step g.D.Disk g.P.Peripheral old _ _ _ (g.met.D.Disk.only_now _)
+    (rw (c.in-InputTo.is, c.of_input.ensures.answer) (rw c.as_slice.ensures at c.input.ensures.step))
 
 pub returns-in-WorkOn-clause-step : goal.returns-in-WorkOn-clause-step
 returns-in-WorkOn-clause-step g c =
     let old = c.args.self.now in
-    beside_is_step g.D.Disk g.P.Peripheral old _ _ _ (g.met.D.Disk.only_now _) (rw (c.in-WorkOn.is, c.of_work.ensures.answer) (rw c.as_slice-in-WorkOn.ensures at c.work.ensures.step))
+    beside_is_step g.D.Disk g.P.Peripheral old _ _ _ (g.met.D.Disk.only_now _)
+    (rw (c.in-WorkOn.is, c.of_work.ensures.answer) (rw c.as_slice-in-WorkOn.ensures at c.work.ensures.step))
 
 pub returns-in-Deliver-clause-step : goal.returns-in-Deliver-clause-step
 returns-in-Deliver-clause-step g c =

@@ -22,7 +22,8 @@ returns-then-is_totals g c =
     let same = kept_same old.controls.items n c.index-control.result.now h c.requires.in_range c.index-control.ensures here in
     let none = none_of _ c.is_none.result (rw (c.device-device.ensures, same) at c.is_none.ensures) ∙ c.if-is_none.false in
     let is = are_totals h.control.category (rw same at (sym c.is_totals.ensures ∙ c.if-is_totals.true)) in
-    quiet_serves g.D.Disk g.P.Peripheral old _ _ _ (without_control old.totals.totals n) (g.met.D.Disk.only_now _) c.drop_control.ensures.disk c.drop_control.ensures.totals
+    quiet_serves g.D.Disk g.P.Peripheral old _ _ _ (without_control old.totals.totals n) (g.met.D.Disk.only_now _)
+    c.drop_control.ensures.disk c.drop_control.ensures.totals
     (λ left. rest_settled (part_with old.totals.totals left 0) _ (without_rest (part_with old.totals.totals left 0) n) left)
     c.requires.sound c.requires.sound.devices
     (λ left failures so. close_area _ _ _ (part_with old.totals.totals left failures) n h c.requires.in_range here c.close.new.self c.close.result is none

@@ -12,8 +12,8 @@ returns-in-Ok g c =
     let there = asks_there hs n c.args.property c.args.value.now _ c.requires.recovers in
     let same = same_Some h.control there.control (sym (kept_at hs n h c.requires.in_range c.index_mut.ensures.value) ∙ there.at) in
     let first = same_Some _ there.control (sym (kept_at hs n c.index-control.result.now c.requires.in_range c.index-control.ensures) ∙ there.at) in
-    let done = done_set there.control there.totals n c.find_holder-holder.result c.kind_at-kind.result c.signs_at-signs.result h c.set.new.self _ _ c.set.result there.opened
-    same there.names there.gives c.set.ensures in
+    let done = done_set there.control there.totals n c.find_holder-holder.result c.kind_at-kind.result c.signs_at-signs.result
+    h c.set.new.self _ _ c.set.result there.opened same there.names there.gives c.set.ensures in
     let signs = rw (c.device-device.ensures, first) at c.signs_at-signs.ensures in
     recovered_serves g.D.Disk g.P.Peripheral old _ c.requires.sound c.requires.sound.devices n _ _ there c.set.result done.0 c.in-Ok.ensures
     (λ part. set_machine hs _ _ part n c.set.new.self _ (rw signs at done.1))
