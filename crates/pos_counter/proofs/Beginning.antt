@@ -11,6 +11,7 @@ use Rattle.pos_profile.specs.Kinds.{kind_with}
 use Rattle.pos_profile.specs.Profiles.{is_refused_after, is_totals_entry}
 use Rattle.pos_profile.specs.Registries.{HasKindInRange, planned_of, vacant, vacant_devices}
 use Rattle.pos_service.specs.declared.category.Category.TheVariants as category
+use Rattle.pos_service.specs.declared.kind.Kind.TheVariants as kind
 
 -- no entry behind earlier ones is refused
 abbrev pub AreKept : List (Option Entry) → List Entry → Type 0

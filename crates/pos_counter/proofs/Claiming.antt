@@ -2,10 +2,9 @@
 use Rattle.pos_counter.proofs.Common.{◌<◌, Answer, Answered, Bool, CallOf, Category, Control, Decided, Device, IfSome, IsSound, KeptControl, List, Machine}
 use Rattle.pos_counter.proofs.Common.{None, Option, Some, Standing, Step, Totals, TotalsPart, after_release, ap, arith, claim_rows, claimed, claimed_by, closed}
 use Rattle.pos_counter.proofs.Common.{controls_of, dropped, false, first_refusal, get_or, holder_at, holder_in, inl, inr, is_area_taken, is_foreign, is_none}
-use Rattle.pos_counter.proofs.Common.{is_own, is_some, is_totals, length, machine_with, not, refl, release_rows, released, released_by, set, settled, slice_get}
-use Rattle.pos_counter.proofs.Common.{slice_get_within, subst, sym, true, with_control, without_control, ℕ, ℤ, ◌∙◌, ◌≡◌, ◌⊎◌}
+use Rattle.pos_counter.proofs.Common.{is_own, is_some, is_taken, is_totals, length, machine_with, not, refl, release_rows, released, released_by, set, settled}
+use Rattle.pos_counter.proofs.Common.{slice_get, slice_get_within, subst, sym, table, takes, true, with_control, without_control, ℕ, ℤ, ◌∙◌, ◌≡◌, ◌⊎◌}
 use Rattle.pos_common.specs.KeptControls.{TurnsInto}
-use Rattle.pos_counter.specs.Steps.{is_taken}
 use Rattle.pos_service.specs.Calls.{close_rows}
 use Rattle.pos_service.specs.declared.answer.Answer.TheVariants as answer
 use Rattle.pos_service.specs.declared.answer.Value.TheVariants as value

@@ -1,9 +1,8 @@
 -- What calls come to: they leave a cursor at a place of its display, and want memory only where they may.
 use Rattle.pos_counter.proofs.Common.{Answer, Call, CallsAt, CallsFor, CarriesOut, Category, Change, Code, Control, Cursor, Deed, Err, Hardware, IsInRange}
 use Rattle.pos_counter.proofs.Common.{IsPlaceOn, IsTrue, Kind, List, MatchResult, NoMemory, None, Ok, Option, Place, Result, SameHardware, Some, arith}
-use Rattle.pos_counter.proofs.Common.{device_deed, device_rows, false, false≢true, first_refusal, is_index, is_up_to, nat_abs, option_map, origin, refl, serves}
-use Rattle.pos_counter.proofs.Common.{slice_get, subst, sym, true, ℕ, ◌∙◌, ◌≡◌, ◌≤◌, ⊤}
-use Rattle.pos_dir.specs.Changes.{outcome}
+use Rattle.pos_counter.proofs.Common.{device_deed, device_rows, false, false≢true, first_refusal, is_index, is_up_to, nat_abs, option_map, origin, outcome}
+use Rattle.pos_counter.proofs.Common.{refl, serves, slice_get, subst, sym, true, ℕ, ◌∙◌, ◌≡◌, ◌≤◌, ⊤}
 use Rattle.pos_service.specs.Deeds.{MayWantFor, may_want}
 use Rattle.pos_service.specs.DisplayCalls.{display_deed, display_rows, scrolls, shows}
 use Rattle.pos_service.specs.Displays.{attribute_of, direction_of}

@@ -1,18 +1,18 @@
 -- What the registry of a counter tells of an exchange, as steps of the machine.
+use Rattle.pos_counter.specs.Responses.{attached}
 use Rattle.pos_counter.proofs.Common.{◌+◌, ◌<◌, Attach, Bool, Detach, Err, IsSome, KeptControl, List, None, Ok, Option, PeripheralState, Registered, Result}
-use Rattle.pos_counter.proofs.Common.{Some, Step, TotalsPart, ap, controls_of, device_at, device_of, devices_of, drop, false, get_or, hardware_in, hardware_of}
-use Rattle.pos_counter.proofs.Common.{has_open, is_open_at, kind_in, length, machine_with, names_of, option_map, place_of, refl, registered_place, slice_get}
-use Rattle.pos_counter.proofs.Common.{standing_at, subst, sym, ◌||◌, ℕ, ◌∙◌, ◌≡◌, ◌≤◌}
+use Rattle.pos_counter.proofs.Common.{Some, Step, TotalsPart, ap, changed, controls_of, detached, device_at, device_of, devices_of, drop, false, get_or}
+use Rattle.pos_counter.proofs.Common.{hardware_in, hardware_of, has_open, is_open_at, kind_in, length, machine_with, names_of, option_map, place_of, refl}
+use Rattle.pos_counter.proofs.Common.{registered_place, slice_get, standing_at, subst, sym, told, ◌||◌, ℕ, ◌∙◌, ◌≡◌, ◌≤◌}
 use Rattle.std.proofs.lemmas.List.{drop_all, drop_more}
 use Rattle.std.specs.Prelude.{IfErr, option_and_then}
-use Rattle.pos_counter.specs.History.{told}
-use Rattle.pos_counter.specs.Responses.{attached, detached}
 use Rattle.pos_profile.specs.Registries.{Attaches, Detaches, IsNamed}
 use Rattle.pos_service.specs.declared.exchange_fault.AttachFault.TheVariants as attach
 use Rattle.pos_service.specs.declared.exchange_fault.AttachFault.{AttachFault}
 use Rattle.pos_service.specs.declared.exchange_fault.DetachFault.TheVariants as detach
 use Rattle.pos_service.specs.declared.exchange_fault.DetachFault.{DetachFault}
 use Rattle.pos_counter.proofs.DeviceLists.{devices_with, registered_there}
+use Rattle.pos_counter.proofs.Hardware.{named}
 use Rattle.pos_counter.proofs.Places.{found_first, kind_last}
 
 -- the device of a name that the registry has

@@ -1,26 +1,22 @@
 -- What the totals do with a call, for all that their disk may leave before it.
-use Rattle.pos_counter.proofs.Common.{◌&&◌, ◌++◌, Answer, Answered, Asks, Bool, Call, CallsFiles, Commits, Decided, DoesCommit, Done, Err, FileCall}
-use Rattle.pos_counter.proofs.Common.{FilesCalled, IsTrue, IsUndone, Leaves, LeavesOneOf, List, Makes, MatchOption, MatchResult, Mode, NoMemory, None, Nothing}
-use Rattle.pos_counter.proofs.Common.{Off, Ok, Option, Ready, Result, Rises, Row, RunsOut, Some, Standing, StandsForEither, Totals, TotalsDo, TotalsPart}
-use Rattle.pos_counter.proofs.Common.{TotalsView, TurnsOff, Value, WhenOff, [], ap, arith, changes_asked, changes_in, cond, false, file_call, file_rows}
-use Rattle.pos_counter.proofs.Common.{first_refusal, given_by, in_doubt, in_transaction, inl, inr, is_none, is_some, left_after, not, number_rows, part_of}
-use Rattle.pos_counter.proofs.Common.{part_with, put_at_once, refl, settled, subst, sym, takes, transaction_of, true, with_transaction, ℕ, ◌∙◌, ◌∷◌, ◌≡◌, ◌≤◌}
-use Rattle.pos_counter.proofs.Common.{◌⊎◌}
-use Rattle.std.proofs.Common.{ap₂}
+use Rattle.pos_counter.proofs.Common.{◌&&◌, ◌++◌, Answer, Answered, Arranges, Asks, Bool, Call, CallsFiles, Commits, Decided, DoesCommit, Done, Err, FileCall}
+use Rattle.pos_counter.proofs.Common.{FilesCalled, FilesStepped, IsTrue, IsUndone, Leaves, LeavesOneOf, List, Makes, MatchOption, MatchResult, Mode, NoMemory}
+use Rattle.pos_counter.proofs.Common.{None, Nothing, Off, Ok, Option, PutsChanges, Ready, Result, Rises, Row, RunsOut, Some, Standing, StandsForEither, Totals}
+use Rattle.pos_counter.proofs.Common.{TotalsDo, TotalsPart, TotalsView, TurnsOff, Value, WhenOff, [], ap, ap₂, arith, changes_asked, changes_in, cond, false}
+use Rattle.pos_counter.proofs.Common.{file_call, file_rows, first_refusal, given_by, in_doubt, in_transaction, inl, inr, is_none, is_some, left_after, not}
+use Rattle.pos_counter.proofs.Common.{number_rows, outcome, part_of, part_with, put_at_once, refl, settled, subst, sym, takes, told, transaction_of, true}
+use Rattle.pos_counter.proofs.Common.{with_transaction, ℕ, ◌∙◌, ◌∷◌, ◌≡◌, ◌≤◌, ◌⊎◌}
 use Rattle.std.specs.Prelude.{OnErr}
-use Rattle.pos_counter.specs.FileCalls.{FilesStepped}
-use Rattle.pos_counter.specs.History.{told}
-use Rattle.pos_counter.specs.Totals.{PutsChanges}
-use Rattle.pos_dir.specs.Changes.{outcome}
 use Rattle.pos_disk.specs.State.{LeavesOnly}
 use Rattle.pos_disk.specs.declared.device.Disk.{Ghosts}
 use Rattle.pos_service.specs.Calls.{takes_memory}
 use Rattle.pos_service.specs.declared.answer.Answer.TheVariants as answer
 use Rattle.pos_service.specs.declared.answer.Value.TheVariants as value
+use Rattle.pos_service.specs.declared.deed.Change.TheVariants as change
 use Rattle.pos_totals.specs.Changes.{HasFailed, PutsGroup}
 use Rattle.pos_totals.specs.HardTotals.{Change}
 use Rattle.pos_totals.specs.TotalsArrangements.{refusals_of_arrangement}
-use Rattle.pos_totals.specs.TotalsCalls.{Arranges, Calls}
+use Rattle.pos_totals.specs.TotalsCalls.{Calls}
 use Rattle.pos_totals.specs.TotalsChanges.{DoesChange, refusals_of_change}
 use Rattle.pos_totals.specs.TotalsQuestions.{MayTell}
 use Rattle.pos_counter.proofs.Leaving.{arranged_rest, kept_left, rest_settled, settled_twice}

@@ -1,16 +1,12 @@
 -- What is done at a device, and the steps that it makes.
 use Rattle.pos_counter.proofs.Common.{Answer, Answered, Call, CallOf, CallsAt, CallsFor, Category, CategoryDoes, Control, Device, DeviceDoes, Does, Effect, Err}
-use Rattle.pos_counter.proofs.Common.{Hardware, IsDoneAt, IsSome, IsSound, IsTrue, KeptControl, Kind, List, Machine, MatchOption-at_some, NoMemory, None, Ok}
-use Rattle.pos_counter.proofs.Common.{OnHardware, Option, Result, Row, SameHardware, Some, Step, TotalsPart, WorksAt, answered, ap, category_rows, controls_of}
-use Rattle.pos_counter.proofs.Common.{device_at, device_rows, due_request_at, false, first_refusal, hardware_in, has_call, holder_at, holder_of, inl, inr}
-use Rattle.pos_counter.proofs.Common.{is_common, is_none, is_some, is_totals, kind_in, kind_of, machine, machine_with, needs_of, place_of, refl, refusals}
-use Rattle.pos_counter.proofs.Common.{serves, set, set-get_or, slice_get, subst, sym, table, takes, true, ◌||◌, ℕ, ◌∙◌, ◌≡◌}
-use Rattle.std.proofs.lemmas.Option.{get_or_from_slice_get}
-use Rattle.pos_counter.specs.AtDevices.{MayBeCalled}
-use Rattle.pos_counter.specs.Machine.{hardware_named}
-use Rattle.pos_counter.specs.Steps.{FindsWork, takes_memory}
+use Rattle.pos_counter.proofs.Common.{FindsWork, Hardware, IsDoneAt, IsSome, IsSound, IsTrue, KeptControl, Kind, List, Machine, MatchOption-at_some}
+use Rattle.pos_counter.proofs.Common.{MayBeCalled, NoMemory, None, Ok, OnHardware, Option, Result, Row, SameHardware, Some, Step, TotalsPart, WorksAt, answered}
+use Rattle.pos_counter.proofs.Common.{ap, category_rows, changed, controls_of, device_at, device_rows, due_request_at, false, first_refusal}
+use Rattle.pos_counter.proofs.Common.{get_or_from_slice_get, hardware_in, hardware_named, has_call, holder_at, holder_of, inl, inr, is_common, is_none, is_some}
+use Rattle.pos_counter.proofs.Common.{is_totals, kind_in, kind_of, machine, machine_with, needs_of, place_of, refl, refusals, serves, set, set-get_or}
+use Rattle.pos_counter.proofs.Common.{slice_get, subst, sym, table, takes, takes_memory, true, ◌||◌, ℕ, ◌∙◌, ◌≡◌}
 use Rattle.pos_service.specs.Calls.{takes_memory as own_takes_memory}
-use Rattle.pos_service.specs.Deeds.{changed}
 use Rattle.pos_service.specs.declared.call.Call.TheVariants as call
 use Rattle.pos_service.specs.declared.category.Category.TheVariants as category
 use Rattle.pos_service.specs.declared.kind.Kind.TheVariants as kind

@@ -1,8 +1,8 @@
 -- What a crash leaves, by the files that the totals have.
 use Rattle.pos_counter.proofs.Common.{Arrangement, Bool, ClaimFile, File, IsSettled, Layout, List, Mode, None, Off, Option, Ready, ReleaseFile, Some, Standing}
-use Rattle.pos_counter.proofs.Common.{StoreReady, TotalsPart, [], after_arrangement, ap, cond_both, in_doubt, is_called, is_own_claim, left_after, plain, refl}
-use Rattle.pos_counter.proofs.Common.{settled, stored, sym, with_each, with_files, without_control, ℕ, ◌∷◌, ◌≡◌}
-use Rattle.std.proofs.Common.{ap₂}
+use Rattle.pos_counter.proofs.Common.{StoreReady, TotalsPart, [], after_arrangement, ap, ap₂, cond_both, in_doubt, is_called, is_own_claim, left_after, plain}
+use Rattle.pos_counter.proofs.Common.{refl, settled, stored, sym, with_each, with_files, without_control, ℕ, ◌∷◌, ◌≡◌}
+use Rattle.pos_dir.specs.declared.change.Change.TheVariants as file
 use Rattle.pos_store.specs.StoreViews.{settled as store_settled}
 use Rattle.pos_totals.specs.HardTotals.{Change}
 use Rattle.pos_totals.specs.TotalsArrangements.{claimed}

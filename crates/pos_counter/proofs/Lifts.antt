@@ -3,13 +3,11 @@ use Rattle.pos_counter.proofs.Common.{◌++◌, ◌<◌, Answer, Answered, Call,
 use Rattle.pos_counter.proofs.Common.{KeptControl, List, Machine, Made, MatchOption, NewControl, NoMemory, None, Ok, Option, Property, Result, Row, Some, Step}
 use Rattle.pos_counter.proofs.Common.{TotalsPart, [], answered, ap, cond_both, controls_of, facts_of, first_refusal, get_or, get_rows, holder_of, inl, inr}
 use Rattle.pos_counter.proofs.Common.{length, length-map, machine_with, map-set, most_controls, new_control, option_map, property_of, refl, refusals, set}
-use Rattle.pos_counter.proofs.Common.{set-get_or, slice_get, slice_get-map, subst, sym, with_control, ℕ, ◌∙◌, ◌∷◌, ◌≡◌, ◌⊎◌, ⊤}
+use Rattle.pos_counter.proofs.Common.{set-get_or, slice_get, slice_get-map, subst, sym, told, with_control, with_place, ℕ, ◌∙◌, ◌∷◌, ◌≡◌, ◌⊎◌, ⊤}
 use Rattle.std.proofs.lemmas.List.{get_or_default, map_push}
 use Rattle.std.proofs.lemmas.Option.{slice_get-get_or}
-use Rattle.pos_counter.specs.History.{told}
 use Rattle.pos_service.specs.declared.answer.Answer.TheVariants as answer
 use Rattle.pos_service.specs.declared.call.Call.TheVariants as call
-use Rattle.pos_totals.specs.HardTotals.{with_control as with_place}
 
 -- the machine of some controls, devices and totals
 abbrev with_controls : List Control → List Device → List (Option ℕ) → TotalsPart → Machine

@@ -2,15 +2,16 @@
 use Rattle.pos_counter.proofs.Common.{◌&&◌, ◌+◌, ◌++◌, BeginsWith, Bool, DirectoryFault, Err, Group, History, IsPrefix, IsPrefixOf, Layout, Layout1, Layout2}
 use Rattle.pos_counter.proofs.Common.{Limits, List, Machine, Ok, PlainFile, Request, Response, Result, Run, Stands, StartsWith, TotalsPart, [], after_groups}
 use Rattle.pos_counter.proofs.Common.{and_from, and_parts, and_then, ap, append-nil, append_assoc, arith, cond, event_of, false, files_after, history_along}
-use Rattle.pos_counter.proofs.Common.{history_with, length, limits_of, moved_with, nat_le, nat_lt, outcome_of_all, refl, replicate, subst, sym, true, ℕ, ◌∙◌}
-use Rattle.pos_counter.proofs.Common.{◌∷◌, ◌≡◌, ◌≡◌}
+use Rattle.pos_counter.proofs.Common.{history_with, length, limits_of, moved_with, nat_le, nat_lt, outcome, outcome_of_all, refl, replicate, subst, sym, true}
+use Rattle.pos_counter.proofs.Common.{ℕ, ◌∙◌, ◌∷◌, ◌≡◌, ◌≡◌}
 use Rattle.std.proofs.lemmas.Bool.{le-leb, leb-true, lt-ltb, ltb-true}
-use Rattle.pos_dir.specs.Changes.{outcome}
 use Rattle.pos_dir.specs.Files.{AreWider, has_name, total_size}
 use Rattle.pos_dir.specs.declared.change.Change.TheVariants.{Create}
 use Rattle.pos_dir.specs.declared.change.Change.{Change}
 use Rattle.pos_dir.specs.declared.fault.DirectoryFault.TheVariants.{Exists, NoRoom}
 use Rattle.pos_dir.specs.declared.limits.TheConstants.{LAYOUT_1, LAYOUT_2}
+use Rattle.pos_service.specs.declared.deed.Change.TheVariants as change
+use Rattle.pos_totals.specs.declared.fault.RecoveryFault.TheVariants as fault
 use Rattle.pos_counter.proofs.Prefixes.{Fits, fits_start, grows, same_stands}
 
 abbrev Outcome : Type 0

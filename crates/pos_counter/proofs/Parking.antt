@@ -1,8 +1,7 @@
 -- Peripherals are taken out of service, and stand as they stood.
 use Rattle.pos_counter.proofs.Common.{All, All-map, Device, Hardware, IfSome, List, None, Option, PeripheralState, Registered, Some, [], ap, device_of}
-use Rattle.pos_counter.proofs.Common.{devices_of, get_or, hardware_of, map, option_map, refl, true, ℕ, ◌∙◌, ◌∷◌, ◌≡◌}
+use Rattle.pos_counter.proofs.Common.{devices_of, get_or, hardware_of, has_kind, map, option_map, refl, true, ℕ, ◌∙◌, ◌∷◌, ◌≡◌}
 use Rattle.std.specs.Prelude.{filter}
-use Rattle.pos_counter.specs.KeptDevices.{has_kind}
 use Rattle.pos_profile.specs.Registries.{parked, parked_state}
 
 -- a device whose peripheral is out of service is to the machine as it was

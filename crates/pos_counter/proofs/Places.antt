@@ -1,9 +1,7 @@
 -- Finding a device's place: names alone decide.
 use Rattle.pos_counter.proofs.Common.{◌+◌, Bool, Device, IsSome, List, None, Option, Registered, Some, [], ap, arith, bytes_eq, cond, device_at, devices_of}
-use Rattle.pos_counter.proofs.Common.{false, kind_in, length, names_of, place_of, refl, registered_place, slice_get, subst, suc, totals_devices, true, zero, ℕ}
-use Rattle.pos_counter.proofs.Common.{◌∙◌, ◌∷◌, ◌≡◌}
-use Rattle.pos_counter.specs.KeptDevices.{totals_place}
-use Rattle.pos_counter.specs.Machine.{place_from}
+use Rattle.pos_counter.proofs.Common.{false, kind_in, length, names_of, place_from, place_of, refl, registered_place, slice_get, subst, suc, totals_devices}
+use Rattle.pos_counter.proofs.Common.{totals_place, true, zero, ℕ, ◌∙◌, ◌∷◌, ◌≡◌}
 use Rattle.pos_profile.specs.Places.{first_of, place_from as registered_from}
 
 -- the place of the Hard Totals device

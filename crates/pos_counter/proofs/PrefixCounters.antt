@@ -1,8 +1,8 @@
 -- A crash of a counter's disk leaves a prefix of the history.
-use Rattle.pos_counter.proofs.Common.{◌++◌, Counter, DiskGhosts, Ghosts, History, IsPrefixInside, IsPrefixOf, IsRun, IsStep, Layout, Leaves, List, PlainFile}
-use Rattle.pos_counter.proofs.Common.{Request, Response, Stands, StandsFor, StandsForSome, StartsWith, TotalsView, [], ap, begun, history_with, inl, machine}
-use Rattle.pos_counter.proofs.Common.{part_of, refl, subst, sym, ℕ, ◌∷◌}
-use Rattle.pos_counter.specs.Crashes.{BeginsOver, HasBegun, HasRun, KeepsPrefix, KeepsPrefixes, history_until, machine_now}
+use Rattle.pos_counter.proofs.Common.{◌++◌, BeginsOver, Counter, DiskGhosts, Ghosts, HasBegun, HasRun, History, IsPrefixInside, IsPrefixOf, IsRun, IsStep}
+use Rattle.pos_counter.proofs.Common.{KeepsPrefix, KeepsPrefixes, Layout, Leaves, List, PlainFile, Request, Response, Stands, StandsFor, StandsForSome}
+use Rattle.pos_counter.proofs.Common.{StartsWith, TotalsView, [], ap, begun, history_until, history_with, inl, machine, machine_now, part_of, refl, subst, sym}
+use Rattle.pos_counter.proofs.Common.{ℕ, ◌∷◌}
 use Rattle.pos_disk.proofs.Moments.{rest_leaves}
 use Rattle.pos_counter.proofs.PrefixRuns.{bytes_after, bytes_inside, history_append, run_fits}
 use Rattle.pos_counter.proofs.Prefixes.{Fits, fits_start}

@@ -1,8 +1,7 @@
 -- The runs of the example, machine by machine.
-use Rattle.pos_counter.proofs.Common.{◌+◌, AreLeft, Bool, Control, IsOneOf, Layout1, List, Machine, Mode, None, Off, PlainFile, Ready, Run, Some, Standing}
-use Rattle.pos_counter.proofs.Common.{Stands, TotalsPart, [], after_set, arith, begun, false, inl, inr, length, new_control, numbered, plain, refl, signs_at}
-use Rattle.pos_counter.proofs.Common.{true, ℕ, ◌∷◌}
-use Rattle.pos_counter.specs.Examples.{MayHave, a_group, new_machine, sets_enabled, steps_into_doubt, steps_through_doubt}
+use Rattle.pos_counter.proofs.Common.{◌+◌, AreLeft, Bool, Control, IsOneOf, Layout1, List, Machine, MayHave, Mode, None, Off, PlainFile, Ready, Run, Some}
+use Rattle.pos_counter.proofs.Common.{Standing, Stands, TotalsPart, [], a_group, after_set, arith, begun, false, inl, inr, length, new_control, new_machine}
+use Rattle.pos_counter.proofs.Common.{numbered, plain, refl, sets_enabled, signs_at, steps_into_doubt, steps_through_doubt, true, ℕ, ◌∷◌}
 use Rattle.pos_service.specs.Controls.{opened}
 use Rattle.pos_service.specs.declared.answer.Value.TheVariants as value
 use Rattle.pos_service.specs.declared.category.Category.TheVariants as category

@@ -1,10 +1,9 @@
 -- A crash during a run of the machine leaves a prefix of its history.
-use Rattle.pos_counter.proofs.Common.{◌++◌, Answer, HasTooMany, History, IsFiles, IsLeftDuring, IsOneOf, IsPrefixInside, IsPrefixOf, Layout, LeavesPrefix}
-use Rattle.pos_counter.proofs.Common.{LeavesPrefixInside, List, Machine, PlainFile, Recovers, Request, Response, Rises, Run, Standing, StandsForEither}
-use Rattle.pos_counter.proofs.Common.{StandsForOneOf, StandsForSome, StartsWith, Step, TotalsPart, [], ap, begun, event_of, history_along, history_of}
-use Rattle.pos_counter.proofs.Common.{history_with, inl, inr, refl, subst, sym, ℕ, ◌∷◌, ◌≡◌, ◌⊎◌}
+use Rattle.pos_counter.proofs.Common.{◌++◌, Answer, HasTooMany, History, IsFiles, IsLeftDuring, IsOneOf, IsPrefixAlong, IsPrefixInside, IsPrefixOf, Layout}
+use Rattle.pos_counter.proofs.Common.{LeavesPrefix, LeavesPrefixInside, List, Machine, PlainFile, Recovers, Request, Response, Rises, Run, Standing}
+use Rattle.pos_counter.proofs.Common.{StandsForEither, StandsForOneOf, StandsForSome, StartsWith, Step, TotalsPart, [], ap, begun, event_of, history_along}
+use Rattle.pos_counter.proofs.Common.{history_of, history_with, inl, inr, refl, subst, sym, ℕ, ◌∷◌, ◌≡◌, ◌⊎◌}
 use Rattle.std.proofs.Math.Path.{path_j, subst_refl}
-use Rattle.pos_counter.specs.Prefixes.{IsPrefixAlong}
 use Rattle.pos_service.specs.declared.answer.Answer.TheVariants as answer
 use Rattle.pos_service.specs.declared.code.Code.TheVariants as code
 use Rattle.pos_store.specs.Standing.{Damaged, Unformatted}

@@ -1,15 +1,14 @@
 -- Whatever happens to the totals' files, a crash leaves a prefix of their history.
-use Rattle.pos_counter.proofs.Common.{◌++◌, BeginsWith, DirectoryFault, Err, Group, History, IsFiles, IsOneOf, IsPrefix, IsReady, IsSettled, Layout}
-use Rattle.pos_counter.proofs.Common.{LeavesPrefix, LeavesPrefixInside, Limits, List, Mode, None, NothingDone, Off, Ok, Option, PlainFile, Ready, Result, Some}
-use Rattle.pos_counter.proofs.Common.{Standing, Stands, StartsWith, TotalsPart, [], after_groups, and_from, and_parts, and_then, ap, append-nil, append_assoc}
-use Rattle.pos_counter.proofs.Common.{bytes_eq, cond_both, files_after, inl, inr, limits_of, outcome_of_all, plain, refl, same_Some, settled, stored, sym, true}
-use Rattle.pos_counter.proofs.Common.{ℕ, ◌∙◌, ◌∷◌, ◌≡◌, ◌⊎◌, ◌≡◌}
-use Rattle.std.proofs.Common.{ap₂}
+use Rattle.pos_counter.proofs.Common.{◌++◌, BeginsWith, DirectoryFault, Err, FilesEvent, FilesFound, Group, GroupAccepted, GroupInDoubt, History, IsFiles}
+use Rattle.pos_counter.proofs.Common.{IsOneOf, IsPrefix, IsReady, IsSettled, Layout, LeavesPrefix, LeavesPrefixInside, Limits, List, Mode, None, NothingDone}
+use Rattle.pos_counter.proofs.Common.{Off, Ok, Option, PlainFile, Ready, Result, Some, Standing, Stands, StartsWith, TotalsPart, [], after_groups, and_from}
+use Rattle.pos_counter.proofs.Common.{and_parts, and_then, ap, append-nil, append_assoc, ap₂, bytes_eq, cond_both, decided, files_after, files_of, has_made}
+use Rattle.pos_counter.proofs.Common.{inl, inr, is_same, limits_of, listed, outcome_of_all, plain, refl, same_Some, settled, stored, sym, told, true}
+use Rattle.pos_counter.proofs.Common.{with_settled, without_doubt, ℕ, ◌∙◌, ◌∷◌, ◌≡◌, ◌⊎◌, ◌≡◌}
 use Rattle.std.proofs.lemmas.Slice.Eq.{bytes_eq-Decides}
 use Rattle.std.specs.Cmp.Lexicographic.{pointwise_decides}
-use Rattle.pos_counter.specs.History.{FilesEvent, FilesFound, GroupAccepted, GroupInDoubt, decided, has_made, is_same, listed, told, with_settled}
-use Rattle.pos_counter.specs.History.{without_doubt}
-use Rattle.pos_totals.specs.HardTotals.{files_of}
+use Rattle.pos_dir.specs.declared.change.Change.TheVariants as file
+use Rattle.pos_totals.specs.declared.fault.RecoveryFault.TheVariants as fault
 use Rattle.pos_counter.proofs.Leaving.{Rest, settles}
 
 -- ---- files

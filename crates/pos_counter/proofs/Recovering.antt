@@ -1,23 +1,23 @@
 -- Setting a property as a step of the machine, where it recovers the totals and where it doesn't.
 use Rattle.pos_counter.proofs.Common.{◌&&◌, ◌<◌, Answer, Answered, AreDevicesSound, CallOf, Code, Control, Counter, Device, DiskGhosts, Err, Ghosts}
-use Rattle.pos_counter.proofs.Common.{IsCounterSound, IsOneOf, KeptControl, Kind, Leaves, List, Machine, Mode, NoMemory, None, Off, Ok, Option, OutOfMemory}
-use Rattle.pos_counter.proofs.Common.{Property, Recovers, Response, Result, Serves, SetsByRecovery, SetsTo, Signs, Some, SparesDisk, Standing, Step, Totals}
-use Rattle.pos_counter.proofs.Common.{TotalsPart, TotalsView, Value, WhenOff, [], after_set, and_from, and_parts, answered, ap, asks_recovery, controls_of}
-use Rattle.pos_counter.proofs.Common.{device_at, false, first_refusal, get_or, hardware_in, holder_in, holder_of, inl, inr, is_enabling, is_none, is_ready}
-use Rattle.pos_counter.proofs.Common.{is_some, is_totals, kind_in, kind_of, length, machine, machine_with, not, part_of, part_with, plain, recovers, refl}
-use Rattle.pos_counter.proofs.Common.{refusals, set, set_rows, settled, signs_at, signs_in, slice_get, subst, sym, tells_power, true, with_control, ℕ, ◌∙◌, ◌≡◌}
-use Rattle.pos_counter.proofs.Common.{◌⊎◌}
+use Rattle.pos_counter.proofs.Common.{IsCounterSound, IsOneOf, IsRecovering, KeptControl, Kind, Leaves, List, Machine, Mode, NoMemory, None, Off, Ok, Option}
+use Rattle.pos_counter.proofs.Common.{OutOfMemory, Property, Recovers, Response, Result, Serves, SetsByRecovery, SetsTo, Signs, Some, SparesDisk, Standing}
+use Rattle.pos_counter.proofs.Common.{Step, Totals, TotalsPart, TotalsView, Value, WhenOff, [], after_enabling, after_set, and_from, and_parts, answered, ap}
+use Rattle.pos_counter.proofs.Common.{asks_recovery, controls_of, device_at, enabling, false, first_refusal, get_or, hardware_in, holder_in, holder_of, inl}
+use Rattle.pos_counter.proofs.Common.{inr, is_enabling, is_none, is_ready, is_some, is_totals, kind_in, kind_of, length, machine, machine_with, not, part_of}
+use Rattle.pos_counter.proofs.Common.{part_with, plain, recovers, refl, refusals, set, set_rows, settled, signs_at, signs_in, slice_get, subst, sym}
+use Rattle.pos_counter.proofs.Common.{tells_power, told, true, with_control, ℕ, ◌∙◌, ◌≡◌, ◌⊎◌}
+use Rattle.std.proofs.Common.{T}
 use Rattle.std.proofs.lemmas.Bool.{and_right, or_left, or_right}
 use Rattle.std.specs.Prelude.{IsErrOf}
-use Rattle.pos_counter.specs.DiskUse.{after_enabling}
-use Rattle.pos_counter.specs.FileCalls.{IsRecovering}
-use Rattle.pos_counter.specs.Reopening.{enabling}
 use Rattle.pos_service.specs.declared.answer.Answer.TheVariants as answer
 use Rattle.pos_service.specs.declared.answer.Value.TheVariants as value
 use Rattle.pos_service.specs.declared.call.Call.TheVariants as call
 use Rattle.pos_service.specs.declared.category.Category.TheVariants as category
+use Rattle.pos_service.specs.declared.kind.Kind.TheVariants as kind
 use Rattle.pos_service.specs.declared.property.Property.TheVariants as property
-use Rattle.pos_totals.specs.Recoveries.{RecoversAny, Recovers as DiskRecovers, FindsFiles, ReadsAs, RecoversOneOf, code_of}
+use Rattle.pos_service.specs.declared.request.Response.TheVariants as response
+use Rattle.pos_totals.specs.Recoveries.{Recovers as DiskRecovers, FindsFiles, ReadsAs, RecoversAny, RecoversOneOf, code_of}
 use Rattle.pos_totals.specs.declared.fault.RecoveryFault.TheVariants as fault
 use Rattle.pos_totals.specs.declared.fault.RecoveryFault.{RecoveryFault}
 use Rattle.pos_counter.proofs.Claiming.{are_totals, none_of}

@@ -1,12 +1,11 @@
 -- What an enabling finds where a crash has left a disk that stands for some files.
-use Rattle.pos_counter.proofs.Common.{Answer, Answered, AreLeft, CallOf, Control, Counter, DirectoryFault, DiskGhosts, Entry, Err, Ghosts, Group, HasTooMany}
-use Rattle.pos_counter.proofs.Common.{History, IsOneOf, Layout, Layout1, Layout2, Leaves, Limits, List, Machine, Ok, OutOfMemory, PlainFile, Ready, Recovered}
-use Rattle.pos_counter.proofs.Common.{Recovers, Request, Response, Result, Rises, Run, SetsByRecovery, Some, Standing, Stands, StandsFor, StartsWith, Step}
-use Rattle.pos_counter.proofs.Common.{TotalsPart, TotalsView, [], after_groups, and_from, and_then, ap, arith, asks_recovery, begun, event_of, first_refusal}
-use Rattle.pos_counter.proofs.Common.{history_along, history_of, history_with, inl, inr, is_ready, length, limits_of, not, numbered, outcome_of_all, recovers}
-use Rattle.pos_counter.proofs.Common.{refl, refusals, settled, slice_get, subst, sym, true, ℕ, ◌∙◌, ◌∷◌, ◌≡◌, ◌≤◌, ◌⊎◌}
-use Rattle.pos_counter.specs.Counters.{Begins}
-use Rattle.pos_counter.specs.Reopening.{FindsThem, HasCause, HasThem, enabling}
+use Rattle.pos_counter.proofs.Common.{Answer, Answered, AreLeft, Begins, CallOf, Control, Counter, DirectoryFault, DiskGhosts, Entry, Err, FindsThem, Ghosts}
+use Rattle.pos_counter.proofs.Common.{Group, HasCause, HasThem, HasTooMany, History, IsOneOf, Layout, Layout1, Layout2, Leaves, Limits, List, Machine, Ok}
+use Rattle.pos_counter.proofs.Common.{OutOfMemory, PlainFile, Ready, Recovered, Recovers, Request, Response, Result, Rises, Run, SetsByRecovery, Some, Standing}
+use Rattle.pos_counter.proofs.Common.{Stands, StandsFor, StartsWith, Step, TotalsPart, TotalsView, [], after_groups, and_from, and_then, ap, arith}
+use Rattle.pos_counter.proofs.Common.{asks_recovery, begun, enabling, event_of, first_refusal, history_along, history_of, history_with, inl, inr, is_ready}
+use Rattle.pos_counter.proofs.Common.{length, limits_of, not, numbered, outcome_of_all, recovers, refl, refusals, settled, slice_get, subst, sym, true, ℕ, ◌∙◌}
+use Rattle.pos_counter.proofs.Common.{◌∷◌, ◌≡◌, ◌≤◌, ◌⊎◌}
 use Rattle.pos_dir.proofs.Kept.{few_after_all}
 use Rattle.pos_disk.proofs.Moments.{rest_leaves}
 use Rattle.pos_disk.specs.State.{IsAtRest}
@@ -14,8 +13,10 @@ use Rattle.pos_service.specs.declared.answer.Answer.TheVariants as answer
 use Rattle.pos_service.specs.declared.answer.Value.TheVariants as value
 use Rattle.pos_service.specs.declared.code.Code.TheVariants as code
 use Rattle.pos_service.specs.declared.property.Property.TheVariants as property
+use Rattle.pos_service.specs.declared.request.Response.TheVariants as response
 use Rattle.pos_store.proofs.Deciding.{some_standing}
 use Rattle.pos_store.specs.Standing.{Applies, IsBytes}
+use Rattle.pos_totals.specs.declared.fault.RecoveryFault.TheVariants as fault
 use Rattle.pos_counter.proofs.Hardware.{unchanged}
 use Rattle.pos_counter.proofs.Lifts.{match_cases, refused_undone}
 use Rattle.pos_counter.proofs.PrefixRuns.{law_after, law_recovers}

@@ -1,8 +1,7 @@
 -- A run goes on by one more step.
 use Rattle.pos_counter.proofs.Common.{◌++◌, Counter, DiskGhosts, Ghosts, IsLeftDuring, IsRun, IsStep, IsStepBeside, Leaves, List, Machine, MayLeave, Run}
-use Rattle.pos_counter.proofs.Common.{Standing, StandsForEither, StandsForOneOf, Step, [], ap, arith, inl, inr, length, machine_of_counter, part_of, refl}
-use Rattle.pos_counter.proofs.Common.{request_of, response_of, steps_of, subst, sym, ℕ, ◌∷◌, ◌≡◌}
-use Rattle.pos_counter.specs.Counters.{RunsFrom}
+use Rattle.pos_counter.proofs.Common.{RunsFrom, Standing, StandsForEither, StandsForOneOf, Step, [], ap, arith, inl, inr, length, machine_of_counter, part_of}
+use Rattle.pos_counter.proofs.Common.{refl, request_of, response_of, steps_of, subst, sym, ℕ, ◌∷◌, ◌≡◌}
 use Rattle.pos_counter.specs.Steps as machine
 use Rattle.pos_disk.proofs.Moments.{followed_by, started, weaker}
 use Rattle.pos_service.specs.declared.request.Request.{Request}

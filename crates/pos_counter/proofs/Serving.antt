@@ -1,10 +1,9 @@
 -- What a counter serves by a step of its machine.
-use Rattle.pos_counter.proofs.Common.{AreDevicesSound, Counter, DiskGhosts, Ghosts, IsCounterSound, IsSettled, IsSound, IsStep, IsStepBeside, Leaves, List}
-use Rattle.pos_counter.proofs.Common.{Machine, MayLeave, Request, Response, Serves, Spared, SparesDisk, Standing, Step, Totals, TotalsPart, TotalsView, [], ap}
-use Rattle.pos_counter.proofs.Common.{arith, inl, machine, part_of, part_with, refl, settled, subst, sym, ℕ, ◌∙◌, ◌≡◌}
-use Rattle.pos_counter.specs.Leaving.{Stepped}
-use Rattle.pos_disk.specs.Keeps.{KeepsDisk}
 use Rattle.pos_store.proofs.Passing.{stays}
+use Rattle.pos_counter.proofs.Common.{AreDevicesSound, Counter, DiskGhosts, Ghosts, IsCounterSound, IsSettled, IsSound, IsStep, IsStepBeside, Leaves, List}
+use Rattle.pos_counter.proofs.Common.{Machine, MayLeave, Request, Response, Serves, Spared, SparesDisk, Standing, Step, Stepped, Totals, TotalsPart, TotalsView}
+use Rattle.pos_counter.proofs.Common.{[], ap, arith, inl, machine, part_of, part_with, refl, settled, subst, sym, ℕ, ◌∙◌, ◌≡◌}
+use Rattle.pos_disk.specs.Keeps.{KeepsDisk}
 use Rattle.pos_counter.proofs.Leaving.{settled_twice}
 use Rattle.pos_counter.proofs.Steps.{step_sound}
 

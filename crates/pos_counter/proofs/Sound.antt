@@ -1,28 +1,26 @@
 -- What keeps a machine sound: each control stays at its device, and each device of its kind.
 use Rattle.pos_counter.proofs.Common.{All, All-cons, All-map, All-nil, Answer, Bool, Call, CarriesOut, Category, Change, Control, Decided, Deed, Device}
-use Rattle.pos_counter.proofs.Common.{DeviceDoes, Does, Effect, Err, Hardware, HasItsDevice, HasItsKind, IfSome, Input, IsInRange, IsPlaceOn, IsSound, IsTrue}
-use Rattle.pos_counter.proofs.Common.{Kind, List, Machine, MatchOption, MatchOption-at_some, MatchResult, NoMemory, None, Ok, OnHardware, Option, Place}
-use Rattle.pos_counter.proofs.Common.{Property, Result, SameHardware, Signs, Some, Value, WorksAt, [], after_release, after_set, ap, arith, cond, cond_both}
-use Rattle.pos_counter.proofs.Common.{cursor_after, device_at, device_deed, device_rows, due_request_at, false, false≢true, first_refusal, has_open, inl, inr}
-use Rattle.pos_counter.proofs.Common.{is_none, is_open_at, is_some, kind_in, kind_of, length-set, option_map, origin, refl, serves, set, slice_get}
-use Rattle.pos_counter.proofs.Common.{slice_get-map, slice_get_within, subst, suc, sym, takes, true, with_control, zero, ◌||◌, ℕ, ◌∙◌, ◌∷◌, ◌≡◌}
+use Rattle.pos_counter.proofs.Common.{DeviceDoes, Does, Effect, Err, Hardware, HasItsDevice, HasItsKind, IfSome, Input, IsAttached, IsDetached, IsInRange}
+use Rattle.pos_counter.proofs.Common.{IsPlaceOn, IsSound, IsTrue, Kind, List, Machine, MatchOption, MatchOption-at_some, MatchResult, NoMemory, None, Ok}
+use Rattle.pos_counter.proofs.Common.{OnHardware, Option, Place, Property, Result, SameHardware, Signs, Some, Value, WorksAt, [], after_release, after_set, ap}
+use Rattle.pos_counter.proofs.Common.{arith, changed, cond, cond_both, cursor_after, device_at, device_deed, device_rows, due_request_at, false, false≢true}
+use Rattle.pos_counter.proofs.Common.{first_refusal, found_at, get_or_from_slice_get, has_open, inl, inr, is_none, is_open_at, is_place, is_some, kind_in}
+use Rattle.pos_counter.proofs.Common.{kind_of, length-set, option_map, origin, outcome, refl, serves, set, slice_get, slice_get-map, slice_get_within, subst}
+use Rattle.pos_counter.proofs.Common.{suc, sym, takes, told, true, with_control, zero, ◌||◌, ℕ, ◌∙◌, ◌∷◌, ◌≡◌}
 use Rattle.std.proofs.Common.{scan}
 use Rattle.std.proofs.lemmas.Bool.{eq-eqb}
 use Rattle.std.proofs.lemmas.List.Elements.{All-get_or, All-set, All-weaker}
-use Rattle.std.proofs.lemmas.Option.{get_or_from_slice_get}
 use Rattle.std.specs.Prelude.{slice_set}
-use Rattle.pos_counter.specs.Machine.{found_at}
-use Rattle.pos_counter.specs.Steps.{IsAttached, IsDetached, is_place}
-use Rattle.pos_dir.specs.Changes.{outcome}
 use Rattle.pos_service.specs.Calls.{place_found}
 use Rattle.pos_service.specs.Claims.{is_exclusive}
 use Rattle.pos_service.specs.Controls.{all_listening, if_listening, listens, queued, read, stopped}
-use Rattle.pos_service.specs.Deeds.{ChangesOne, Follows, Ordered, Queued, changed, id_rows}
+use Rattle.pos_service.specs.Deeds.{ChangesOne, Follows, Ordered, Queued, id_rows}
 use Rattle.pos_service.specs.Events.{EventList}
 use Rattle.pos_service.specs.Hardware.{TakesIn, reaction}
 use Rattle.pos_service.specs.Peripherals.{signs_of}
 use Rattle.pos_service.specs.PrinterCalls.{DueRequest, WorksOn, after_work}
 use Rattle.pos_service.specs.Statuses.{heard_signs}
+use Rattle.pos_service.specs.declared.category.Category.TheVariants as category
 use Rattle.pos_service.specs.declared.deed.Change.TheVariants as change
 use Rattle.pos_service.specs.declared.deed.Deed.TheVariants as deed
 use Rattle.pos_service.specs.declared.finding.Finding.TheVariants as finding

@@ -1,10 +1,9 @@
 -- Requests that spare the disk are steps whatever the disk is.
-use Rattle.pos_counter.proofs.Common.{◌&&◌, Answer, AsksNothing, Call, CallOf, Category, ChangesTotalsAlone, Control, Counter, DiskGhosts, Ghosts, IsRun}
-use Rattle.pos_counter.proofs.Common.{IsSettled, IsSome, List, Machine, None, Nothing, Option, Request, Response, Run, Some, Spared, SparesDisk, Standing, Step}
-use Rattle.pos_counter.proofs.Common.{TotalsPart, [], ap, changes_asked, false, file_call, first_refusal, inl, inr, is_enabling, is_ready, is_some, is_totals}
-use Rattle.pos_counter.proofs.Common.{machine_of_counter, not, part_with, refl, refusals, settled, slice_get, subst, sym, ℕ, ◌∙◌, ◌∷◌, ◌≡◌, ◌⊎◌, ⊎_elim}
-use Rattle.pos_counter.specs.Counters.{RunsAnyhow}
-use Rattle.pos_counter.specs.Sparing.{AllSpare, RunSparing, StepSparing}
+use Rattle.pos_counter.proofs.Common.{◌&&◌, AllSpare, Answer, AsksNothing, Call, CallOf, Category, ChangesTotalsAlone, Control, Counter, DiskGhosts, Ghosts}
+use Rattle.pos_counter.proofs.Common.{IsRun, IsSettled, IsSome, List, Machine, None, Nothing, Option, Request, Response, Run, RunSparing, RunsAnyhow, Some}
+use Rattle.pos_counter.proofs.Common.{Spared, SparesDisk, Standing, Step, StepSparing, TotalsPart, [], ap, changes_asked, false, file_call, first_refusal, inl}
+use Rattle.pos_counter.proofs.Common.{inr, is_enabling, is_ready, is_some, is_totals, machine_of_counter, not, part_with, refl, refusals, settled, slice_get}
+use Rattle.pos_counter.proofs.Common.{subst, sym, ℕ, ◌∙◌, ◌∷◌, ◌≡◌, ◌⊎◌, ⊎_elim}
 use Rattle.pos_service.specs.declared.call.Call.TheVariants as call
 use Rattle.pos_service.specs.declared.category.Category.TheVariants as category
 use Rattle.pos_counter.proofs.Leaving.{settled_twice}

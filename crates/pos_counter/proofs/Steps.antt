@@ -1,26 +1,28 @@
 -- What each step of the machine leaves: a sound machine, and the files of the totals as its event says.
-use Rattle.pos_counter.proofs.Common.{◌+◌, ◌++◌, All-push, Answer, Answered, Asks, Bool, Call, CallOf, Called, Category, CategoryDoes, Commits, Control, Does}
-use Rattle.pos_counter.proofs.Common.{Effect, File, FileCall, Hardware, HasItsDevice, History, IsOneGroup, IsOneOf, IsSettled, IsSound, IsUndone, Layout, List}
-use Rattle.pos_counter.proofs.Common.{Machine, Makes, MatchBool, MatchOption, Mode, None, Nothing, NothingDone, Off, Ok, OnHardware, Option, OutOfMemory}
-use Rattle.pos_counter.proofs.Common.{PlainFile, Property, Ready, Recovered, Recovers, Request, Response, Sets, SetsByRecovery, Some, Standing, Stands, Step}
-use Rattle.pos_counter.proofs.Common.{Totals, TotalsDo, TotalsPart, Value, WorkOn, [], after_release, after_set, and_parts, ap, asks_recovery, category_rows}
-use Rattle.pos_counter.proofs.Common.{changes_asked, claimed, claimed_by, closed, cond_both, dropped, event_of, false, file_call, first_refusal, get_or}
-use Rattle.pos_counter.proofs.Common.{has_call, history_with, holder_of, in_doubt, inl, inr, is_common, is_none, is_own, is_ready, is_totals, kind_of}
-use Rattle.pos_counter.proofs.Common.{left_after, length, length-set, limits_of, map, needs_of, new_control, not, numbered, outcome_of_all, place_of, plain}
-use Rattle.pos_counter.proofs.Common.{recovers, refl, refusals, released, released_by, serves, set, settled, signs_at, slice_get, stored, subst, sym, table}
-use Rattle.pos_counter.proofs.Common.{takes, true, with_control, ℕ, ◌∙◌, ◌∷◌, ◌≡◌}
-use Rattle.pos_counter.specs.History.{changes_of, event_between}
-use Rattle.pos_counter.specs.Machine.{with_totals}
-use Rattle.pos_counter.specs.Steps.{Deliver, Delivered, IsAttached, IsDetached, Worked}
+use Rattle.pos_counter.specs.Steps.{Deliver, Delivered}
+use Rattle.pos_counter.proofs.Common.{◌+◌, ◌++◌, All-push, Answer, Answered, Arranges, Asks, Bool, Call, CallOf, Called, Category, CategoryDoes, Commits}
+use Rattle.pos_counter.proofs.Common.{Control, Does, Effect, File, FileCall, Hardware, HasItsDevice, History, IsAttached, IsDetached}
+use Rattle.pos_counter.proofs.Common.{IsOneGroup, IsOneOf, IsSettled, IsSound, IsUndone, Layout, List, Machine, Makes, MatchBool, MatchOption, Mode, None}
+use Rattle.pos_counter.proofs.Common.{Nothing, NothingDone, Off, Ok, OnHardware, Option, OutOfMemory, PlainFile, Property, Ready, Recovered, Recovers, Request}
+use Rattle.pos_counter.proofs.Common.{Response, Sets, SetsByRecovery, Some, Standing, Stands, Step, Totals, TotalsDo, TotalsPart, Value, WorkOn, Worked, []}
+use Rattle.pos_counter.proofs.Common.{after_release, after_set, and_parts, ap, asks_recovery, category_rows, changes_asked, changes_of, claimed, claimed_by}
+use Rattle.pos_counter.proofs.Common.{closed, cond_both, dropped, event_between, event_of, false, file_call, files_of, first_refusal, get_or, has_call}
+use Rattle.pos_counter.proofs.Common.{history_with, holder_of, in_doubt, inl, inr, is_common, is_none, is_own, is_ready, is_totals, kind_of, left_after, length}
+use Rattle.pos_counter.proofs.Common.{length-set, limits_of, map, needs_of, new_control, not, numbered, outcome_of_all, place_of, plain, recovers, refl}
+use Rattle.pos_counter.proofs.Common.{refusals, released, released_by, serves, set, settled, signs_at, slice_get, stored, subst, sym, table, takes, true}
+use Rattle.pos_counter.proofs.Common.{with_control, with_place, with_totals, ℕ, ◌∙◌, ◌∷◌, ◌≡◌}
+use Rattle.pos_dir.specs.declared.change.Change.TheVariants as file
 use Rattle.pos_service.specs.Calls.{is_category, row_of}
 use Rattle.pos_service.specs.Controls.{delivered}
 use Rattle.pos_service.specs.declared.answer.Answer.TheVariants as answer
 use Rattle.pos_service.specs.declared.call.Call.TheVariants as call
 use Rattle.pos_service.specs.declared.category.Category.TheVariants as category
 use Rattle.pos_service.specs.declared.code.Code.TheVariants as code
+use Rattle.pos_service.specs.declared.deed.Change.TheVariants as change
+use Rattle.pos_service.specs.declared.order.Reply.TheVariants as reply
+use Rattle.pos_service.specs.declared.request.Response.TheVariants as response
 use Rattle.pos_totals.specs.Groups.{group_of}
-use Rattle.pos_totals.specs.HardTotals.{Change, after_disk_fault, files_of, next_sequences, with_control as with_place}
-use Rattle.pos_totals.specs.TotalsCalls.{Arranges}
+use Rattle.pos_totals.specs.HardTotals.{Change, after_disk_fault, next_sequences}
 use Rattle.pos_totals.specs.TotalsChanges.{DoesTogether, files_after_all}
 use Rattle.pos_counter.proofs.Cursors.{NoneApplies, none_applies, unless_not}
 use Rattle.pos_counter.proofs.FileCalls.{Buffers, Comes, Groups, Stays, puts_comes}

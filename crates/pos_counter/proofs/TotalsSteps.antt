@@ -2,9 +2,8 @@
 use Rattle.pos_counter.proofs.Common.{Answer, AsksNothing, Call, CallOf, CallsFiles, CategoryDoes, Control, Counter, DiskGhosts, Err, FilesCalled, Ghosts}
 use Rattle.pos_counter.proofs.Common.{IsCounterSound, IsReady, IsUndone, List, Machine, Mode, NoMemory, Off, Ok, Ready, Result, Serves, Some, SparesDisk}
 use Rattle.pos_counter.proofs.Common.{SparesFiles, Standing, Step, TotalsPart, TotalsView, TurnsOff, [], answered, ap, category_rows, changes_asked}
-use Rattle.pos_counter.proofs.Common.{controls_of, false, file_call, file_rows, first_refusal, inl, inr, is_common, machine, part_of, part_with, refl, refusals}
-use Rattle.pos_counter.proofs.Common.{slice_get, subst, sym, ℕ, ◌∙◌, ◌≡◌}
-use Rattle.pos_dir.specs.Changes.{outcome}
+use Rattle.pos_counter.proofs.Common.{controls_of, false, file_call, file_rows, first_refusal, inl, inr, is_common, machine, outcome, part_of, part_with, refl}
+use Rattle.pos_counter.proofs.Common.{refusals, slice_get, subst, sym, ℕ, ◌∙◌, ◌≡◌}
 use Rattle.pos_service.specs.declared.answer.Answer.TheVariants as answer
 use Rattle.pos_service.specs.declared.call.Call.TheVariants as call
 use Rattle.pos_service.specs.declared.category.Category.TheVariants as category

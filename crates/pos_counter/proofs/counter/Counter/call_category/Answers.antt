@@ -1,4 +1,4 @@
-use Rattle.pos_counter.proofs.Common.{Category, None, [], ap, arith, category_rows, false, false≢true, is_none, is_totals, length, machine, needs_of}
+use Rattle.pos_counter.proofs.Common.{Category, None, [], ap, arith, category_rows, closed, false, false≢true, is_none, is_totals, length, machine, needs_of}
 use Rattle.pos_counter.proofs.Common.{part_with, refl, serves, sym, with_items_is, ◌∙◌, ◌≡◌}
 use Rattle.pos_common.proofs.CheckLemmas.{lets_open, lets_own}
 use Rattle.pos_service.specs.declared.answer.Answer.TheVariants as answer

@@ -1,4 +1,4 @@
-use Rattle.pos_counter.proofs.Common.{SFits, Some, [], inl, inr, machine, part_with, refl, sym, to_z-of_z, w128, ◌∙◌, ⊎_elim}
+use Rattle.pos_counter.proofs.Common.{SFits, Some, [], decided, inl, inr, machine, part_with, refl, sym, to_z-of_z, w128, ◌∙◌, ⊎_elim}
 use Rattle.pos_counter.proofs.Claiming.{are_totals, area_settled, claim_area, claim_device, covered}
 use Rattle.pos_counter.proofs.Lifts.{decided_either, kept_at}
 use Rattle.pos_counter.proofs.Serving.{quiet_serves, stays_serves}
