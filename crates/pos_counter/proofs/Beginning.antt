@@ -1,24 +1,17 @@
 -- The devices of a profile, as a counter begins over them.
-use Rattle.std.proofs.Common.{◌≡◌, ◌∙◌, ℕ, suc, List, [], ◌∷◌, ◌++◌, Option, Some, None, Bool, true, false, map, length, cond, ap, sym, refl, arith}
-use Rattle.std.specs.Prelude.{All, IfSome, find, option_map, slice_get, take, ◌||◌, ◌&&◌}
-use Rattle.std.specs.List.{AllByRecursion, cons_option, list_any}
-use Rattle.std.proofs.lemmas.Bool.{false≢true}
-use Rattle.std.proofs.lemmas.List.{append-nil, append_assoc, length-map, length_push}
-use Rattle.std.proofs.lemmas.List.Elements.{All-cons, All-nil}
+use Rattle.pos_counter.proofs.Common.{◌&&◌, ◌++◌, All, All-cons, All-nil, AllByRecursion, Bool, Category, Device, Entry, Hardware, HasItsDevice, HasItsKind}
+use Rattle.pos_counter.proofs.Common.{IfSome, IsServed, IsSound, List, None, Option, PeripheralState, Registered, Some, TotalsPart, [], ap, append-nil}
+use Rattle.pos_counter.proofs.Common.{append_assoc, arith, cond, device_of, devices_of, false, false≢true, hardware_of, length, length-map, length_push}
+use Rattle.pos_counter.proofs.Common.{machine_with, map, option_map, profile_devices, refl, slice_get, suc, sym, totals_devices, true, ◌||◌, ℕ, ◌∙◌, ◌∷◌, ◌≡◌}
 use Rattle.std.proofs.lemmas.List.Folds.{list_any-append}
-use Rattle.pos_service.specs.declared.category.Category.{Category}
-use Rattle.pos_service.specs.declared.category.Category.TheVariants as category
-use Rattle.pos_service.specs.Peripherals.{PeripheralState}
-use Rattle.pos_service.specs.Hardware.{Hardware, hardware_of}
-use Rattle.pos_profile.specs.declared.entry.Entry.{Entry}
+use Rattle.std.specs.List.{cons_option, list_any}
+use Rattle.std.specs.Prelude.{find, take}
 use Rattle.pos_profile.specs.Categories.{is_totals}
 use Rattle.pos_profile.specs.Kinds.{kind_with}
 use Rattle.pos_profile.specs.Profiles.{is_refused_after, is_totals_entry}
-use Rattle.pos_profile.specs.Registries.{Device as Registered, HasKindInRange, IsServed, planned_of, vacant, vacant_devices}
-use Rattle.pos_counter.specs.Machine.{Device, machine_with}
-use Rattle.pos_counter.specs.KeptDevices.{device_of, devices_of, profile_devices, totals_devices}
-use Rattle.pos_counter.specs.Steps.{HasItsDevice, HasItsKind, IsSound}
-use Rattle.pos_counter.specs.Totals.{TotalsPart}
+use Rattle.pos_profile.specs.Registries.{HasKindInRange, planned_of, vacant, vacant_devices}
+use Rattle.pos_service.specs.declared.category.Category.TheVariants as category
+use Rattle.pos_service.specs.declared.kind.Kind.TheVariants as kind
 
 -- no entry behind earlier ones is refused
 abbrev pub AreKept : List (Option Entry) → List Entry → Type 0

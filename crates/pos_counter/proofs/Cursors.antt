@@ -1,27 +1,17 @@
 -- Where the calls of a display and its properties leave a cursor: at a place of the display.
-use Rattle.std.proofs.Common.{◌≡◌, ◌∷◌, ◌++◌, ◌+◌, ◌-◌, ◌%◌, ◌<◌, ◌≤◌, ℕ, ℤ, pos, negsuc, nat_abs, List, [], Option, Some, None, Bool, true, false, not, cond}
-use Rattle.std.proofs.Common.{length, nat_lt, nat_le, arith, refl}
-use Rattle.std.specs.List.{AllByRecursion}
-use Rattle.std.specs.Prelude.{IfSome, ◌==◌}
-use Rattle.std.proofs.lemmas.Bool.{and_from, and_parts}
+use Rattle.pos_counter.proofs.Common.{◌+◌, ◌++◌, ◌<◌, AllByRecursion, Bool, Cursor, IfSome, IsInRange, IsPlaceOn, Kind, List, None, Option, Place, Property}
+use Rattle.pos_counter.proofs.Common.{Row, Some, Value, [], and_from, and_parts, arith, cond, cursor_after, false, first_refusal, is_index, is_up_to, length}
+use Rattle.pos_counter.proofs.Common.{nat_abs, nat_le, nat_lt, not, origin, refl, takes, true, ℕ, ℤ, ◌∷◌, ◌≡◌, ◌≤◌}
+use Rattle.std.proofs.Common.{◌%◌, ◌-◌, chars, negsuc, pos}
 use Rattle.std.proofs.lemmas.Bool.Decides.{nat_tests}
 use Rattle.std.proofs.lemmas.Nat.{mod_below}
-use Rattle.pos_service.specs.declared.display_text.Cursor.{Cursor}
-use Rattle.pos_service.specs.declared.display_text.Place.{Place}
-use Rattle.pos_service.specs.declared.kind.Kind.{Kind}
-use Rattle.pos_service.specs.declared.kind.Kind.TheVariants as kind
-use Rattle.pos_service.specs.declared.property.Property.{Property}
-use Rattle.pos_service.specs.declared.property.Property.TheVariants as property
+use Rattle.std.specs.Prelude.{◌==◌}
+use Rattle.pos_service.specs.Displays.{Strip, fed, is_cursor_place, place_in_window, place_left, returned, text_from, with_run, with_text}
+use Rattle.pos_service.specs.Kinds.{columns_of, rows_of}
 use Rattle.pos_service.specs.declared.answer.Answer.TheVariants as answer
-use Rattle.pos_service.specs.declared.answer.Value.{Value}
 use Rattle.pos_service.specs.declared.answer.Value.TheVariants as value
-use Rattle.pos_service.specs.Properties.{takes, cursor_after}
-use Rattle.pos_service.specs.Displays.{Strip, fed, is_cursor_place, origin, place_in_window, place_left, returned, text_from, with_run, with_text}
-use Rattle.pos_service.specs.Kinds.{rows_of, columns_of}
-use Rattle.pos_service.specs.Numbers.{is_index, is_up_to}
-use Rattle.pos_service.specs.Peripherals.{IsInRange}
-use Rattle.pos_service.specs.Refusals.{Row, first_refusal}
-use Rattle.pos_counter.specs.Steps.{IsPlaceOn}
+use Rattle.pos_service.specs.declared.kind.Kind.TheVariants as kind
+use Rattle.pos_service.specs.declared.property.Property.TheVariants as property
 
 -- ---- tables of which no row applies
 

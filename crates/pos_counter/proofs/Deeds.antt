@@ -1,39 +1,22 @@
 -- What calls come to: they leave a cursor at a place of its display, and want memory only where they may.
-use Rattle.std.proofs.Common.{◌≡◌, ◌≤◌, ℕ, nat_abs, List, Option, Some, None, true, false, arith, refl, sym, subst, ◌∙◌}
-use Rattle.std.specs.Option.{option_map}
-use Rattle.std.specs.Prelude.{IsTrue, MatchResult, Ok, Err, Result, ⊤, slice_get}
-use Rattle.std.proofs.lemmas.Bool.{false≢true}
-use Rattle.pos_service.specs.declared.call.Call.{Call}
+use Rattle.pos_counter.proofs.Common.{Answer, Call, CallsAt, CallsFor, CarriesOut, Category, Change, Code, Control, Cursor, Deed, Err, Hardware, IsInRange}
+use Rattle.pos_counter.proofs.Common.{IsPlaceOn, IsTrue, Kind, List, MatchResult, NoMemory, None, Ok, Option, Place, Result, SameHardware, Some, arith}
+use Rattle.pos_counter.proofs.Common.{device_deed, device_rows, false, false≢true, first_refusal, is_index, is_up_to, nat_abs, option_map, origin, outcome}
+use Rattle.pos_counter.proofs.Common.{refl, serves, slice_get, subst, sym, true, ℕ, ◌∙◌, ◌≡◌, ◌≤◌, ⊤}
+use Rattle.pos_service.specs.Deeds.{MayWantFor, may_want}
+use Rattle.pos_service.specs.DisplayCalls.{display_deed, display_rows, scrolls, shows}
+use Rattle.pos_service.specs.Displays.{attribute_of, direction_of}
+use Rattle.pos_service.specs.Kinds.{is_display}
+use Rattle.pos_service.specs.declared.answer.Answer.TheVariants as answer
 use Rattle.pos_service.specs.declared.call.Call.TheVariants as call
-use Rattle.pos_service.specs.declared.category.Category.{Category}
 use Rattle.pos_service.specs.declared.category.Category.TheVariants as category
-use Rattle.pos_service.specs.declared.deed.Change.{Change}
+use Rattle.pos_service.specs.declared.code.Code.TheVariants as code
 use Rattle.pos_service.specs.declared.deed.Change.TheVariants as change
-use Rattle.pos_service.specs.declared.deed.Deed.{Deed}
 use Rattle.pos_service.specs.declared.deed.Deed.TheVariants as deed
 use Rattle.pos_service.specs.declared.display_text.Attribute.{Attribute}
-use Rattle.pos_service.specs.declared.display_text.Cursor.{Cursor}
-use Rattle.pos_service.specs.declared.display_text.Place.{Place}
-use Rattle.pos_service.specs.declared.kind.Kind.{Kind}
 use Rattle.pos_service.specs.declared.kind.Kind.TheVariants as kind
-use Rattle.pos_service.specs.declared.answer.Answer.TheVariants as answer
-use Rattle.pos_service.specs.Controls.{Control}
-use Rattle.pos_service.specs.DisplayCalls.{display_deed, display_rows, scrolls, shows}
-use Rattle.pos_service.specs.Displays.{attribute_of, direction_of, origin}
-use Rattle.pos_service.specs.Kinds.{is_display}
-use Rattle.pos_service.specs.Numbers.{is_index, is_up_to}
-use Rattle.pos_service.specs.Peripherals.{IsInRange}
-use Rattle.pos_service.specs.Refusals.{first_refusal}
-use Rattle.pos_service.specs.declared.answer.Answer.{Answer}
-use Rattle.pos_service.specs.declared.code.Code.{Code}
-use Rattle.pos_service.specs.declared.memory.NoMemory.{NoMemory}
-use Rattle.pos_service.specs.Calls.{serves}
-use Rattle.pos_service.specs.Deeds.{Does as CarriesOut, MayWantFor, may_want}
-use Rattle.pos_service.specs.Hardware.{SameHardware, Hardware}
-use Rattle.pos_counter.specs.AtDevices.{CallsAt, CallsFor}
-use Rattle.pos_counter.specs.Steps.{IsPlaceOn, device_deed, device_rows}
-use Rattle.pos_counter.proofs.Lifts.{match_at_none, match_at_some}
 use Rattle.pos_counter.proofs.Cursors.{IsPlace, NoneApplies, first_place, text_place, unless_not, with_column, with_row}
+use Rattle.pos_counter.proofs.Lifts.{decided_none, decided_some}
 
 -- what a call changes of its control leaves the cursor at a place of what the device is
 abbrev pub StaysOn : Option Kind → Place → Change → Type 0
@@ -107,11 +90,7 @@ deed_called k is c asked d served range allowed e = no_display is c.cursor.place
 pub called_refused : (n place : ℕ) (asked : Call) (c : Control) (code : Code) (old : List Control) (before : Hardware) → slice_get old n ≡ Some c
     → first_refusal (device_rows c.category (Some before.kind) c asked) ≡ Some (answer.Refused code 0)
     → CallsAt n asked place (Ok (answer.Refused code 0)) old before old before
-called_refused n place asked c code old before at refused =
-    match_at_some _ c _ _ at (record {
-      outcome = match_at_some (first_refusal (device_rows c.category (Some before.kind) c asked))
-          (answer.Refused code 0) _ _ refused (refl, record { controls = refl; hardware = refl });
-    })
+called_refused n place asked c code old before found refused = rw found (decided_some refused refl (record { controls = refl; hardware = refl }))
 
 -- one that comes to a deed
 pub called_done : (n place : ℕ) (asked : Call) (c : Control) (d : Deed) (outcome : Result Answer NoMemory) (old new : List Control)
@@ -119,13 +98,10 @@ pub called_done : (n place : ℕ) (asked : Call) (c : Control) (d : Deed) (outco
     → device_deed c.category (Some before.kind) c asked ≡ Some d → MayWantFor asked d
     → MatchResult outcome (λ result. CarriesOut d n place result old before new after)
     (λ want. IsTrue (may_want d) × SameHardware old before new after) → CallsAt n asked place outcome old before new after
-called_done n place asked c d outcome old new before after at none is wants done = match_at_some _ c _ _ at (by outcome done)
+called_done n place asked c d outcome old new before after found none is wants done = rw found (by outcome done)
   where
     by : (o : Result Answer NoMemory)
         → MatchResult o (λ result. CarriesOut d n place result old before new after) (λ want. IsTrue (may_want d) × SameHardware old before new after)
         → CallsFor n asked place o c old before new after
-    by (Ok result) h = record {
-      outcome = match_at_none (first_refusal (device_rows c.category (Some before.kind) c asked)) _ _ none
-          (match_at_some _ d _ _ is h);
-    }
+    by (Ok result) h = decided_none none (rw is h)
     by (Err want) h = (wants h.0, none, h.1)

@@ -1,17 +1,12 @@
 -- The devices of a machine, by the registry of a counter.
-use Rattle.std.proofs.Common.{◌≡◌, ◌∷◌, [], ℕ, zero, suc, List, Option, Some, None, Bool, true, false, set, ap, sym, ◌∙◌, subst, refl}
-use Rattle.std.specs.Prelude.{slice_get, option_map, is_some, IfSome, IsSome}
-use Rattle.std.specs.List.{AllByRecursion}
-use Rattle.pos_service.specs.declared.input.Input.{Input}
-use Rattle.pos_service.specs.Peripherals.{PeripheralState, input_fits}
-use Rattle.pos_service.specs.Hardware.{Effect, StaysInService, hardware_of}
-use Rattle.pos_common.specs.KeptControls.{KeptControl, controls_of}
-use Rattle.pos_profile.specs.Registries.{Device as Registered, IsServed, MayServe, standing_at, with_peripheral}
+use Rattle.pos_counter.proofs.Common.{AllByRecursion, Bool, Device, Does, Effect, FindsFit, IfSome, Input, IsDoneAt, IsServed, IsSome, KeptControl, List, None}
+use Rattle.pos_counter.proofs.Common.{Option, PeripheralState, Registered, Some, [], ap, controls_of, device_at, device_of, devices_of, false, hardware_in}
+use Rattle.pos_counter.proofs.Common.{hardware_of, input_fits, is_some, option_map, place_of, refl, set, slice_get, standing_at, subst, suc, sym, true, zero, ℕ}
+use Rattle.pos_counter.proofs.Common.{◌∙◌, ◌∷◌, ◌≡◌}
 use Rattle.pos_profile.proofs.CallerLemmas.{put_back, with_twice}
-use Rattle.pos_counter.specs.AtDevices.{IsDoneAt}
-use Rattle.pos_counter.specs.Machine.{Device, device_at, hardware_in, place_of}
-use Rattle.pos_counter.specs.Steps.{FindsFit}
-use Rattle.pos_counter.specs.KeptDevices.{device_of, devices_of}
+use Rattle.pos_profile.specs.Registries.{MayServe, with_peripheral}
+use Rattle.pos_service.specs.Hardware.{StaysInService}
+use Rattle.pos_service.specs.declared.kind.Kind.TheVariants as kind
 
 -- what stands at it
 pub hardware_there : (list : List Registered) (totals : Option (List ℕ)) (place : ℕ)

@@ -1,22 +1,18 @@
 -- What the registry of a counter tells of an exchange, as steps of the machine.
-use Rattle.std.proofs.Common.{◌≡◌, ◌∙◌, ℕ, ◌+◌, ◌<◌, ◌≤◌, drop, get_or, List, Option, Some, None, Result, Ok, Err, Bool, false, ap, sym, subst, refl, length}
-use Rattle.std.specs.Prelude.{◌||◌, IfErr, IsSome, slice_get, option_map, option_and_then}
+use Rattle.pos_counter.specs.Responses.{attached}
+use Rattle.pos_counter.proofs.Common.{◌+◌, ◌<◌, Attach, Bool, Detach, Err, IsSome, KeptControl, List, None, Ok, Option, PeripheralState, Registered, Result}
+use Rattle.pos_counter.proofs.Common.{Some, Step, TotalsPart, ap, changed, controls_of, detached, device_at, device_of, devices_of, drop, false, get_or}
+use Rattle.pos_counter.proofs.Common.{hardware_in, hardware_of, has_open, is_open_at, kind_in, length, machine_with, names_of, option_map, place_of, refl}
+use Rattle.pos_counter.proofs.Common.{registered_place, slice_get, standing_at, subst, sym, told, ◌||◌, ℕ, ◌∙◌, ◌≡◌, ◌≤◌}
 use Rattle.std.proofs.lemmas.List.{drop_all, drop_more}
-use Rattle.pos_service.specs.Peripherals.{PeripheralState}
-use Rattle.pos_service.specs.Hardware.{hardware_of}
-use Rattle.pos_common.specs.KeptControls.{KeptControl, controls_of}
-use Rattle.pos_service.specs.declared.exchange_fault.AttachFault.{AttachFault}
+use Rattle.std.specs.Prelude.{IfErr, option_and_then}
+use Rattle.pos_profile.specs.Registries.{Attaches, Detaches, IsNamed}
 use Rattle.pos_service.specs.declared.exchange_fault.AttachFault.TheVariants as attach
-use Rattle.pos_service.specs.declared.exchange_fault.DetachFault.{DetachFault}
+use Rattle.pos_service.specs.declared.exchange_fault.AttachFault.{AttachFault}
 use Rattle.pos_service.specs.declared.exchange_fault.DetachFault.TheVariants as detach
-use Rattle.pos_profile.specs.Places.{place_of as registered_place}
-use Rattle.pos_profile.specs.Registries.{Device as Registered, Attaches, Detaches, IsNamed, names_of, standing_at}
-use Rattle.pos_counter.specs.Machine.{machine_with, device_at, kind_in, place_of, hardware_in}
-use Rattle.pos_counter.specs.Totals.{TotalsPart}
-use Rattle.pos_counter.specs.KeptDevices.{device_of, devices_of}
-use Rattle.pos_counter.specs.Responses.{attached, detached}
-use Rattle.pos_counter.specs.Steps.{Step, Attach, Detach, has_open, is_open_at}
+use Rattle.pos_service.specs.declared.exchange_fault.DetachFault.{DetachFault}
 use Rattle.pos_counter.proofs.DeviceLists.{devices_with, registered_there}
+use Rattle.pos_counter.proofs.Hardware.{named}
 use Rattle.pos_counter.proofs.Places.{found_first, kind_last}
 
 -- the device of a name that the registry has

@@ -1,282 +1,140 @@
 -- What the totals do with a call, for all that their disk may leave before it.
-use Rattle.std.proofs.Common.{◌≡◌, ◌⊎◌, inl, inr, ⊎_elim, ℕ, List, [], ◌∷◌, ◌++◌, Option, Some, None, Result, Ok, Err, Bool, true, false, cond, not, ◌&&◌, refl}
-use Rattle.std.proofs.Common.{sym, ap, ◌∙◌, subst, arith}
-use Rattle.std.specs.Prelude.{MatchOption, MatchResult, IsSome, IsTrue, OnErr, is_none, is_some}
-use Rattle.pos_disk.specs.State.{LeavesOnly, Rises}
+use Rattle.pos_counter.proofs.Common.{◌&&◌, ◌++◌, Answer, Answered, Arranges, Asks, Bool, Call, CallsFiles, Commits, Decided, DoesCommit, Done, Err, FileCall}
+use Rattle.pos_counter.proofs.Common.{FilesCalled, FilesStepped, IsTrue, IsUndone, Leaves, LeavesOneOf, List, Makes, MatchOption, MatchResult, Mode, NoMemory}
+use Rattle.pos_counter.proofs.Common.{None, Nothing, Off, Ok, Option, PutsChanges, Ready, Result, Rises, Row, RunsOut, Some, Standing, StandsForEither, Totals}
+use Rattle.pos_counter.proofs.Common.{TotalsDo, TotalsPart, TotalsView, TurnsOff, Value, WhenOff, [], ap, ap₂, arith, changes_asked, changes_in, cond, false}
+use Rattle.pos_counter.proofs.Common.{file_call, file_rows, first_refusal, given_by, in_doubt, in_transaction, inl, inr, is_none, is_some, left_after, not}
+use Rattle.pos_counter.proofs.Common.{number_rows, outcome, part_of, part_with, put_at_once, refl, settled, subst, sym, takes, told, transaction_of, true}
+use Rattle.pos_counter.proofs.Common.{with_transaction, ℕ, ◌∙◌, ◌∷◌, ◌≡◌, ◌≤◌, ◌⊎◌}
+use Rattle.std.specs.Prelude.{OnErr}
+use Rattle.pos_disk.specs.State.{LeavesOnly}
 use Rattle.pos_disk.specs.declared.device.Disk.{Ghosts}
-use Rattle.pos_image.specs.declared.layout.Layout.{Layout}
-use Rattle.pos_service.specs.declared.answer.Answer.{Answer}
-use Rattle.pos_service.specs.declared.answer.Answer.TheVariants as answer
-use Rattle.pos_service.specs.declared.answer.Value.{Value}
-use Rattle.pos_service.specs.declared.answer.Value.TheVariants as value
-use Rattle.pos_service.specs.declared.call.Call.{Call}
-use Rattle.pos_service.specs.declared.memory.NoMemory.{NoMemory}
 use Rattle.pos_service.specs.Calls.{takes_memory}
-use Rattle.pos_totals.specs.HardTotals.{File, Mode, Off, Ready, Totals, Change}
-use Rattle.pos_totals.specs.TotalsQuestions.{Question, refusals_of_question, MayTell}
-use Rattle.pos_totals.specs.TotalsChanges.{refusals_of_change, number_rows, given_by, Done, DoesChange, RunsOut}
-use Rattle.pos_totals.specs.TotalsArrangements.{Arrangement, ClaimFile, ReleaseFile, after_arrangement, claimed, refusals_of_arrangement}
-use Rattle.pos_totals.specs.TotalsCommits.{DoesCommit}
-use Rattle.pos_totals.specs.HardTotals.{changes_in, in_transaction, transaction_of, with_files, with_transaction}
-use Rattle.pos_totals.specs.TotalsFiles.{with_each, is_called}
-use Rattle.pos_service.specs.Refusals.{Row, Decided, first_refusal}
-use Rattle.pos_totals.specs.TotalsCalls.{Calls, FileCall, Arranges as ArrangesCall, Asks, Commits, Makes, Nothing, file_call, file_rows}
-use Rattle.pos_store.specs.Standing.{Standing, Stands, StandsForEither, LeavesOneOf}
-use Rattle.pos_totals.specs.Changes.{Arranged, Changes, CommitsBuffer, IsOneGroup, PutsGroup, HasFailed, in_doubt}
-use Rattle.pos_totals.specs.Views.{TotalsView, TurnsOff, WhenOff, plain, plain_file}
-use Rattle.pos_counter.specs.DiskUse.{SparesFiles}
-use Rattle.pos_counter.specs.FileCalls.{CallsFiles, FilesStepped, IsQuiet}
-use Rattle.pos_counter.specs.History.{changes_asked}
-use Rattle.pos_counter.specs.Leaving.{IsSettled, Leaves, part_of, part_with}
-use Rattle.pos_counter.specs.Totals.{TotalsPart, TotalsDo, FilesCalled, PutsChanges, put_at_once, settled, left_after}
-use Rattle.pos_counter.proofs.Lifts.{match_cases, match_weaker, match_at_none, match_at_some}
-use Rattle.pos_counter.proofs.Serving.{settled_twice}
+use Rattle.pos_service.specs.declared.answer.Answer.TheVariants as answer
+use Rattle.pos_service.specs.declared.answer.Value.TheVariants as value
+use Rattle.pos_service.specs.declared.deed.Change.TheVariants as change
+use Rattle.pos_totals.specs.Changes.{HasFailed, PutsGroup}
+use Rattle.pos_totals.specs.HardTotals.{Change}
+use Rattle.pos_totals.specs.TotalsArrangements.{refusals_of_arrangement}
+use Rattle.pos_totals.specs.TotalsCalls.{Calls}
+use Rattle.pos_totals.specs.TotalsChanges.{DoesChange, refusals_of_change}
+use Rattle.pos_totals.specs.TotalsQuestions.{MayTell}
+use Rattle.pos_counter.proofs.Leaving.{arranged_rest, kept_left, rest_settled, settled_twice}
+use Rattle.pos_counter.proofs.Lifts.{decided_cases, decided_none, decided_some, decided_weaker}
 
--- ---- what is answered to a call of the totals' own
+-- ---- what a change and a commit do
 
--- a call is answered by its table and by what it does
-called_ok : (n : ℕ) (fc : FileCall) (asked : Call) (old new : TotalsPart) (result : Answer) → file_call asked ≡ fc
-    → Decided (file_rows old.totals n fc) result (new ≡ old) (TotalsDo fc old n result new) → FilesCalled n asked old (Ok result) new
-called_ok n fc asked old new result is d =
-    subst (λ c. Decided (file_rows old.totals n c) result (new ≡ old) (TotalsDo c old n result new)) (sym is) d
+-- what a call with changes does, where nothing refuses it and the disk fails for a cause
+abbrev pub Puts : FileCall → Type 0 → Totals → ℕ → Answer → Totals → Type 0
+Puts (Makes change) P old n result new = DoesChange P old n change result new
+Puts Commits P old n result new = DoesCommit P old (with_transaction old n None) (changes_in (transaction_of old n)) result new
+Puts other P old n result new = ⊥
 
--- it finds no memory
-called_err : (n : ℕ) (fc : FileCall) (asked : Call) (part : TotalsPart) (want : NoMemory) → file_call asked ≡ fc → takes_memory asked ≡ true
-    → first_refusal (file_rows part.totals n fc) ≡ None → FilesCalled n asked part (Err want) part
-called_err n fc asked part want is takes none =
-    subst (λ c. IsTrue (takes_memory asked) × (first_refusal (file_rows part.totals n c) ≡ None) × (part ≡ part)) (sym is) (takes, none, refl)
+-- what comes of its changes: it isn't done, and nothing has changed; or it has none, and transactions change; or they are
+-- done as one group, or the disk fails in them
+pub data Comes (P : Type 0) (old : Totals) (changes : List Change) (result : Answer) (new : Totals) : Type 0 where
+  Stays : IsUndone (Answered result) → new ≡ old → Comes P old changes result new
+  Buffers : (transactions : List (Option (List Change))) → changes ≡ [] → new ≡ record old { transactions = transactions }
+      → Comes P old changes result new
+  Groups : (change : Change) (others : List Change) → changes ≡ change ∷ others → (transactions : List (Option (List Change))) (given : Value)
+      → Done P (record old { transactions = transactions }) (change ∷ others) given result new → Comes P old changes result new
 
--- ---- what a crash leaves
+grouped : (P : Type 0) (old : Totals) (transactions : List (Option (List Change))) (change : Change) (others : List Change) (given : Value)
+    (result : Answer) (new : Totals)
+    → RunsOut old result new ⊎ Done P (record old { transactions = transactions }) (change ∷ others) given result new
+    → Comes P old (change ∷ others) result new
+grouped P old transactions change others given result new (inl out) = Stays (rw out.1 tt) out.2
+grouped P old transactions change others given result new (inr done) = Groups change others refl transactions given done
 
--- totals that know the same files on a disk that wasn't touched
-quiet : {D : Type 0} (view new : TotalsView D) (totals : Totals) (n : ℕ) (asked : Call) (outcome : Result Answer NoMemory) → new.disk ≡ view.disk
-    → new.totals ≡ totals → ((left : List Standing) → settled totals.layout totals.mode left ≡ settled view.totals.layout view.totals.mode left)
-    → ((left : List Standing) (failures : ℕ) → FilesCalled n asked (part_with view.totals left failures) outcome (part_with totals left failures))
-    → IsQuiet view n asked outcome new
-quiet view new totals n asked outcome disk is same called = record {
-  disk = disk;
-  is_settled = λ left. ap (λ (t : Totals). settled t.layout t.mode left) is ∙ same left;
-  answer = λ left failures so. subst (λ (t : Totals). FilesCalled n asked (part_with view.totals left failures) outcome (part_with t left failures))
-      (sym is) (called left failures);
-}
-
--- what a crash leaves is said of the files that the totals have
-pub kept_left : (changes : List Change) (old : TotalsPart) → old.left ≡ settled old.totals.layout old.totals.mode old.left
-    → left_after old changes old.totals.mode ≡ old.left
-kept_left changes old is = by old.totals.mode refl is
+pub puts_comes : (asked : FileCall) (P : Type 0) (old : Totals) (n : ℕ) (result : Answer) (new : Totals) → Puts asked P old n result new
+    → Comes P old (changes_asked old n asked) result new
+puts_comes (Makes change) P old n result new does = by (transaction_of old n) does
   where
-    by : (m : Mode) → old.totals.mode ≡ m → old.left ≡ settled old.totals.layout m old.left
-        → settled old.totals.layout m (in_doubt old.totals.layout old.totals.next old.left changes old.totals.mode) ≡ old.left
-    by Off off is = ap (in_doubt old.totals.layout old.totals.next old.left changes) off
-    by (Ready files sequence) ready is = sym is
-
--- files with other claims are the same files
-pub plain_claimed : (test : File → Bool) (claim : Option ℕ) (files : List File) → plain (with_each test (claimed claim) files) ≡ plain files
-plain_claimed test claim [] = refl
-plain_claimed test claim (file ∷ files) = by (test file) (plain_claimed test claim files)
+    by : (o : Option (List Change)) → MatchOption o (Decided (number_rows old change) result (new ≡ old)
+        (RunsOut old result new ⊎ Done P old (change ∷ []) (given_by old.next change) result new))
+        (λ buffer. (result ≡ answer.Done value.Empty) × (new ≡ with_transaction old n (Some (buffer ++ change ∷ []))))
+        → Comes P old (put_at_once (is_some o) change) result new
+    by None does = elim (decided_cases (number_rows old change) result _ _ does) [
+      | inl x ↦ grouped P old old.transactions change [] (given_by old.next change) result new x.1
+      | inr x ↦ Stays x.0 x.1
+    ]
+    by (Some buffer) does = Buffers _ refl does.1
+puts_comes Commits P old n result new does = by (changes_in (transaction_of old n)) does
   where
-    by : (b : Bool) → plain (with_each test (claimed claim) files) ≡ plain files
-        → plain_file (cond b (claimed claim file) file) ∷ plain (with_each test (claimed claim) files) ≡ plain_file file ∷ plain files
-    by true same = ap (λ fs. plain_file file ∷ fs) same
-    by false same = ap (λ fs. plain_file file ∷ fs) same
+    by : (changes : List Change) → DoesCommit P old (with_transaction old n None) changes result new → Comes P old changes result new
+    by [] does = Buffers _ refl does.1
+    by (change ∷ others) does = grouped P old _ change others value.Empty result new does
+puts_comes other P old n result new does = absurd does
 
-pub settled_claimed : (test : File → Bool) (claim : Option ℕ) (layout : Layout) (mode : Mode) (left : List Standing)
-    → settled layout (with_files (with_each test (claimed claim)) mode) left ≡ settled layout mode left
-settled_claimed test claim layout Off left = refl
-settled_claimed test claim layout (Ready files sequence) left = ap (λ fs. Stands layout fs sequence ∷ []) (plain_claimed test claim files)
+-- it does so where the disk fails for a weaker cause; where it has no changes, for any
+done_so : {Out : Type 0} (P Q : Type 0) → (P → Q) → (old : Totals) (changes : List Change) (given : Value) (result : Answer) (new : Totals)
+    → Out ⊎ Done P old changes given result new → Out ⊎ Done Q old changes given result new
+done_so P Q to old changes given result new (inl out) = inl out
+done_so P Q to old changes given result new (inr (inl done)) = inr (inl done)
+done_so P Q to old changes given result new (inr (inr failed)) = inr (inr (failed.0, to failed.1, failed.2))
 
-never_turns : (mode : Mode) → TurnsOff mode mode → ⊥
-never_turns Off turns = turns
-never_turns (Ready files sequence) turns = turns
+puts_so : (asked : FileCall) (P Q : Type 0) (old : Totals) (n : ℕ) (result : Answer) (new : Totals)
+    → ((changes_asked old n asked ≡ [] → ⊥) → P → Q) → Puts asked P old n result new → Puts asked Q old n result new
+puts_so (Makes change) P Q old n result new to does = by (transaction_of old n) to does
+  where
+    AtOnce : Type 0 → Type 0
+    AtOnce R = Decided (number_rows old change) result (new ≡ old)
+        (RunsOut old result new ⊎ Done R old (change ∷ []) (given_by old.next change) result new)
+
+    Buffered : List Change → Type 0
+    Buffered buffer = (result ≡ answer.Done value.Empty) × (new ≡ with_transaction old n (Some (buffer ++ change ∷ [])))
+
+    by : (o : Option (List Change)) → ((put_at_once (is_some o) change ≡ [] → ⊥) → P → Q) → MatchOption o (AtOnce P) Buffered
+        → MatchOption o (AtOnce Q) Buffered
+    by None to does =
+        decided_weaker (done_so P Q (to (λ none. cc)) old (change ∷ []) (given_by old.next change) result new) (λ same. same) does
+    by (Some buffer) to does = does
+puts_so Commits P Q old n result new to does = by (changes_in (transaction_of old n)) to does
+  where
+    by : (changes : List Change) → ((changes ≡ [] → ⊥) → P → Q) → DoesCommit P old (with_transaction old n None) changes result new
+        → DoesCommit Q old (with_transaction old n None) changes result new
+    by [] to does = does
+    by (change ∷ others) to does = done_so P Q (to (λ none. cc)) (with_transaction old n None) (change ∷ others) value.Empty result new does
+puts_so other P Q old n result new to does = absurd does
+
+-- the totals do so
+totals_do : (asked : FileCall) (old : TotalsPart) (n : ℕ) (result : Answer) (new : TotalsPart)
+    → PutsChanges (λ answer totals. Puts asked (Rises old.failures new.failures) old.totals n answer totals) old (changes_asked old.totals n asked)
+    result new → TotalsDo asked old n result new
+totals_do (Makes change) old n result new puts = puts
+totals_do Commits old n result new puts = puts
+totals_do other old n result new puts = absurd puts.does
+
+-- it keeps the layout, and without changes the mode
+comes_layout : (P : Type 0) (old : Totals) (changes : List Change) (result : Answer) (new : Totals) → Comes P old changes result new
+    → new.layout ≡ old.layout
+comes_layout P old changes result new (Stays undone same) = ap (λ (t : Totals). t.layout) same
+comes_layout P old changes result new (Buffers transactions none same) = ap (λ (t : Totals). t.layout) same
+comes_layout P old changes result new (Groups change others some transactions given (inl done)) = ap (λ (t : Totals). t.layout) done.1.totals
+comes_layout P old changes result new (Groups change others some transactions given (inr failed)) = ap (λ (t : Totals). t.layout) failed.2
+
+comes_mode : (P : Type 0) (old : Totals) (changes : List Change) (result : Answer) (new : Totals) → Comes P old changes result new → changes ≡ []
+    → new.mode ≡ old.mode
+comes_mode P old changes result new (Stays undone same) none = ap (λ (t : Totals). t.mode) same
+comes_mode P old changes result new (Buffers transactions empty same) none = ap (λ (t : Totals). t.mode) same
+comes_mode P old changes result new (Groups change others some transactions given done) none = absurd cc
+
+-- ---- a call of the totals' own
+
+-- what a call is answered that asks this
+abbrev CalledAs : Bool → ℕ → FileCall → TotalsPart → Result Answer NoMemory → TotalsPart → Type 0
+CalledAs takes n asked old outcome new = MatchResult outcome
+    (λ result. Decided (file_rows old.totals n asked) result (new ≡ old) (TotalsDo asked old n result new))
+    (λ want. IsTrue takes × (first_refusal (file_rows old.totals n asked) ≡ None) × (new ≡ old))
 
 -- what holds anyhow holds while the totals are off
 when_off : (mode : Mode) (P : Type 0) → P → WhenOff mode P
 when_off Off P holds = holds
 when_off (Ready files sequence) P holds = tt
 
--- where the totals are as they were, their disk is
-same_disk : {D : Type 0} (old new : TotalsView D) → TurnsOff old.totals.mode new.totals.mode ⊎ (new ≡ old)
-    → TurnsOff old.totals.mode new.totals.mode ⊎ (new.disk ≡ old.disk)
-same_disk old new (inl turns) = inl turns
-same_disk {D = D} old new (inr same) = inr (ap (λ (v : TotalsView D). v.disk) same)
-
--- ---- a call that puts its changes on the disk as one group, where nothing refuses it
-
-module _ {D : Type 0} (bound : Ghosts D) (old new : TotalsView D) (n : ℕ) (asked : Call) (fc : FileCall)
-    (is : file_call asked ≡ fc) (PutsThem : Type 0 → Answer → Totals → Type 0)
-    (puts_fewer : (P Q : Type 0) → (P → Q) → (result : Answer) → PutsThem P result new.totals → PutsThem Q result new.totals)
-    (puts_none : (P Q : Type 0) (result : Answer) → changes_asked old.totals n fc ≡ [] → PutsThem P result new.totals → PutsThem Q result new.totals)
-    (keeps_layout : (P : Type 0) (result : Answer) → PutsThem P result new.totals → new.totals.layout ≡ old.totals.layout)
-    (keeps_mode : (P : Type 0) (result : Answer) → changes_asked old.totals n fc ≡ [] → PutsThem P result new.totals
-    → new.totals.mode ≡ old.totals.mode)
-    (does_so : (left after : List Standing) (was is : ℕ) (result : Answer)
-    → PutsChanges (PutsThem (Rises was is)) (part_with old.totals left was)
-    (changes_asked old.totals n fc) result (part_with new.totals after is)
-    → TotalsDo fc (part_with old.totals left was) n result (part_with new.totals after is)) where
-  abbrev rows : List Row
-  rows = file_rows old.totals n fc
-
-  abbrev changes : List Change
-  changes = changes_asked old.totals n fc
-
-  -- what it does of itself
-  abbrev Puts : Answer → Type 0
-  Puts result = PutsThem (HasFailed bound old.disk new.disk) result new.totals
-
-  -- what it is answered
-  abbrev IsTold : Result Answer NoMemory → Type 0
-  IsTold outcome = MatchResult outcome (λ result. Decided rows result (new.totals ≡ old.totals) (Puts result))
-      (λ want. (first_refusal rows ≡ None) × (new.totals ≡ old.totals))
-
-  -- a call that wasn't done and left the totals as they are hasn't touched the disk
-  rested : TurnsOff old.totals.mode new.totals.mode ⊎ (new ≡ old) → new.totals ≡ old.totals → new ≡ old
-  rested (inl turns) same = absurd (never_turns old.totals.mode (subst (λ (x : Totals). TurnsOff old.totals.mode x.mode) same turns))
-  rested (inr is) same = is
-
-  module _ (left : List Standing) (leaves : Leaves bound old left) where
-    abbrev part : TotalsPart
-    part = part_of bound old left
-
-    -- one that nothing refuses, and that has changes
-    moves : (result : Answer) → first_refusal rows ≡ None → PutsGroup bound old changes (Ok result) new → Puts result
-        → FilesStepped bound left old n asked (Ok result) new
-    moves result none puts does =
-        let after = left_after part changes new.totals.mode in
-        let passes = puts.crash leaves.honest left (when_off old.totals.mode (LeavesOneOf left (bound.state old.disk)) leaves.leaves) in
-        record {
-          after = after;
-          leaves = record {
-            honest = puts.kept.honest.0 leaves.honest;
-            leaves = passes.now;
-            is_settled = subst (λ l. after ≡ settled l new.totals.mode after)
-                (sym (keeps_layout (HasFailed bound old.disk new.disk) result does))
-                (settled_twice old.totals.layout (in_doubt old.totals.layout old.totals.next left changes old.totals.mode) new.totals.mode);
-          };
-          answer = called_ok n fc asked part (part_of bound new after) result is (record {
-            outcome = match_at_none (first_refusal rows) _ _ none (does_so left after (bound.state old.disk).failures
-                (bound.state new.disk).failures result (record {
-                  does = puts_fewer (HasFailed bound old.disk new.disk) (Rises (bound.state old.disk).failures (bound.state new.disk).failures)
-                      (λ failed. failed leaves.honest) result does;
-                  group = puts.group;
-                  left = refl;
-                  counts = puts.counts leaves.honest;
-                  later = puts.kept.later leaves.honest;
-                }));
-          });
-          any_moment = subst (λ l. LeavesOnly (bound.state old.disk) (bound.state new.disk) (StandsForEither l after))
-              (sym leaves.is_settled) passes.any_moment;
-        }
-
-  -- one that nothing refuses, and that has none
-  rests : (left : List Standing) (failures : ℕ) (result : Answer) → IsSettled old.totals left → first_refusal rows ≡ None → changes ≡ []
-      → IsOneGroup old.totals changes → Puts result → FilesCalled n asked (part_with old.totals left failures) (Ok result)
-      (part_with new.totals left failures)
-  rests left failures result so none empty group does =
-      let mode = keeps_mode (HasFailed bound old.disk new.disk) result empty does in
-      let over = part_with old.totals left failures in
-      called_ok n fc asked over (part_with new.totals left failures) result is (record {
-        outcome = match_at_none (first_refusal rows) _ _ none (does_so left left failures failures result (record {
-          does = puts_none (HasFailed bound old.disk new.disk) (Rises failures failures) result empty does;
-          group = group;
-          left = sym (ap (λ m. left_after over changes m) mode ∙ kept_left changes over so);
-          counts = inr refl;
-          later = omega arith;
-        }));
-      })
-
-  unrefused : (result : Answer) → first_refusal rows ≡ None → PutsGroup bound old changes (Ok result) new → Puts result → (cs : List Change)
-      → changes ≡ cs → CallsFiles bound old n asked (Ok result) new
-  unrefused result none puts does [] empty = inl (record {
-    disk = puts.untouched empty;
-    is_settled = λ left. ap (λ l. settled l new.totals.mode left) (keeps_layout (HasFailed bound old.disk new.disk) result does)
-        ∙ ap (λ m. settled old.totals.layout m left) (keeps_mode (HasFailed bound old.disk new.disk) result empty does);
-    answer = λ left failures so. rests left failures result so none empty puts.group does;
-  })
-  unrefused result none puts does (change ∷ cs) some = inr (record {
-    uses = λ spares. by (subst (λ c. SparesFiles old.totals n c) is spares);
-    steps = λ left leaves. moves left leaves result none puts does;
-    unchanged = λ undone. same_disk old new (puts.unchanged undone);
-    kept = puts.kept;
-  })
-    where
-      by : SparesFiles old.totals n fc → ⊥
-      by (inl refused) = let no : false ≡ true = subst IsSome none refused in cc
-      by (inr empty) = let no : [] ≡ change ∷ cs = sym empty ∙ some in cc
-
-  by_table : (outcome : Result Answer NoMemory) → OnErr outcome (takes_memory asked ≡ true) → IsTold outcome
-      → PutsGroup bound old (cond (is_none (first_refusal rows)) changes []) outcome new → (o : Option Answer) → first_refusal rows ≡ o
-      → CallsFiles bound old n asked outcome new
-  by_table (Ok result) takes told puts (Some refusal) e =
-      let y = subst (λ o. MatchOption o (Puts result) (λ refusal. (result ≡ refusal) × (new.totals ≡ old.totals))) e told.outcome in
-      inl (quiet old new old.totals n asked (Ok result) (puts.untouched (ap (λ (o : Option Answer). cond (is_none o) changes []) e)) y.1 (λ left. refl)
-      (λ left failures. called_ok n fc asked (part_with old.totals left failures) (part_with old.totals left failures) result is
-      (record { outcome = match_at_some (first_refusal rows) refusal _ _ e (y.0, refl) })))
-  by_table (Err want) takes told puts (Some refusal) e = let bad = sym e ∙ told.0 in cc
-  by_table (Err want) takes told puts None e =
-      inl (quiet old new old.totals n asked (Err want) (ap (λ (v : TotalsView D). v.disk) (rested (puts.unchanged (λ h. h)) told.1)) told.1 (λ left. refl)
-      (λ left failures. called_err n fc asked (part_with old.totals left failures) want is takes e))
-  by_table (Ok result) takes told puts None e =
-      unrefused result e (subst (λ g. PutsGroup bound old g (Ok result) new) (ap (λ (o : Option Answer). cond (is_none o) changes []) e) puts)
-      (subst (λ o. MatchOption o (Puts result) (λ refusal. (result ≡ refusal) × (new.totals ≡ old.totals))) e told.outcome) changes refl
-
-  group_calls : (outcome : Result Answer NoMemory) → OnErr outcome (takes_memory asked ≡ true) → IsTold outcome
-      → PutsGroup bound old (cond (is_none (first_refusal rows)) changes []) outcome new → CallsFiles bound old n asked outcome new
-  group_calls outcome takes told puts = by_table outcome takes told puts (first_refusal rows) refl
-
--- the disk fails for a weaker cause
-fails_so : (P Q : Type 0) → (P → Q) → (old : Totals) (changes : List Change) (given : Value) (result : Answer) (new : Totals)
-    → Done P old changes given result new → Done Q old changes given result new
-fails_so P Q to old changes given result new (inl done) = inl done
-fails_so P Q to old changes given result new (inr failed) = inr (failed.0, to failed.1, failed.2)
-
--- and the layout is kept
-done_layout : (P : Type 0) (old : Totals) (changes : List Change) (given : Value) (result : Answer) (new : Totals)
-    → Done P old changes given result new → new.layout ≡ old.layout
-done_layout P old changes given result new (inl done) = ap (λ (t : Totals). t.layout) done.1.totals
-done_layout P old changes given result new (inr failed) = ap (λ (t : Totals). t.layout) failed.2
-
--- ---- a change
-
-change_so : (P Q : Type 0) → (P → Q) → (old : Totals) (n : ℕ) (change : Change) (result : Answer) (new : Totals)
-    → DoesChange P old n change result new → DoesChange Q old n change result new
-change_so P Q to old n change result new does =
-    match_weaker (transaction_of old n) _ _ _ _
-    (λ d. record {
-      outcome = match_weaker (first_refusal (number_rows old change)) _ _ _ _
-          (λ x. ⊎_elim (λ out. inl out) (λ done. inr (fails_so P Q to old (change ∷ []) (given_by old.next change) result new done)) x)
-          (λ refusal y. y) d.outcome;
-    })
-    (λ buffer y. y) does
-
-change_layout : (P : Type 0) (old : Totals) (n : ℕ) (change : Change) (result : Answer) (new : Totals)
-    → DoesChange P old n change result new → new.layout ≡ old.layout
-change_layout P old n change result new does =
-    elim (match_cases (transaction_of old n) _ _ does) [
-      | inl x ↦ elim (match_cases (first_refusal (number_rows old change)) _ _ x.1.outcome) [
-        | inl y ↦ ⊎_elim (λ out. ap (λ (t : Totals). t.layout) out.2)
-            (λ done. done_layout P old (change ∷ []) (given_by old.next change) result new done) y.1
-        | inr y ↦ ap (λ (t : Totals). t.layout) y.2.1
-      ]
-      | inr x ↦ ap (λ (t : Totals). t.layout) x.2.1
-    ]
-
--- a change that isn't put there at once is buffered, whether the disk fails or not
-change_buffered : (P Q : Type 0) (old : Totals) (n : ℕ) (change : Change) (result : Answer) (new : Totals)
-    → put_at_once (in_transaction old n) change ≡ [] → DoesChange P old n change result new
-    → DoesChange Q old n change result new × (new.mode ≡ old.mode)
-change_buffered P Q old n change result new none does = by (transaction_of old n) none does
-  where
-    AtOnce : Type 0 → Type 0
-    AtOnce R = Decided (number_rows old change) result (new ≡ old)
-        (RunsOut old result new ⊎ Done R old (change ∷ []) (given_by old.next change) result new)
-
-    Buffers : List Change → Type 0
-    Buffers buffer = (result ≡ answer.Done value.Empty) × (new ≡ with_transaction old n (Some (buffer ++ change ∷ [])))
-
-    by : (o : Option (List Change)) → put_at_once (is_some o) change ≡ [] → MatchOption o (AtOnce P) Buffers
-        → MatchOption o (AtOnce Q) Buffers × (new.mode ≡ old.mode)
-    by None none does = absurd cc
-    by (Some buffer) none does = (does, ap (λ (t : Totals). t.mode) does.1)
+never_turns : (mode : Mode) → TurnsOff mode mode → ⊥
+never_turns Off turns = turns
+never_turns (Ready files sequence) turns = turns
 
 -- the group of a change is what it puts there at once, where nothing refuses it
 at_once : (o : Option Answer) (transacting : Bool) (change : Change)
@@ -285,122 +143,149 @@ at_once (Some refusal) transacting change = refl
 at_once None true change = refl
 at_once None false change = refl
 
--- a call that asks for a change
-change_calls : {D : Type 0} (bound : Ghosts D) (view new : TotalsView D) (n : ℕ) (change : Change) (asked : Call)
-    (outcome : Result Answer NoMemory) → file_call asked ≡ Makes change → OnErr outcome (takes_memory asked ≡ true)
-    → Changes bound view n change outcome new → CallsFiles bound view n asked outcome new
-change_calls bound view new n change asked outcome is takes changes =
-    group_calls bound view new n asked (Makes change) is (λ P result totals. DoesChange P view.totals n change result totals)
-    (λ P Q to result does. change_so P Q to view.totals n change result new.totals does)
-    (λ P Q result none does. (change_buffered P Q view.totals n change result new.totals none does).0)
-    (λ P result does. change_layout P view.totals n change result new.totals does)
-    (λ P result none does. (change_buffered P P view.totals n change result new.totals none does).1)
-    (λ left after was is result puts. puts) outcome takes changes.answer
-    (subst (λ g. PutsGroup bound view g outcome new)
-    (at_once (first_refusal (refusals_of_change view.totals n change)) (in_transaction view.totals n) change) changes.disk)
+module _ {D : Type 0} (bound : Ghosts D) (old new : TotalsView D) (n : ℕ) (asked : Call) where
+  abbrev rows : List Row
+  rows = file_rows old.totals n (file_call asked)
 
--- ---- a commit
+  abbrev changes : List Change
+  changes = changes_asked old.totals n (file_call asked)
 
-commit_so : (P Q : Type 0) → (P → Q) → (old ended : Totals) (changes : List Change) (result : Answer) (new : Totals)
-    → DoesCommit P old ended changes result new → DoesCommit Q old ended changes result new
-commit_so P Q to old ended [] result new does = does
-commit_so P Q to old ended (change ∷ changes) result new does =
-    ⊎_elim (λ out. inl out) (λ done. inr (fails_so P Q to ended (change ∷ changes) value.Empty result new done)) does
+  -- what it does of itself
+  abbrev Itself : Answer → Type 0
+  Itself result = Puts (file_call asked) (HasFailed bound old.disk new.disk) old.totals n result new.totals
 
-commit_layout : (P : Type 0) (old : Totals) (n : ℕ) (changes : List Change) (result : Answer) (new : Totals)
-    → DoesCommit P old (with_transaction old n None) changes result new → new.layout ≡ old.layout
-commit_layout P old n [] result new does = ap (λ (t : Totals). t.layout) does.1
-commit_layout P old n (change ∷ changes) result new does =
-    ⊎_elim (λ out. ap (λ (t : Totals). t.layout) out.2)
-    (λ done. done_layout P (with_transaction old n None) (change ∷ changes) value.Empty result new done) does
+  -- the totals are as they were
+  same_part : (left : List Standing) (failures : ℕ) → new.totals ≡ old.totals → part_with new.totals left failures ≡ part_with old.totals left failures
+  same_part left failures same = ap (λ (t : Totals). part_with t left failures) same
 
--- a commit of nothing ends the transaction, whether the disk fails or not
-commit_of_none : (P Q : Type 0) (old : Totals) (n : ℕ) (changes : List Change) (result : Answer) (new : Totals) → changes ≡ []
-    → DoesCommit P old (with_transaction old n None) changes result new
-    → DoesCommit Q old (with_transaction old n None) changes result new × (new.mode ≡ old.mode)
-commit_of_none P Q old n [] result new none does = (does, ap (λ (t : Totals). t.mode) does.1)
-commit_of_none P Q old n (change ∷ changes) result new none does = absurd cc
+  same_settled : new.totals ≡ old.totals → (left : List Standing)
+      → settled new.totals.layout new.totals.mode left ≡ settled old.totals.layout old.totals.mode left
+  same_settled same left = ap (λ (t : Totals). settled t.layout t.mode left) same
 
--- a call that commits
-commit_calls : {D : Type 0} (bound : Ghosts D) (view new : TotalsView D) (n : ℕ) (asked : Call) (outcome : Result Answer NoMemory)
-    → file_call asked ≡ Commits → OnErr outcome (takes_memory asked ≡ true) → CommitsBuffer bound view n outcome new
-    → CallsFiles bound view n asked outcome new
-commit_calls bound view new n asked outcome is takes commits =
-    let ended = with_transaction view.totals n None in
-    let buffered = changes_in (transaction_of view.totals n) in
-    group_calls bound view new n asked Commits is (λ P result totals. DoesCommit P view.totals ended buffered result totals)
-    (λ P Q to result does. commit_so P Q to view.totals ended buffered result new.totals does)
-    (λ P Q result none does. (commit_of_none P Q view.totals n buffered result new.totals none does).0)
-    (λ P result does. commit_layout P view.totals n buffered result new.totals does)
-    (λ P result none does. (commit_of_none P P view.totals n buffered result new.totals none does).1)
-    (λ left after was is result puts. puts) outcome takes commits.answer commits.disk
+  -- one with changes to put on the disk as a group, or none, which nothing refuses
+  module _ (result : Answer) (none : first_refusal rows ≡ None) (puts : PutsGroup bound old changes (Ok result) new) (does : Itself result) where
+    comes : Comes (HasFailed bound old.disk new.disk) old.totals changes result new.totals
+    comes = puts_comes (file_call asked) (HasFailed bound old.disk new.disk) old.totals n result new.totals does
 
--- ---- an arrangement
+    layout : new.totals.layout ≡ old.totals.layout
+    layout = comes_layout _ old.totals changes result new.totals comes
 
--- it leaves the files as they are, but for their claims
-arranged_settled : (old : Totals) (n : ℕ) (arrangement : Arrangement) (left : List Standing)
-    → settled (after_arrangement old n arrangement).layout (after_arrangement old n arrangement).mode left ≡ settled old.layout old.mode left
-arranged_settled old n (ClaimFile handle timeout) left = settled_claimed (is_called handle) (Some n) old.layout old.mode left
-arranged_settled old n (ReleaseFile handle) left = settled_claimed (is_called handle) None old.layout old.mode left
-arranged_settled old n other left = refl
+    answers : (left after : List Standing) (was is : ℕ) → ((changes ≡ [] → ⊥) → HasFailed bound old.disk new.disk → Rises was is)
+        → after ≡ left_after (part_with old.totals left was) changes new.totals.mode → TurnsOff old.totals.mode new.totals.mode ⊎ (is ≡ was) → was ≤ is
+        → FilesCalled n asked (part_with old.totals left was) (Ok result) (part_with new.totals after is)
+    answers left after was is fails leaves counts later =
+        decided_none none (totals_do (file_call asked) (part_with old.totals left was) n result (part_with new.totals after is) (record {
+          does = puts_so (file_call asked) (HasFailed bound old.disk new.disk) (Rises was is) old.totals n result new.totals fails does;
+          group = puts.group;
+          left = leaves;
+          counts = counts;
+          later = later;
+        }))
 
--- a call that makes an arrangement
-arrangement_calls : {D : Type 0} (bound : Ghosts D) (view new : TotalsView D) (n : ℕ) (arrangement : Arrangement) (asked : Call)
-    (result : Answer) → file_call asked ≡ ArrangesCall arrangement → Arranged view n arrangement result new
-    → CallsFiles bound view n asked (Ok result) new
-arrangement_calls bound view new n arrangement asked result is arranged = by_table (first_refusal rows) refl
-  where
-    rows : List Row
-    rows = refusals_of_arrangement view.totals n arrangement
+    moves : (left : List Standing) → Leaves bound old left → FilesStepped bound left old n asked (Ok result) new
+    moves left leaves =
+        let after = left_after (part_of bound old left) changes new.totals.mode in
+        let passes = puts.crash leaves.honest left (when_off old.totals.mode (LeavesOneOf left (bound.state old.disk)) leaves.leaves) in
+        record {
+          after = after;
+          leaves = record {
+            honest = puts.kept.honest.0 leaves.honest;
+            leaves = passes.now;
+            is_settled = rw layout
+                (settled_twice old.totals.layout (in_doubt old.totals.layout old.totals.next left changes old.totals.mode) new.totals.mode);
+          };
+          answer = answers left after (bound.state old.disk).failures (bound.state new.disk).failures (λ some failed. failed leaves.honest) refl
+              (puts.counts leaves.honest) (puts.kept.later leaves.honest);
+          any_moment = subst (λ l. LeavesOnly (bound.state old.disk) (bound.state new.disk) (StandsForEither l after))
+              (sym leaves.is_settled) passes.any_moment;
+        }
 
-    called : (totals : Totals) (left : List Standing) (failures : ℕ)
-        → Decided rows result (part_with totals left failures ≡ part_with view.totals left failures) (TotalsDo (ArrangesCall arrangement)
-        (part_with view.totals left failures) n result (part_with totals left failures))
-        → FilesCalled n asked (part_with view.totals left failures) (Ok result) (part_with totals left failures)
-    called totals left failures d = called_ok n (ArrangesCall arrangement) asked (part_with view.totals left failures) (part_with totals left failures)
-        result is d
-
-    by_table : (o : Option Answer) → first_refusal rows ≡ o → CallsFiles bound view n asked (Ok result) new
-    by_table (Some refusal) e =
-        let y = subst (λ o. MatchOption o ((result ≡ answer.Done value.Empty) × (new.totals ≡ after_arrangement view.totals n arrangement))
-        (λ refusal. (result ≡ refusal) × (new.totals ≡ view.totals))) e arranged.answer.outcome in
-        inl (quiet view new view.totals n asked (Ok result) arranged.disk y.1 (λ left. refl)
-        (λ left failures. called view.totals left failures (record { outcome = match_at_some (first_refusal rows) refusal _ _ e (y.0, refl) })))
-    by_table None e =
-        let y = subst (λ o. MatchOption o ((result ≡ answer.Done value.Empty) × (new.totals ≡ after_arrangement view.totals n arrangement))
-        (λ refusal. (result ≡ refusal) × (new.totals ≡ view.totals))) e arranged.answer.outcome in
-        let totals = after_arrangement view.totals n arrangement in
-        inl (quiet view new totals n asked (Ok result) arranged.disk y.1 (arranged_settled view.totals n arrangement)
-        (λ left failures. called totals left failures (record { outcome = match_at_none (first_refusal rows) _ _ e (y.0, refl) })))
-
--- ---- a question
-
--- a call that asks about the files
-question_calls : {D : Type 0} (bound : Ghosts D) (view : TotalsView D) (n : ℕ) (question : Question) (asked : Call)
-    (outcome : Result Answer NoMemory) → file_call asked ≡ Asks question → OnErr outcome (takes_memory asked ≡ true)
-    → MayTell view.totals n question outcome → CallsFiles bound view n asked outcome view
-question_calls bound view n question asked outcome is takes tells =
-    inl (quiet view view view.totals n asked outcome refl refl (λ left. refl) (λ left failures. told left failures outcome takes tells))
-  where
-    told : (left : List Standing) (failures : ℕ) (o : Result Answer NoMemory) → OnErr o (takes_memory asked ≡ true)
-        → MayTell view.totals n question o → FilesCalled n asked (part_with view.totals left failures) o (part_with view.totals left failures)
-    told left failures (Ok result) takes h =
-        let part = part_with view.totals left failures in
-        called_ok n (Asks question) asked part part result is (record {
-          outcome = match_weaker (first_refusal (refusals_of_question view.totals n question)) _ _ _ _ (λ y. (y, refl)) (λ refusal y. (y.0, refl)) h.outcome;
+    unrefused : (cs : List Change) → changes ≡ cs → CallsFiles bound old n asked (Ok result) new
+    unrefused [] empty =
+        let mode = comes_mode _ old.totals changes result new.totals comes empty in
+        inl (record {
+          disk = puts.untouched empty;
+          is_settled = λ left. ap₂ (λ l m. settled l m left) layout mode;
+          answer = λ left failures so. answers left left failures failures (λ some. absurd (some empty))
+              (sym (ap (left_after (part_with old.totals left failures) changes) mode ∙ kept_left changes (part_with old.totals left failures) so))
+              (inr refl) (omega arith);
         })
-    told left failures (Err want) takes h = called_err n (Asks question) asked (part_with view.totals left failures) want is takes h.1
+    unrefused (change ∷ cs) some = inr (record {
+      uses = λ spares. elim spares [
+        | inl refused ↦ let no : false ≡ true = rw none at refused in cc
+        | inr empty ↦ let no : [] ≡ change ∷ cs = sym empty ∙ some in cc
+      ];
+      steps = moves;
+      unchanged = λ undone. elim (puts.unchanged undone) [ inl turns ↦ inl turns | inr same ↦ inr (ap (λ (v : TotalsView D). v.disk) same) ];
+      kept = puts.kept;
+    })
 
--- ---- any call of the totals' own
+  -- what it is answered, and what its changes do to the disk
+  abbrev GroupCalls : FileCall → Result Answer NoMemory → Type 0
+  GroupCalls asks outcome =
+      let rows = file_rows old.totals n asks in
+      MatchResult outcome
+      (λ result. Decided rows result (new.totals ≡ old.totals) (Puts asks (HasFailed bound old.disk new.disk) old.totals n result new.totals))
+      (λ want. (first_refusal rows ≡ None) × (new.totals ≡ old.totals))
+      × PutsGroup bound old (cond (is_none (first_refusal rows)) (changes_asked old.totals n asks) []) outcome new
 
-pub calls_files : {D : Type 0} (bound : Ghosts D) (view new : TotalsView D) (n : ℕ) (asked : Call) (outcome : Result Answer NoMemory)
-    (fc : FileCall) → file_call asked ≡ fc → OnErr outcome (takes_memory asked ≡ true) → Calls bound view n fc outcome new
-    → CallsFiles bound view n asked outcome new
-calls_files bound view new n asked outcome (Asks question) is takes calls =
-    subst (CallsFiles bound view n asked outcome) (sym calls.1) (question_calls bound view n question asked outcome is takes calls.0)
-calls_files bound view new n asked outcome (Makes change) is takes calls = change_calls bound view new n change asked outcome is takes calls
-calls_files bound view new n asked (Ok result) (ArrangesCall arrangement) is takes calls =
-    arrangement_calls bound view new n arrangement asked result is calls
-calls_files bound view new n asked (Err want) (ArrangesCall arrangement) is takes calls = absurd calls
-calls_files bound view new n asked outcome Commits is takes calls = commit_calls bound view new n asked outcome is takes calls
-calls_files bound view new n asked outcome Nothing is takes calls = absurd calls
+  group_calls : (outcome : Result Answer NoMemory) → OnErr outcome (takes_memory asked ≡ true) → GroupCalls (file_call asked) outcome
+      → (o : Option Answer) → first_refusal rows ≡ o → CallsFiles bound old n asked outcome new
+  group_calls (Ok result) takes (told, puts) (Some refusal) e =
+      let y = rw e at told.outcome in
+      inl (record {
+        disk = puts.untouched (ap (λ (o : Option Answer). cond (is_none o) changes []) e);
+        is_settled = same_settled y.1;
+        answer = λ left failures so. decided_some e y.0 (same_part left failures y.1);
+      })
+  group_calls (Ok result) takes (told, puts) None e = unrefused result e (rw e at puts) (rw e at told.outcome) changes refl
+  group_calls (Err want) takes (told, puts) (Some refusal) e = let bad = sym e ∙ told.0 in cc
+  group_calls (Err want) takes (told, puts) None e = inl (record {
+    disk = elim (puts.unchanged (λ done. done)) [
+      | inl turns ↦ absurd (never_turns old.totals.mode (rw told.1 at turns))
+      | inr same ↦ ap (λ (v : TotalsView D). v.disk) same
+    ];
+    is_settled = same_settled told.1;
+    answer = λ left failures so. (takes, e, same_part left failures told.1);
+  })
+
+  called_as : {asks : FileCall} (left after : List Standing) (was is : ℕ) (outcome : Result Answer NoMemory) → file_call asked ≡ asks
+      → CalledAs (takes_memory asked) n asks (part_with old.totals left was) outcome (part_with new.totals after is)
+      → FilesCalled n asked (part_with old.totals left was) outcome (part_with new.totals after is)
+  called_as left after was is outcome asks called =
+      subst (λ a. CalledAs (takes_memory asked) n a (part_with old.totals left was) outcome (part_with new.totals after is)) (sym asks) called
+
+  -- what it does that asks this
+  pub calls_files : (outcome : Result Answer NoMemory) (asks : FileCall) → file_call asked ≡ asks → OnErr outcome (takes_memory asked ≡ true)
+      → Calls bound old n asks outcome new → CallsFiles bound old n asked outcome new
+  calls_files outcome (Asks question) is takes (tells, same) = inl (record {
+    disk = ap (λ (v : TotalsView D). v.disk) same;
+    is_settled = same_settled (ap (λ (v : TotalsView D). v.totals) same);
+    answer = λ left failures so. called_as left left failures failures outcome is
+        (by outcome takes tells (same_part left failures (ap (λ (v : TotalsView D). v.totals) same)));
+  })
+    where
+      by : {part now : TotalsPart} (o : Result Answer NoMemory) → OnErr o (takes_memory asked ≡ true) → MayTell part.totals n question o → now ≡ part
+          → CalledAs (takes_memory asked) n (Asks question) part o now
+      by (Ok result) takes tells is = decided_weaker (λ told. (told, is)) (λ same. is) tells
+      by (Err want) takes tells is = (takes, tells.1, is)
+  calls_files outcome (Makes change) is takes changes =
+      group_calls outcome takes (subst (λ asks. GroupCalls asks outcome) (sym is) (
+        changes.answer,
+        subst (λ group. PutsGroup bound old group outcome new)
+            (at_once (first_refusal (refusals_of_change old.totals n change)) (in_transaction old.totals n) change) changes.disk,
+      )) (first_refusal rows) refl
+  calls_files outcome Commits is takes commits =
+      group_calls outcome takes (subst (λ asks. GroupCalls asks outcome) (sym is) (commits.answer, commits.disk)) (first_refusal rows) refl
+  calls_files (Ok result) (Arranges arrangement) is takes arranged = inl (record {
+    disk = arranged.disk;
+    is_settled = λ left. elim (decided_cases (refusals_of_arrangement old.totals n arrangement) result _ _ arranged.answer) [
+      | inl x ↦ ap (λ (t : Totals). settled t.layout t.mode left) x.1.1
+          ∙ rest_settled (part_with old.totals left 0) _ (arranged_rest (part_with old.totals left 0) n arrangement) left
+      | inr x ↦ same_settled x.1 left
+    ];
+    answer = λ left failures so. called_as left left failures failures (Ok result) is
+        (decided_weaker (λ done. (done.0, ap (λ (t : Totals). part_with t left failures) done.1)) (same_part left failures) arranged.answer);
+  })
+  calls_files (Err want) (Arranges arrangement) is takes arranged = absurd arranged
+  calls_files outcome Nothing is takes calls = absurd calls

@@ -1,32 +1,18 @@
 -- What is done at a device, and the steps that it makes.
-use Rattle.std.proofs.Common.{◌≡◌, ℕ, inl, inr, [], ◌∷◌, zero, suc, List, Option, Some, None, Result, Ok, Err, true, false, set, ap, sym, ◌∙◌, subst}
-use Rattle.std.proofs.Common.{refl}
-use Rattle.std.specs.Prelude.{slice_get, is_some, is_none, ◌||◌, IfSome, IsSome, IsTrue}
-use Rattle.std.proofs.lemmas.Option.{MatchOption-at_some}
-use Rattle.pos_service.specs.declared.answer.Answer.{Answer}
-use Rattle.pos_service.specs.declared.call.Call.{Call}
+use Rattle.pos_counter.proofs.Common.{Answer, Answered, Call, CallOf, CallsAt, CallsFor, Category, CategoryDoes, Control, Device, DeviceDoes, Does, Effect, Err}
+use Rattle.pos_counter.proofs.Common.{FindsWork, Hardware, IsDoneAt, IsSome, IsSound, IsTrue, KeptControl, Kind, List, Machine, MatchOption-at_some}
+use Rattle.pos_counter.proofs.Common.{MayBeCalled, NoMemory, None, Ok, OnHardware, Option, Result, Row, SameHardware, Some, Step, TotalsPart, WorksAt, answered}
+use Rattle.pos_counter.proofs.Common.{ap, category_rows, changed, controls_of, device_at, device_rows, due_request_at, false, first_refusal}
+use Rattle.pos_counter.proofs.Common.{get_or_from_slice_get, hardware_in, hardware_named, has_call, holder_at, holder_of, inl, inr, is_common, is_none, is_some}
+use Rattle.pos_counter.proofs.Common.{is_totals, kind_in, kind_of, machine, machine_with, needs_of, place_of, refl, refusals, serves, set, set-get_or}
+use Rattle.pos_counter.proofs.Common.{slice_get, subst, sym, table, takes, takes_memory, true, ◌||◌, ℕ, ◌∙◌, ◌≡◌}
+use Rattle.pos_service.specs.Calls.{takes_memory as own_takes_memory}
 use Rattle.pos_service.specs.declared.call.Call.TheVariants as call
-use Rattle.pos_service.specs.declared.category.Category.{Category}
 use Rattle.pos_service.specs.declared.category.Category.TheVariants as category
-use Rattle.pos_service.specs.declared.kind.Kind.{Kind}
-use Rattle.pos_service.specs.declared.memory.NoMemory.{NoMemory}
+use Rattle.pos_service.specs.declared.kind.Kind.TheVariants as kind
 use Rattle.pos_service.specs.declared.worked.Worked.TheVariants as worked
-use Rattle.pos_service.specs.Calls.{serves, has_call, is_common, needs_of, takes_memory as own_takes_memory}
-use Rattle.pos_service.specs.Claims.{holder_at}
-use Rattle.pos_service.specs.Controls.{Control}
-use Rattle.pos_service.specs.Needs.{table}
-use Rattle.pos_service.specs.PrinterCalls.{WorksAt, due_request_at}
-use Rattle.pos_service.specs.Refusals.{Row, first_refusal}
-use Rattle.pos_service.specs.Hardware.{Hardware, Effect, SameHardware}
-use Rattle.pos_common.specs.KeptControls.{KeptControl, controls_of}
-use Rattle.pos_counter.specs.Machine.{Device, Machine, machine_with, hardware_in, hardware_named, device_at, holder_of, kind_in, kind_of, place_of}
-use Rattle.pos_counter.specs.AtDevices.{CallsAt, CallsFor, IsDoneAt, MayBeCalled}
-use Rattle.pos_counter.specs.Responses.{answered}
-use Rattle.pos_counter.specs.Steps.{OnHardware, Step, CallOf, Answered, Does, DeviceDoes, CategoryDoes, category_rows, device_rows, refusals, takes_memory}
-use Rattle.pos_counter.specs.Steps.{FindsWork, IsPlaceOn, IsSound}
-use Rattle.pos_counter.specs.Totals.{TotalsPart, is_totals}
-use Rattle.pos_counter.proofs.Lifts.{decided_step, match_cases, match_at_some}
-use Rattle.pos_counter.proofs.Sound.{seated, Served}
+use Rattle.pos_counter.proofs.Lifts.{decided_some, decided_step, match_cases}
+use Rattle.pos_counter.proofs.Sound.{seated}
 
 -- what stands at the device that a name finds
 pub named : (m : Machine) (name : List ℕ) (place : ℕ) → Some place ≡ place_of m.devices name
@@ -56,45 +42,35 @@ on_hardware hs gs ds es cl part place o Does is done = record {
 -- a device whose hardware is as it was
 same_device : (ds : List Device) (place : ℕ) (d : Device) (before after : Hardware) → slice_get ds place ≡ Some d → d.hardware ≡ Some before
     → after ≡ before → set ds place (record d { hardware = Some after }) ≡ ds
-same_device [] place d before after at is same = refl
-same_device (x ∷ ds) zero d before after at is same =
-    let here : x ≡ d = cc in
-    ap (λ (o : Option Hardware). let y : Device = record d { hardware = o } in y ∷ ds) (ap Some same ∙ sym is) ∙ ap (λ (y : Device). y ∷ ds) (sym here)
-same_device (x ∷ ds) (suc place) d before after at is same = ap (λ (xs : List Device). x ∷ xs) (same_device ds place d before after at is same)
+same_device ds place d before after at is same =
+    ap (set ds place) (ap (λ (o : Option Hardware). let y : Device = record d { hardware = o } in y) (ap Some same ∙ sym is)
+    ∙ sym (get_or_from_slice_get ds place d d at)) ∙ set-get_or ds place d
 
 -- what did nothing leaves the machine as it was
-pub unchanged : (hs gs : List KeptControl) (ds es : List Device) (cl : List (Option ℕ)) (part : TotalsPart) (place : ℕ) (d : Device) (before after : Hardware)
-    → slice_get ds place ≡ Some d → d.hardware ≡ Some before → es ≡ set ds place (record d { hardware = Some after })
-    → SameHardware (controls_of hs) before (controls_of gs) after → machine_with gs cl es part ≡ machine_with hs cl ds part
-unchanged hs gs ds es cl part place d before after at is changed same =
+pub unchanged : {Does : Effect} (hs gs : List KeptControl) (ds es : List Device) (cl : List (Option ℕ)) (part : TotalsPart) (place : ℕ)
+    (done : IsDoneAt ds place Does hs gs es) → SameHardware (controls_of hs) done.before (controls_of gs) done.after
+    → machine_with gs cl es part ≡ machine_with hs cl ds part
+unchanged hs gs ds es cl part place done same =
     ap (λ (cs : List Control). let m : Machine = record { controls = cs; devices = es; claims = cl; totals = part } in m) same.controls
-    ∙ ap (λ xs. machine_with hs cl xs part) (changed ∙ same_device ds place d before after at is same.hardware)
+    ∙ ap (λ xs. machine_with hs cl xs part)
+    (done.changed ∙ same_device ds place done.device done.before done.after done.is_device done.is_attached same.hardware)
 
 -- an open control's device has a peripheral, where its category serves no device without one, and may be called
 pub served_there : (m : Machine) (n : ℕ) (c : Control) (place : ℕ) (asked : Call) → IsSound m → slice_get m.controls n ≡ Some c
     → c.device ≡ Some place → serves c.category None ≡ false → has_call c.category asked ≡ true → MayBeCalled m.devices place asked m.controls n
-served_there m n c place asked sound at is peripheral has =
-    let seat = subst (λ (o : Option ℕ). IfSome o (λ k. Served c.category c.cursor.place (slice_get m.devices k))) is (seated m n c sound at) in
-    elim (match_cases (slice_get m.devices place) _ _ seat) [
+served_there m n c place asked sound found is peripheral has =
+    elim (match_cases (slice_get m.devices place) _ _ (rw is at (seated m n c sound found))) [
       | inl x ↦ absurd x.1
-      | inr x ↦ by x.0 x.1 x.2.0 x.2.1 x.2.2
+      | inr x ↦ record {
+        attached = rw x.1 (stands x.0.kind x.0.hardware x.2.0 x.2.1);
+        may = rw found (record { own = has; served = rw x.1 x.2.0; cursor = rw x.1 x.2.2 });
+      }
     ]
   where
     stands : (o : Option Kind) (s : Option Hardware) → serves c.category o ≡ true → IsTrue (is_none o || is_some s) → IsSome s
     stands None s served attached = let bad = sym peripheral ∙ served in cc
     stands (Some k) None served attached = cc
     stands (Some k) (Some s) served attached = refl
-
-    by : (d : Device) → slice_get m.devices place ≡ Some d → serves c.category d.kind ≡ true → IsTrue (is_none d.kind || is_some d.hardware)
-        → IsPlaceOn d.kind c.cursor.place → MayBeCalled m.devices place asked m.controls n
-    by d there served attached on = record {
-      attached = subst (λ (o : Option Device). IsSome (hardware_in o)) (sym there) (stands d.kind d.hardware served attached);
-      may = match_at_some _ c _ _ at (record {
-        own = has;
-        served = subst (λ (o : Option Device). serves c.category (kind_in o) ≡ true) (sym there) served;
-        cursor = subst (λ (o : Option Device). IsPlaceOn (kind_in o) c.cursor.place) (sym there) on;
-      });
-    }
 
 -- where work finds no memory, there is a request that is to be done, and nothing has changed
 wants_work : (holder : Option ℕ) (place : ℕ) (want : NoMemory) (old : List Control) (before : Hardware) (new : List Control) (after : Hardware)
@@ -117,32 +93,23 @@ want_finds_work hs gs ds es cl part name place want finds done =
         is_attached = named (machine_with hs cl ds part) name place finds ∙ ap hardware_in done.is_device ∙ done.is_attached;
         work = wants.0;
       },
-      unchanged hs gs ds es cl part place done.device done.before done.after done.is_device done.is_attached done.changed wants.1,
+      unchanged hs gs ds es cl part place done wants.1,
     )
 
--- a call of a category's own: what it is answered first, what it does, and that it may want memory
-own_call : (m : Machine) (n : ℕ) (c : Control) (asked : Call) → is_common asked ≡ false
-    → (refusals m n c asked ≡ table n (holder_of m c) c (needs_of c.category asked) (category_rows c.category m n c asked))
-    × ((r : Answer) (m' : Machine) → CategoryDoes c.category m n c asked r m' → Does m n c asked r m')
-    × (IsTrue (own_takes_memory asked) → IsTrue (takes_memory m c asked))
+-- A call of a category's own: what it is answered first, what it does, and that it may want memory.
+pub record OwnCall (m : Machine) (n : ℕ) (c : Control) (asked : Call) : Type 0 where
+  pub rows : refusals m n c asked ≡ table n (holder_of m c) c (needs_of c.category asked) (category_rows c.category m n c asked)
+  pub does : (r : Answer) (m' : Machine) → CategoryDoes c.category m n c asked r m' → Does m n c asked r m'
+  pub takes : IsTrue (own_takes_memory asked) → IsTrue (takes_memory m c asked)
+
+pub own_call : (m : Machine) (n : ℕ) (c : Control) (asked : Call) → is_common asked ≡ false → OwnCall m n c asked
 own_call m n c (call.Open name) own = absurd cc
 own_call m n c call.Close own = absurd cc
 own_call m n c (call.Claim timeout) own = absurd cc
 own_call m n c call.Release own = absurd cc
 own_call m n c (call.Set p v) own = absurd cc
 own_call m n c (call.Get p) own = absurd cc
-own_call m n c asked own = (refl, λ r m' h. h, λ h. h)
-
-pub own_refusals : (m : Machine) (n : ℕ) (c : Control) (asked : Call) → is_common asked ≡ false
-    → refusals m n c asked ≡ table n (holder_of m c) c (needs_of c.category asked) (category_rows c.category m n c asked)
-own_refusals m n c asked own = (own_call m n c asked own).0
-
-pub own_does : (m : Machine) (n : ℕ) (c : Control) (asked : Call) (r : Answer) (m' : Machine) → is_common asked ≡ false
-    → CategoryDoes c.category m n c asked r m' → Does m n c asked r m'
-own_does m n c asked r m' own h = (own_call m n c asked own).1 r m' h
-
-pub own_takes : (m : Machine) (c : Control) (asked : Call) → is_common asked ≡ false → IsTrue (own_takes_memory asked) → IsTrue (takes_memory m c asked)
-own_takes m c asked own h = (own_call m 0 c asked own).2 h
+own_call m n c asked own = record { rows = refl; does = λ r m' h. h; takes = λ h. h }
 
 -- what the check of the control with a number decides of a call of its category's own
 abbrev pub IsLet : Machine → ℕ → Control → Call → Type 0
@@ -151,13 +118,12 @@ IsLet m n c asked = (rest : List Row) → first_refusal (table n (holder_of m c)
 -- a call that is refused is a step
 pub refused_step : (m : Machine) (n : ℕ) (c : Control) (asked : Call) (refusal : Answer) → slice_get m.controls n ≡ Some c
     → first_refusal (refusals m n c asked) ≡ Some refusal → Step m (CallOf n asked) (Answered refusal) m
-refused_step m n c asked refusal at refused =
-    match_at_some _ c _ _ at (record { outcome = match_at_some (first_refusal (refusals m n c asked)) refusal _ _ refused (refl, refl) })
+refused_step m n c asked refusal found refused = rw found (decided_some refused refl refl)
 
 -- behind the check the rest of the table decides
 pub let_refusals : (m : Machine) (n : ℕ) (c : Control) (asked : Call) → is_common asked ≡ false → IsLet m n c asked
     → first_refusal (refusals m n c asked) ≡ first_refusal (category_rows c.category m n c asked)
-let_refusals m n c asked own lets = ap first_refusal (own_refusals m n c asked own) ∙ lets (category_rows c.category m n c asked)
+let_refusals m n c asked own lets = ap first_refusal (own_call m n c asked own).rows ∙ lets (category_rows c.category m n c asked)
 
 -- what the categories with a peripheral ask and do
 rows_at_device : (k : Category) (m : Machine) (n : ℕ) (c : Control) (asked : Call) → is_totals k ≡ false
@@ -175,8 +141,8 @@ pub device_step : (hs gs : List KeptControl) (ds es : List Device) (cl : List (O
     (r : Result Answer NoMemory) → is_common asked ≡ false → slice_get (controls_of hs) n ≡ Some c → is_totals c.category ≡ false → c.device ≡ Some place
     → IsLet (machine_with hs cl ds part) n c asked
     → IsDoneAt ds place (CallsAt n asked place r) hs gs es → Step (machine_with hs cl ds part) (CallOf n asked) (answered r) (machine_with gs cl es part)
-device_step hs gs ds es cl part n place c asked r own at is device lets done =
-    by_outcome r (MatchOption-at_some ⊥ (λ control. CallsFor n asked place r control (controls_of hs) done.before (controls_of gs) done.after) c at done.does)
+device_step hs gs ds es cl part n place c asked r own found is device lets done =
+    by_outcome r (MatchOption-at_some ⊥ (λ control. CallsFor n asked place r control (controls_of hs) done.before (controls_of gs) done.after) c found done.does)
   where
     m : Machine
     m = machine_with hs cl ds part
@@ -197,7 +163,7 @@ device_step hs gs ds es cl part n place c asked r own at is device lets done =
         ∙ ap (λ at. first_refusal (device_rows c.category at c asked)) kind
 
     same : SameHardware (controls_of hs) done.before (controls_of gs) done.after → m' ≡ m
-    same s = unchanged hs gs ds es cl part place done.device done.before done.after done.is_device done.is_attached done.changed s
+    same s = unchanged hs gs ds es cl part place done s
 
     at_hardware : (result : Answer)
         → DeviceDoes c.category (Some done.before.kind) n c asked result place (controls_of hs) done.before (controls_of gs) done.after
@@ -216,11 +182,11 @@ device_step hs gs ds es cl part n place c asked r own at is device lets done =
     by_outcome : (o : Result Answer NoMemory) → CallsFor n asked place o c (controls_of hs) done.before (controls_of gs) done.after
         → Step m (CallOf n asked) (answered o) m'
     by_outcome (Ok result) h =
-        decided_step m m' n c asked result rows _ _ at unrefused same
-        (λ does. own_does m n c asked result m' own (does_at_device c.category m m' n c asked result is (at_hardware result does))) h
+        decided_step m m' n c asked result rows _ _ found unrefused same
+        (λ does. (own_call m n c asked own).does result m' (does_at_device c.category m m' n c asked result is (at_hardware result does))) h
     by_outcome (Err want) h =
-        match_at_some _ c _ _ at (
-          own_takes m c asked own h.0,
+        rw found (
+          (own_call m n c asked own).takes h.0,
           unrefused ∙ h.1,
           same h.2,
         )

@@ -1,10 +1,11 @@
 pub mod Lifts
+pub mod Common
 pub mod Places
 pub mod Deeds
 pub mod DeviceLists
 pub mod Cursors
 pub mod Sound
-pub mod Requests
+pub mod Leaving
 pub mod Hardware
 pub mod Runs
 pub mod Parking
@@ -17,7 +18,7 @@ pub mod TotalsSteps
 pub mod Sparing
 pub mod Recovering
 pub mod Prefixes
-pub mod PrefixSteps
+pub mod Steps
 pub mod PrefixRuns
 pub mod PrefixCounters
 pub mod PrefixExamples

@@ -1,24 +1,13 @@
 -- From what a call does to one control to what it does to the machine.
-use Rattle.std.proofs.Common.{◌≡◌, ◌++◌, ◌∷◌, [], ℕ, ◌<◌, ◌⊎◌, inl, inr, List, Option, Some, None, Result, Ok, Err, get_or, set, length, ap, sym, ◌∙◌, subst}
-use Rattle.std.proofs.Common.{refl}
-use Rattle.std.specs.Prelude.{MatchOption, slice_get, option_map}
-use Rattle.std.proofs.lemmas.List.{get_or_default, length-map, map-set, map_push, set-get_or}
-use Rattle.std.proofs.lemmas.Option.{slice_get-map, slice_get-get_or}
-use Rattle.pos_service.specs.declared.answer.Answer.{Answer}
-use Rattle.pos_service.specs.declared.call.Call.{Call}
+use Rattle.pos_counter.proofs.Common.{◌++◌, ◌<◌, Answer, Answered, Call, CallOf, Category, Control, Decided, Device, Does, Done, Err, Gets, IsUndone}
+use Rattle.pos_counter.proofs.Common.{KeptControl, List, Machine, Made, MatchOption, NewControl, NoMemory, None, Ok, Option, Property, Result, Row, Some, Step}
+use Rattle.pos_counter.proofs.Common.{TotalsPart, [], answered, ap, cond_both, controls_of, facts_of, first_refusal, get_or, get_rows, holder_of, inl, inr}
+use Rattle.pos_counter.proofs.Common.{length, length-map, machine_with, map-set, most_controls, new_control, option_map, property_of, refl, refusals, set}
+use Rattle.pos_counter.proofs.Common.{set-get_or, slice_get, slice_get-map, subst, sym, told, with_control, with_place, ℕ, ◌∙◌, ◌∷◌, ◌≡◌, ◌⊎◌, ⊤}
+use Rattle.std.proofs.lemmas.List.{get_or_default, map_push}
+use Rattle.std.proofs.lemmas.Option.{slice_get-get_or}
+use Rattle.pos_service.specs.declared.answer.Answer.TheVariants as answer
 use Rattle.pos_service.specs.declared.call.Call.TheVariants as call
-use Rattle.pos_service.specs.declared.memory.NoMemory.{NoMemory}
-use Rattle.pos_service.specs.declared.property.Property.{Property}
-use Rattle.pos_service.specs.Properties.{get_rows, property_of}
-use Rattle.pos_service.specs.Controls.{Control, new_control}
-use Rattle.pos_service.specs.declared.category.Category.{Category}
-use Rattle.pos_totals.specs.HardTotals.{with_control as with_place}
-use Rattle.pos_counter.specs.Machine.{Device, Machine, machine_with, holder_of, with_control}
-use Rattle.pos_service.specs.Refusals.{Row, Decided, first_refusal}
-use Rattle.pos_counter.specs.Responses.{answered}
-use Rattle.pos_counter.specs.Totals.{TotalsPart}
-use Rattle.pos_counter.specs.Steps.{Step, CallOf, Answered, Does, Made, NewControl, facts_of, most_controls, refusals}
-use Rattle.pos_common.specs.KeptControls.{Gets, KeptControl, controls_of}
 
 -- the machine of some controls, devices and totals
 abbrev with_controls : List Control → List Device → List (Option ℕ) → TotalsPart → Machine
@@ -34,17 +23,37 @@ pub match_weaker : {A : Type 0} (o : Option A) (P Q : Type 0) (R S : A → Type 
 match_weaker None P Q R S f g h = f h
 match_weaker (Some a) P Q R S f g h = g a h
 
--- a match at what is some
-pub match_at_some : {A : Type 0} (o : Option A) (a : A) (P : Type 0) (R : A → Type 0) → o ≡ Some a → R a → MatchOption o P R
-match_at_some o a P R e r = subst (λ x. MatchOption x P R) (sym e) r
+-- a table's decision, weakened
+pub decided_weaker : {rows : List Row} {result : Answer} {Same Done Kept Did : Type 0} → (Done → Did) → (Same → Kept) → Decided rows result Same Done
+    → Decided rows result Kept Did
+decided_weaker {rows = rows} done same d =
+    record { outcome = match_weaker (first_refusal rows) _ _ _ _ done (λ refusal y. (y.0, same y.1)) d.outcome }
 
--- the same at an equal option
-pub match_by : {A : Type 0} (o u : Option A) (P : Type 0) (R : A → Type 0) → o ≡ u → MatchOption u P R → MatchOption o P R
-match_by o u P R e h = subst (λ x. MatchOption x P R) (sym e) h
+-- a table that refuses nothing, and one that refuses
+pub decided_none : {rows : List Row} {result : Answer} {Same Done : Type 0} → first_refusal rows ≡ None → Done → Decided rows result Same Done
+decided_none none done = record { outcome = rw none done }
 
--- a match at what is none
-pub match_at_none : {A : Type 0} (o : Option A) (P : Type 0) (R : A → Type 0) → o ≡ None → P → MatchOption o P R
-match_at_none o P R e p = subst (λ x. MatchOption x P R) (sym e) p
+pub decided_some : {rows : List Row} {result refusal : Answer} {Same Done : Type 0} → first_refusal rows ≡ Some refusal → result ≡ refusal → Same
+    → Decided rows result Same Done
+decided_some some is same = record { outcome = rw some (is, same) }
+
+-- a refusal acknowledges nothing
+pub refused_undone : (rows : List Row) → MatchOption (first_refusal rows) ⊤ (λ refusal. IsUndone (Answered refusal))
+refused_undone [] = tt
+refused_undone (row ∷ rows) = cond_both row.applies (Some (answer.Refused row.code row.extended)) (first_refusal rows)
+    (λ o. MatchOption o ⊤ (λ refusal. IsUndone (Answered refusal))) (λ yes. tt) (λ no. refused_undone rows)
+
+-- a table refuses nothing, and its call is done, or its refusal acknowledges nothing
+pub decided_cases : (rows : List Row) (result : Answer) (Same Done : Type 0) → Decided rows result Same Done
+    → ((first_refusal rows ≡ None) × Done) ⊎ (IsUndone (Answered result) × Same)
+decided_cases rows result Same Done d = elim (match_cases (first_refusal rows) _ _ d.outcome) [
+  | inl x ↦ inl x
+  | inr x ↦ inr (rw x.2.0 (rw x.1 at (refused_undone rows)), x.2.1)
+]
+
+-- it is the one or the other
+pub decided_either : {rows : List Row} {result : Answer} {Same Done : Type 0} → Decided rows result Same Done → Same ⊎ Done
+decided_either {rows = rows} d = elim (match_cases (first_refusal rows) _ _ d.outcome) [ inl x ↦ inr x.1 | inr x ↦ inl x.2.1 ]
 
 -- the control with a number that is given, as the machine sees it
 pub control_at : (hs : List KeptControl) (n : ℕ) (d : KeptControl) → n < length hs → slice_get (controls_of hs) n ≡ Some (get_or hs n d).control
@@ -73,27 +82,11 @@ pub kept_machine : (hs : List KeptControl) (cl : List (Option ℕ)) (ds : List D
     → machine_with (set hs n g) cl ds part ≡ machine_with hs cl ds part
 kept_machine hs cl ds part n g h same is = ap (λ (ks : List KeptControl). machine_with ks cl ds part) (ap (set hs n) (same ∙ is) ∙ set-get_or hs n h)
 
--- a call that is decided on one control is decided on the machine
-pub decided_at : (hs : List KeptControl) (ds : List Device) (cl : List (Option ℕ)) (part : TotalsPart) (n : ℕ) (g h : KeptControl) (rows : List Row)
-    (r : Answer)
-    (Done : Type 0) (c : Control) → h ≡ get_or hs n h → Decided rows r (g ≡ h) (Done × (g.control ≡ c))
-    → Decided rows r (machine_with (set hs n g) cl ds part ≡ machine_with hs cl ds part)
-    (Done × (machine_with (set hs n g) cl ds part ≡ with_control (machine_with hs cl ds part) n c))
-decided_at hs ds cl part n g h rows r Done c e x = record {
-  outcome = match_weaker (first_refusal rows) _ _ _ _
-      (λ y. (y.0, set_machine hs cl ds part n g c y.1))
-      (λ refusal y. (y.0, kept_machine hs cl ds part n g h y.1 e))
-      x.outcome;
-}
-
 -- a call that other rows decide, with the same refusal, is a step
 pub decided_step : (m m' : Machine) (n : ℕ) (c : Control) (asked : Call) (r : Answer) (rows : List Row) (Same Done : Type 0)
     → slice_get m.controls n ≡ Some c → first_refusal (refusals m n c asked) ≡ first_refusal rows → (Same → m' ≡ m) → (Done → Does m n c asked r m')
     → Decided rows r Same Done → Step m (CallOf n asked) (Answered r) m'
-decided_step m m' n c asked r rows Same Done at refused same does d = match_at_some _ c _ _ at (record {
-  outcome = match_by (first_refusal (refusals m n c asked)) _ _ _ refused
-      (match_weaker (first_refusal rows) _ _ _ _ does (λ refusal y. (y.0, same y.1)) d.outcome);
-})
+decided_step m m' n c asked r rows Same Done found refused same does d = rw found (record { outcome = rw refused (decided_weaker does same d).outcome })
 
 -- a new control is a step
 pub made_step : (hs gs : List KeptControl) (cl : List (Option ℕ)) (ds : List Device) (part : TotalsPart) (k : Category) (h : KeptControl) (number : ℕ)
@@ -113,4 +106,4 @@ made_step hs gs cl ds part k h number room many is new = (
 pub get_step : (m : Machine) (n : ℕ) (c : Control) (p : Property) (r : Result Answer NoMemory) → slice_get m.controls n ≡ Some c
     → Gets (get_rows n (holder_of m c) c (facts_of m n c) p) p (property_of c (facts_of m n c) p) r → Step m (CallOf n (call.Get p)) (answered r) m
 get_step m n c p (Ok result) at d = decided_step m m n c (call.Get p) result _ _ _ at refl (λ same. refl) (λ told. (told, refl)) d
-get_step m n c p (Err want) at h = match_at_some _ c _ _ at (h.0, h.1, refl)
+get_step m n c p (Err want) found h = rw found (h.0, h.1, refl)

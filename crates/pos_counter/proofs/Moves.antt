@@ -1,29 +1,18 @@
 -- A prefix of a history stays one where its disk is moved to layout 2.
-use Rattle.std.proofs.Common.{◌≡◌, ◌∙◌, ◌+◌, ℕ, Bool, true, false, ◌&&◌, cond, List, [], ◌∷◌, ◌++◌, length, replicate, Result, Ok, Err, inl, inr, refl, sym, ap}
-use Rattle.std.proofs.Common.{subst, append_assoc, arith}
-use Rattle.std.specs.Prelude.{nat_le, nat_lt}
-use Rattle.std.proofs.lemmas.Bool.{and_parts, and_from, leb-true, le-leb, ltb-true, lt-ltb}
-use Rattle.std.proofs.lemmas.List.{append-nil}
-use Rattle.pos_dir.specs.Changes.{outcome, outcome_of_all, and_then}
+use Rattle.pos_counter.proofs.Common.{◌&&◌, ◌+◌, ◌++◌, BeginsWith, Bool, DirectoryFault, Err, Group, History, IsPrefix, IsPrefixOf, Layout, Layout1, Layout2}
+use Rattle.pos_counter.proofs.Common.{Limits, List, Machine, Ok, PlainFile, Request, Response, Result, Run, Stands, StartsWith, TotalsPart, [], after_groups}
+use Rattle.pos_counter.proofs.Common.{and_from, and_parts, and_then, ap, append-nil, append_assoc, arith, cond, event_of, false, files_after, history_along}
+use Rattle.pos_counter.proofs.Common.{history_with, length, limits_of, moved_with, nat_le, nat_lt, outcome, outcome_of_all, refl, replicate, subst, sym, true}
+use Rattle.pos_counter.proofs.Common.{ℕ, ◌∙◌, ◌∷◌, ◌≡◌, ◌≡◌}
+use Rattle.std.proofs.lemmas.Bool.{le-leb, leb-true, lt-ltb, ltb-true}
 use Rattle.pos_dir.specs.Files.{AreWider, has_name, total_size}
-use Rattle.pos_dir.specs.declared.change.Change.{Change}
 use Rattle.pos_dir.specs.declared.change.Change.TheVariants.{Create}
-use Rattle.pos_dir.specs.declared.fault.DirectoryFault.{DirectoryFault}
+use Rattle.pos_dir.specs.declared.change.Change.{Change}
 use Rattle.pos_dir.specs.declared.fault.DirectoryFault.TheVariants.{Exists, NoRoom}
-use Rattle.pos_dir.specs.declared.file.File.{File as PlainFile}
-use Rattle.pos_dir.specs.declared.limits.Limits.{Limits}
 use Rattle.pos_dir.specs.declared.limits.TheConstants.{LAYOUT_1, LAYOUT_2}
-use Rattle.pos_image.specs.declared.layout.Layout.{Layout}
-use Rattle.pos_image.specs.declared.layout.Layout.TheVariants.{Layout1, Layout2}
-use Rattle.pos_store.specs.Layouts.{limits_of}
-use Rattle.pos_store.specs.Standing.{Stands}
-use Rattle.pos_totals.specs.HardTotals.{Off}
-use Rattle.pos_counter.specs.History.{Group, History, after_groups, files_after, event_of, history_along, history_with}
-use Rattle.pos_counter.specs.Machine.{Machine}
-use Rattle.pos_counter.specs.Prefixes.{BeginsWith, IsPrefix, IsPrefixOf, StartsWith, moved_with}
-use Rattle.pos_counter.specs.Steps.{Request, Response, Run}
-use Rattle.pos_counter.specs.Totals.{TotalsPart}
-use Rattle.pos_counter.proofs.Prefixes.{Fits, fits_at, grows, same_stands}
+use Rattle.pos_service.specs.declared.deed.Change.TheVariants as change
+use Rattle.pos_totals.specs.declared.fault.RecoveryFault.TheVariants as fault
+use Rattle.pos_counter.proofs.Prefixes.{Fits, fits_start, grows, same_stands}
 
 abbrev Outcome : Type 0
 Outcome = Result (List PlainFile) DirectoryFault
@@ -107,9 +96,7 @@ module _ (history : History) (held : List Group) (files : List PlainFile) (seque
 
   -- which fits a machine that begins over these files
   pub fits_moved : (totals : TotalsPart) → StartsWith Layout2 files 1 totals → Fits (moved_with history is.prefix) totals
-  fits_moved totals starts =
-      fits_at (moved_with history is.prefix) totals Off (Stands Layout2 files 1 ∷ []) starts.off starts.left
-      (files, made_moved, λ left one. elim one [ inl e ↦ inl (1, e) | inr e ↦ absurd e ])
+  fits_moved totals starts = fits_start (moved_with history is.prefix) files 1 totals made_moved starts
 
 -- the settled groups of a history begin with those of the one before
 begins_on : (third second first : List Group) → BeginsWith third second → BeginsWith second first → BeginsWith third first

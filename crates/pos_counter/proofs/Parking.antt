@@ -1,12 +1,8 @@
 -- Peripherals are taken out of service, and stand as they stood.
-use Rattle.std.proofs.Common.{◌≡◌, [], ◌∷◌, ℕ, List, Option, Some, None, true, get_or, map, ap, ◌∙◌, refl}
-use Rattle.std.specs.Prelude.{All, IfSome, filter, option_map}
-use Rattle.std.proofs.lemmas.List.Elements.{All-map}
-use Rattle.pos_service.specs.Peripherals.{PeripheralState}
-use Rattle.pos_service.specs.Hardware.{Hardware, hardware_of}
-use Rattle.pos_profile.specs.Registries.{Device as Registered, parked, parked_state}
-use Rattle.pos_counter.specs.Machine.{Device}
-use Rattle.pos_counter.specs.KeptDevices.{device_of, devices_of, has_kind}
+use Rattle.pos_counter.proofs.Common.{All, All-map, Device, Hardware, IfSome, List, None, Option, PeripheralState, Registered, Some, [], ap, device_of}
+use Rattle.pos_counter.proofs.Common.{devices_of, get_or, hardware_of, has_kind, map, option_map, refl, true, ℕ, ◌∙◌, ◌∷◌, ◌≡◌}
+use Rattle.std.specs.Prelude.{filter}
+use Rattle.pos_profile.specs.Registries.{parked, parked_state}
 
 -- a device whose peripheral is out of service is to the machine as it was
 still : (o : Option PeripheralState) → option_map hardware_of (option_map parked_state o) ≡ option_map hardware_of o

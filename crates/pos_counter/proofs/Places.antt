@@ -1,10 +1,8 @@
 -- Finding a device's place: names alone decide.
-use Rattle.std.proofs.Common.{◌≡◌, ◌∷◌, [], ℕ, ◌+◌, zero, suc, List, Option, Some, None, length, cond, Bool, true, false, ap, ◌∙◌, subst, refl, arith}
-use Rattle.std.specs.Prelude.{bytes_eq, slice_get, IsSome}
-use Rattle.pos_profile.specs.Places.{first_of, place_from as registered_from, place_of as registered_place}
-use Rattle.pos_profile.specs.Registries.{Device as Registered, names_of}
-use Rattle.pos_counter.specs.Machine.{Device, device_at, kind_in, place_from, place_of}
-use Rattle.pos_counter.specs.KeptDevices.{devices_of, totals_devices, totals_place}
+use Rattle.pos_counter.proofs.Common.{◌+◌, Bool, Device, IsSome, List, None, Option, Registered, Some, [], ap, arith, bytes_eq, cond, device_at, devices_of}
+use Rattle.pos_counter.proofs.Common.{false, kind_in, length, names_of, place_from, place_of, refl, registered_place, slice_get, subst, suc, totals_devices}
+use Rattle.pos_counter.proofs.Common.{totals_place, true, zero, ℕ, ◌∙◌, ◌∷◌, ◌≡◌}
+use Rattle.pos_profile.specs.Places.{first_of, place_from as registered_from}
 
 -- the place of the Hard Totals device
 totals_from : (at : ℕ) (name : List ℕ) (totals : Option (List ℕ)) → place_from at name (totals_devices totals) ≡ totals_place at name totals
@@ -24,20 +22,20 @@ place_found at name (d ∷ list) totals = by (bytes_eq name d.name) (place_found
     by true rest = refl
     by false rest = rest ∙ ap (λ k. first_of (registered_from (at + 1) name (names_of list)) (totals_place k name totals)) (omega arith)
 
-pub found_under_name : (name : List ℕ) (list : List Registered) (totals : Option (List ℕ))
+pub place_under_name : (name : List ℕ) (list : List Registered) (totals : Option (List ℕ))
     → place_of (devices_of list totals) name ≡ first_of (registered_place (names_of list) name) (totals_place (length list) name totals)
-found_under_name name list totals =
+place_under_name name list totals =
     place_found 0 name list totals ∙ ap (λ k. first_of (registered_place (names_of list) name) (totals_place k name totals)) (omega arith)
 
 -- a device of the registry is found
 pub found_first : (name : List ℕ) (list : List Registered) (totals : Option (List ℕ)) (place : ℕ)
     → registered_place (names_of list) name ≡ Some place → place_of (devices_of list totals) name ≡ Some place
-found_first name list totals place is = found_under_name name list totals ∙ ap (λ o. first_of o (totals_place (length list) name totals)) is
+found_first name list totals place is = place_under_name name list totals ∙ ap (λ o. first_of o (totals_place (length list) name totals)) is
 
 -- no other device has that name but that of Hard Totals
 pub found_last : (name : List ℕ) (list : List Registered) (totals : Option (List ℕ)) → registered_place (names_of list) name ≡ None
     → place_of (devices_of list totals) name ≡ totals_place (length list) name totals
-found_last name list totals is = found_under_name name list totals ∙ ap (λ o. first_of o (totals_place (length list) name totals)) is
+found_last name list totals is = place_under_name name list totals ∙ ap (λ o. first_of o (totals_place (length list) name totals)) is
 
 -- that device has no peripheral
 totals_kind : (list : List Registered) (totals : List ℕ) → kind_in (slice_get (devices_of list (Some totals)) (length list)) ≡ None

@@ -1,21 +1,11 @@
 -- A crash of a counter's disk leaves a prefix of the history.
-use Rattle.std.proofs.Common.{◌++◌, ℕ, List, [], ◌∷◌, inl, refl, sym, ap, subst}
-use Rattle.pos_dir.specs.declared.file.File.{File as PlainFile}
-use Rattle.pos_disk.specs.declared.device.Disk.{Ghosts as DiskGhosts}
+use Rattle.pos_counter.proofs.Common.{◌++◌, BeginsOver, Counter, DiskGhosts, Ghosts, HasBegun, HasRun, History, IsPrefixInside, IsPrefixOf, IsRun, IsStep}
+use Rattle.pos_counter.proofs.Common.{KeepsPrefix, KeepsPrefixes, Layout, Leaves, List, PlainFile, Request, Response, Stands, StandsFor, StandsForSome}
+use Rattle.pos_counter.proofs.Common.{StartsWith, TotalsView, [], ap, begun, history_until, history_with, inl, machine, machine_now, part_of, refl, subst, sym}
+use Rattle.pos_counter.proofs.Common.{ℕ, ◌∷◌}
 use Rattle.pos_disk.proofs.Moments.{rest_leaves}
-use Rattle.pos_image.specs.declared.layout.Layout.{Layout}
-use Rattle.pos_service.specs.declared.peripheral.Peripheral.{Ghosts}
-use Rattle.pos_store.specs.Standing.{Stands, StandsFor}
-use Rattle.pos_totals.specs.Views.{TotalsView}
-use Rattle.pos_counter.specs.declared.counter.Counter.{Counter}
-use Rattle.pos_counter.specs.Counters.{machine, IsRun, IsStep}
-use Rattle.pos_counter.specs.Crashes.{BeginsOver, HasBegun, HasRun, KeepsPrefix, KeepsPrefixes, history_until, machine_now}
-use Rattle.pos_counter.specs.History.{History, begun, history_with}
-use Rattle.pos_counter.specs.Leaving.{part_of, Leaves}
-use Rattle.pos_counter.specs.Prefixes.{IsPrefixInside, IsPrefixOf, StandsForSome, StartsWith}
-use Rattle.pos_counter.specs.Steps.{Request, Response}
-use Rattle.pos_counter.proofs.Prefixes.{Fits, fits_begun}
 use Rattle.pos_counter.proofs.PrefixRuns.{bytes_after, bytes_inside, history_append, run_fits}
+use Rattle.pos_counter.proofs.Prefixes.{Fits, fits_start}
 use Rattle.pos_counter.proofs.Runs.{run_append}
 
 module _ {D P : Type 0} (bound : DiskGhosts D) (peripherals : Ghosts P) (layout : Layout) (start : List PlainFile) (sequence : ℕ) where
@@ -46,7 +36,7 @@ module _ {D P : Type 0} (bound : DiskGhosts D) (peripherals : Ghosts P) (layout 
   past_fits steps counter past =
       let from = part_of bound past.first.totals (Stands layout start sequence ∷ []) in
       run_fits (begun layout start) (machine peripherals past.first from) steps (machine_now past) past.run
-      (fits_begun layout start sequence from (begins_with past.first past.begins))
+      (fits_start (begun layout start) start sequence from refl (begins_with past.first past.begins))
 
   -- one more request
   pub keeps_prefix : (steps : List (Request × Response)) (old new : Counter D P) (past : HasRun bound peripherals layout start sequence steps old)

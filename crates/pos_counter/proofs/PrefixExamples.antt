@@ -1,21 +1,11 @@
 -- The runs of the example, machine by machine.
-use Rattle.std.proofs.Common.{ℕ, ◌+◌, length, Bool, true, false, List, [], ◌∷◌, Some, None, inl, inr, refl, arith}
-use Rattle.pos_dir.specs.declared.file.File.{File as PlainFile}
-use Rattle.pos_image.specs.declared.layout.Layout.TheVariants.{Layout1}
+use Rattle.pos_counter.proofs.Common.{◌+◌, AreLeft, Bool, Control, IsOneOf, Layout1, List, Machine, MayHave, Mode, None, Off, PlainFile, Ready, Run, Some}
+use Rattle.pos_counter.proofs.Common.{Standing, Stands, TotalsPart, [], a_group, after_set, arith, begun, false, inl, inr, length, new_control, new_machine}
+use Rattle.pos_counter.proofs.Common.{numbered, plain, refl, sets_enabled, signs_at, steps_into_doubt, steps_through_doubt, true, ℕ, ◌∷◌}
+use Rattle.pos_service.specs.Controls.{opened}
+use Rattle.pos_service.specs.declared.answer.Value.TheVariants as value
 use Rattle.pos_service.specs.declared.category.Category.TheVariants as category
 use Rattle.pos_service.specs.declared.property.Property.TheVariants as property
-use Rattle.pos_service.specs.declared.answer.Value.TheVariants as value
-use Rattle.pos_service.specs.Properties.{after_set}
-use Rattle.pos_service.specs.Controls.{Control, new_control, opened}
-use Rattle.pos_totals.specs.HardTotals.{Mode, Off, Ready}
-use Rattle.pos_store.specs.Standing.{Standing, Stands, IsOneOf}
-use Rattle.pos_totals.specs.Recoveries.{AreLeft, numbered}
-use Rattle.pos_totals.specs.Views.{plain}
-use Rattle.pos_counter.specs.Examples.{MayHave, new_machine, steps_into_doubt, steps_through_doubt, sets_enabled, a_group}
-use Rattle.pos_counter.specs.History.{begun}
-use Rattle.pos_counter.specs.Machine.{Machine, signs_at}
-use Rattle.pos_counter.specs.Steps.{Run}
-use Rattle.pos_counter.specs.Totals.{TotalsPart}
 use Rattle.pos_counter.proofs.Runs.{run_append}
 
 -- the example's machine with one control

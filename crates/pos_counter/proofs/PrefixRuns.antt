@@ -1,31 +1,17 @@
 -- A crash during a run of the machine leaves a prefix of its history.
+use Rattle.pos_counter.proofs.Common.{◌++◌, Answer, HasTooMany, History, IsFiles, IsLeftDuring, IsOneOf, IsPrefixAlong, IsPrefixInside, IsPrefixOf, Layout}
+use Rattle.pos_counter.proofs.Common.{LeavesPrefix, LeavesPrefixInside, List, Machine, PlainFile, Recovers, Request, Response, Rises, Run, Standing}
+use Rattle.pos_counter.proofs.Common.{StandsForEither, StandsForOneOf, StandsForSome, StartsWith, Step, TotalsPart, [], ap, begun, event_of, history_along}
+use Rattle.pos_counter.proofs.Common.{history_of, history_with, inl, inr, refl, subst, sym, ℕ, ◌∷◌, ◌≡◌, ◌⊎◌}
 use Rattle.std.proofs.Math.Path.{path_j, subst_refl}
-use Rattle.std.proofs.Common.{◌≡◌, ◌⊎◌, ℕ, List, [], ◌∷◌, ◌++◌, inl, inr, refl, sym, ap, subst}
-use Rattle.pos_dir.specs.declared.file.File.{File as PlainFile}
-use Rattle.pos_disk.specs.State.{Rises}
-use Rattle.pos_image.specs.declared.layout.Layout.{Layout}
-use Rattle.pos_service.specs.declared.answer.Answer.{Answer}
 use Rattle.pos_service.specs.declared.answer.Answer.TheVariants as answer
 use Rattle.pos_service.specs.declared.code.Code.TheVariants as code
-use Rattle.pos_store.specs.Standing.{Standing, Unformatted, Damaged, IsOneOf, StandsForOneOf, StandsForEither}
-use Rattle.pos_totals.specs.Recoveries.{HasTooMany}
-use Rattle.pos_counter.specs.Counters.{IsLeftDuring}
-use Rattle.pos_counter.specs.History.{History, begun, event_of, history_with, history_along, history_of}
-use Rattle.pos_counter.specs.Machine.{Machine}
-use Rattle.pos_counter.specs.Prefixes.{IsFiles, IsPrefixInside, IsPrefixOf, IsPrefixAlong, LeavesPrefix, LeavesPrefixInside, StandsForSome, StartsWith}
-use Rattle.pos_counter.specs.Steps.{Request, Response, Step, Run}
-use Rattle.pos_counter.specs.Totals.{TotalsPart, Recovers}
-use Rattle.pos_counter.proofs.Prefixes.{Fits, fits_settled, fits_leaves, fits_next, fits_begun, fits_inside, prefix_files}
-use Rattle.pos_counter.proofs.PrefixSteps.{step_told}
+use Rattle.pos_store.specs.Standing.{Damaged, Unformatted}
+use Rattle.pos_counter.proofs.Prefixes.{Fits, fits_inside, fits_leaves, fits_start, prefix_files}
 use Rattle.pos_counter.proofs.Runs.{run_append}
+use Rattle.pos_counter.proofs.Steps.{step_fits}
 
--- a step keeps the history fitting
-step_fits : (history : History) (old : Machine) (q : Request) (r : Response) (new : Machine) → Fits history old.totals → Step old q r new
-    → Fits (history_with history old q r new) new.totals
-step_fits history old q r new fits step =
-    fits_next history old.totals (event_of old q r new) new.totals fits (step_told old q r new (fits_settled history old.totals fits) step)
-
--- and so does a run
+-- where a history fits, it goes on fitting along a run
 pub run_fits : (history : History) (old : Machine) (steps : List (Request × Response)) (new : Machine) (run : Run old steps new)
     → Fits history old.totals → Fits (history_along history old steps new run) new.totals
 run_fits history old [] new run fits = subst (λ (m : Machine). Fits history m.totals) (sym run) fits
@@ -63,7 +49,7 @@ bytes_along history old (s ∷ steps) new run fits bytes (inr is) =
 pub bytes_inside : (history : History) (old : Machine) (q : Request) (r : Response) (new : Machine) (bytes : List ℕ) → Fits history old.totals
     → Step old q r new → StandsForEither old.totals.left new.totals.left bytes → StandsForSome (IsPrefixInside history (history_with history old q r new)) bytes
 bytes_inside history old q r new bytes fits step h =
-    let inside = fits_inside history old.totals (event_of old q r new) new.totals fits (step_told old q r new (fits_settled history old.totals fits) step) in
+    let inside = fits_inside history old.totals (event_of old q r new) new.totals fits (step_fits history old q r new fits step) in
     elim h [
       | inl x ↦ some_left (IsPrefixInside history (history_with history old q r new)) old.totals.left bytes (λ standing one. inside standing (inl one)) x
       | inr x ↦ some_left (IsPrefixInside history (history_with history old q r new)) new.totals.left bytes (λ standing one. inside standing (inr one)) x
@@ -74,7 +60,7 @@ bytes_inside history old q r new bytes fits step h =
 module _ (layout : Layout) (start : List PlainFile) (sequence : ℕ) (first last : Machine) (steps : List (Request × Response)) (run : Run first steps last)
     (is : StartsWith layout start sequence first.totals) where
   fits_last : Fits (history_of layout start first steps last run) last.totals
-  fits_last = run_fits (begun layout start) first steps last run (fits_begun layout start sequence first.totals is)
+  fits_last = run_fits (begun layout start) first steps last run (fits_start (begun layout start) start sequence first.totals refl is)
 
   -- after the run
   pub law_after : LeavesPrefix (history_of layout start first steps last run) last.totals
@@ -86,7 +72,7 @@ module _ (layout : Layout) (start : List PlainFile) (sequence : ℕ) (first last
       (history_with (history_of layout start first steps last run) last q r new) new.totals
   law_inside q r new step =
       let history = history_of layout start first steps last run in
-      fits_inside history last.totals (event_of last q r new) new.totals fits_last (step_told last q r new (fits_settled history last.totals fits_last) step)
+      fits_inside history last.totals (event_of last q r new) new.totals fits_last (step_fits history last q r new fits_last step)
 
   -- never damage, nor a disk without totals
   pub law_files : (left : Standing) → IsOneOf last.totals.left left → IsFiles left

@@ -1,40 +1,25 @@
 -- Whatever happens to the totals' files, a crash leaves a prefix of their history.
-use Rattle.std.proofs.Common.{◌≡◌, ◌∙◌, ◌⊎◌, ℕ, Bool, true, false, cond, List, [], ◌∷◌, ◌++◌, map, Option, Some, None, Result, Ok, Err, inl, inr, refl, sym, ap}
-use Rattle.std.proofs.Common.{subst, append_assoc}
-use Rattle.std.specs.Prelude.{bytes_eq}
-use Rattle.std.specs.Cmp.Lexicographic.{pointwise_decides}
-use Rattle.std.proofs.lemmas.Bool.{and_parts, and_from}
-use Rattle.std.proofs.lemmas.List.{append-nil}
-use Rattle.std.proofs.lemmas.Option.{same_Some}
+use Rattle.pos_counter.proofs.Common.{◌++◌, BeginsWith, DirectoryFault, Err, FilesEvent, FilesFound, Group, GroupAccepted, GroupInDoubt, History, IsFiles}
+use Rattle.pos_counter.proofs.Common.{IsOneOf, IsPrefix, IsReady, IsSettled, Layout, LeavesPrefix, LeavesPrefixInside, Limits, List, Mode, None, NothingDone}
+use Rattle.pos_counter.proofs.Common.{Off, Ok, Option, PlainFile, Ready, Result, Some, Standing, Stands, StartsWith, TotalsPart, [], after_groups, and_from}
+use Rattle.pos_counter.proofs.Common.{and_parts, and_then, ap, append-nil, append_assoc, ap₂, bytes_eq, cond_both, decided, files_after, files_of, has_made}
+use Rattle.pos_counter.proofs.Common.{inl, inr, is_same, limits_of, listed, outcome_of_all, plain, refl, same_Some, settled, stored, sym, told, true}
+use Rattle.pos_counter.proofs.Common.{with_settled, without_doubt, ℕ, ◌∙◌, ◌∷◌, ◌≡◌, ◌⊎◌, ◌≡◌}
 use Rattle.std.proofs.lemmas.Slice.Eq.{bytes_eq-Decides}
-use Rattle.pos_dir.specs.Changes.{outcome_of_all, and_then}
-use Rattle.pos_dir.specs.declared.fault.DirectoryFault.{DirectoryFault}
-use Rattle.pos_dir.specs.declared.file.File.{File as PlainFile}
-use Rattle.pos_dir.specs.declared.limits.Limits.{Limits}
-use Rattle.pos_image.specs.declared.layout.Layout.{Layout}
-use Rattle.pos_totals.specs.HardTotals.{File, Mode, Off, Ready, next_sequences}
-use Rattle.pos_store.specs.Layouts.{limits_of}
-use Rattle.pos_store.specs.Standing.{Standing, Stands, IsOneOf}
-use Rattle.pos_store.specs.StoreViews.{Ready as StoreReady}
-use Rattle.pos_totals.specs.Views.{plain, stored}
-use Rattle.pos_counter.specs.History.{Group, History, FilesEvent, GroupAccepted, GroupInDoubt, FilesFound, NothingDone, begun, listed, with_settled}
-use Rattle.pos_counter.specs.History.{without_doubt, after_groups, files_after, is_same, has_made, decided, told}
-use Rattle.pos_counter.specs.Prefixes.{BeginsWith, IsFiles, IsPrefix, LeavesPrefix, LeavesPrefixInside, StartsWith}
-use Rattle.pos_counter.specs.Totals.{TotalsPart, settled}
+use Rattle.std.specs.Cmp.Lexicographic.{pointwise_decides}
+use Rattle.pos_dir.specs.declared.change.Change.TheVariants as file
+use Rattle.pos_totals.specs.declared.fault.RecoveryFault.TheVariants as fault
+use Rattle.pos_counter.proofs.Leaving.{Rest, settles}
 
 -- ---- files
-
-one_file : (name named bytes others : List ℕ) → name ≡ named → bytes ≡ others
-    → ◌≡◌ {A = PlainFile} (record { name = name; bytes = bytes }) (record { name = named; bytes = others })
-one_file name named bytes others n b = ap (λ x. record { name = x; bytes = bytes }) n ∙ ap (λ x. record { name = named; bytes = x }) b
 
 -- the test of two files decides
 file_decides : (file other : PlainFile) → (is_same file other ≡ true → file ≡ other) × (file ≡ other → is_same file other ≡ true)
 file_decides file other = (
   λ same.
       let parts = and_parts (bytes_eq file.name other.name) (bytes_eq file.bytes other.bytes) same in
-      one_file file.name other.name file.bytes other.bytes ((bytes_eq-Decides file.name other.name).0 parts.0)
-      ((bytes_eq-Decides file.bytes other.bytes).0 parts.1),
+      ap₂ (λ name bytes. let f : PlainFile = record { name = name; bytes = bytes } in f)
+      ((bytes_eq-Decides file.name other.name).0 parts.0) ((bytes_eq-Decides file.bytes other.bytes).0 parts.1),
   λ same.
       and_from (bytes_eq file.name other.name) (bytes_eq file.bytes other.bytes)
       ((bytes_eq-Decides file.name other.name).1 (ap (λ (f : PlainFile). f.name) same))
@@ -70,57 +55,9 @@ one_more limits start before (first ∷ groups) group made = by (outcome_of_all 
     by (Err fault) made rest = absurd cc
     by (Ok next) made rest = rest next made
 
--- ---- what happens to the files
-
--- A group was accepted.
-pub record Accepts (group : Group) (old new : TotalsPart) : Type 0 where
-  pub before : List File
-  pub sequence : ℕ
-  pub now : List File
-  pub next : ℕ
-  pub ready : old.totals.mode ≡ Ready before sequence
-  pub made : outcome_of_all (limits_of old.totals.layout) (plain before) group ≡ Ok (plain now)
-  pub layout : new.totals.layout ≡ old.totals.layout
-  pub still : new.totals.mode ≡ Ready now next
-  pub left : new.left ≡ Stands old.totals.layout (plain now) next ∷ []
-
--- The disk failed in a group.
-pub record Doubts (group : Group) (old new : TotalsPart) : Type 0 where
-  pub before : List File
-  pub sequence : ℕ
-  pub files : List PlainFile
-  pub ready : old.totals.mode ≡ Ready before sequence
-  pub made : outcome_of_all (limits_of old.totals.layout) (plain before) group ≡ Ok files
-  pub off : new.totals.mode ≡ Off
-  pub left : new.left ≡ Stands old.totals.layout (plain before) sequence
-      ∷ map (λ next. Stands old.totals.layout files next) (next_sequences sequence)
-
--- A recovery has found files.
-pub record Finds (found : List PlainFile) (old new : TotalsPart) : Type 0 where
-  pub now : List File
-  pub sequence : ℕ
-  pub off : old.totals.mode ≡ Off
-  pub candidate : IsOneOf old.left (Stands new.totals.layout found sequence)
-  pub ready : new.totals.mode ≡ Ready now sequence
-  pub files : plain now ≡ found
-  pub left : new.left ≡ Stands new.totals.layout found sequence ∷ []
-
--- The layout and the files are what they were, handles and claims aside.
-pub record Rest (old new : TotalsPart) : Type 0 where
-  pub layout : new.totals.layout ≡ old.totals.layout
-  pub mode : stored new.totals.mode ≡ stored old.totals.mode
-  pub left : new.left ≡ old.left
-
--- this is what happens from the old totals to the new ones
-abbrev pub Happens : TotalsPart → FilesEvent → TotalsPart → Type 0
-Happens old (GroupAccepted group) new = Accepts group old new
-Happens old (GroupInDoubt group) new = Doubts group old new
-Happens old (FilesFound found) new = Finds found old new
-Happens old NothingDone new = Rest old new
-
 -- ---- what the disk may stand for
 
--- the files before the group in doubt, with some sequence
+-- the files before a group, with some sequence
 abbrev pub IsWithout : Layout → List PlainFile → Standing → Type 0
 IsWithout layout before left = (sequence : ℕ) × (left ≡ Stands layout before sequence)
 
@@ -133,208 +70,101 @@ pub record IsWith (layout : Layout) (before : List PlainFile) (doubt : Option Gr
   pub made : outcome_of_all (limits_of layout) before group ≡ Ok files
   pub stands : left ≡ Stands layout files sequence
 
--- Totals that are ready have the layout of the history and the files after the settled groups, none is in doubt, and a
--- crash leaves them alone. While they are off, a crash leaves these files, or those after the group in doubt, by that layout.
-abbrev FitsIn : History → Layout → Mode → List Standing → Type 0
-FitsIn history layout (Ready files sequence) left =
-    (files_after history history.settled ≡ Ok (plain files)) × (history.doubt ≡ None)
-    × (left ≡ Stands history.layout (plain files) sequence ∷ []) × (layout ≡ history.layout)
-FitsIn history layout Off left =
-    (before : List PlainFile) × (files_after history history.settled ≡ Ok before)
-    × ((standing : Standing) → IsOneOf left standing
-    → IsWithout history.layout before standing ⊎ IsWith history.layout before history.doubt standing)
+-- each thing that is left is the files before a group, or those after it
+abbrev pub AreAround : Layout → List PlainFile → Option Group → List Standing → Type 0
+AreAround layout before doubt left = (standing : Standing) → IsOneOf left standing
+    → IsWithout layout before standing ⊎ IsWith layout before doubt standing
 
-abbrev pub Fits : History → TotalsPart → Type 0
-Fits history totals = FitsIn history totals.totals.layout totals.totals.mode totals.left
+-- ---- what happens to the files
 
--- by what they are
-pub fits_at : (history : History) (totals : TotalsPart) (mode : Mode) (left : List Standing) → totals.totals.mode ≡ mode → totals.left ≡ left
-    → FitsIn history totals.totals.layout mode left → Fits history totals
-fits_at history totals mode left m l fits =
-    subst (λ n. FitsIn history totals.totals.layout n totals.left) (sym m) (subst (FitsIn history totals.totals.layout mode) (sym l) fits)
+-- A group was accepted.
+pub record Accepts (group : Group) (old new : TotalsPart) : Type 0 where
+  pub was : IsReady old.totals.mode
+  pub is : IsReady new.totals.mode
+  pub layout : new.totals.layout ≡ old.totals.layout
+  pub made : outcome_of_all (limits_of old.totals.layout) (plain (files_of old.totals.mode)) group ≡ Ok (plain (files_of new.totals.mode))
 
-fits_from : (history : History) (totals : TotalsPart) (mode : Mode) → totals.totals.mode ≡ mode → Fits history totals
-    → FitsIn history totals.totals.layout mode totals.left
-fits_from history totals mode m fits = subst (λ n. FitsIn history totals.totals.layout n totals.left) m fits
+-- The disk failed in a group.
+pub record Doubts (group : Group) (old new : TotalsPart) : Type 0 where
+  pub was : IsReady old.totals.mode
+  pub off : new.totals.mode ≡ Off
+  pub around : AreAround old.totals.layout (plain (files_of old.totals.mode)) (Some group) new.left
 
--- what is left is settled
-pub fits_settled : (history : History) (totals : TotalsPart) → Fits history totals
-    → totals.left ≡ settled totals.totals.layout totals.totals.mode totals.left
-fits_settled history totals fits = by totals.totals.layout totals.totals.mode totals.left fits
-  where
-    by : (layout : Layout) (mode : Mode) (left : List Standing) → FitsIn history layout mode left → left ≡ settled layout mode left
-    by layout Off left fits = refl
-    by layout (Ready files sequence) left fits = fits.2 ∙ ap (λ l. Stands l (plain files) sequence ∷ []) (sym fits.3)
+-- A recovery has found files.
+pub record Finds (found : List PlainFile) (old new : TotalsPart) : Type 0 where
+  pub sequence : ℕ
+  pub candidate : IsOneOf old.left (Stands new.totals.layout found sequence)
+  pub is : IsReady new.totals.mode
+  pub files : plain (files_of new.totals.mode) ≡ found
+
+-- this is what happens from the old totals to the new ones
+abbrev pub Happens : TotalsPart → FilesEvent → TotalsPart → Type 0
+Happens old (GroupAccepted group) new = Accepts group old new
+Happens old (GroupInDoubt group) new = Doubts group old new
+Happens old (FilesFound found) new = Finds found old new
+Happens old NothingDone new = Rest old new
+
+-- A history fits totals: a crash leaves the files after its settled groups, or those after the group in doubt, by its layout. While the totals
+-- are ready, these are their files and their layout, none is in doubt, and a crash leaves them alone.
+pub record Fits (history : History) (totals : TotalsPart) : Type 0 where
+  pub before : List PlainFile
+  pub made : files_after history history.settled ≡ Ok before
+  pub around : AreAround history.layout before history.doubt totals.left
+  pub ready : IsReady totals.totals.mode
+      → (totals.totals.layout ≡ history.layout) × (plain (files_of totals.totals.mode) ≡ before) × (history.doubt ≡ None)
+  pub is_settled : IsSettled totals.totals totals.left
 
 pub same_stands : (layout other : Layout) (files others : List PlainFile) (m n : ℕ) → Stands layout files m ≡ Stands other others n
     → (layout ≡ other) × (files ≡ others) × (m ≡ n)
 same_stands layout other files others m n same = (cc, cc, cc)
 
--- files with one of the sequences
-with_some : (layout : Layout) (files : List PlainFile) (sequences : List ℕ) (left : Standing)
-    → IsOneOf (map (λ n. Stands layout files n) sequences) left → (n : ℕ) × (left ≡ Stands layout files n)
-with_some layout files [] left is = absurd is
-with_some layout files (n ∷ sequences) left (inl is) = (n, is)
-with_some layout files (n ∷ sequences) left (inr is) = with_some layout files sequences left is
-
-in_doubt_fits : (layout : Layout) (before : List PlainFile) (sequence : ℕ) (group : Group) (files : List PlainFile) (left : Standing)
-    → outcome_of_all (limits_of layout) before group ≡ Ok files
-    → IsOneOf (Stands layout before sequence ∷ map (λ next. Stands layout files next) (next_sequences sequence)) left
-    → IsWithout layout before left ⊎ IsWith layout before (Some group) left
-in_doubt_fits layout before sequence group files left made (inl is) = inl (sequence, is)
-in_doubt_fits layout before sequence group files left made (inr is) =
-    let found = with_some layout files (next_sequences sequence) left is in
-    inr (record { group = group; files = files; sequence = found.0; doubted = refl; made = made; stands = found.1 })
-
--- what was found has the layout of the history
-found_layout : (history : History) (doubt : Option Group) (layout : Layout) (before found : List PlainFile) (sequence : ℕ)
-    → IsWithout history.layout before (Stands layout found sequence) ⊎ IsWith history.layout before doubt (Stands layout found sequence)
-    → layout ≡ history.layout
-found_layout history doubt layout before found sequence (inl w) = (same_stands layout history.layout found before sequence w.0 w.1).0
-found_layout history doubt layout before found sequence (inr w) = (same_stands layout history.layout found w.files sequence w.sequence w.stands).0
-
--- it is what the totals have now
-found_now : (history : History) (layout : Layout) (found : List PlainFile) (now : List File) (sequence : ℕ) → layout ≡ history.layout
-    → plain now ≡ found → Stands layout found sequence ∷ [] ≡ Stands history.layout (plain now) sequence ∷ []
-found_now history layout found now sequence same is =
-    ap (λ l. Stands l found sequence ∷ []) same ∙ ap (λ (fs : List PlainFile). Stands history.layout fs sequence ∷ []) (sym is)
-
--- which may be the files without the group in doubt
-made_without : (history : History) (layout : Layout) (before found : List PlainFile) (now : List File) (sequence : ℕ)
-    → files_after history history.settled ≡ Ok before → plain now ≡ found → IsWithout history.layout before (Stands layout found sequence)
-    → files_after history history.settled ≡ Ok (plain now)
-made_without history layout before found now sequence made is w =
-    made ∙ ap (λ (fs : List PlainFile). Ok fs) (sym (same_stands layout history.layout found before sequence w.0 w.1).1 ∙ sym is)
-
--- a recovery decides on the group in doubt
-decided_fits : (history : History) (doubt : Option Group) (layout : Layout) (before found : List PlainFile) (now : List File) (sequence : ℕ)
-    → history.doubt ≡ doubt → files_after history history.settled ≡ Ok before → plain now ≡ found
-    → IsWithout history.layout before (Stands layout found sequence) ⊎ IsWith history.layout before doubt (Stands layout found sequence)
-    → FitsIn (decided history doubt found) layout (Ready now sequence) (Stands layout found sequence ∷ [])
-decided_fits history None layout before found now sequence none made is (inl w) =
-    let same = found_layout history None layout before found sequence (inl w) in
-    (made_without history layout before found now sequence made is w, none, found_now history layout found now sequence same is, same)
-decided_fits history None layout before found now sequence none made is (inr w) = absurd (let no = w.doubted in cc)
-decided_fits history (Some group) layout before found now sequence some made is one =
-    by (has_made (files_after history (history.settled ++ group ∷ [])) found) refl
-  where
-    same : layout ≡ history.layout
-    same = found_layout history (Some group) layout before found sequence one
-
-    here : Stands layout found sequence ∷ [] ≡ Stands history.layout (plain now) sequence ∷ []
-    here = found_now history layout found now sequence same is
-
-    by : (b : Bool) → has_made (files_after history (history.settled ++ group ∷ [])) found ≡ b
-        → FitsIn (cond b (with_settled history group) (without_doubt history)) layout (Ready now sequence) (Stands layout found sequence ∷ [])
-    by true test = (these_files _ found test ∙ ap (λ (fs : List PlainFile). Ok fs) (sym is), refl, here, same)
-    by false test = elim one [
-      | inl w ↦ (made_without history layout before found now sequence made is w, refl, here, same)
-      | inr w ↦ absurd (
-          let after = one_more (limits_of history.layout) history.start before history.settled group made
-          ∙ ap (outcome_of_all (limits_of history.layout) before) (same_Some group w.group w.doubted) ∙ w.made
-          ∙ ap (λ (fs : List PlainFile). Ok fs) (sym (same_stands layout history.layout found w.files sequence w.sequence w.stands).1) in
-          let yes = are_these _ found after in
-          cc)
-    ]
-
--- ---- a crash
-
--- where the history fits, a crash leaves a prefix of it
-pub fits_leaves : (history : History) (totals : TotalsPart) → Fits history totals → LeavesPrefix history totals
-fits_leaves history totals fits standing is = by totals.totals.layout totals.totals.mode totals.left fits is
-  where
-    all_settled : (files : List PlainFile) (sequence : ℕ) → files_after history history.settled ≡ Ok files
-        → standing ≡ Stands history.layout files sequence → IsPrefix history history.settled standing
-    all_settled files sequence made stands = record {
-      prefix = history.settled;
-      first = (listed history.doubt, refl);
-      holds = ([], sym (append-nil history.settled));
-      files = files;
-      sequence = sequence;
-      made = made;
-      stands = stands;
-    }
-
-    by : (layout : Layout) (mode : Mode) (left : List Standing) → FitsIn history layout mode left → IsOneOf left standing
-        → IsPrefix history history.settled standing
-    by layout (Ready files sequence) left fits is = elim (subst (λ (l : List Standing). IsOneOf l standing) fits.2 is) [
-      | inl e ↦ all_settled (plain files) sequence fits.0 e
-      | inr e ↦ absurd e
-    ]
-    by layout Off left fits is = elim (fits.2 standing is) [
-      | inl w ↦ all_settled fits.0 w.0 fits.1 w.1
-      | inr w ↦ record {
-        prefix = history.settled ++ w.group ∷ [];
-        first = ([], ap (λ doubt. history.settled ++ listed doubt) w.doubted ∙ sym (append-nil (history.settled ++ w.group ∷ [])));
-        holds = (w.group ∷ [], refl);
-        files = w.files;
-        sequence = w.sequence;
-        made = one_more (limits_of history.layout) history.start fits.0 history.settled w.group fits.1 ∙ w.made;
-        stands = w.stands;
-      }
-    ]
-
--- a prefix is files
-pub prefix_files : (history : History) (held : List Group) (left : Standing) → IsPrefix history held left → IsFiles left
-prefix_files history held left is = subst IsFiles (sym is.stands) tt
+-- totals that are ready leave their files alone
+alone : (layout : Layout) (mode : Mode) (left : List Standing) (doubt : Option Group) → IsReady mode → left ≡ settled layout mode left
+    → AreAround layout (plain (files_of mode)) doubt left
+alone layout Off left doubt ready is standing one = absurd ready
+alone layout (Ready files sequence) left doubt ready is standing one = elim (rw is at one) [ inl e ↦ inl (sequence, e) | inr e ↦ absurd e ]
 
 -- ---- steps
 
-same_stored : (files others : List PlainFile) (m n : ℕ) → StoreReady files m ≡ StoreReady others n → (files ≡ others) × (m ≡ n)
-same_stored files others m n same = (cc, cc)
+-- what is stored as it was is ready as it was, with the same files
+same_ready : (early late : Mode) → stored late ≡ stored early → IsReady late → IsReady early × (plain (files_of late) ≡ plain (files_of early))
+same_ready Off late same ready = absurd (no late same ready)
+  where
+    no : (late : Mode) → stored late ≡ stored Off → IsReady late → ⊥
+    no Off same ready = ready
+    no (Ready files sequence) same ready = cc
+same_ready (Ready files sequence) Off same ready = absurd ready
+same_ready (Ready files sequence) (Ready others next) same ready = (tt, cc)
 
--- a history that fits totals fits those of the same files
-fits_rest : (history : History) (layout : Layout) (early late : Mode) (left : List Standing) → stored late ≡ stored early
-    → FitsIn history layout early left → FitsIn history layout late left
-fits_rest history layout Off Off left same fits = fits
-fits_rest history layout Off (Ready files sequence) left same fits = absurd cc
-fits_rest history layout (Ready files sequence) Off left same fits = absurd cc
-fits_rest history layout (Ready files sequence) (Ready others next) left same fits =
-    let equal = same_stored (plain others) (plain files) next sequence same in (
-      fits.0 ∙ ap (λ (fs : List PlainFile). Ok fs) (sym equal.0),
-      fits.1,
-      fits.2 ∙ ap (λ fs. Stands history.layout fs sequence ∷ []) (sym equal.0)
-          ∙ ap (λ n. Stands history.layout (plain others) n ∷ []) (sym equal.1),
-      fits.3,
-    )
-
--- what happens keeps the history fitting
-pub fits_next : (history : History) (old : TotalsPart) (event : FilesEvent) (new : TotalsPart) → Fits history old → Happens old event new
-    → Fits (told history event) new
-fits_next history old (GroupAccepted group) new fits h =
-    let was = fits_from history old (Ready h.before h.sequence) h.ready fits in
-    fits_at (with_settled history group) new (Ready h.now h.next) (Stands history.layout (plain h.now) h.next ∷ []) h.still
-    (h.left ∙ ap (λ l. Stands l (plain h.now) h.next ∷ []) was.3) (
-      one_more (limits_of history.layout) history.start (plain h.before) history.settled group was.0
-          ∙ subst (λ l. outcome_of_all (limits_of l) (plain h.before) group ≡ Ok (plain h.now)) was.3 h.made,
+-- a recovery decides on the group in doubt
+decided_made : (history : History) (doubt : Option Group) (before found : List PlainFile) (sequence : ℕ)
+    → files_after history history.settled ≡ Ok before
+    → IsWithout history.layout before (Stands history.layout found sequence) ⊎ IsWith history.layout before doubt (Stands history.layout found sequence)
+    → history.doubt ≡ doubt → (files_after (decided history doubt found) (decided history doubt found).settled ≡ Ok found)
+    × ((decided history doubt found).doubt ≡ None)
+decided_made history None before found sequence made one none = (
+  elim one [
+    | inl w ↦ made ∙ ap (λ (fs : List PlainFile). Ok fs) (sym (same_stands history.layout history.layout found before sequence w.0 w.1).1)
+    | inr w ↦ absurd (let no = w.doubted in cc)
+  ],
+  none,
+)
+decided_made history (Some group) before found sequence made one some =
+    cond_both (has_made (files_after history (history.settled ++ group ∷ [])) found) (with_settled history group) (without_doubt history)
+    (λ (h : History). (files_after h h.settled ≡ Ok found) × (h.doubt ≡ None))
+    (λ test. (these_files _ found test, refl))
+    (λ test. (
+      elim one [
+        | inl w ↦ made ∙ ap (λ (fs : List PlainFile). Ok fs) (sym (same_stands history.layout history.layout found before sequence w.0 w.1).1)
+        | inr w ↦ absurd (
+            let after = one_more (limits_of history.layout) history.start before history.settled group made
+            ∙ ap (outcome_of_all (limits_of history.layout) before) (same_Some group w.group w.doubted) ∙ w.made
+            ∙ ap (λ (fs : List PlainFile). Ok fs) (sym (same_stands history.layout history.layout found w.files sequence w.sequence w.stands).1) in
+            let yes = are_these _ found after in
+            cc)
+      ],
       refl,
-      refl,
-      h.layout ∙ was.3,
-    )
-fits_next history old (GroupInDoubt group) new fits h =
-    let was = fits_from history old (Ready h.before h.sequence) h.ready fits in
-    let made = subst (λ l. outcome_of_all (limits_of l) (plain h.before) group ≡ Ok h.files) was.3 h.made in
-    fits_at (told history (GroupInDoubt group)) new Off
-    (Stands history.layout (plain h.before) h.sequence ∷ map (λ next. Stands history.layout h.files next) (next_sequences h.sequence)) h.off
-    (h.left ∙ ap (λ l. Stands l (plain h.before) h.sequence ∷ map (λ next. Stands l h.files next) (next_sequences h.sequence)) was.3)
-    (plain h.before, was.0, λ left is. in_doubt_fits history.layout (plain h.before) h.sequence group h.files left made is)
-fits_next history old (FilesFound found) new fits h =
-    let was = fits_from history old Off h.off fits in
-    let layout = new.totals.layout in
-    fits_at (decided history history.doubt found) new (Ready h.now h.sequence) (Stands layout found h.sequence ∷ []) h.ready h.left
-    (decided_fits history history.doubt layout was.0 found h.now h.sequence refl was.1 h.files
-    (was.2 (Stands layout found h.sequence) h.candidate))
-fits_next history old NothingDone new fits h =
-    subst (λ (left : List Standing). FitsIn history new.totals.layout new.totals.mode left) (sym h.left)
-    (fits_rest history new.totals.layout old.totals.mode new.totals.mode old.left h.mode
-    (subst (λ l. FitsIn history l old.totals.mode old.left) (sym h.layout) fits))
-
--- the history at the start fits
-pub fits_begun : (layout : Layout) (start : List PlainFile) (sequence : ℕ) (totals : TotalsPart) → StartsWith layout start sequence totals
-    → Fits (begun layout start) totals
-fits_begun layout start sequence totals is =
-    fits_at (begun layout start) totals Off (Stands layout start sequence ∷ []) is.off is.left
-    (start, refl, λ left one. elim one [ inl e ↦ inl (sequence, e) | inr e ↦ absurd e ])
+    ))
 
 -- What a history keeps, whatever happens: its layout, the files that it starts with, and the settled groups.
 pub record Grows (history after : History) : Type 0 where
@@ -342,41 +172,129 @@ pub record Grows (history after : History) : Type 0 where
   pub start : after.start ≡ history.start
   pub settled : BeginsWith after.settled history.settled
 
+-- it goes on by a group, or as it was
+by_group : (history : History) (group : Group) → Grows history (with_settled history group)
+by_group history group = record { layout = refl; start = refl; settled = (group ∷ [], refl) }
+
+as_it_was : (history : History) (doubt : Option Group) → Grows history (record history { doubt = doubt })
+as_it_was history doubt = record { layout = refl; start = refl; settled = ([], sym (append-nil history.settled)) }
+
 decided_grows : (history : History) (doubt : Option Group) (found : List PlainFile) → Grows history (decided history doubt found)
-decided_grows history None found = record { layout = refl; start = refl; settled = ([], sym (append-nil history.settled)) }
-decided_grows history (Some group) found = by (has_made (files_after history (history.settled ++ group ∷ [])) found)
-  where
-    by : (b : Bool) → Grows history (cond b (with_settled history group) (without_doubt history))
-    by true = record { layout = refl; start = refl; settled = (group ∷ [], refl) }
-    by false = record { layout = refl; start = refl; settled = ([], sym (append-nil history.settled)) }
+decided_grows history None found = as_it_was history history.doubt
+decided_grows history (Some group) found =
+    cond_both (has_made (files_after history (history.settled ++ group ∷ [])) found) (with_settled history group) (without_doubt history)
+    (Grows history) (λ test. by_group history group) (λ test. as_it_was history None)
 
 pub told_grows : (history : History) (event : FilesEvent) → Grows history (told history event)
-told_grows history (GroupAccepted group) = record { layout = refl; start = refl; settled = (group ∷ [], refl) }
-told_grows history (GroupInDoubt group) = record { layout = refl; start = refl; settled = ([], sym (append-nil history.settled)) }
+told_grows history (GroupAccepted group) = by_group history group
+told_grows history (GroupInDoubt group) = as_it_was history (Some group)
 told_grows history (FilesFound found) = decided_grows history history.doubt found
-told_grows history NothingDone = record { layout = refl; start = refl; settled = ([], sym (append-nil history.settled)) }
+told_grows history NothingDone = as_it_was history history.doubt
 
 -- nothing alters the settled groups
 pub grows : (history : History) (event : FilesEvent) → BeginsWith (told history event).settled history.settled
 grows history event = (told_grows history event).settled
 
-holds_less : (held : List Group) (after : History) (left : Standing) → BeginsWith after.settled held → IsPrefix after after.settled left
-    → IsPrefix after held left
-holds_less held after left begins is = record {
-  prefix = is.prefix;
-  first = is.first;
-  files = is.files;
-  sequence = is.sequence;
-  made = is.made;
-  stands = is.stands;
-  holds = (begins.0 ++ is.holds.0, is.holds.1 ∙ ap (λ groups. groups ++ is.holds.0) begins.1 ∙ append_assoc held begins.0 is.holds.0);
+-- totals that are ready fit the history of their files
+ready_fits : (history : History) (totals : TotalsPart) → IsReady totals.totals.mode → IsSettled totals.totals totals.left
+    → totals.totals.layout ≡ history.layout → files_after history history.settled ≡ Ok (plain (files_of totals.totals.mode)) → history.doubt ≡ None
+    → Fits history totals
+ready_fits history totals is settles layout made none = record {
+  before = plain (files_of totals.totals.mode);
+  made = made;
+  around = rw (← layout) (alone totals.totals.layout totals.totals.mode totals.left history.doubt is settles);
+  ready = λ ready. (layout, refl, none);
+  is_settled = settles;
 }
 
+-- what happens keeps the history fitting
+pub fits_next : (history : History) (old : TotalsPart) (event : FilesEvent) (new : TotalsPart) → Fits history old → Happens old event new
+    → IsSettled new.totals new.left → Fits (told history event) new
+fits_next history old (GroupAccepted group) new fits h settles =
+    let was = fits.ready h.was in
+    ready_fits (with_settled history group) new h.is settles (h.layout ∙ was.0)
+    (one_more (limits_of history.layout) history.start fits.before history.settled group fits.made ∙ rw (was.0, was.1) at h.made) refl
+fits_next history old (GroupInDoubt group) new fits h settles =
+    let was = fits.ready h.was in
+    record { before = fits.before; made = fits.made; around = rw (was.0, was.1) at h.around; ready = λ ready. absurd (rw h.off at ready); is_settled = settles }
+fits_next history old (FilesFound found) new fits h settles =
+    let layout : new.totals.layout ≡ history.layout = elim (fits.around (Stands new.totals.layout found h.sequence) h.candidate) [
+      | inl w ↦ (same_stands new.totals.layout history.layout found fits.before h.sequence w.0 w.1).0
+      | inr w ↦ (same_stands new.totals.layout history.layout found w.files h.sequence w.sequence w.stands).0
+    ] in
+    let one = rw layout at (fits.around (Stands new.totals.layout found h.sequence) h.candidate) in
+    let made = decided_made history history.doubt fits.before found h.sequence fits.made one refl in
+    ready_fits (told history (FilesFound found)) new h.is settles (layout ∙ sym (told_grows history (FilesFound found)).layout)
+    (made.0 ∙ ap (λ (fs : List PlainFile). Ok fs) (sym h.files)) made.1
+fits_next history old NothingDone new fits h settles = record {
+  before = fits.before;
+  made = fits.made;
+  around = λ standing one. fits.around standing (rw h.left at one);
+  ready = λ ready.
+      let same = same_ready old.totals.mode new.totals.mode h.mode ready in
+      let was = fits.ready same.0 in
+      (h.layout ∙ was.0, same.1 ∙ was.1, was.2);
+  is_settled = settles;
+}
+
+-- a history fits totals that start with the files after its settled groups
+pub fits_start : (history : History) (start : List PlainFile) (sequence : ℕ) (totals : TotalsPart) → files_after history history.settled ≡ Ok start
+    → StartsWith history.layout start sequence totals → Fits history totals
+fits_start history start sequence totals made is = record {
+  before = start;
+  made = made;
+  around = λ standing one. elim (rw is.left at one) [ inl e ↦ inl (sequence, e) | inr e ↦ absurd e ];
+  ready = λ ready. absurd (rw is.off at ready);
+  is_settled = rw is.off;
+}
+
+-- ---- a crash
+
+-- where the history fits, a crash leaves a prefix of it
+pub fits_leaves : (history : History) (totals : TotalsPart) → Fits history totals → LeavesPrefix history totals
+fits_leaves history totals fits standing is = elim (fits.around standing is) [
+  | inl w ↦ record {
+    prefix = history.settled;
+    first = (listed history.doubt, refl);
+    holds = ([], sym (append-nil history.settled));
+    files = fits.before;
+    sequence = w.0;
+    made = fits.made;
+    stands = w.1;
+  }
+  | inr w ↦ record {
+    prefix = history.settled ++ w.group ∷ [];
+    first = ([], ap (λ doubt. history.settled ++ listed doubt) w.doubted ∙ sym (append-nil (history.settled ++ w.group ∷ [])));
+    holds = (w.group ∷ [], refl);
+    files = w.files;
+    sequence = w.sequence;
+    made = one_more (limits_of history.layout) history.start fits.before history.settled w.group fits.made ∙ w.made;
+    stands = w.stands;
+  }
+]
+
+-- a prefix is files
+pub prefix_files : (history : History) (held : List Group) (left : Standing) → IsPrefix history held left → IsFiles left
+prefix_files history held left is = rw is.stands tt
+
 -- inside a step a crash leaves a prefix of the history before or after it
-pub fits_inside : (history : History) (old : TotalsPart) (event : FilesEvent) (new : TotalsPart) → Fits history old → Happens old event new
+pub fits_inside : (history : History) (old : TotalsPart) (event : FilesEvent) (new : TotalsPart) → Fits history old → Fits (told history event) new
     → LeavesPrefixInside history old (told history event) new
-fits_inside history old event new fits h left is = elim is [
+fits_inside history old event new fits next left is = elim is [
   | inl before ↦ inl (fits_leaves history old fits left before)
-  | inr after ↦ inr (holds_less history.settled (told history event) left (grows history event)
-      (fits_leaves (told history event) new (fits_next history old event new fits h) left after))
+  | inr after ↦
+      let prefix = fits_leaves (told history event) new next left after in
+      let begins = grows history event in
+      inr (record {
+        prefix = prefix.prefix;
+        first = prefix.first;
+        files = prefix.files;
+        sequence = prefix.sequence;
+        made = prefix.made;
+        stands = prefix.stands;
+        holds = (
+          begins.0 ++ prefix.holds.0,
+          prefix.holds.1 ∙ ap (λ groups. groups ++ prefix.holds.0) begins.1 ∙ append_assoc history.settled begins.0 prefix.holds.0,
+        );
+      })
 ]

@@ -1,48 +1,27 @@
 -- What an enabling finds where a crash has left a disk that stands for some files.
-use Rattle.std.proofs.Common.{◌≡◌, ◌∙◌, ◌⊎◌, ℕ, ◌≤◌, Bool, true, false, not, List, [], ◌∷◌, length, Some, Result, Ok, Err, inl, inr}
-use Rattle.std.proofs.Common.{refl, sym, ap, subst, arith}
-use Rattle.std.specs.Bool.{MatchBool}
-use Rattle.std.specs.Prelude.{slice_get, MatchOption}
-use Rattle.std.proofs.lemmas.Bool.{and_from}
-use Rattle.pos_dir.specs.declared.file.File.{File as PlainFile}
-use Rattle.pos_dir.specs.declared.limits.Limits.{Limits}
-use Rattle.pos_dir.specs.Changes.{and_then, outcome_of_all}
-use Rattle.pos_dir.specs.declared.fault.DirectoryFault.{DirectoryFault}
+use Rattle.pos_counter.proofs.Common.{Answer, Answered, AreLeft, Begins, CallOf, Control, Counter, DirectoryFault, DiskGhosts, Entry, Err, FindsThem, Ghosts}
+use Rattle.pos_counter.proofs.Common.{Group, HasCause, HasThem, HasTooMany, History, IsOneOf, Layout, Layout1, Layout2, Leaves, Limits, List, Machine, Ok}
+use Rattle.pos_counter.proofs.Common.{OutOfMemory, PlainFile, Ready, Recovered, Recovers, Request, Response, Result, Rises, Run, SetsByRecovery, Some, Standing}
+use Rattle.pos_counter.proofs.Common.{Stands, StandsFor, StartsWith, Step, TotalsPart, TotalsView, [], after_groups, and_from, and_then, ap, arith}
+use Rattle.pos_counter.proofs.Common.{asks_recovery, begun, enabling, event_of, first_refusal, history_along, history_of, history_with, inl, inr, is_ready}
+use Rattle.pos_counter.proofs.Common.{length, limits_of, not, numbered, outcome_of_all, recovers, refl, refusals, settled, slice_get, subst, sym, true, ℕ, ◌∙◌}
+use Rattle.pos_counter.proofs.Common.{◌∷◌, ◌≡◌, ◌≤◌, ◌⊎◌}
 use Rattle.pos_dir.proofs.Kept.{few_after_all}
-use Rattle.pos_disk.specs.State.{Rises, IsAtRest}
-use Rattle.pos_disk.specs.declared.device.Disk.{Ghosts as DiskGhosts}
 use Rattle.pos_disk.proofs.Moments.{rest_leaves}
-use Rattle.pos_image.specs.declared.layout.Layout.{Layout}
-use Rattle.pos_image.specs.declared.layout.Layout.TheVariants.{Layout1, Layout2}
-use Rattle.pos_profile.specs.declared.entry.Entry.{Entry}
-use Rattle.pos_service.specs.declared.answer.Answer.{Answer}
+use Rattle.pos_disk.specs.State.{IsAtRest}
 use Rattle.pos_service.specs.declared.answer.Answer.TheVariants as answer
 use Rattle.pos_service.specs.declared.answer.Value.TheVariants as value
 use Rattle.pos_service.specs.declared.code.Code.TheVariants as code
-use Rattle.pos_service.specs.declared.peripheral.Peripheral.{Ghosts}
 use Rattle.pos_service.specs.declared.property.Property.TheVariants as property
-use Rattle.pos_service.specs.Controls.{Control}
-use Rattle.pos_service.specs.Refusals.{first_refusal}
-use Rattle.pos_store.specs.Layouts.{limits_of}
-use Rattle.pos_store.specs.Standing.{Standing, Stands, StandsFor, IsOneOf, IsBytes, Applies}
+use Rattle.pos_service.specs.declared.request.Response.TheVariants as response
 use Rattle.pos_store.proofs.Deciding.{some_standing}
-use Rattle.pos_totals.specs.HardTotals.{Ready, is_ready}
-use Rattle.pos_totals.specs.Recoveries.{AreLeft, HasTooMany, numbered}
-use Rattle.pos_totals.specs.Views.{TotalsView}
-use Rattle.pos_counter.specs.declared.counter.Counter.{Counter}
-use Rattle.pos_counter.specs.Counters.{Begins}
-use Rattle.pos_counter.specs.History.{Group, History, after_groups, begun, event_of}
-use Rattle.pos_counter.specs.History.{history_along, history_of, history_with}
-use Rattle.pos_counter.specs.Leaving.{Leaves}
-use Rattle.pos_counter.specs.Machine.{Machine}
-use Rattle.pos_counter.specs.Prefixes.{StartsWith}
-use Rattle.pos_counter.specs.Reopening.{HasThem, HasCause, FindsThem, enabling}
-use Rattle.pos_counter.specs.Steps.{Request, CallOf, Response, Answered, OutOfMemory, Step, Run, Called, Wants, SetsByRecovery, Sets, refusals}
-use Rattle.pos_counter.specs.Totals.{TotalsPart, Recovered, Recovers, asks_recovery, recovers, settled}
-use Rattle.pos_counter.proofs.Lifts.{match_cases}
+use Rattle.pos_store.specs.Standing.{Applies, IsBytes}
+use Rattle.pos_totals.specs.declared.fault.RecoveryFault.TheVariants as fault
+use Rattle.pos_counter.proofs.Hardware.{unchanged}
+use Rattle.pos_counter.proofs.Lifts.{match_cases, refused_undone}
 use Rattle.pos_counter.proofs.PrefixRuns.{law_after, law_recovers}
 use Rattle.pos_counter.proofs.Prefixes.{same_Ok, same_stands, told_grows}
-use Rattle.pos_counter.proofs.PrefixSteps.{plain_numbered, refused_undone}
+use Rattle.pos_counter.proofs.Steps.{plain_numbered}
 
 -- ---- an enabling
 
@@ -94,42 +73,26 @@ module _ (layout : Layout) (start : List PlainFile) (sequence : ℕ) (old : Mach
 
   by_recovery : (result : Answer) (new : Machine) → SetsByRecovery old number control property.DeviceEnabled (value.Truth true) result new
       → FindsThem layout start sequence old number control (Answered result) new
-  by_recovery result new (inl h) =
-      subst (λ r. FindsThem layout start sequence old number control (Answered r) new) (sym h.0) (found_them layout start sequence old.totals new.totals is h.1)
+  by_recovery result new (inl h) = rw h.0 (found_them layout start sequence old.totals new.totals is h.1)
   by_recovery result new (inr h) =
       let failed = law_recovers layout start sequence old old [] refl is result new.totals h.0 in
-      subst (λ r. FindsThem layout start sequence old number control (Answered r) new) (sym failed.0)
-      (inr (refl, refl, has_cause layout start sequence old.totals new.totals is failed.1))
+      rw failed.0 (inr (refl, refl, has_cause layout start sequence old.totals new.totals is failed.1))
 
-  does : (result : Answer) (new : Machine) (b : Bool) → recovers old.totals control property.DeviceEnabled (value.Truth true) ≡ b
-      → MatchBool b (SetsByRecovery old number control property.DeviceEnabled (value.Truth true) result new)
-      (Sets old number control property.DeviceEnabled (value.Truth true) result new)
-      → SetsByRecovery old number control property.DeviceEnabled (value.Truth true) result new
-  does result new true e h = h
-  does result new false e h = absurd (let on = is_recovering in cc)
-
-  refused : (answered refusal : Answer) (new : Machine) → answered ≡ refusal → first_refusal (refusals old number control enabling) ≡ Some refusal
-      → new ≡ old → FindsThem layout start sequence old number control (Answered answered) new
-  refused answered (answer.Refused why extended) new same first unchanged =
-      subst (λ r. FindsThem layout start sequence old number control (Answered r) new) (sym same) (inl (first, unchanged))
-  refused answered (answer.Done given) new same first unchanged =
-      absurd (refused_undone (refusals old number control enabling) (answer.Done given) (answer.Done given) first refl)
-
-  called : (result : Answer) (new : Machine) → Called old number control enabling result new
-      → FindsThem layout start sequence old number control (Answered result) new
-  called result new h = elim (match_cases (first_refusal (refusals old number control enabling)) _ _ h.outcome) [
-    | inl x ↦ by_recovery result new (does result new (recovers old.totals control property.DeviceEnabled (value.Truth true)) refl x.1)
-    | inr x ↦ refused result x.0 new x.2.0 x.1 x.2.1
-  ]
+  refused : (refusal : Answer) (new : Machine) → first_refusal (refusals old number control enabling) ≡ Some refusal → new ≡ old
+      → FindsThem layout start sequence old number control (Answered refusal) new
+  refused (answer.Refused why extended) new first unchanged = inl (first, unchanged)
+  refused (answer.Done given) new first unchanged = absurd (rw first at (refused_undone (refusals old number control enabling)))
 
   pub finds_them : (response : Response) (new : Machine) → slice_get old.controls number ≡ Some control
       → Step old (CallOf number enabling) response new → FindsThem layout start sequence old number control response new
-  finds_them (Answered result) new at step =
-      called result new (subst (λ found. MatchOption found ((result ≡ answer.Refused code.Illegal 0) × (new ≡ old))
-      (λ c. Called old number c enabling result new)) at step)
-  finds_them OutOfMemory new at step =
-      (subst (λ found. MatchOption found ⊥ (λ c. Wants old number c enabling new)) at step).2
-  finds_them other new at step = absurd step
+  finds_them (Answered result) new found step =
+      let called = rw found at step in
+      elim (match_cases (first_refusal (refusals old number control enabling)) _ _ called.outcome) [
+        | inl x ↦ by_recovery result new (rw is_recovering at x.1)
+        | inr x ↦ rw x.2.0 (refused x.0 new x.1 x.2.1)
+      ]
+  finds_them OutOfMemory new found step = let wants = rw found at step in wants.2
+  finds_them other new found step = absurd step
 
 -- ---- how many files a disk stands for
 

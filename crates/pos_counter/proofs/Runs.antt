@@ -1,19 +1,11 @@
 -- A run goes on by one more step.
-use Rattle.std.proofs.Common.{inl, inr, sym, ◌≡◌, ℕ, ◌∷◌, ◌++◌, [], List, length, ap, subst, refl, arith}
-use Rattle.pos_counter.specs.Machine.{Machine}
+use Rattle.pos_counter.proofs.Common.{◌++◌, Counter, DiskGhosts, Ghosts, IsLeftDuring, IsRun, IsStep, IsStepBeside, Leaves, List, Machine, MayLeave, Run}
+use Rattle.pos_counter.proofs.Common.{RunsFrom, Standing, StandsForEither, StandsForOneOf, Step, [], ap, arith, inl, inr, length, machine_of_counter, part_of}
+use Rattle.pos_counter.proofs.Common.{refl, request_of, response_of, steps_of, subst, sym, ℕ, ◌∷◌, ◌≡◌}
 use Rattle.pos_counter.specs.Steps as machine
-use Rattle.pos_disk.specs.State.{MayLeave}
-use Rattle.pos_disk.specs.declared.device.Disk.{Ghosts as DiskGhosts}
-use Rattle.pos_disk.proofs.Moments.{started, followed_by, weaker}
-use Rattle.pos_service.specs.declared.peripheral.Peripheral.{Ghosts}
-use Rattle.pos_store.specs.Standing.{Standing, StandsForOneOf, StandsForEither}
-use Rattle.pos_counter.specs.declared.counter.Counter.{Counter}
-use Rattle.pos_counter.specs.Counters.{machine as machine_of_counter, IsLeftDuring, IsRun, IsStep, IsStepBeside, RunsFrom}
-use Rattle.pos_counter.specs.Leaving.{part_of, Leaves}
-use Rattle.pos_counter.specs.Steps.{Step, Run}
+use Rattle.pos_disk.proofs.Moments.{followed_by, started, weaker}
 use Rattle.pos_service.specs.declared.request.Request.{Request}
 use Rattle.pos_service.specs.declared.request.Response.{Response}
-use Rattle.pos_counter.specs.Responses.{request_of, response_of, steps_of}
 use Rattle.pos_counter.proofs.Serving.{OnlyNow, beside_is_step}
 
 -- one more request and its response are one more step
@@ -44,19 +36,6 @@ left_beside a b c s more step run bytes (inl h) = inl h
 left_beside a b c s more step run bytes (inr h) = inr (left_first b c more run bytes h)
 
 module _ {D P : Type 0} (bound : DiskGhosts D) (peripherals : Ghosts P) where
-  -- a step by another name of the request and of the response
-  pub step_as : (old new : Counter D P) (q : machine.Request) (r : machine.Response) (asked : machine.Request) (answered : machine.Response)
-      → asked ≡ q → answered ≡ r → IsStep bound peripherals old q r new → IsStep bound peripherals old asked answered new
-  step_as old new q r asked answered is gives step =
-      subst (λ s. IsStep bound peripherals old asked s new) (sym gives) (subst (λ p. IsStep bound peripherals old p r new) (sym is) step)
-
-  -- the same of one in which the totals have no part
-  pub beside_step_as : (old new : Counter D P) (q : machine.Request) (r : machine.Response) (asked : machine.Request) (answered : machine.Response)
-      → OnlyNow bound old.totals.disk → asked ≡ q → answered ≡ r → IsStepBeside peripherals old q r new
-      → IsStep bound peripherals old asked answered new
-  beside_step_as old new q r asked answered only is gives beside =
-      step_as old new q r asked answered is gives (beside_is_step bound peripherals old new q r only beside)
-
   -- a run with one step more
   pub runs_more : (a b c : Counter D P) (steps : List (machine.Request × machine.Response)) (q : machine.Request) (r : machine.Response)
       → IsRun bound peripherals a steps b → IsStep bound peripherals b q r c → IsRun bound peripherals a (steps ++ (q, r) ∷ []) c

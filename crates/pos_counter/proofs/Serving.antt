@@ -1,23 +1,11 @@
 -- What a counter serves by a step of its machine.
-use Rattle.std.proofs.Common.{◌≡◌, ◌∙◌, inl, ℕ, List, [], ap, sym, subst, refl, arith}
-use Rattle.pos_disk.specs.Keeps.{KeepsDisk}
-use Rattle.pos_disk.specs.State.{MayLeave}
-use Rattle.pos_disk.specs.declared.device.Disk.{Ghosts as DiskGhosts}
-use Rattle.pos_image.specs.declared.layout.Layout.{Layout}
-use Rattle.pos_service.specs.declared.peripheral.Peripheral.{Ghosts}
 use Rattle.pos_store.proofs.Passing.{stays}
-use Rattle.pos_store.specs.Standing.{Standing}
-use Rattle.pos_totals.specs.HardTotals.{Mode, Off, Ready, Totals}
-use Rattle.pos_totals.specs.Views.{TotalsView}
-use Rattle.pos_counter.specs.Counters.{machine, IsCounterSound, IsStep, IsStepBeside, Serves}
-use Rattle.pos_counter.specs.declared.counter.Counter.{Counter}
-use Rattle.pos_counter.specs.DiskUse.{SparesDisk}
-use Rattle.pos_counter.specs.KeptDevices.{AreDevicesSound}
-use Rattle.pos_counter.specs.Leaving.{part_of, part_with, IsSettled, Leaves, Spared, Stepped}
-use Rattle.pos_counter.specs.Machine.{Machine}
-use Rattle.pos_counter.specs.Steps.{IsSound, Request, Response, Step}
-use Rattle.pos_counter.specs.Totals.{TotalsPart, settled}
-use Rattle.pos_counter.proofs.Requests.{step_sound}
+use Rattle.pos_counter.proofs.Common.{AreDevicesSound, Counter, DiskGhosts, Ghosts, IsCounterSound, IsSettled, IsSound, IsStep, IsStepBeside, Leaves, List}
+use Rattle.pos_counter.proofs.Common.{Machine, MayLeave, Request, Response, Serves, Spared, SparesDisk, Standing, Step, Stepped, Totals, TotalsPart, TotalsView}
+use Rattle.pos_counter.proofs.Common.{[], ap, arith, inl, machine, part_of, part_with, refl, settled, subst, sym, ℕ, ◌∙◌, ◌≡◌}
+use Rattle.pos_disk.specs.Keeps.{KeepsDisk}
+use Rattle.pos_counter.proofs.Leaving.{settled_twice}
+use Rattle.pos_counter.proofs.Steps.{step_sound}
 
 -- a disk that isn't touched is as it was
 pub kept_disk : {D : Type 0} (bound : DiskGhosts D) (disk : D) → KeepsDisk bound disk disk
@@ -26,11 +14,6 @@ kept_disk bound disk = record { size = refl; honest = (λ h. h, λ h. h); later 
 -- what is left now is left at this very moment
 abbrev pub OnlyNow : {D : Type 0} → DiskGhosts D → D → Type 0
 OnlyNow bound disk = (bytes : List ℕ) → bound.honest disk → (bound.state disk).left_since (bound.state disk).moment bytes → MayLeave (bound.state disk) bytes
-
--- what is settled is so once
-pub settled_twice : (layout : Layout) (left : List Standing) (mode : Mode) → settled layout mode left ≡ settled layout mode (settled layout mode left)
-settled_twice layout left Off = refl
-settled_twice layout left (Ready files sequence) = refl
 
 -- totals on the same disk
 pub same_view : {D : Type 0} (old new : TotalsView D) (totals : Totals) → new.disk ≡ old.disk → new.totals ≡ totals
@@ -123,6 +106,14 @@ module _ {D P : Type 0} (bound : DiskGhosts D) (peripherals : Ghosts P) where
   beside_is_step old new q r only beside =
       quiet_step old new q r old.totals.totals only (ap (λ (v : TotalsView D). v.disk) beside.totals) (ap (λ (v : TotalsView D). v.totals) beside.totals)
       (λ left. refl) (λ left failures so. beside.step (part_with old.totals.totals left failures))
+
+  -- and what a sound counter serves
+  pub stays_serves : (old : Counter D P) → OnlyNow bound old.totals.disk → IsCounterSound peripherals old → (new : Counter D P) (q : Request) (r : Response)
+      → new.totals ≡ old.totals → AreDevicesSound peripherals new.devices
+      → ((part : TotalsPart) → Step (machine peripherals old part) q r (machine peripherals new part)) → Serves bound peripherals old q r new
+  stays_serves old only sound new q r totals devices step =
+      let beside : IsStepBeside peripherals old q r new = record { step = step; totals = totals } in
+      record { step = beside_is_step old new q r only beside; sound = beside_sound peripherals old new q r beside sound devices }
 
   -- a counter is sound behind a request that spares the disk
   pub spared_sound : (old new : Counter D P) (q : Request) (r : Response) → IsStep bound peripherals old q r new → ((m : Machine) → SparesDisk m q)

@@ -1,52 +1,37 @@
 -- What keeps a machine sound: each control stays at its device, and each device of its kind.
-use Rattle.std.proofs.Common.{◌≡◌, ℕ, ◌∷◌, inl, inr, zero, suc, List, [], Option, Some, None, Bool, true, false, cond, set, ap, sym, ◌∙◌, subst}
-use Rattle.std.proofs.Common.{refl, arith}
-use Rattle.std.specs.Bool.{MatchBool}
-use Rattle.std.specs.Prelude.{MatchOption, MatchResult, IfSome, IsTrue, All, Result, Ok, Err, ◌||◌, slice_get, slice_set, is_some, is_none, option_map}
-use Rattle.std.proofs.lemmas.Bool.{cond_both, eq-eqb, false≢true}
-use Rattle.std.proofs.lemmas.List.{length-set}
-use Rattle.std.proofs.lemmas.List.Elements.{All-cons, All-nil, All-set, All-weaker, All-map, All-get_or}
-use Rattle.std.proofs.lemmas.Option.{slice_get_within, get_or_from_slice_get, slice_get-map, MatchOption-at_some}
-use Rattle.pos_service.specs.declared.category.Category.{Category}
-use Rattle.pos_service.specs.declared.category.Category.TheVariants as category
-use Rattle.pos_service.specs.declared.answer.Answer.{Answer}
-use Rattle.pos_service.specs.declared.finding.Finding.TheVariants as finding
-use Rattle.pos_service.specs.declared.answer.Value.{Value}
-use Rattle.pos_service.specs.declared.input.Input.{Input}
-use Rattle.pos_service.specs.declared.input.Input.TheVariants as input
-use Rattle.pos_service.specs.declared.input.Taken.{Taken}
-use Rattle.pos_service.specs.declared.input.Taken.TheVariants as taken
-use Rattle.pos_service.specs.declared.scan.Scan.{Scan}
-use Rattle.pos_service.specs.declared.display_text.Place.{Place}
-use Rattle.pos_service.specs.declared.kind.Kind.{Kind}
-use Rattle.pos_service.specs.declared.memory.NoMemory.{NoMemory}
-use Rattle.pos_service.specs.declared.order.Order.{Order}
-use Rattle.pos_service.specs.declared.order.Reply.{Reply}
-use Rattle.pos_service.specs.declared.order.Reply.TheVariants as reply
-use Rattle.pos_service.specs.declared.worked.Worked.{Worked as WorkResult}
-use Rattle.pos_service.specs.declared.property.Property.{Property}
-use Rattle.pos_service.specs.declared.call.Call.{Call}
-use Rattle.pos_service.specs.declared.deed.Change.{Change}
-use Rattle.pos_service.specs.declared.deed.Change.TheVariants as change
-use Rattle.pos_service.specs.declared.deed.Deed.{Deed}
-use Rattle.pos_service.specs.declared.deed.Deed.TheVariants as deed
-use Rattle.pos_service.specs.Controls.{Control, stopped, queued, read, listens, if_listening, all_listening}
+use Rattle.pos_counter.proofs.Common.{All, All-cons, All-map, All-nil, Answer, Bool, Call, CarriesOut, Category, Change, Control, Decided, Deed, Device}
+use Rattle.pos_counter.proofs.Common.{DeviceDoes, Does, Effect, Err, Hardware, HasItsDevice, HasItsKind, IfSome, Input, IsAttached, IsDetached, IsInRange}
+use Rattle.pos_counter.proofs.Common.{IsPlaceOn, IsSound, IsTrue, Kind, List, Machine, MatchOption, MatchOption-at_some, MatchResult, NoMemory, None, Ok}
+use Rattle.pos_counter.proofs.Common.{OnHardware, Option, Place, Property, Result, SameHardware, Signs, Some, Value, WorksAt, [], after_release, after_set, ap}
+use Rattle.pos_counter.proofs.Common.{arith, changed, cond, cond_both, cursor_after, device_at, device_deed, device_rows, due_request_at, false, false≢true}
+use Rattle.pos_counter.proofs.Common.{first_refusal, found_at, get_or_from_slice_get, has_open, inl, inr, is_none, is_open_at, is_place, is_some, kind_in}
+use Rattle.pos_counter.proofs.Common.{kind_of, length-set, option_map, origin, outcome, refl, serves, set, slice_get, slice_get-map, slice_get_within, subst}
+use Rattle.pos_counter.proofs.Common.{suc, sym, takes, told, true, with_control, zero, ◌||◌, ℕ, ◌∙◌, ◌∷◌, ◌≡◌}
+use Rattle.std.proofs.Common.{scan}
+use Rattle.std.proofs.lemmas.Bool.{eq-eqb}
+use Rattle.std.proofs.lemmas.List.Elements.{All-get_or, All-set, All-weaker}
+use Rattle.std.specs.Prelude.{slice_set}
+use Rattle.pos_service.specs.Calls.{place_found}
+use Rattle.pos_service.specs.Claims.{is_exclusive}
+use Rattle.pos_service.specs.Controls.{all_listening, if_listening, listens, queued, read, stopped}
+use Rattle.pos_service.specs.Deeds.{ChangesOne, Follows, Ordered, Queued, id_rows}
 use Rattle.pos_service.specs.Events.{EventList}
-use Rattle.pos_service.specs.Refusals.{Decided, first_refusal}
-use Rattle.pos_service.specs.Calls.{serves, place_found}
-use Rattle.pos_service.specs.declared.signs.Signs.{Signs}
-use Rattle.pos_service.specs.Properties.{takes, after_set, cursor_after}
-use Rattle.pos_service.specs.Deeds.{ChangesOne, Does as CarriesOut, Follows, Ordered, Queued, changed, id_rows}
-use Rattle.pos_service.specs.Displays.{origin}
-use Rattle.pos_service.specs.Peripherals.{IsInRange, signs_of}
-use Rattle.pos_service.specs.PrinterCalls.{DueRequest, WorksAt, WorksOn, after_work, due_request_at}
-use Rattle.pos_service.specs.Claims.{after_release, is_exclusive}
-use Rattle.pos_service.specs.Hardware.{Hardware, Effect, SameHardware, TakesIn, reaction}
+use Rattle.pos_service.specs.Hardware.{TakesIn, reaction}
+use Rattle.pos_service.specs.Peripherals.{signs_of}
+use Rattle.pos_service.specs.PrinterCalls.{DueRequest, WorksOn, after_work}
 use Rattle.pos_service.specs.Statuses.{heard_signs}
-use Rattle.pos_counter.specs.Machine.{Device, Machine, device_at, kind_in, kind_of, signs_at, found_at, with_control}
-use Rattle.pos_counter.specs.Steps.{IsAttached, IsDetached, has_open, is_open_at, is_place, OnHardware, Sets, SetsByRecovery, CategoryDoes, DeviceDoes}
-use Rattle.pos_counter.specs.Steps.{category_rows, device_deed, device_rows, IsSound, IsPlaceOn, HasItsKind}
-use Rattle.pos_counter.specs.Steps.{HasItsDevice}
+use Rattle.pos_service.specs.declared.category.Category.TheVariants as category
+use Rattle.pos_service.specs.declared.deed.Change.TheVariants as change
+use Rattle.pos_service.specs.declared.deed.Deed.TheVariants as deed
+use Rattle.pos_service.specs.declared.finding.Finding.TheVariants as finding
+use Rattle.pos_service.specs.declared.input.Input.TheVariants as input
+use Rattle.pos_service.specs.declared.input.Taken.TheVariants as taken
+use Rattle.pos_service.specs.declared.input.Taken.{Taken}
+use Rattle.pos_service.specs.declared.order.Order.{Order}
+use Rattle.pos_service.specs.declared.order.Reply.TheVariants as reply
+use Rattle.pos_service.specs.declared.order.Reply.{Reply}
+use Rattle.pos_service.specs.declared.scan.Scan.{Scan}
+use Rattle.pos_service.specs.declared.worked.Worked.{Worked as WorkResult}
 use Rattle.pos_counter.proofs.Cursors.{NoneApplies, place_opened, place_set}
 use Rattle.pos_counter.proofs.Deeds.{DeedStaysOn, StaysOn, deed_called}
 use Rattle.pos_counter.proofs.Lifts.{match_cases}
@@ -60,9 +45,6 @@ Served category cursor o =
 abbrev Seat : List Device → Category → Place → Option ℕ → Type 0
 Seat devices category cursor place = IfSome place (λ at. Served category cursor (slice_get devices at))
 
-pub same_machine : (m m' : Machine) → m' ≡ m → IsSound m → IsSound m'
-same_machine m m' e s = subst IsSound (sym e) s
-
 -- the cursor has moved to another place of the device
 moved_seat : (ds : List Device) (category : Category) (was now : Place) (device : Option ℕ)
     → (IsPlaceOn (kind_in (device_at ds device)) was → IsPlaceOn (kind_in (device_at ds device)) now) → Seat ds category was device
@@ -74,12 +56,13 @@ moved_seat ds category was now (Some i) moves h = by (slice_get ds i) moves h
     by None moves h = h
     by (Some d) moves h = (h.0, h.1, moves h.2)
 
--- the control that a number has is one with its device
-seat_of : (ds : List Device) (cs : List Control) (n : ℕ) (c : Control) → slice_get cs n ≡ Some c → All (HasItsDevice ds) cs → HasItsDevice ds c
-seat_of ds cs n c e all = subst (HasItsDevice ds) (get_or_from_slice_get cs n c c e) (All-get_or (HasItsDevice ds) cs n c (slice_get_within cs n c e) all)
+-- what all have, the one at a place has
+all_at : {A : Type 0} (P : A → Type 0) (xs : List A) (n : ℕ) (x : A) → slice_get xs n ≡ Some x → All P xs → P x
+all_at P xs n x e all = subst P (get_or_from_slice_get xs n x x e) (All-get_or P xs n x (slice_get_within xs n x e) all)
 
+-- the control that a number has is one with its device
 pub seated : (m : Machine) (n : ℕ) (c : Control) → IsSound m → slice_get m.controls n ≡ Some c → HasItsDevice m.devices c
-seated m n c s e = seat_of m.devices m.controls n c e s.places
+seated m n c s e = all_at (HasItsDevice m.devices) m.controls n c e s.places
 
 -- a control with its device in the place of another
 pub with_control_sound : (m : Machine) (n : ℕ) (c : Control) → HasItsDevice m.devices c → IsSound m → IsSound (with_control m n c)
@@ -88,10 +71,6 @@ with_control_sound m n c h s = record {
   places = All-set (HasItsDevice m.devices) m.controls n c h s.places;
   covers = s.covers;
 }
-
--- the device at a place is of a kind in range, and so is its peripheral
-pub kind_of_device : (ds : List Device) (i : ℕ) (d : Device) → slice_get ds i ≡ Some d → All HasItsKind ds → HasItsKind d
-kind_of_device ds i d e all = subst HasItsKind (get_or_from_slice_get ds i d d e) (All-get_or HasItsKind ds i d (slice_get_within ds i d e) all)
 
 -- what a control finds to open is there, and serves it at the first place
 pub found_seat : (ds : List Device) (category : Category) (place : Option ℕ) → All HasItsKind ds
@@ -102,7 +81,7 @@ found_seat ds category (Some i) kinds = there (slice_get ds i) refl
     pick : (d : Device) → slice_get ds i ≡ Some d → (served attached : Bool) → serves category d.kind ≡ served
         → (is_none d.kind || is_some d.hardware) ≡ attached
         → Seat ds category origin (place_found (cond served (cond attached (finding.At i) finding.Vacant) finding.NotThere))
-    pick d e true true s a = subst (Served category origin) (sym e) (s, a, place_opened d.kind (kind_of_device ds i d e kinds).0)
+    pick d e true true s a = subst (Served category origin) (sym e) (s, a, place_opened d.kind (all_at HasItsKind ds i d e kinds).0)
     pick d e true false s a = tt
     pick d e false true s a = tt
     pick d e false false s a = tt
@@ -168,7 +147,7 @@ hardware_sound : (m : Machine) (cs : List Control) (i : ℕ) (d : Device) (now :
     → IfSome now (λ hardware. d.kind ≡ Some hardware.kind) → All (HasItsDevice (set m.devices i (record d { hardware = now }))) cs → IsSound m
     → IsSound (record m { controls = cs; devices = slice_set m.devices i (record d { hardware = now }) })
 hardware_sound m cs i d now is kind seats s = record {
-  kinds = All-set HasItsKind m.devices i (record d { hardware = now }) ((kind_of_device m.devices i d is s.kinds).0, kind) s.kinds;
+  kinds = All-set HasItsKind m.devices i (record d { hardware = now }) ((all_at HasItsKind m.devices i d is s.kinds).0, kind) s.kinds;
   places = seats;
   covers = s.covers ∙ sym (length-set m.devices i (record d { hardware = now }));
 }
@@ -187,7 +166,7 @@ pub on_hardware_sound : (m m' : Machine) (at : Option ℕ) (Does : ℕ → Effec
     → ((place : ℕ) (before : Hardware) (new : List Control) (after : Hardware) → StandsAt m.devices at before → Does place m.controls before new after
     → Keeps m.devices before m.controls after new) → OnHardware m at Does m' → IsSound m → IsSound m'
 on_hardware_sound m m' at Does keeps o s =
-    let here : HasItsKind o.device = kind_of_device m.devices o.place o.device o.is_device s.kinds in
+    let here : HasItsKind o.device = all_at HasItsKind m.devices o.place o.device o.is_device s.kinds in
     let kind : o.device.kind ≡ Some o.before.kind =
     subst (λ (st : Option Hardware). IfSome st (λ hardware. o.device.kind ≡ Some hardware.kind)) o.is_attached here.1 in
     let stands : StandsAt m.devices at o.before = record {
@@ -195,7 +174,7 @@ on_hardware_sound m m' at Does keeps o s =
       range = subst (λ (k : Option Kind). IfSome k IsInRange) kind here.0;
     } in
     let kept = keeps o.place o.before o.controls o.after stands o.does in
-    same_machine _ m' o.machine (hardware_sound m o.controls o.place o.device (Some o.after) o.is_device (kind ∙ ap Some (sym kept.kind))
+    rw o.machine (hardware_sound m o.controls o.place o.device (Some o.after) o.is_device (kind ∙ ap Some (sym kept.kind))
     (All-weaker (HasItsDevice m.devices) (HasItsDevice (set m.devices o.place (record o.device { hardware = Some o.after })))
     (λ c h. seat_with m.devices o.place o.device (Some o.after) o.is_device c (λ e. refl) h) o.controls (kept.seats s.places)) s)
 
@@ -207,16 +186,13 @@ module _ (ds : List Device) (old : List Control) (before : Hardware) (new : List
     (kind : now.kind ≡ before.kind) where
   -- controls are as they were
   unmoved : new ≡ old → Keeps ds before old after new
-  unmoved same = record {
-    kind = ap (λ (s : Hardware). s.kind) is ∙ kind;
-    seats = λ all. subst (All (HasItsDevice ds)) (sym same) all;
-  }
+  unmoved same = record { kind = ap (λ (s : Hardware). s.kind) is ∙ kind; seats = λ all. rw same all }
 
   -- those that listen change
   listening : (place : ℕ) (change : Control → Control) → KeepsSeats ds change → new ≡ all_listening place change old → Keeps ds before old after new
   listening place change keeps same = record {
     kind = ap (λ (s : Hardware). s.kind) is ∙ kind;
-    seats = λ all. subst (All (HasItsDevice ds)) (sym same) (all_listening_keep ds place change old keeps all);
+    seats = λ all. rw same (all_listening_keep ds place change old keeps all);
   }
 
 pub takes_keeps : (ds : List Device) (i : Input) (place : ℕ) → AllKeep ds (TakesIn i place)
@@ -230,8 +206,8 @@ one_keeps : (ds : List Device) (change : Control → Control) (number : ℕ) (ol
     → ChangesOne change number old new → All (HasItsDevice ds) old → All (HasItsDevice ds) new
 one_keeps ds change number old new keeps h all = elim (match_cases (slice_get old number) _ _ h) [
   | inl x ↦ absurd x.1
-  | inr x ↦ subst (All (HasItsDevice ds)) (sym x.2)
-      (All-set (HasItsDevice ds) old number (change x.0) (keeps x.0 (seat_of ds old number x.0 x.1 all)) all)
+  | inr x ↦ rw x.2
+      (All-set (HasItsDevice ds) old number (change x.0) (keeps x.0 (all_at (HasItsDevice ds) old number x.0 x.1 all)) all)
 ]
 
 -- where nothing has changed
@@ -258,8 +234,8 @@ changes_keep : (ds : List Device) (what : Change) (number : ℕ) (c : Control) (
     → All (HasItsDevice ds) new
 changes_keep ds what number c old new at stays h all =
     let same : new ≡ slice_set old number (changed what c) = MatchOption-at_some ⊥ (λ control. new ≡ slice_set old number (changed what control)) c at h in
-    subst (All (HasItsDevice ds)) (sym same)
-    (All-set (HasItsDevice ds) old number (changed what c) (change_seat ds what c stays (seat_of ds old number c at all)) all)
+    rw same
+    (All-set (HasItsDevice ds) old number (changed what c) (change_seat ds what c stays (all_at (HasItsDevice ds) old number c at all)) all)
 
 -- what a call comes to keeps each control's device
 deed_keeps : (ds : List Device) (d : Deed) (r : Answer) (number place : ℕ) (c : Control) (old : List Control) (before : Hardware) (new : List Control)
@@ -278,7 +254,7 @@ deed_keeps ds (deed.Gives given what) r number place c old before new after at s
         changes_keep ds what number (hears c) h.heard new now
         (cond_both (listens place c) (signs c) c (λ g. StaysOn (kind_in (device_at ds g.device)) g.cursor.place what) (λ on. stays) (λ off. stays))
         follows all
-    by said ordered same all = subst (All (HasItsDevice ds)) (sym same) all
+    by said ordered same all = rw same all
 deed_keeps ds (deed.Changes what) r number place c old before new after at stays h = record {
   kind = ap (λ (s : Hardware). s.kind) h.hardware;
   seats = changes_keep ds what number c old new at stays h.controls;
@@ -316,7 +292,7 @@ works_keep ds holder place outcome old before new after h =
     by work (Ok r) h = worked_keeps ds work place r old before new after h
     by work (Err want) h = same_keeps ds old before new after h
 
-device_keeps : (k : Category) (m : Machine) (asked : Call) (r : Answer) (n place : ℕ) (c : Control) (before : Hardware) (new : List Control)
+pub device_keeps : (k : Category) (m : Machine) (asked : Call) (r : Answer) (n place : ℕ) (c : Control) (before : Hardware) (new : List Control)
     (after : Hardware) → slice_get m.controls n ≡ Some c → serves k (kind_of m c) ≡ true → NoneApplies (device_rows k (kind_of m c) c asked)
     → StandsAt m.devices c.device before → DeviceDoes k (kind_of m c) n c asked r place m.controls before new after
     → Keeps m.devices before m.controls after new
@@ -346,34 +322,11 @@ served_by ds c before stands h = by c.device stands.kind h
         there None h = absurd h
         there (Some d) h = h.0
 
--- totals that have changed leave all else as it was
-other_totals : (m m' : Machine) → m' ≡ record m { totals = m'.totals } → IsSound m → IsSound m'
-other_totals m m' e s = subst IsSound (sym e) (record { kinds = s.kinds; places = s.places; covers = s.covers })
-
--- what a category's call does keeps the machine sound
-pub category_sound : (k : Category) (m m' : Machine) (n : ℕ) (c : Control) (own : Call) (r : Answer) → slice_get m.controls n ≡ Some c
-    → ((before : Hardware) → StandsAt m.devices c.device before → serves k (kind_of m c) ≡ true) → NoneApplies (category_rows k m n c own)
-    → CategoryDoes k m n c own r m' → IsSound m → IsSound m'
-category_sound category.HardTotals m m' n c own r e served allowed h s = other_totals m m' h.1 s
-category_sound k m m' n c own r e served allowed h s =
-    on_hardware_sound m m' c.device _
-    (λ place before new after stands. device_keeps k m own r n place c before new after e (served before stands) allowed stands) h s
-
 -- a control with a property set to what it takes has its device
 pub set_seat : (ds : List Device) (s : Signs) (c : Control) (p : Property) (v : Value) → takes (kind_in (device_at ds c.device)) p v ≡ true
     → HasItsDevice ds c → HasItsDevice ds (after_set s c p v)
 set_seat ds s c p v may h = moved_seat ds c.category c.cursor.place (cursor_after c.cursor p v).place c.device
     (place_set (kind_in (device_at ds c.device)) c.cursor p v may) h
-
-pub set_sound : (m m' : Machine) (n : ℕ) (c : Control) (p : Property) (v : Value) (r : Answer) (b : Bool) → takes (kind_of m c) p v ≡ true
-    → slice_get m.controls n ≡ Some c → MatchBool b (SetsByRecovery m n c p v r m') (Sets m n c p v r m') → IsSound m → IsSound m'
-set_sound m m' n c p v r false may e h s =
-    same_machine _ m' h.1
-    (with_control_sound m n (after_set (signs_at m c) c p v) (set_seat m.devices (signs_at m c) c p v may (seated m n c s e)) s)
-set_sound m m' n c p v r true may e (inl h) s =
-    let there = with_control_sound m n (after_set (signs_at m c) c p v) (set_seat m.devices (signs_at m c) c p v may (seated m n c s e)) s in
-    same_machine _ m' h.2 (record { kinds = there.kinds; places = there.places; covers = there.covers })
-set_sound m m' n c p v r true may e (inr h) s = other_totals m m' h.1 s
 
 -- a control that has released its device still has it open
 pub released_seat : (ds : List Device) (k : Category) (c : Control) → HasItsDevice ds c → HasItsDevice ds (after_release k c)
@@ -382,7 +335,7 @@ released_seat ds k c h = cond_both (is_exclusive k) (stopped c) c (HasItsDevice 
 -- a device that gets a peripheral of its kind keeps each control's device
 pub attached_sound : (m m' : Machine) (name : List ℕ) (hardware : Hardware) → IsAttached m name hardware m' → IsSound m → IsSound m'
 attached_sound m m' name hardware o s =
-    same_machine _ m' o.machine (hardware_sound m m.controls o.place o.device (Some hardware) o.is_device o.kind
+    rw o.machine (hardware_sound m m.controls o.place o.device (Some hardware) o.is_device o.kind
     (All-weaker (HasItsDevice m.devices) (HasItsDevice (set m.devices o.place (record o.device { hardware = Some hardware })))
     (λ c h. seat_with m.devices o.place o.device (Some hardware) o.is_device c (λ e. refl) h) m.controls s.places) s)
 
@@ -403,5 +356,5 @@ seats_elsewhere ds i d (c ∷ cs) is none all =
 -- a device that no control has open may lose its peripheral
 pub detached_sound : (m m' : Machine) (name : List ℕ) (hardware : Hardware) → IsDetached m name hardware m' → IsSound m → IsSound m'
 detached_sound m m' name hardware o s =
-    same_machine _ m' o.machine (hardware_sound m m.controls o.place o.device None o.is_device tt
+    rw o.machine (hardware_sound m m.controls o.place o.device None o.is_device tt
     (seats_elsewhere m.devices o.place o.device m.controls o.is_device o.is_closed s.places) s)

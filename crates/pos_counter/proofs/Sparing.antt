@@ -1,30 +1,14 @@
 -- Requests that spare the disk are steps whatever the disk is.
-use Rattle.std.proofs.Common.{◌≡◌, ◌⊎◌, ◌∙◌, ◌&&◌, inl, inr, ⊎_elim, ℕ, List, [], ◌∷◌, Option, Some, None, true, false, not, ap, sym, subst, refl}
-use Rattle.std.specs.Prelude.{IsSome, is_some, slice_get}
-use Rattle.pos_service.specs.declared.call.Call.{Call}
+use Rattle.pos_counter.proofs.Common.{◌&&◌, AllSpare, Answer, AsksNothing, Call, CallOf, Category, ChangesTotalsAlone, Control, Counter, DiskGhosts, Ghosts}
+use Rattle.pos_counter.proofs.Common.{IsRun, IsSettled, IsSome, List, Machine, None, Nothing, Option, Request, Response, Run, RunSparing, RunsAnyhow, Some}
+use Rattle.pos_counter.proofs.Common.{Spared, SparesDisk, Standing, Step, StepSparing, TotalsPart, [], ap, changes_asked, false, file_call, first_refusal, inl}
+use Rattle.pos_counter.proofs.Common.{inr, is_enabling, is_ready, is_some, is_totals, machine_of_counter, not, part_with, refl, refusals, settled, slice_get}
+use Rattle.pos_counter.proofs.Common.{subst, sym, ℕ, ◌∙◌, ◌∷◌, ◌≡◌, ◌⊎◌, ⊎_elim}
 use Rattle.pos_service.specs.declared.call.Call.TheVariants as call
-use Rattle.pos_service.specs.declared.category.Category.{Category}
 use Rattle.pos_service.specs.declared.category.Category.TheVariants as category
-use Rattle.pos_service.specs.declared.peripheral.Peripheral.{Ghosts}
-use Rattle.pos_service.specs.Controls.{Control}
-use Rattle.pos_service.specs.declared.answer.Answer.{Answer}
-use Rattle.pos_service.specs.Refusals.{first_refusal}
-use Rattle.pos_disk.specs.declared.device.Disk.{Ghosts as DiskGhosts}
-use Rattle.pos_store.specs.Standing.{Standing}
-use Rattle.pos_totals.specs.HardTotals.{is_ready}
-use Rattle.pos_counter.specs.declared.counter.Counter.{Counter}
-use Rattle.pos_counter.specs.Counters.{machine as machine_of_counter, IsRun, RunsAnyhow}
-use Rattle.pos_totals.specs.TotalsCalls.{Nothing, file_call}
-use Rattle.pos_counter.specs.History.{changes_asked}
-use Rattle.pos_counter.specs.DiskUse.{AsksNothing, ChangesTotalsAlone, SparesDisk}
-use Rattle.pos_counter.specs.Leaving.{part_with, IsSettled, Spared}
-use Rattle.pos_counter.specs.Machine.{Machine}
-use Rattle.pos_counter.specs.Sparing.{AllSpare, RunSparing, StepSparing}
-use Rattle.pos_counter.specs.Steps.{CallOf, Request, Response, Run, Step, refusals}
-use Rattle.pos_counter.specs.Totals.{TotalsPart, is_enabling, is_totals, settled}
-use Rattle.pos_counter.proofs.PrefixSteps.{none_of_totals, own_of}
-use Rattle.pos_counter.proofs.Serving.{settled_twice}
-use Rattle.pos_counter.proofs.Lifts.{match_at_some, match_weaker}
+use Rattle.pos_counter.proofs.Leaving.{settled_twice}
+use Rattle.pos_counter.proofs.Lifts.{match_weaker}
+use Rattle.pos_counter.proofs.Steps.{none_of_totals, own_of}
 
 -- ---- runs
 
@@ -91,7 +75,7 @@ asks_none part n c asked other none = ap (changes_asked part.totals n) none
 -- a call of another category spares the disk
 pub spares_elsewhere : (m : Machine) (n : ℕ) (c : Control) (asked : Call) → slice_get m.controls n ≡ Some c → (c.category ≡ category.HardTotals → ⊥)
     → SparesDisk m (CallOf n asked)
-spares_elsewhere m n c asked at other = match_at_some _ c _ _ at (by (first_refusal (refusals m n c asked)) refl)
+spares_elsewhere m n c asked found other = rw found (by (first_refusal (refusals m n c asked)) refl)
   where
     elsewhere : is_totals c.category ≡ false
     elsewhere = not_totals c.category other

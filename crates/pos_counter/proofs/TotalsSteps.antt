@@ -1,36 +1,16 @@
 -- A call of the totals' own as a step of the machine.
-use Rattle.std.proofs.Common.{◌≡◌, ◌⊎◌, inl, inr, ℕ, List, [], Option, Some, Result, Ok, Err, false, refl, sym, ap, ◌∙◌, subst}
-use Rattle.std.specs.Prelude.{MatchOption, IsSome, slice_get, ⊤}
-use Rattle.pos_disk.specs.declared.device.Disk.{Ghosts as DiskGhosts}
-use Rattle.pos_service.specs.declared.peripheral.Peripheral.{Ghosts}
-use Rattle.pos_service.specs.declared.answer.Answer.{Answer}
+use Rattle.pos_counter.proofs.Common.{Answer, AsksNothing, Call, CallOf, CallsFiles, CategoryDoes, Control, Counter, DiskGhosts, Err, FilesCalled, Ghosts}
+use Rattle.pos_counter.proofs.Common.{IsCounterSound, IsReady, IsUndone, List, Machine, Mode, NoMemory, Off, Ok, Ready, Result, Serves, Some, SparesDisk}
+use Rattle.pos_counter.proofs.Common.{SparesFiles, Standing, Step, TotalsPart, TotalsView, TurnsOff, [], answered, ap, category_rows, changes_asked}
+use Rattle.pos_counter.proofs.Common.{controls_of, false, file_call, file_rows, first_refusal, inl, inr, is_common, machine, outcome, part_of, part_with, refl}
+use Rattle.pos_counter.proofs.Common.{refusals, slice_get, subst, sym, ℕ, ◌∙◌, ◌≡◌}
 use Rattle.pos_service.specs.declared.answer.Answer.TheVariants as answer
-use Rattle.pos_service.specs.declared.call.Call.{Call}
 use Rattle.pos_service.specs.declared.call.Call.TheVariants as call
 use Rattle.pos_service.specs.declared.category.Category.TheVariants as category
-use Rattle.pos_service.specs.declared.memory.NoMemory.{NoMemory}
-use Rattle.pos_service.specs.Calls.{is_common}
-use Rattle.pos_service.specs.Controls.{Control}
-use Rattle.pos_totals.specs.HardTotals.{Mode, Off, Ready}
-use Rattle.pos_service.specs.Refusals.{first_refusal}
-use Rattle.pos_totals.specs.TotalsCalls.{file_call, file_rows}
-use Rattle.pos_common.specs.KeptControls.{controls_of}
-use Rattle.pos_store.specs.Standing.{Standing}
 use Rattle.pos_totals.specs.Changes.{IsDone}
-use Rattle.pos_totals.specs.Views.{IsReady, TotalsView, TurnsOff}
-use Rattle.pos_counter.specs.Machine.{Machine}
-use Rattle.pos_counter.specs.Leaving.{part_of, part_with}
-use Rattle.pos_counter.specs.FileCalls.{CallsFiles}
-use Rattle.pos_counter.specs.Counters.{machine, IsCounterSound, Serves}
-use Rattle.pos_counter.specs.declared.counter.Counter.{Counter}
-use Rattle.pos_counter.specs.Responses.{answered}
-use Rattle.pos_counter.specs.Steps.{CallOf, Step, CategoryDoes, category_rows, refusals}
-use Rattle.pos_counter.specs.DiskUse.{AsksNothing, IsUndone, SparesDisk, SparesFiles}
-use Rattle.pos_counter.specs.History.{changes_asked}
-use Rattle.pos_counter.specs.Totals.{TotalsPart, FilesCalled}
-use Rattle.pos_counter.proofs.Lifts.{match_at_some, match_by, match_weaker}
+use Rattle.pos_counter.proofs.Hardware.{IsLet, let_refusals, own_call}
+use Rattle.pos_counter.proofs.Lifts.{decided_step}
 use Rattle.pos_counter.proofs.Serving.{OnlyNow, quiet_serves}
-use Rattle.pos_counter.proofs.Hardware.{IsLet, let_refusals, own_does, own_takes}
 
 -- behind the check of an open control of Hard Totals, the totals' refusals decide
 totals_refusals : (m : Machine) (n : ℕ) (c : Control) (asked : Call) → is_common asked ≡ false → c.category ≡ category.HardTotals → IsLet m n c asked
@@ -42,17 +22,13 @@ called_step : (m : Machine) (part : TotalsPart) (n : ℕ) (c : Control) (asked :
     → slice_get m.controls n ≡ Some c → c.category ≡ category.HardTotals → IsLet m n c asked
     → FilesCalled n asked m.totals outcome part → Step m (CallOf n asked) (answered outcome) (record m { totals = part })
 called_step m part n c asked (Ok result) own at is lets h =
-    match_at_some _ c _ _ at (record {
-      outcome = match_by _ _ _ _ (totals_refusals m n c asked own is lets)
-          (match_weaker (first_refusal (file_rows m.totals.totals n (file_call asked))) _ _ _ _
-          (λ does. own_does m n c asked result (record m { totals = part }) own
-          (subst (λ k. CategoryDoes k m n c asked result (record m { totals = part })) (sym is) (does, refl)))
-          (λ refusal y. (y.0, ap (λ (p : TotalsPart). let o : Machine = record m { totals = p } in o) y.1))
-          h.outcome);
-    })
-called_step m part n c asked (Err want) own at is lets h =
-    match_at_some _ c _ _ at (
-      own_takes m c asked own h.0,
+    decided_step m (record m { totals = part }) n c asked result _ _ _ at (totals_refusals m n c asked own is lets)
+    (ap (λ (p : TotalsPart). let o : Machine = record m { totals = p } in o))
+    (λ does. (own_call m n c asked own).does result (record m { totals = part })
+    (subst (λ k. CategoryDoes k m n c asked result (record m { totals = part })) (sym is) (does, refl))) h
+called_step m part n c asked (Err want) own found is lets h =
+    rw found (
+      (own_call m n c asked own).takes h.0,
       totals_refusals m n c asked own is lets ∙ h.1,
       ap (λ (p : TotalsPart). let o : Machine = record m { totals = p } in o) h.2,
     )
@@ -66,14 +42,10 @@ asks_no_change part n c asked own asks = asks
 -- behind its control's check, it leaves the disk alone exactly where the totals do
 spares_own : (m : Machine) (n : ℕ) (c : Control) (asked : Call) → is_common asked ≡ false → slice_get m.controls n ≡ Some c
     → c.category ≡ category.HardTotals → IsLet m n c asked → SparesDisk m (CallOf n asked) → SparesFiles m.totals.totals n (file_call asked)
-spares_own m n c asked own at is lets spares = by_row (subst (λ (o : Option Control). MatchOption o ⊤ Spares) at spares)
-  where
-    Spares : Control → Type 0
-    Spares k = IsSome (first_refusal (refusals m n k asked)) ⊎ AsksNothing m.totals n k asked
-
-    by_row : Spares c → SparesFiles m.totals.totals n (file_call asked)
-    by_row (inl refused) = inl (subst IsSome (totals_refusals m n c asked own is lets) refused)
-    by_row (inr asks) = inr (asks_no_change m.totals n c asked own asks)
+spares_own m n c asked own found is lets spares = elim (rw found at spares) [
+  | inl refused ↦ inl (rw (totals_refusals m n c asked own is lets) at refused)
+  | inr asks ↦ inr (asks_no_change m.totals n c asked own asks)
+]
 
 -- what isn't answered to be done wasn't done
 not_done : (outcome : Result Answer NoMemory) → IsUndone (answered outcome) → IsDone outcome → ⊥
@@ -98,20 +70,20 @@ files_serve bound peripherals old now n c asked outcome own at is lets only (inl
     sound sound.devices
     (λ left failures so. called_step (machine peripherals old (part_with old.totals.totals left failures)) (part_with now.totals left failures) n c asked
     outcome own at is (lets left failures) (quiet.answer left failures so))
-files_serve bound peripherals old now n c asked outcome own at is lets only (inr puts) sound = record {
+files_serve bound peripherals old now n c asked outcome own found is lets only (inr puts) sound = record {
   step = record {
     steps = λ left leaves.
         let f = puts.steps left leaves in
         record {
           after = f.after;
           leaves = f.leaves;
-          step = called_step (machine peripherals old (part_of bound old.totals left)) (part_of bound now f.after) n c asked outcome own at is
+          step = called_step (machine peripherals old (part_of bound old.totals left)) (part_of bound now f.after) n c asked outcome own found is
               (lets left (bound.state old.totals.disk).failures) f.answer;
           any_moment = f.any_moment;
         };
     spared = λ left failures spares.
-        absurd (puts.uses (spares_own (machine peripherals old (part_with old.totals.totals left failures)) n c asked own at is (lets left failures) spares));
-    otherwise = λ left failures. inr (match_at_some _ c _ _ at (is, inl refl));
+        absurd (puts.uses (spares_own (machine peripherals old (part_with old.totals.totals left failures)) n c asked own found is (lets left failures) spares));
+    otherwise = λ left failures. inr (rw found (is, inl refl));
     unchanged = λ undone was ready. elim (puts.unchanged (not_done outcome undone)) [
       | inl turns ↦ absurd (still_ready old.totals.totals.mode now.totals.mode turns ready)
       | inr same ↦ same

@@ -1,6 +1,4 @@
-use Rattle.std.proofs.Common.{get_or}
-use Rattle.pos_service.specs.Hardware.{hardware_of}
-use Rattle.pos_common.specs.KeptControls.{controls_of}
+use Rattle.pos_counter.proofs.Common.{controls_of, get_or, hardware_of}
 use Rattle.pos_counter.proofs.Deeds.{called_done, called_refused}
 use Rattle.pos_counter.proofs.Lifts.{control_at}
 use Rattle.pos_counter.proofs.calls.call_device.Goals as goal

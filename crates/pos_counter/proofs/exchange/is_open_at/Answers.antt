@@ -1,4 +1,4 @@
-use Rattle.std.proofs.Common.{◌∙◌, sym, true, false}
+use Rattle.pos_counter.proofs.Common.{false, sym, true, ◌∙◌}
 use Rattle.pos_counter.proofs.Exchanging.{open_end, open_next}
 use Rattle.pos_counter.proofs.exchange.is_open_at.Goals as goal
 

@@ -1,6 +1,4 @@
-use Rattle.std.proofs.Common.{◌≡◌, drop}
-use Rattle.pos_common.specs.KeptControls.{controls_of}
-use Rattle.pos_counter.specs.Steps.{is_open_at}
+use Rattle.pos_counter.proofs.Common.{controls_of, drop, is_open_at, ◌≡◌}
 use Rattle.pos_counter.proofs.exchange.is_open_at.Given as goal
 
 -- no control before the place has the device open

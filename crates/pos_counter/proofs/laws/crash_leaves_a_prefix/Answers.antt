@@ -1,4 +1,6 @@
 -- A crash of a counter's disk leaves a prefix of the history.
+use Rattle.pos_service.specs.declared.request.Request.TheVariants as request
+use Rattle.pos_service.specs.declared.request.Response.TheVariants as response
 use Rattle.pos_counter.proofs.PrefixCounters.{has_begun, keeps_prefix, keeps_prefixes}
 use Rattle.pos_counter.proofs.Runs.{runs_from}
 use Rattle.pos_counter.proofs.Serving.{beside_is_step}
@@ -21,4 +23,4 @@ returns-clause-moments g c left steps old leaves run =
 
 pub returns-clause-beside : goal.returns-clause-beside
 returns-clause-beside g c old request response step =
-    beside_is_step g.D.Disk _ old c.args.counter.now request response (λ bytes honest since. g.met.D.Disk.only_now old.totals.disk bytes honest since) step
+    beside_is_step g.D.Disk _ old c.args.counter.now request response (g.met.D.Disk.only_now _) step

@@ -1,7 +1,7 @@
 -- A crash leaves a prefix of the history.
-use Rattle.pos_counter.specs.History.{begun}
-use Rattle.pos_counter.proofs.Prefixes.{fits_begun, grows}
+use Rattle.pos_counter.proofs.Common.{begun, refl}
 use Rattle.pos_counter.proofs.PrefixRuns.{bytes_along, law_after, law_files, law_inside, law_recovers}
+use Rattle.pos_counter.proofs.Prefixes.{fits_start, grows}
 use Rattle.pos_counter.proofs.laws.crash_prefix.Goals as goal
 
 pub returns-clause-after : goal.returns-clause-after
@@ -13,7 +13,7 @@ returns-clause-inside c layout start sequence first old steps run request respon
 
 pub returns-clause-along : goal.returns-clause-along
 returns-clause-along c layout start sequence first last steps run is =
-    bytes_along (begun layout start) first steps last run (fits_begun layout start sequence first.totals is)
+    bytes_along (begun layout start) first steps last run (fits_start (begun layout start) start sequence first.totals refl is)
 
 pub returns-clause-files : goal.returns-clause-files
 returns-clause-files c layout start sequence first last steps run is = law_files layout start sequence first last steps run is

@@ -1,4 +1,5 @@
 -- Which requests spare the disk.
+use Rattle.pos_counter.proofs.Common.{machine}
 use Rattle.pos_counter.proofs.Sparing.{all_spare_run, spares_elsewhere}
 use Rattle.pos_counter.proofs.laws.most_requests_spare_the_disk.Goals as goal
 

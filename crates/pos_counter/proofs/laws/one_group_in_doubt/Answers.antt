@@ -1,5 +1,5 @@
 -- The example's runs.
-use Rattle.pos_counter.proofs.PrefixExamples.{may_doubt, may_keep, may_drop}
+use Rattle.pos_counter.proofs.PrefixExamples.{may_doubt, may_drop, may_keep}
 use Rattle.pos_counter.proofs.laws.one_group_in_doubt.Goals as goal
 
 pub returns-clause-doubt : goal.returns-clause-doubt

@@ -1,4 +1,4 @@
-use Rattle.std.proofs.Common.{refl}
+use Rattle.pos_counter.proofs.Common.{refl}
 use Rattle.pos_counter.proofs.FileCalls.{calls_files}
 use Rattle.pos_counter.proofs.totals_calls.call_files.Goals as goal
 

@@ -1,4 +1,4 @@
-use Rattle.pos_profile.specs.Registries.{devices as registered}
+use Rattle.pos_counter.proofs.Common.{registered}
 use Rattle.pos_counter.proofs.DeviceLists.{done_there, may_go_back}
 use Rattle.pos_counter.proofs.working.work_there.Goals as goal
 

@@ -1,10 +1,6 @@
-use Rattle.std.proofs.Common.{◌≡◌, ◌∙◌, ◌++◌, ◌∷◌, ◌<◌, [], List, ap, length, refl, arith}
-use Rattle.pos_common.specs.KeptControls.{KeptControl}
+use Rattle.pos_counter.proofs.Common.{◌++◌, ◌<◌, KeptControl, List, [], ap, arith, devices_in, length, machine_with, most_controls, part_with, refl, ◌∙◌, ◌∷◌}
+use Rattle.pos_counter.proofs.Common.{◌≡◌}
 use Rattle.pos_totals.specs.HardTotals.{with_control}
-use Rattle.pos_counter.specs.KeptDevices.{devices_in}
-use Rattle.pos_counter.specs.Leaving.{part_with}
-use Rattle.pos_counter.specs.Machine.{machine_with}
-use Rattle.pos_counter.specs.Steps.{most_controls}
 use Rattle.pos_counter.proofs.Lifts.{made_step}
 use Rattle.pos_counter.proofs.Serving.{quiet_step, same_sound, spared_sound}
 use Rattle.pos_counter.proofs.counter.Counter.control.Goals as goal
@@ -23,7 +19,7 @@ returns-in-Ok-clause-step g c =
     let room : c.len-number.result < most_controls = omega arith in
     let items = c.push_reserved.ensures.items ∙ ap (λ (ks : List KeptControl). ks ++ c.new.result ∷ []) c.reserve.ensures.items in
     quiet_step g.D.Disk g.P.Peripheral old _ _ _ (with_control old.totals.totals)
-    (λ bytes honest since. g.met.D.Disk.only_now old.totals.disk bytes honest since) c.add_control.ensures.disk c.in-Ok.ensures.ok (λ left. refl)
+    (g.met.D.Disk.only_now _) c.add_control.ensures.disk c.in-Ok.ensures.ok (λ left. refl)
     (λ left failures so. made_step hs c.push_reserved.new.self.items old.claims (devices_in g.P.Peripheral old.devices)
     (part_with old.totals.totals left failures) c.args.category c.new.result c.len-number.result room many items c.new.ensures)
 

@@ -1,6 +1,5 @@
-use Rattle.std.proofs.Common.{◌<◌, length, refl, arith}
-use Rattle.pos_counter.specs.KeptDevices.{devices_in}
-use Rattle.pos_counter.proofs.Lifts.{kept_at, match_at_some, set_machine}
+use Rattle.pos_counter.proofs.Common.{◌<◌, arith, devices_in, length, refl}
+use Rattle.pos_counter.proofs.Lifts.{kept_at, set_machine}
 use Rattle.pos_counter.proofs.Serving.{beside_sound}
 use Rattle.pos_counter.proofs.counter.Counter.deliver.Goals as goal
 
@@ -11,7 +10,7 @@ returns-clause-step g c =
     let h = c.index_mut.result.now in
     let within : c.args.number < length hs = omega (arith, old.controls.ok.0) in
     record {
-      step = λ part. match_at_some _ h.control _ _ (kept_at hs c.args.number h within c.index_mut.ensures.value) (
+      step = λ part. rw (kept_at hs c.args.number h within c.index_mut.ensures.value) (
         c.deliver.ensures.event,
         set_machine hs old.claims (devices_in g.P.Peripheral old.devices) part c.args.number c.deliver.new.self _ c.deliver.ensures.rest,
       );

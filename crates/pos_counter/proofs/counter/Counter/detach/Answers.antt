@@ -1,5 +1,4 @@
-use Rattle.std.proofs.Common.{refl}
-use Rattle.pos_profile.specs.Registries.{devices as registered}
+use Rattle.pos_counter.proofs.Common.{refl, registered}
 use Rattle.pos_counter.proofs.Exchanging.{detach_step}
 use Rattle.pos_counter.proofs.Serving.{beside_sound}
 use Rattle.pos_counter.proofs.counter.Counter.detach.Goals as goal

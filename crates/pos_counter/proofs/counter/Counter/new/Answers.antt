@@ -1,10 +1,6 @@
-use Rattle.std.proofs.Common.{◌≡◌, ◌∙◌, ℕ, List, [], Option, None, ap, length, replicate, subst, sym, refl}
+use Rattle.pos_counter.proofs.Common.{Device, IsSound, KeptControl, List, None, Option, [], ap, devices_in, length, machine_with, profile_devices, refl}
+use Rattle.pos_counter.proofs.Common.{registered, replicate, subst, sym, ℕ, ◌∙◌, ◌≡◌}
 use Rattle.std.proofs.lemmas.List.{length-replicate}
-use Rattle.pos_common.specs.KeptControls.{KeptControl}
-use Rattle.pos_profile.specs.Registries.{devices as registered}
-use Rattle.pos_counter.specs.Machine.{Device, machine_with}
-use Rattle.pos_counter.specs.KeptDevices.{devices_in, profile_devices}
-use Rattle.pos_counter.specs.Steps.{IsSound}
 use Rattle.pos_counter.proofs.Beginning.{begins_sound, count_devices}
 use Rattle.pos_counter.proofs.counter.Counter.new.Goals as goal
 

@@ -1,18 +1,14 @@
-use Rattle.std.proofs.Common.{refl}
-use Rattle.pos_counter.specs.KeptDevices.{devices_in}
-use Rattle.pos_counter.proofs.Lifts.{match_at_some, kept_at, decided_at}
-use Rattle.pos_counter.proofs.Serving.{quiet_serves}
+use Rattle.pos_counter.proofs.Common.{refl}
+use Rattle.pos_counter.proofs.Lifts.{decided_weaker, kept_at, kept_machine, set_machine}
+use Rattle.pos_counter.proofs.Serving.{stays_serves}
 use Rattle.pos_counter.proofs.counter.Counter.open.Goals as goal
 
 pub returns : goal.returns
 returns g c =
     let old = c.args.self.now in
-    let hs = old.controls.items in
-    let ds = devices_in g.P.Peripheral old.devices in
-    let n = c.args.number in
-    let h = c.index_mut-control.result.now in
-    quiet_serves g.D.Disk g.P.Peripheral old _ _ _ old.totals.totals (λ bytes honest since. g.met.D.Disk.only_now old.totals.disk bytes honest since)
-    refl refl (λ left. refl) c.requires.sound c.requires.sound.devices
-    (λ left failures so. match_at_some _ _ _ _ (kept_at hs n h c.requires.in_range c.index_mut-control.ensures.value)
-    (decided_at hs ds old.claims _ n c.open.new.self h _ _ _ _ c.index_mut-control.ensures.value
+    let is = c.index_mut-control.ensures.value in
+    stays_serves g.D.Disk g.P.Peripheral old (g.met.D.Disk.only_now _) c.requires.sound _ _ _ refl c.requires.sound.devices
+    (λ part. rw (kept_at old.controls.items c.args.number c.index_mut-control.result.now c.requires.in_range is)
+    (decided_weaker (λ done. (done.0, set_machine _ _ _ part c.args.number c.open.new.self _ done.1))
+    (λ same. kept_machine _ _ _ part c.args.number c.open.new.self c.index_mut-control.result.now same is)
     (simp (c.find_for-found.ensures, c.category.ensures) at c.open.ensures)))

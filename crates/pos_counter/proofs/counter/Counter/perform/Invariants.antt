@@ -1,8 +1,6 @@
-use Rattle.std.proofs.Common.{◌≡◌, ◌≤◌, ◌++◌, ℕ, List, length, reverse}
-use Rattle.std.specs.Prelude.{All, vec_capacity}
+use Rattle.pos_counter.proofs.Common.{◌++◌, All, HandsOut, IsCounterSound, IsRun, List, OffersInService, length, reverse, steps_of, ℕ, ◌≡◌, ◌≤◌}
+use Rattle.std.specs.Prelude.{vec_capacity}
 use Rattle.pos_service.specs.declared.request.Request.{Request}
-use Rattle.pos_counter.specs.Responses.{HandsOut, OffersInService, steps_of}
-use Rattle.pos_counter.specs.Counters.{IsCounterSound, IsRun}
 use Rattle.pos_counter.proofs.counter.Counter.perform.Given as goal
 
 -- the requests that were carried out are a run, those that wait are the others, and there is room for their responses

@@ -1,8 +1,5 @@
-use Rattle.std.proofs.Common.{◌≡◌, ◌∙◌, ap, map, sym, subst, true}
-use Rattle.std.specs.Prelude.{All, IfSome}
-use Rattle.pos_profile.specs.Registries.{Device as Registered, devices as registered}
-use Rattle.pos_counter.specs.KeptDevices.{device_of}
-use Rattle.pos_counter.proofs.Parking.{devices_stay, all_parked}
+use Rattle.pos_counter.proofs.Common.{All, IfSome, Registered, ap, device_of, map, registered, subst, sym, true, ◌∙◌, ◌≡◌}
+use Rattle.pos_counter.proofs.Parking.{all_parked, devices_stay}
 use Rattle.pos_counter.proofs.counter.Counter.shutdown.Goals as goal
 
 pub returns-clause-entries : goal.returns-clause-entries

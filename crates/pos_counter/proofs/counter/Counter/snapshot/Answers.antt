@@ -1,8 +1,4 @@
-use Rattle.std.proofs.Common.{◌≡◌, Option, ap, sym, subst, refl}
-use Rattle.std.specs.Prelude.{is_some, IfSome}
-use Rattle.pos_profile.specs.Registries.{devices as registered}
-use Rattle.pos_service.specs.Hardware.{Hardware}
-use Rattle.pos_counter.specs.Counters.{machine}
+use Rattle.pos_counter.proofs.Common.{ap, is_some, machine, refl, sym}
 use Rattle.pos_counter.proofs.DeviceLists.{found_under_name}
 use Rattle.pos_counter.proofs.Hardware.{unnamed}
 use Rattle.pos_counter.proofs.counter.Counter.snapshot.Goals as goal
@@ -15,19 +11,15 @@ returns-in_default g c = record {
 
 pub returns-in_default-peripheral : goal.returns-in_default-peripheral
 returns-in_default-peripheral g c =
-    let devices = c.args.self.now.devices in
-    let none = found_under_name (registered g.P.Peripheral devices.registry) devices.totals _ _ _ c.in-Some.ensures c.in_default-peripheral.ensures in
+    let none = found_under_name _ c.args.self.now.devices.totals _ _ _ c.in-Some.ensures c.in_default-peripheral.ensures in
     record { step = λ part. (none, refl); totals = refl }
 
 pub returns-in-Ok : goal.returns-in-Ok
 returns-in-Ok g c =
-    let devices = c.args.self.now.devices in
-    let there = found_under_name (registered g.P.Peripheral devices.registry) devices.totals _ _ _ c.in-Some.ensures c.in-Some-peripheral.ensures in
-    let plant = subst (λ (o : Option Hardware). IfSome o (λ hardware. hardware.plant ≡ c.in-Ok.snapshot.0)) (sym there) (sym c.in-Ok.ensures) in
-    record { step = λ part. (plant, ap is_some there, refl); totals = refl }
+    let there = found_under_name _ c.args.self.now.devices.totals _ _ _ c.in-Some.ensures c.in-Some-peripheral.ensures in
+    record { step = λ part. (rw there (sym c.in-Ok.ensures), ap is_some there, refl); totals = refl }
 
 pub returns-in-Err : goal.returns-in-Err
 returns-in-Err g c =
-    let devices = c.args.self.now.devices in
-    let there = found_under_name (registered g.P.Peripheral devices.registry) devices.totals _ _ _ c.in-Some.ensures c.in-Some-peripheral.ensures in
+    let there = found_under_name _ c.args.self.now.devices.totals _ _ _ c.in-Some.ensures c.in-Some-peripheral.ensures in
     record { step = λ part. (ap is_some there, refl); totals = refl }

@@ -1,5 +1,4 @@
-use Rattle.std.proofs.Common.{◌∙◌, sym}
-use Rattle.pos_profile.specs.Registries.{devices as registered}
+use Rattle.pos_counter.proofs.Common.{registered, sym, ◌∙◌}
 use Rattle.pos_counter.proofs.Places.{found_first, found_last}
 use Rattle.pos_counter.proofs.devices.Devices.find.Goals as goal
 

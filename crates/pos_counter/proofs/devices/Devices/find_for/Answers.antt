@@ -1,5 +1,4 @@
-use Rattle.std.proofs.Common.{sym}
-use Rattle.pos_counter.specs.KeptDevices.{devices_in}
+use Rattle.pos_counter.proofs.Common.{devices_in, sym}
 use Rattle.pos_counter.proofs.Places.{found_there}
 use Rattle.pos_counter.proofs.devices.Devices.find_for.Goals as goal
 
