@@ -27,7 +27,7 @@ use Rattle.pos_service.specs.Refusals.{first_refusal}
 use Rattle.pos_service.specs.declared.answer.Answer.{Answer}
 use Rattle.pos_service.specs.declared.code.Code.{Code}
 use Rattle.pos_service.specs.declared.memory.NoMemory.{NoMemory}
-use Rattle.pos_service.specs.Calls.{serves}
+use Rattle.pos_service.specs.Categories.{serves}
 use Rattle.pos_service.specs.Deeds.{Does as CarriesOut, MayWantFor, may_want}
 use Rattle.pos_service.specs.Hardware.{SameHardware, Hardware}
 use Rattle.pos_counter.specs.AtDevices.{CallsAt, CallsFor}

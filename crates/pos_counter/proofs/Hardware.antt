@@ -11,7 +11,8 @@ use Rattle.pos_service.specs.declared.category.Category.TheVariants as category
 use Rattle.pos_service.specs.declared.kind.Kind.{Kind}
 use Rattle.pos_service.specs.declared.memory.NoMemory.{NoMemory}
 use Rattle.pos_service.specs.declared.worked.Worked.TheVariants as worked
-use Rattle.pos_service.specs.Calls.{serves, has_call, is_common, needs_of, takes_memory as own_takes_memory}
+use Rattle.pos_service.specs.Calls.{has_call, is_common, needs_of, takes_memory as own_takes_memory}
+use Rattle.pos_service.specs.Categories.{serves}
 use Rattle.pos_service.specs.Claims.{holder_at}
 use Rattle.pos_service.specs.Controls.{Control}
 use Rattle.pos_service.specs.Needs.{table}

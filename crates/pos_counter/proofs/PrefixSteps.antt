@@ -18,7 +18,8 @@ use Rattle.pos_service.specs.declared.code.Code.TheVariants as code
 use Rattle.pos_service.specs.declared.property.Property.{Property}
 use Rattle.pos_service.specs.Claims.{after_release}
 use Rattle.pos_service.specs.Controls.{Control, closed}
-use Rattle.pos_service.specs.Calls.{has_call, is_category, is_common, needs_of, row_of}
+use Rattle.pos_service.specs.Calls.{has_call, is_common, needs_of, row_of}
+use Rattle.pos_service.specs.Categories.{is_category}
 use Rattle.pos_service.specs.Needs.{table}
 use Rattle.pos_totals.specs.HardTotals.{File, Totals, Mode, Off, Ready, Change, IsAmong, sequences_after, files_of, is_ready, with_files, with_transaction}
 use Rattle.pos_totals.specs.HardTotals.{changes_in, in_transaction, transaction_of, after_disk_fault}

@@ -23,7 +23,8 @@ use Rattle.pos_service.specs.declared.property.Property.TheVariants as property
 use Rattle.pos_service.specs.declared.signs.Signs.{Signs}
 use Rattle.pos_service.specs.Needs.{needs_holder, needs_no_other}
 use Rattle.pos_service.specs.Properties.{set_rows, after_set, needs_to_set, takes, tells_power}
-use Rattle.pos_service.specs.Controls.{Control, reports_power}
+use Rattle.pos_service.specs.Controls.{Control}
+use Rattle.pos_service.specs.Categories.{reports_power}
 use Rattle.pos_service.specs.Hardware.{signs_in}
 use Rattle.pos_totals.specs.HardTotals.{Mode, Off, Ready, Totals, is_ready}
 use Rattle.pos_service.specs.Claims.{is_foreign}
@@ -393,7 +394,7 @@ silent : (c : Control) (p : Property) (v : Value) → asks_recovery c p v ≡ tr
 silent c p v e tells =
     let asks = asks_enabling c p v e in
     let first = subst (λ q. IsTrue (tells_power c q v)) asks.0 tells in
-    never (not c.enabled) c.category c.power_notify asks.3 (subst (λ u. IsTrue (tells_power c property.DeviceEnabled u)) asks.1 first)
+    never (not c.enabled) c.category c.settings.power_notify asks.3 (subst (λ u. IsTrue (tells_power c property.DeviceEnabled u)) asks.1 first)
   where
     never : (b : Bool) (k : Category) (notified : Bool) → k ≡ category.HardTotals → IsTrue (b && (reports_power k && notified)) → ⊥
     never false k notified e t = cc

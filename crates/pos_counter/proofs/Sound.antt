@@ -33,14 +33,15 @@ use Rattle.pos_service.specs.declared.deed.Deed.TheVariants as deed
 use Rattle.pos_service.specs.Controls.{Control, stopped, queued, read, listens, if_listening, all_listening}
 use Rattle.pos_service.specs.Events.{EventList}
 use Rattle.pos_service.specs.Refusals.{Decided, first_refusal}
-use Rattle.pos_service.specs.Calls.{serves, place_found}
+use Rattle.pos_service.specs.Calls.{place_found}
+use Rattle.pos_service.specs.Categories.{serves, is_exclusive}
 use Rattle.pos_service.specs.declared.signs.Signs.{Signs}
 use Rattle.pos_service.specs.Properties.{takes, after_set, cursor_after}
 use Rattle.pos_service.specs.Deeds.{ChangesOne, Does as CarriesOut, Follows, Ordered, Queued, changed, id_rows}
 use Rattle.pos_service.specs.Displays.{origin}
 use Rattle.pos_service.specs.Peripherals.{IsInRange, signs_of}
 use Rattle.pos_service.specs.PrinterCalls.{DueRequest, WorksAt, WorksOn, after_work, due_request_at}
-use Rattle.pos_service.specs.Claims.{after_release, is_exclusive}
+use Rattle.pos_service.specs.Claims.{after_release}
 use Rattle.pos_service.specs.Hardware.{Hardware, Effect, SameHardware, TakesIn, reaction}
 use Rattle.pos_service.specs.Statuses.{heard_signs}
 use Rattle.pos_counter.specs.Machine.{Device, Machine, device_at, kind_in, kind_of, signs_at, found_at, with_control}

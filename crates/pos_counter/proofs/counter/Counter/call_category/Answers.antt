@@ -5,7 +5,8 @@ use Rattle.std.specs.Prelude.{is_none}
 use Rattle.pos_service.specs.declared.answer.Answer.TheVariants as answer
 use Rattle.pos_service.specs.declared.category.Category.{Category}
 use Rattle.pos_service.specs.declared.category.Category.TheVariants as category
-use Rattle.pos_service.specs.Calls.{has_call, needs_of, serves}
+use Rattle.pos_service.specs.Calls.{has_call, needs_of}
+use Rattle.pos_service.specs.Categories.{serves}
 use Rattle.pos_common.proofs.CheckLemmas.{kept_out, let_through, lets_open, lets_own}
 use Rattle.pos_counter.specs.AtDevices.{CallsAt, IsDoneAt}
 use Rattle.pos_counter.specs.Counters.{machine}
