@@ -7,12 +7,12 @@ mod events;
 mod output;
 mod properties;
 
-use crate::reader::Reader;
+use crate::shown::Shown;
 use crate::writer::Writer;
 pub use events::{INPUT_EVENTS, SIGN_EVENTS, WORK_EVENTS};
 use pos_events::EventQueue;
 use pos_service::display_text::Cursor;
-use pos_service::{Category, Change};
+use pos_service::{Category, Change, Settings};
 use std::alloc::Global;
 use std::marker::Model;
 
@@ -23,9 +23,8 @@ pub struct Control {
     category: Category,
     device: Option<usize>,
     is_enabled: bool,
-    is_frozen: bool,
-    power_notify: bool,
-    reader: Reader,
+    settings: Settings,
+    shown: Shown,
     cursor: Cursor,
     writer: Writer,
     events: EventQueue,
@@ -41,9 +40,8 @@ impl Model for Control {
         category = a.category;
         device = a.device;
         enabled = a.is_enabled;
-        frozen = a.is_frozen;
-        power_notify = a.power_notify;
-        reader = a.reader;
+        settings = a.settings;
+        shown = a.shown;
         cursor = a.cursor;
         writer = a.writer;
         list = a.events.list;
@@ -61,9 +59,8 @@ impl Control {
             category,
             device: None,
             is_enabled: false,
-            is_frozen: false,
-            power_notify: false,
-            reader: Reader::new(alloc),
+            settings: Settings::new(),
+            shown: Shown::new(alloc),
             cursor: Cursor::new(),
             writer: Writer::new(alloc),
             events: EventQueue::new(alloc),
@@ -89,7 +86,7 @@ impl Control {
     pub(crate) fn is_notified(&self) -> bool
         ensures { result ≡ is_notified self.now.control }
     {
-        self.category.reports_power() && self.power_notify
+        self.category.reports_power() && self.settings.power_notify
     }
 
     /// The place in the profile of the device that it has open.

@@ -71,9 +71,8 @@ fn copy_of(alloc: Global, kind: u32, bytes: &Bytes, label: &Bytes) -> Result<Sca
     })
 }
 
-/// A scan has come to each control that has the device at a place open and enabled, and to no other: it gets one of
-/// the copies in a DataEvent, and is disabled under AutoDisable; in the input error state the scan is ignored (common
-/// chapter, data events).
+/// A scan has come to each control that has the device at a place open and enabled, and to no other: it reads
+/// one of the copies (`Control::read`).
 pub(crate) fn read_all(controls: &mut [Control], place: usize, copies: Vec<Scan>)
     requires { All (HasRoom place scan_events) controls.old }
     ensures { (scan : Scan) → AreCopies scan place (controls_of controls.old) copies.items →

@@ -11,9 +11,8 @@ use std::alloc::Global;
 
 /// Hands an input that fits to the peripheral of the device at a place. Each control that has the device open and
 /// enabled hears the statuses that have changed, as the device is switched on or off, a drawer or a cover is moved, or
-/// paper is loaded. Of a scan it gets a DataEvent with a copy of its own, and is disabled under AutoDisable; of a
-/// failed scan it gets ErrorEvents. In the input error state both are ignored (common chapter, data events, error
-/// handling and device power reporting).
+/// paper is loaded. Of a scan it gets a copy of its own (`Control::read`), of a failed scan ErrorEvents
+/// (`Control::fail_input`; common chapter, data events, error handling and device power reporting).
 ///
 /// All copies, and the room for all events, are made before the peripheral is told. Want of memory changes nothing.
 pub fn take_input<P: Peripheral>(

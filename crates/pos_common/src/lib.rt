@@ -6,7 +6,7 @@ mod control;
 mod controls;
 mod deeds;
 mod inputs;
-mod reader;
+mod shown;
 mod status;
 mod writer;
 

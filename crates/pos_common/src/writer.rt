@@ -10,11 +10,10 @@ use pos_service::{ErrorReply, Event, Locus, Order};
 use std::alloc::Global;
 use std::marker::Model;
 
-/// What a control keeps of output: properties that say how it is done, and the requests that are still to do, each of
-/// which every printer takes (common chapter, chapter POS Printer).
+/// What a control keeps of output: the OutputID that it gave last, and the requests that are still to do, each of which
+/// every printer takes (common chapter, chapter POS Printer).
 #[derive(Drop)]
 pub(crate) struct Writer {
-    is_async: bool,
     output_id: u64,
     output: OutputQueue,
 }
@@ -26,28 +25,20 @@ impl Model for Writer {
 
     ghost Value = { Kept };
 
-    ghost view = { λ a. record { is_async = a.is_async; output_id = a.output_id; output = a.output } };
+    ghost view = { λ a. record { output_id = a.output_id; output = a.output } };
 
     ghost invariant = { λ a. All (λ request. PrintersTake request.1) a.output.requests };
 }
 
 impl Writer {
-    /// All properties by default, and no requests. OutputIDs begin with 1.
+    /// No requests. OutputIDs begin with 1.
     pub(crate) fn new(alloc: Global) -> Self
         ensures { result ≡ default_writer 1 }
     {
         Writer {
-            is_async: false,
             output_id: 0,
             output: OutputQueue::starting(alloc, 1),
         }
-    }
-
-    /// AsyncMode: whether requests are queued.
-    pub(crate) fn is_async(&self) -> bool
-        ensures { result ≡ self.now.is_async }
-    {
-        self.is_async
     }
 
     /// OutputID: that of the request that was queued last, 0 where none was since the control was opened.
@@ -71,18 +62,10 @@ impl Writer {
         self.output.is_failed()
     }
 
-    /// Sets AsyncMode.
-    pub(crate) fn set_async(&mut self, is_true: bool)
-        ensures { self.new ≡ record self.old { is_async = is_true } }
-    {
-        self.is_async = is_true;
-    }
-
-    /// Sets all properties to their defaults, and deletes all requests. OutputIDs go on.
+    /// Deletes all requests. OutputIDs go on, and none was given since.
     pub(crate) fn reset(&mut self)
         ensures { self.new ≡ default_writer self.old.output.next }
     {
-        self.is_async = false;
         self.output_id = 0;
         self.output.clear();
     }

@@ -25,7 +25,8 @@ pub use Rattle.pos_image.specs.declared.layout.Layout.{Layout}
 pub use Rattle.pos_profile.specs.Places.{place_of as registered_place}
 pub use Rattle.pos_profile.specs.Registries.{Device as Registered, IsServed, devices as registered, names_of, standing_at}
 pub use Rattle.pos_profile.specs.declared.entry.Entry.{Entry}
-pub use Rattle.pos_service.specs.Calls.{has_call, is_common, needs_of, serves}
+pub use Rattle.pos_service.specs.Calls.{has_call, is_common, needs_of}
+pub use Rattle.pos_service.specs.Categories.{serves}
 pub use Rattle.pos_service.specs.Claims.{after_release, claim_rows, claimed_by, holder_at, is_foreign, is_own, release_rows, released_by}
 pub use Rattle.pos_service.specs.Controls.{Control, closed, new_control}
 pub use Rattle.pos_service.specs.Deeds.{Does as CarriesOut, changed}

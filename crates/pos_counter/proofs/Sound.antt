@@ -12,7 +12,7 @@ use Rattle.std.proofs.lemmas.Bool.{eq-eqb}
 use Rattle.std.proofs.lemmas.List.Elements.{All-get_or, All-set, All-weaker}
 use Rattle.std.specs.Prelude.{slice_set}
 use Rattle.pos_service.specs.Calls.{place_found}
-use Rattle.pos_service.specs.Claims.{is_exclusive}
+use Rattle.pos_service.specs.Categories.{is_exclusive}
 use Rattle.pos_service.specs.Controls.{all_listening, if_listening, listens, queued, read, stopped}
 use Rattle.pos_service.specs.Deeds.{ChangesOne, Follows, Ordered, Queued, id_rows}
 use Rattle.pos_service.specs.Events.{EventList}

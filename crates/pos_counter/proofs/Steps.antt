@@ -12,7 +12,8 @@ use Rattle.pos_counter.proofs.Common.{length-set, limits_of, map, needs_of, new_
 use Rattle.pos_counter.proofs.Common.{refusals, released, released_by, serves, set, settled, signs_at, slice_get, stored, subst, sym, table, takes, true}
 use Rattle.pos_counter.proofs.Common.{with_control, with_place, with_totals, ℕ, ◌∙◌, ◌∷◌, ◌≡◌}
 use Rattle.pos_dir.specs.declared.change.Change.TheVariants as file
-use Rattle.pos_service.specs.Calls.{is_category, row_of}
+use Rattle.pos_service.specs.Calls.{row_of}
+use Rattle.pos_service.specs.Categories.{is_category}
 use Rattle.pos_service.specs.Controls.{delivered}
 use Rattle.pos_service.specs.declared.answer.Answer.TheVariants as answer
 use Rattle.pos_service.specs.declared.call.Call.TheVariants as call

@@ -4,7 +4,8 @@ use Rattle.pos_service.specs.declared.answer.Answer.{Answer}
 use Rattle.pos_service.specs.declared.call.Call.{Call}
 use Rattle.pos_service.specs.declared.memory.NoMemory.{NoMemory}
 use Rattle.pos_service.specs.declared.kind.Kind.{Kind}
-use Rattle.pos_service.specs.Calls.{has_call, serves, takes_memory}
+use Rattle.pos_service.specs.Calls.{has_call, takes_memory}
+use Rattle.pos_service.specs.Categories.{serves}
 use Rattle.pos_service.specs.Controls.{Control}
 use Rattle.pos_service.specs.Refusals.{Decided, first_refusal}
 use Rattle.pos_service.specs.declared.input.Input.{Input}

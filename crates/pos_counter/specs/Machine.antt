@@ -6,7 +6,7 @@ use Rattle.pos_service.specs.declared.finding.Finding.{Finding}
 use Rattle.pos_service.specs.declared.finding.Finding.TheVariants as finding
 use Rattle.pos_service.specs.declared.kind.Kind.{Kind}
 use Rattle.pos_service.specs.declared.signs.Signs.{Signs}
-use Rattle.pos_service.specs.Calls.{serves}
+use Rattle.pos_service.specs.Categories.{serves}
 use Rattle.pos_service.specs.Claims.{holder_at}
 use Rattle.pos_service.specs.Controls.{Control}
 use Rattle.pos_totals.specs.HardTotals.{Totals}

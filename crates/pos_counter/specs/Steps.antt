@@ -22,7 +22,8 @@ use Rattle.pos_service.specs.Controls.{Control, new_control, opened, closed, del
 use Rattle.pos_service.specs.Claims.{is_own, is_foreign, holder_at, claimed_by, released_by, claim_rows, release_rows, after_release}
 use Rattle.pos_service.specs.Refusals.{Row, Decided, first_refusal}
 use Rattle.pos_service.specs.Calls.{takes_memory as own_takes_memory}
-use Rattle.pos_service.specs.Calls.{serves, needs_of, place_found, open_rows, close_rows}
+use Rattle.pos_service.specs.Calls.{needs_of, place_found, open_rows, close_rows}
+use Rattle.pos_service.specs.Categories.{serves}
 use Rattle.pos_service.specs.Properties.{set_rows, after_set, tells_power, get_rows, is_of_bytes, property_of}
 use Rattle.pos_service.specs.Hardware.{Hardware, Effect, TakesIn}
 use Rattle.pos_service.specs.Deeds.{Does as CarriesOut}

@@ -19,7 +19,7 @@ use Rattle.pos_profile.specs.declared.role.Role.{Role}
 use Rattle.pos_profile.specs.declared.role.Role.TheVariants.{Device, Spare}
 use Rattle.pos_profile.specs.declared.table.Keys.TheVariants.{OfEntry}
 use Rattle.pos_profile.specs.declared.variation.Variation.{Variation}
-use Rattle.pos_service.specs.Names.{category_named}
+use Rattle.pos_service.specs.Categories.{category_named}
 use Rattle.pos_profile.specs.Categories.{is_totals}
 use Rattle.pos_profile.specs.Entries.{entry_of, entry_with, numbers_of, table_entry, variation_of}
 use Rattle.pos_profile.specs.Mistakes.{IsFlawedList, IsMistake, IsSoundList, RootHas, mistake_at}

@@ -16,7 +16,8 @@ use Rattle.pos_profile.specs.declared.role.Role.{Role}
 use Rattle.pos_profile.specs.declared.role.Role.TheVariants.{Device, Spare}
 use Rattle.pos_profile.specs.declared.variation.Variation.{Variation}
 use Rattle.pos_profile.specs.declared.table.Keys.TheVariants.{OfEntry}
-use Rattle.pos_service.specs.Names.{category_named, is_device_name}
+use Rattle.pos_service.specs.Names.{is_device_name}
+use Rattle.pos_service.specs.Categories.{category_named}
 use Rattle.pos_profile.specs.Entries.{Contents, entry_of, entry_with, number_of, numbers_of, table_entry, variation_of}
 use Rattle.pos_profile.specs.Kinds.{kind_with}
 use Rattle.pos_profile.specs.Numbers.{has_number, least_of, most_of}

@@ -9,7 +9,8 @@ use Rattle.pos_service.specs.declared.event.ErrorReply.TheVariants as reply
 use Rattle.pos_service.specs.declared.property.Property.{Property}
 use Rattle.pos_service.specs.declared.answer.Value.{Value}
 use Rattle.pos_service.specs.declared.answer.Value.TheVariants as value
-use Rattle.pos_service.specs.Names.{category_named, is_device_name}
+use Rattle.pos_service.specs.Names.{is_device_name}
+use Rattle.pos_service.specs.Categories.{category_named}
 use Rattle.pos_service.specs.Properties.{property_named}
 use Rattle.pos_script.specs.Lines.{is_nothing}
 use Rattle.pos_script.specs.Arguments.{Shape, value_of}

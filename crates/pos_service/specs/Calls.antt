@@ -2,8 +2,6 @@
 use Rattle.std.specs.Prelude.{ℕ, Bool, true, false, List, [], ◌∷◌, Option, Some, None, is_some, is_none}
 use Rattle.pos_service.specs.declared.category.Category.{Category}
 use Rattle.pos_service.specs.declared.category.Category.TheVariants as category
-use Rattle.pos_service.specs.declared.kind.Kind.{Kind}
-use Rattle.pos_service.specs.declared.kind.Kind.TheVariants as kind
 use Rattle.pos_service.specs.declared.call.Call.{Call}
 use Rattle.pos_service.specs.declared.call.Call.TheVariants as call
 use Rattle.pos_service.specs.declared.call.CallRow.{CallRow}
@@ -13,28 +11,9 @@ use Rattle.pos_service.specs.declared.needs.ClaimNeed.TheVariants as claim_need
 use Rattle.pos_service.specs.declared.needs.Needs.{Needs}
 use Rattle.pos_service.specs.declared.finding.Finding.{Finding}
 use Rattle.pos_service.specs.declared.finding.Finding.TheVariants as finding
+use Rattle.pos_service.specs.Categories.{is_category}
 use Rattle.pos_service.specs.Controls.{Control}
-use Rattle.pos_service.specs.Kinds.{is_display, is_printer}
 use Rattle.pos_service.specs.Refusals.{Row, when}
-
--- controls of a category may open devices of its kind
-abbrev pub serves : Category → Option Kind → Bool
-serves category.CashDrawer None = false
-serves category.CashDrawer (Some kind.Drawer) = true
-serves category.CashDrawer (Some kind.Scanner) = false
-serves category.CashDrawer (Some (kind.Display rows columns)) = false
-serves category.CashDrawer (Some (kind.Printer chars near)) = false
-serves category.Scanner None = false
-serves category.Scanner (Some kind.Drawer) = false
-serves category.Scanner (Some kind.Scanner) = true
-serves category.Scanner (Some (kind.Display rows columns)) = false
-serves category.Scanner (Some (kind.Printer chars near)) = false
-serves category.LineDisplay None = false
-serves category.LineDisplay (Some k) = is_display k
-serves category.PosPrinter None = false
-serves category.PosPrinter (Some k) = is_printer k
-serves category.HardTotals None = true
-serves category.HardTotals (Some k) = false
 
 -- what is known of a call that every category has
 abbrev pub common_row : CallRow
@@ -82,16 +61,6 @@ row_of call.Rollback = own_row category.HardTotals claim_need.Any true false
 -- a call that every category has
 abbrev pub is_common : Call → Bool
 is_common asked = is_none (row_of asked).category
-
--- the category is this one
-abbrev pub is_category : Option Category → Category → Bool
-is_category None c = false
-is_category (Some category.CashDrawer) category.CashDrawer = true
-is_category (Some category.Scanner) category.Scanner = true
-is_category (Some category.LineDisplay) category.LineDisplay = true
-is_category (Some category.PosPrinter) category.PosPrinter = true
-is_category (Some category.HardTotals) category.HardTotals = true
-is_category (Some other) c = false
 
 -- the call is one of the category's own, besides those that every category has
 abbrev pub has_call : Category → Call → Bool

@@ -2,18 +2,10 @@
 use Rattle.std.specs.Prelude.{ℕ, ℤ, pos, negsuc, Bool, true, false, not, nat_eq, List, [], ◌∷◌, Option, Some, None, is_none, slice_index_or, slice_set}
 use Rattle.std.specs.Prelude.{if◌then◌else◌}
 use Rattle.pos_service.specs.declared.category.Category.{Category}
-use Rattle.pos_service.specs.declared.category.Category.TheVariants as category
+use Rattle.pos_service.specs.Categories.{is_exclusive}
 use Rattle.pos_service.specs.declared.code.Code.TheVariants as code
 use Rattle.pos_service.specs.Controls.{Control, stopped}
 use Rattle.pos_service.specs.Refusals.{Row, when}
-
--- exclusive-use devices: one is enabled for the control alone that holds it. The others are sharable.
-abbrev pub is_exclusive : Category → Bool
-is_exclusive category.CashDrawer = false
-is_exclusive category.Scanner = true
-is_exclusive category.LineDisplay = true
-is_exclusive category.PosPrinter = true
-is_exclusive category.HardTotals = false
 
 -- The table of claims has the control that holds each device, by the devices' places; None is nobody.
 

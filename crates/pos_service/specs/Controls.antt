@@ -1,8 +1,7 @@
--- A control: its properties, its list of events, and its output (common chapter, for its reader chapter Scanner, for
--- its cursor chapter Line Display, and for its writer chapter POS Printer).
+-- A control: its properties, its list of events, and its output (common chapter, for the scan that it shows chapter
+-- Scanner, for its cursor chapter Line Display, and for its writer chapter POS Printer).
 use Rattle.std.specs.Prelude.{ℕ, Bool, true, false, not, ◌&&◌, ◌||◌, List, [], Option, Some, None, is_none, option_map, map, nat_eq, if◌then◌else◌}
 use Rattle.pos_service.specs.declared.category.Category.{Category}
-use Rattle.pos_service.specs.declared.category.Category.TheVariants as category
 use Rattle.pos_service.specs.declared.display_text.Cursor.{Cursor}
 use Rattle.pos_service.specs.declared.display_text.Place.{Place}
 use Rattle.pos_service.specs.declared.event.ErrorReply.{ErrorReply}
@@ -10,48 +9,47 @@ use Rattle.pos_service.specs.declared.event.Event.{Event}
 use Rattle.pos_service.specs.declared.event.Locus.TheVariants as locus
 use Rattle.pos_service.specs.declared.code.Code.{Code}
 use Rattle.pos_service.specs.declared.order.Order.{Order}
+use Rattle.pos_service.specs.declared.property.Settings.{Settings}
 use Rattle.pos_service.specs.declared.scan.Scan.{Scan}
+use Rattle.pos_service.specs.Categories.{reports_power}
 use Rattle.pos_service.specs.Displays.{default_cursor}
 use Rattle.pos_service.specs.Events.{EventList, Enqueued, Data, Error, Complete, no_events, event_of, scan_of, enqueued, all_enqueued, input_cleared}
 use Rattle.pos_service.specs.Events.{input_failed, output_cleared}
 use Rattle.pos_service.specs.Events.{deliverable as deliverable_in, delivered as delivered_in}
 use Rattle.pos_service.specs.Output.{Output, is_outstanding, no_output, with_request, request_done, request_failed, output_deleted, output_after}
 
--- what a control keeps of input: DataEventEnabled, AutoDisable, DecodeData, and the scan that ScanData, ScanDataLabel
--- and ScanDataType show
-pub record Reader : Type 0 where
-  pub data_enabled : Bool
-  pub auto_disable : Bool
-  pub decode : Bool
-  pub shown : Scan
+-- the defaults of the properties that are set: all are false, and PowerNotify is PN_DISABLED
+abbrev pub default_settings : Settings
+default_settings = record {
+  freeze_events = false;
+  power_notify = false;
+  data_event_enabled = false;
+  auto_disable = false;
+  decode_data = false;
+  async_mode = false;
+}
 
--- no scan is shown: no data, no label, and the type 0
+-- ScanData, ScanDataLabel and ScanDataType show no scan: no data, no label, and the type 0
 abbrev pub no_scan : Scan
 no_scan = record { kind = 0; bytes = []; label = [] }
 
--- the defaults of these properties
-abbrev pub default_reader : Reader
-default_reader = record { data_enabled = false; auto_disable = false; decode = false; shown = no_scan }
-
--- what a control keeps of output: AsyncMode, OutputID, and the output that it has still to do
+-- what a control keeps of output: OutputID, and the output that it has still to do
 pub record Writer : Type 0 where
-  pub is_async : Bool
   pub output_id : ℕ
   pub output : Output
 
--- the defaults of these properties, with no output, and with the OutputID that the next request gets
+-- no output, and the OutputID that the next request gets
 abbrev pub default_writer : ℕ → Writer
-default_writer next = record { is_async = false; output_id = 0; output = no_output next }
+default_writer next = record { output_id = 0; output = no_output next }
 
--- a control: closed where it has no device, which is named by its place in the profile; PowerNotify is true where it is
--- PN_ENABLED
+-- a control: closed where it has no device, which is named by its place in the profile; with DeviceEnabled, and the scan
+-- that ScanData, ScanDataLabel and ScanDataType show
 pub record Control : Type 0 where
   pub category : Category
   pub device : Option ℕ
   pub enabled : Bool
-  pub frozen : Bool
-  pub power_notify : Bool
-  pub reader : Reader
+  pub settings : Settings
+  pub shown : Scan
   pub cursor : Cursor
   pub writer : Writer
   pub list : EventList
@@ -62,9 +60,8 @@ new_control category = record {
   category = category;
   device = None;
   enabled = false;
-  frozen = false;
-  power_notify = false;
-  reader = default_reader;
+  settings = default_settings;
+  shown = no_scan;
   cursor = default_cursor;
   writer = default_writer 1;
   list = no_events;
@@ -94,17 +91,9 @@ stopped control = record control {
 abbrev pub closed : Control → Control
 closed control = record (stopped control) { device = None }
 
--- a category's devices tell if they are on: CapPowerReporting is PR_STANDARD, else PR_NONE
-abbrev pub reports_power : Category → Bool
-reports_power category.CashDrawer = true
-reports_power category.Scanner = true
-reports_power category.LineDisplay = true
-reports_power category.PosPrinter = true
-reports_power category.HardTotals = false
-
 -- a control is to be notified of its device's power, as far as that is told at all
 abbrev pub is_notified : Control → Bool
-is_notified control = reports_power control.category && control.power_notify
+is_notified control = reports_power control.category && control.settings.power_notify
 
 -- the cursor at another place
 abbrev pub moved_to : Place → Cursor → Cursor
@@ -151,7 +140,7 @@ abbrev pub read : Scan → Control → Control
 read scan control =
     if control.list.in_error then control
     else record control {
-      enabled = control.enabled && not control.reader.auto_disable;
+      enabled = control.enabled && not control.settings.auto_disable;
       list = enqueued (Data scan) control.list;
     }
 
@@ -188,7 +177,7 @@ without_input control = record control { list = input_cleared control.list }
 
 -- clearInputProperties: the control whose ScanData, ScanDataLabel and ScanDataType have their defaults
 abbrev pub without_scan : Control → Control
-without_scan control = record control { reader = record control.reader { shown = no_scan } }
+without_scan control = record control { shown = no_scan }
 
 -- clearOutput: a control without requests, without ErrorEvents of output, and without an error of output.
 -- OutputCompleteEvents stay.
@@ -200,11 +189,11 @@ without_output control = record control {
 
 -- no event may be delivered: the control is closed, or its events are frozen (FreezeEvents)
 abbrev pub is_held_back : Control → Bool
-is_held_back control = is_none control.device || control.frozen
+is_held_back control = is_none control.device || control.settings.freeze_events
 
 -- the event that may be delivered now
 abbrev pub next_event : Control → Option Enqueued
-next_event control = deliverable_in control.reader.data_enabled (is_held_back control) control.list
+next_event control = deliverable_in control.settings.data_event_enabled (is_held_back control) control.list
 
 -- that event as the application gets it
 abbrev pub deliverable : Control → Option Event
@@ -219,16 +208,21 @@ scan_in (Some event) = scan_of event
 abbrev pub as_shown : Bool → Scan → Scan
 as_shown decode scan = if decode then scan else record scan { kind = 0; label = [] }
 
--- what is kept of input, once a DataEvent with this scan has been delivered: the scan is shown as DecodeData is now,
--- and DataEventEnabled is false; another event changes nothing of it
-abbrev pub after_scan : Option Scan → Reader → Reader
-after_scan None reader = reader
-after_scan (Some scan) reader = record reader { data_enabled = false; shown = as_shown reader.decode scan }
+-- once a DataEvent with this scan has been delivered, DataEventEnabled is false, and the scan is shown as DecodeData is
+-- now; another event changes nothing of it
+abbrev pub disabled_by : Option Scan → Settings → Settings
+disabled_by None settings = settings
+disabled_by (Some scan) settings = record settings { data_event_enabled = false }
+
+abbrev pub shown_after : Option Scan → Bool → Scan → Scan
+shown_after None decode shown = shown
+shown_after (Some scan) decode shown = as_shown decode scan
 
 -- the control, once that event has been delivered and the application has replied
 abbrev pub delivered : ErrorReply → Control → Control
 delivered reply control = record control {
-  reader = after_scan (scan_in (next_event control)) control.reader;
+  settings = disabled_by (scan_in (next_event control)) control.settings;
+  shown = shown_after (scan_in (next_event control)) control.settings.decode_data control.shown;
   writer = with_output (output_after (deliverable control) reply control.writer.output) control.writer;
-  list = delivered_in control.reader.data_enabled (is_held_back control) reply control.list;
+  list = delivered_in control.settings.data_event_enabled (is_held_back control) reply control.list;
 }

@@ -1,4 +1,5 @@
 pub mod Calls
+pub mod Categories
 pub mod Claims
 pub mod Codes
 pub mod Controls

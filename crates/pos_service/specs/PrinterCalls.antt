@@ -34,7 +34,7 @@ is_receipt (negsuc n) = false
 
 -- a synchronous request is asked for while others are queued
 abbrev pub is_busy : Control → Bool
-is_busy control = not control.writer.is_async && is_outstanding control.writer.output
+is_busy control = not control.settings.async_mode && is_outstanding control.writer.output
 
 -- a station and a text, in this order
 abbrev pub text_rows : ℤ → List ℕ → List Row
@@ -57,7 +57,7 @@ printer_rows control asked = []
 
 -- a request: with AsyncMode true it is queued, else it is done at once
 abbrev pub request_of : Control → Order → Deed
-request_of control given = if control.writer.is_async then deed.Queues given else deed.Gives given change.Nothing
+request_of control given = if control.settings.async_mode then deed.Queues given else deed.Gives given change.Nothing
 
 -- a text is printed at once
 abbrev pub immediately : List ℕ → Deed

@@ -7,6 +7,7 @@ use Rattle.pos_service.specs.declared.kind.Kind.{Kind}
 use Rattle.pos_service.specs.declared.property.Property.{Property}
 use Rattle.pos_service.specs.declared.property.Property.TheVariants as property
 use Rattle.pos_service.specs.declared.property.PropertyRow.{PropertyRow}
+use Rattle.pos_service.specs.declared.property.Settings.{Settings}
 use Rattle.pos_service.specs.declared.signs.Signs.{Signs}
 use Rattle.pos_service.specs.declared.needs.ClaimNeed.{ClaimNeed}
 use Rattle.pos_service.specs.declared.needs.ClaimNeed.TheVariants as claim_need
@@ -16,9 +17,8 @@ use Rattle.pos_service.specs.declared.facts.FileFacts.{FileFacts}
 use Rattle.pos_service.specs.declared.answer.Value.{Value}
 use Rattle.pos_service.specs.declared.answer.Value.TheVariants as value
 use Rattle.pos_service.specs.declared.code.Code.TheVariants as code
-use Rattle.pos_service.specs.Calls.{is_category}
-use Rattle.pos_service.specs.Claims.{is_exclusive}
-use Rattle.pos_service.specs.Controls.{Control, Reader, Writer, is_notified, reports_power, state_of}
+use Rattle.pos_service.specs.Categories.{is_category, is_exclusive, reports_power}
+use Rattle.pos_service.specs.Controls.{Control, is_notified, state_of}
 use Rattle.pos_service.specs.Events.{EventList, Status, data_count, enqueued}
 use Rattle.pos_service.specs.Kinds.{rows_of, columns_of, chars_of}
 use Rattle.pos_service.specs.Numbers.{is_index, is_one, is_up_to}
@@ -189,7 +189,7 @@ is_same a b = if a then b else not b
 -- power isn't told
 abbrev pub is_notify_refused : Control → Property → Value → Bool
 is_notify_refused control property.PowerNotify (value.Number n) =
-    control.enabled && not (is_same (is_one n) control.power_notify)
+    control.enabled && not (is_same (is_one n) control.settings.power_notify)
     || is_one n && not (reports_power control.category)
 is_notify_refused control p v = false
 
@@ -209,22 +209,15 @@ abbrev pub enabled_after : Bool → Property → Value → Bool
 enabled_after was property.DeviceEnabled (value.Truth is_enabled) = is_enabled
 enabled_after was p v = was
 
--- FreezeEvents, once the property is set
-abbrev pub frozen_after : Bool → Property → Value → Bool
-frozen_after was property.FreezeEvents (value.Truth is_frozen) = is_frozen
-frozen_after was p v = was
-
--- whether PowerNotify is PN_ENABLED, once the property is set
-abbrev pub power_notify_after : Bool → Property → Value → Bool
-power_notify_after was property.PowerNotify (value.Number n) = is_one n
-power_notify_after was p v = was
-
--- what is kept of input, once the property is set
-abbrev pub reader_after : Reader → Property → Value → Reader
-reader_after was property.DataEventEnabled (value.Truth is_true) = record was { data_enabled = is_true }
-reader_after was property.AutoDisable (value.Truth is_true) = record was { auto_disable = is_true }
-reader_after was property.DecodeData (value.Truth is_true) = record was { decode = is_true }
-reader_after was p v = was
+-- the others that are truth values, and PowerNotify, once the property is set
+abbrev pub settings_after : Settings → Property → Value → Settings
+settings_after was property.FreezeEvents (value.Truth is_true) = record was { freeze_events = is_true }
+settings_after was property.PowerNotify (value.Number n) = record was { power_notify = is_one n }
+settings_after was property.DataEventEnabled (value.Truth is_true) = record was { data_event_enabled = is_true }
+settings_after was property.AutoDisable (value.Truth is_true) = record was { auto_disable = is_true }
+settings_after was property.DecodeData (value.Truth is_true) = record was { decode_data = is_true }
+settings_after was property.AsyncMode (value.Truth is_true) = record was { async_mode = is_true }
+settings_after was p v = was
 
 -- the cursor, once the property is set
 abbrev pub cursor_after : Cursor → Property → Value → Cursor
@@ -232,11 +225,6 @@ cursor_after was property.CursorRow (value.Number n) = record was { place = reco
 cursor_after was property.CursorColumn (value.Number n) = record was { place = record was.place { column = nat_abs n } }
 cursor_after was property.CursorUpdate (value.Truth is_true) = record was { update = is_true }
 cursor_after was p v = was
-
--- what is kept of output, once the property is set
-abbrev pub writer_after : Writer → Property → Value → Writer
-writer_after was property.AsyncMode (value.Truth is_true) = record was { is_async = is_true }
-writer_after was p v = was
 
 -- setting the property tells the control its device's power: it enables a disabled control that is to be notified
 abbrev pub tells_power : Control → Property → Value → Bool
@@ -253,11 +241,8 @@ list_after powered control p v =
 abbrev pub after_set : Signs → Control → Property → Value → Control
 after_set signs control p v = record control {
   enabled = enabled_after control.enabled p v;
-  frozen = frozen_after control.frozen p v;
-  power_notify = power_notify_after control.power_notify p v;
-  reader = reader_after control.reader p v;
+  settings = settings_after control.settings p v;
   cursor = cursor_after control.cursor p v;
-  writer = writer_after control.writer p v;
   list = list_after signs.powered control p v;
 }
 
@@ -304,18 +289,18 @@ abbrev pub property_of : Control → Facts → Property → Value
 property_of control facts property.State = value.Number (pos (state_of control))
 property_of control facts property.Claimed = value.Truth facts.is_claimed
 property_of control facts property.DeviceEnabled = value.Truth control.enabled
-property_of control facts property.FreezeEvents = value.Truth control.frozen
+property_of control facts property.FreezeEvents = value.Truth control.settings.freeze_events
 property_of control facts property.CapPowerReporting =
     value.Number (pos (power_reporting (reports_power control.category)))
-property_of control facts property.PowerNotify = value.Number (pos (notify_number control.power_notify))
+property_of control facts property.PowerNotify = value.Number (pos (notify_number control.settings.power_notify))
 property_of control facts property.PowerState = value.Number (pos (power_state control facts.signs))
-property_of control facts property.DataEventEnabled = value.Truth control.reader.data_enabled
-property_of control facts property.AutoDisable = value.Truth control.reader.auto_disable
+property_of control facts property.DataEventEnabled = value.Truth control.settings.data_event_enabled
+property_of control facts property.AutoDisable = value.Truth control.settings.auto_disable
 property_of control facts property.DataCount = value.Number (pos (data_count control.list))
-property_of control facts property.DecodeData = value.Truth control.reader.decode
-property_of control facts property.ScanData = value.Bytes control.reader.shown.bytes
-property_of control facts property.ScanDataLabel = value.Bytes control.reader.shown.label
-property_of control facts property.ScanDataType = value.Number (pos control.reader.shown.kind)
+property_of control facts property.DecodeData = value.Truth control.settings.decode_data
+property_of control facts property.ScanData = value.Bytes control.shown.bytes
+property_of control facts property.ScanDataLabel = value.Bytes control.shown.label
+property_of control facts property.ScanDataType = value.Number (pos control.shown.kind)
 property_of control facts property.CapStatus = value.Truth true
 property_of control facts property.DrawerOpened = value.Truth facts.signs.drawer_open
 property_of control facts property.Rows = value.Number (pos (rows_of facts.kind))
@@ -323,7 +308,7 @@ property_of control facts property.Columns = value.Number (pos (columns_of facts
 property_of control facts property.CursorRow = value.Number (pos control.cursor.place.row)
 property_of control facts property.CursorColumn = value.Number (pos control.cursor.place.column)
 property_of control facts property.CursorUpdate = value.Truth control.cursor.update
-property_of control facts property.AsyncMode = value.Truth control.writer.is_async
+property_of control facts property.AsyncMode = value.Truth control.settings.async_mode
 property_of control facts property.OutputId = value.Number (pos control.writer.output_id)
 property_of control facts property.RecLineChars = value.Number (pos (chars_of facts.kind))
 property_of control facts property.CoverOpen = value.Truth facts.signs.cover_open

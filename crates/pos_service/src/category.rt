@@ -1,8 +1,5 @@
 ghost use Rattle.std.specs.Prelude.{◌≡◌};
-ghost use Rattle.pos_service.specs.Calls.{serves};
-ghost use Rattle.pos_service.specs.Claims.{is_exclusive};
-ghost use Rattle.pos_service.specs.Controls.{reports_power};
-ghost use Rattle.pos_service.specs.Names.{category_named};
+ghost use Rattle.pos_service.specs.Categories.{serves, is_exclusive, reports_power, category_named};
 
 use crate::kind::Kind;
 

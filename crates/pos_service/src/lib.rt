@@ -53,7 +53,7 @@ pub use order::{Argument, Order, Reply};
 pub use peripheral::Peripheral;
 pub use peripheral_box::PeripheralBox;
 pub use plant::{DisplayCells, Form, Plant, Receipt, Snapshot};
-pub use property::{Property, PropertyRow};
+pub use property::{Property, PropertyRow, Settings};
 pub use request::{Request, Response};
 pub use scan::Scan;
 pub use signs::{PaperLevel, Signs};

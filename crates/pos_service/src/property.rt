@@ -1,4 +1,5 @@
 ghost use Rattle.std.specs.Prelude.{◌≡◌, ◌==◌, ◌||◌, nat_le};
+ghost use Rattle.pos_service.specs.Controls.{default_settings};
 ghost use Rattle.pos_service.specs.Properties.{named_in, names_of, property_named, row_of, plain, settable, of_device, is_in, needs_of, needs_to_set};
 
 use crate::category::Category;
@@ -78,6 +79,40 @@ pub enum Property {
     CapSingleFile,
     /// Whether files are kept with error detection.
     CapErrorDetection,
+}
+
+/// The properties of a control that are set and do nothing but by what is told of them: those of events, of input and of
+/// output.
+#[derive(Clone, Copy, PartialEq, Eq)]
+pub struct Settings {
+    /// FreezeEvents.
+    pub freeze_events: bool,
+    /// Whether PowerNotify is PN_ENABLED.
+    pub power_notify: bool,
+    /// DataEventEnabled.
+    pub data_event_enabled: bool,
+    /// AutoDisable.
+    pub auto_disable: bool,
+    /// DecodeData.
+    pub decode_data: bool,
+    /// AsyncMode.
+    pub async_mode: bool,
+}
+
+impl Settings {
+    /// Those of a control that was just opened.
+    pub fn new() -> Self
+        ensures { result ≡ default_settings }
+    {
+        Settings {
+            freeze_events: false,
+            power_notify: false,
+            data_event_enabled: false,
+            auto_disable: false,
+            decode_data: false,
+            async_mode: false,
+        }
+    }
 }
 
 /// What is known of a property beforehand.

@@ -9,7 +9,7 @@ ghost use Rattle.pos_common.specs.KeptControls.{TurnsInto};
 use super::Control;
 use pos_service::claims::{is_foreign, is_own, is_timeout};
 use pos_service::display_text::Cursor;
-use pos_service::{Answer, ClaimNeed, Code, Finding, Needs, Value};
+use pos_service::{Answer, ClaimNeed, Code, Finding, Needs, Settings, Value};
 
 impl Control {
     /// `open`: it is for the device that was found from now on (common chapter).
@@ -38,9 +38,8 @@ impl Control {
         ensures { self.new.control ≡ opened self.old.control (Some place) }
     {
         self.device = Some(place);
-        self.is_frozen = false;
-        self.power_notify = false;
-        self.reader.reset();
+        self.settings = Settings::new();
+        self.shown.clear();
         self.cursor = Cursor::new();
         self.writer.reset();
         self.stop();

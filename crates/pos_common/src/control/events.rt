@@ -80,7 +80,7 @@ impl Control {
         if !self.listens(place) || self.events.in_error() {
             return;
         }
-        if self.reader.auto_disable() {
+        if self.settings.auto_disable {
             self.is_enabled = false;
         }
         self.events.data(scan);
@@ -110,14 +110,14 @@ impl Control {
     pub(crate) fn clear_input_properties(&mut self)
         ensures { self.new.control ≡ without_scan self.old.control }
     {
-        self.reader.clear();
+        self.shown.clear();
     }
 
     /// Whether no event may be delivered: it is closed, or its events are frozen.
     fn is_held_back(&self) -> bool
         ensures { result ≡ is_held_back self.now.control }
     {
-        self.device.is_none() || self.is_frozen
+        self.device.is_none() || self.settings.freeze_events
     }
 
     /// Takes the event that may be delivered now (common chapter, event queue): none while the control is closed or its
@@ -128,10 +128,13 @@ impl Control {
         ensures event { result ≡ deliverable self.old.control }
         ensures rest { self.new.control ≡ delivered reply self.old.control }
     {
-        let data_enabled = self.reader.data_enabled();
+        let data_enabled = self.settings.data_event_enabled;
         let is_held_back = self.is_held_back();
         let delivery = self.events.deliver(data_enabled, is_held_back, reply)?;
-        self.reader.take(delivery.scan);
+        if delivery.scan.is_some() {
+            self.settings.data_event_enabled = false;
+        }
+        self.shown.take(delivery.scan, self.settings.decode_data);
         self.writer.take_reply(delivery.event, reply);
         Some(delivery.event)
     }

@@ -13,9 +13,9 @@ use pos_service::{Answer, Code, NoMemory, Order, Value};
 impl Control {
     /// AsyncMode: whether requests are queued and done later (chapter POS Printer).
     pub fn is_async(&self) -> bool
-        ensures { result ≡ self.now.control.writer.is_async }
+        ensures { result ≡ self.now.control.settings.async_mode }
     {
-        self.writer.is_async()
+        self.settings.async_mode
     }
 
     /// Whether it has requests that are still to do.

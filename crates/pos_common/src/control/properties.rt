@@ -1,6 +1,7 @@
 ghost use Rattle.std.specs.Prelude.{◌≡◌, ◌&&◌, ◌∷◌, [], ⊤, true, false, not, is_none, Option};
 ghost use Rattle.pos_service.specs.declared.kind.Kind.{Kind};
-ghost use Rattle.pos_service.specs.Controls.{reports_power, state_of};
+ghost use Rattle.pos_service.specs.Controls.{state_of};
+ghost use Rattle.pos_service.specs.Categories.{reports_power};
 ghost use Rattle.pos_service.specs.Properties.{row_of, is_of_bytes, set_rows, value_rows, cursor_after, is_notify_refused, tells_power, after_set, get_rows, property_of, notify_number, power_reporting, power_state};
 ghost use Rattle.pos_service.specs.Kinds.{rows_of, columns_of};
 ghost use Rattle.pos_service.specs.Numbers.{is_index, is_one, is_up_to};
@@ -78,19 +79,19 @@ impl Control {
         ensures { let control = self.old.control in
             TurnsInto (when (not (is_up_to 1 number)) Code.Illegal
             ∷ when (is_notify_refused control Property.PowerNotify (Value.Number number)) Code.Illegal ∷ []) result
-            self.old self.new (record control { power_notify = is_one number }) }
+            self.old self.new (record control { settings = record control.settings { power_notify = is_one number } }) }
     {
         let Some(number) = to_count(number, 1) else {
             return Answer::Refused(Code::Illegal, 0);
         };
         let is_on = number == 1;
-        if self.is_enabled && is_on != self.power_notify {
+        if self.is_enabled && is_on != self.settings.power_notify {
             return Answer::Refused(Code::Illegal, 0);
         }
         if is_on && !self.category.reports_power() {
             return Answer::Refused(Code::Illegal, 0);
         }
-        self.power_notify = is_on;
+        self.settings.power_notify = is_on;
         Answer::Done(Value::Empty)
     }
 
@@ -137,12 +138,12 @@ impl Control {
     {
         match property {
             Property::DeviceEnabled => return self.set_enabled(signs, is_true),
-            Property::FreezeEvents => self.is_frozen = is_true,
-            Property::DataEventEnabled => self.reader.set_data_enabled(is_true),
-            Property::AutoDisable => self.reader.set_auto_disable(is_true),
-            Property::DecodeData => self.reader.set_decode(is_true),
+            Property::FreezeEvents => self.settings.freeze_events = is_true,
+            Property::DataEventEnabled => self.settings.data_event_enabled = is_true,
+            Property::AutoDisable => self.settings.auto_disable = is_true,
+            Property::DecodeData => self.settings.decode_data = is_true,
             Property::CursorUpdate => self.cursor.update = is_true,
-            Property::AsyncMode => self.writer.set_async(is_true),
+            Property::AsyncMode => self.settings.async_mode = is_true,
             _ => return Ok(Answer::Refused(Code::Illegal, 0)),
         }
         Ok(Answer::Done(Value::Empty))
@@ -196,8 +197,8 @@ impl Control {
             (property_of self.now.control facts.now property) result }
     {
         match property {
-            Property::ScanData => Ok(done_with(self.reader.copy_of_bytes()?)),
-            Property::ScanDataLabel => Ok(done_with(self.reader.copy_of_label()?)),
+            Property::ScanData => Ok(done_with(self.shown.copy_of_bytes()?)),
+            Property::ScanDataLabel => Ok(done_with(self.shown.copy_of_label()?)),
             _ => Ok(self.value_of(property, facts)),
         }
     }
@@ -227,9 +228,9 @@ impl Control {
 
     /// PowerNotify: PN_ENABLED 1 or PN_DISABLED 0.
     fn notify_number(&self) -> u32
-        ensures { result ≡ notify_number self.now.control.power_notify }
+        ensures { result ≡ notify_number self.now.control.settings.power_notify }
     {
-        if self.power_notify { 1 } else { 0 }
+        if self.settings.power_notify { 1 } else { 0 }
     }
 
     /// PowerState, by what the device's peripheral shows: PS_ONLINE 2001 or PS_OFF_OFFLINE 2004 while the device is
@@ -255,7 +256,7 @@ impl Control {
             Property::State => Answer::Done(Value::Number(i128::from(self.state()))),
             Property::Claimed => Answer::Done(Value::Truth(facts.is_claimed)),
             Property::DeviceEnabled => Answer::Done(Value::Truth(self.is_enabled)),
-            Property::FreezeEvents => Answer::Done(Value::Truth(self.is_frozen)),
+            Property::FreezeEvents => Answer::Done(Value::Truth(self.settings.freeze_events)),
             Property::CapPowerReporting => {
                 Answer::Done(Value::Number(i128::from(self.power_reporting())))
             }
@@ -263,12 +264,14 @@ impl Control {
             Property::PowerState => {
                 Answer::Done(Value::Number(i128::from(self.power_state(facts.signs))))
             }
-            Property::DataEventEnabled => Answer::Done(Value::Truth(self.reader.data_enabled())),
-            Property::AutoDisable => Answer::Done(Value::Truth(self.reader.auto_disable())),
+            Property::DataEventEnabled => Answer::Done(Value::Truth(
+                self.settings.data_event_enabled,
+            )),
+            Property::AutoDisable => Answer::Done(Value::Truth(self.settings.auto_disable)),
             Property::DataCount => Answer::Done(Value::Number(self.events.data_count() as i128)),
-            Property::DecodeData => Answer::Done(Value::Truth(self.reader.decode())),
+            Property::DecodeData => Answer::Done(Value::Truth(self.settings.decode_data)),
             Property::ScanData | Property::ScanDataLabel => unreachable!(),
-            Property::ScanDataType => Answer::Done(Value::Number(i128::from(self.reader.kind()))),
+            Property::ScanDataType => Answer::Done(Value::Number(i128::from(self.shown.kind()))),
             Property::Rows => Answer::Done(Value::Number(i128::from(rows_of(facts.kind)))),
             Property::Columns => Answer::Done(Value::Number(i128::from(columns_of(facts.kind)))),
             Property::CursorRow => Answer::Done(Value::Number(i128::from(self.cursor.place.row))),
@@ -276,7 +279,7 @@ impl Control {
                 Answer::Done(Value::Number(i128::from(self.cursor.place.column)))
             }
             Property::CursorUpdate => Answer::Done(Value::Truth(self.cursor.update)),
-            Property::AsyncMode => Answer::Done(Value::Truth(self.writer.is_async())),
+            Property::AsyncMode => Answer::Done(Value::Truth(self.settings.async_mode)),
             Property::OutputId => Answer::Done(Value::Number(i128::from(self.writer.output_id()))),
             Property::RecLineChars => Answer::Done(Value::Number(i128::from(chars_of(facts.kind)))),
             Property::CoverOpen => Answer::Done(Value::Truth(facts.signs.cover_open)),
