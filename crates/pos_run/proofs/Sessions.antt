@@ -1,12 +1,15 @@
 -- What becomes of a line, by the steps of the machine that it asks; and scripts of such lines.
-use Rattle.std.proofs.Common.{◌≡◌, ◌∷◌, ◌∙◌, [], inl, inr, ℕ, true, false, List, Option, Some, None, sym, ap, subst, refl}
-use Rattle.std.specs.Prelude.{◌⊎◌, is_some, MatchOption, codes, IsTrue}
+use Rattle.std.proofs.Common.{◌≡◌, ◌∷◌, ◌++◌, [], inl, inr, ℕ, true, false, List, Option, Some, None, sym, ap, subst, refl}
+use Rattle.std.specs.Prelude.{◌⊎◌, is_some, option_map, Result, Ok, Err, MatchOption, codes, IsTrue}
 use Rattle.std.specs.Bool.{MatchBool}
 use Rattle.pos_counter.specs.Steps.{Request, Response}
 use Rattle.pos_script.specs.Lines.{is_quiet, is_well_spelled, words_of}
-use Rattle.pos_script.specs.Arguments.{Reading}
+use Rattle.pos_script.specs.Arguments.{Reading, Reads, become, misshapen}
 use Rattle.pos_script.specs.Commands.{LineRequest, asked_by, request_of_words}
-use Rattle.pos_script.specs.Text.{response_text}
+use Rattle.pos_script.specs.Text.{fault_text, response_text}
+use Rattle.pos_script.specs.Writing.{Writes}
+use Rattle.pos_script.specs.declared.arguments.LineFault.{LineFault}
+use Rattle.pos_script.specs.declared.arguments.LineFault.TheVariants as fault
 use Rattle.pos_run.specs.Names.{ControlNames}
 use Rattle.pos_run.specs.Spares.{SpareStates}
 use Rattle.pos_run.specs.Transcript.{Leads, Session, Outcome, RequestBecomes, AskingBecomes, ReadingBecomes, LineBecomes, CarriesOut, request_of, session_after}
@@ -73,42 +76,59 @@ read_becomes session reading asking outcome e h =
     subst (λ o. MatchOption o (outcome ≡ turned_down session (codes "bad line"))
     (λ asking. (IsTrue reading.is_kept × (outcome ≡ turned_down session (codes "memory"))) ⊎ AskingBecomes session asking outcome)) (sym e) h
 
--- a line of a wrong shape
-pub becomes_bad : {C : Type 0} (Runs : Leads C) (state : C) (session : Session) (line : List ℕ) → is_quiet line ≡ false
-    → (asked_by line).value ≡ None → Runs state [] state → CarriesOut Runs state (LineBecomes session line) (Some (codes "bad line")) session state
-becomes_bad Runs state session line e f none =
-    let outcome = turned_down session (codes "bad line") in
-    record {
-      steps = [];
-      run = none;
-      becomes = becomes_loud session line outcome e
-          (subst (λ o. MatchOption o (outcome ≡ turned_down session (codes "bad line"))
-          (λ asking. (IsTrue (asked_by line).is_kept × (outcome ≡ turned_down session (codes "memory"))) ⊎ AskingBecomes session asking outcome)) (sym f) refl);
-    }
+module _ {C A : Type 0} (Runs : Leads C) (old : C) (session : Session) (make : A → LineRequest) (reading : Reading A) where
+  -- words that were read ask what is made of them
+  pub read_asked : (value : A) (reply : Option (List ℕ)) (after : Session) (new : C) → Reads reading (Ok value)
+      → CarriesOut Runs old (AskingBecomes session (make value)) reply after new
+      → CarriesOut Runs old (ReadingBecomes session (become make reading)) reply after new
+  read_asked value reply after new reads asks = record {
+    steps = asks.steps;
+    run = asks.run;
+    becomes = read_becomes session (become make reading) (make value) _ (ap (option_map make) reads) (inr asks.becomes);
+  }
 
--- a line of which something is kept, for which there was no memory
-pub becomes_unkept : {C : Type 0} (Runs : Leads C) (state : C) (session : Session) (line : List ℕ) → is_quiet line ≡ false
-    → is_some (asked_by line).value ≡ true → (asked_by line).is_kept ≡ true → Runs state [] state
-    → CarriesOut Runs state (LineBecomes session line) (Some (codes "memory")) session state
-becomes_unkept Runs state session line e f keeps none =
-    let outcome = turned_down session (codes "memory") in
-    let (asking, is) = some_of (asked_by line).value f in
-    record {
-      steps = [];
-      run = none;
-      becomes = becomes_loud session line outcome e (read_becomes session (asked_by line) asking outcome is (inl (keeps, refl)));
-    }
+  -- and those that were not ask nothing
+  pub read_fault : (why : LineFault) → Reads reading (Err why) → Runs old [] old
+      → CarriesOut Runs old (ReadingBecomes session (become make reading)) (Some (fault_text why)) session old
+  read_fault fault.WrongShape wrong none = record { steps = []; run = none; becomes = rw wrong refl }
+  read_fault fault.NoMemory lacks none =
+      let (value, is) = some_of reading.value lacks.0 in record {
+        steps = [];
+        run = none;
+        becomes = read_becomes session (become make reading) (make value) _ (ap (option_map make) is) (inl (lacks.1, refl));
+      }
 
--- a line that asks something
-pub becomes_asked : {C : Type 0} (Runs : Leads C) (old : C) (session : Session) (line : List ℕ) (asking : LineRequest) (reply : Option (List ℕ))
-    (after : Session) (new : C) → is_quiet line ≡ false → (asked_by line).value ≡ Some asking
-    → CarriesOut Runs old (AskingBecomes session asking) reply after new → CarriesOut Runs old (LineBecomes session line) reply after new
-becomes_asked Runs old session line asking reply after new e f asks =
-    let outcome : Outcome = record { reply = reply; steps = asks.steps; session = after } in
+  -- a line whose words were read, or weren't, and what was written of the reply
+  pub asks_what_was_read : {E : Type 0} (read : Result A LineFault) (value : A) (reply : List ℕ) (after : Session) (new : C)
+      (front back : Option (List ℕ)) (result : Result (Unit {0}) E) → read ≡ Ok value → Reads reading read
+      → CarriesOut Runs old (AskingBecomes session (make value)) (Some reply) after new → Writes front back (reply ++ 10 ∷ []) result
+      → (reply : List ℕ) × CarriesOut Runs old (ReadingBecomes session (become make reading)) (Some reply) after new
+      × Writes front back (reply ++ 10 ∷ []) result
+  asks_what_was_read read value reply after new front back result is reads asks writes =
+      (reply, read_asked value (Some reply) after new (subst (Reads reading) is reads) asks, writes)
+
+  pub asks_nothing_unread : {E : Type 0} (read : Result A LineFault) (why : LineFault) (front back : Option (List ℕ))
+      (result : Result (Unit {0}) E) → read ≡ Err why → Reads reading read → Runs old [] old → Writes front back (fault_text why ++ 10 ∷ []) result
+      → (reply : List ℕ) × CarriesOut Runs old (ReadingBecomes session (become make reading)) (Some reply) session old
+      × Writes front back (reply ++ 10 ∷ []) result
+  asks_nothing_unread read why front back result is reads none writes =
+      (fault_text why, read_fault why (subst (Reads reading) is reads) none, writes)
+
+-- a line of a wrong shape asks nothing
+pub read_misshapen : {C : Type 0} (Runs : Leads C) (state : C) (session : Session) (reading : Reading LineRequest) → reading ≡ misshapen
+    → Runs state [] state → CarriesOut Runs state (ReadingBecomes session reading) (Some (codes "bad line")) session state
+read_misshapen Runs state session reading is none = record { steps = []; run = none; becomes = rw is refl }
+
+-- what becomes of a line that isn't quiet is what becomes of what was read of it
+pub becomes_read : {C : Type 0} (Runs : Leads C) (old : C) (session : Session) (line : List ℕ) (reading : Reading LineRequest)
+    (reply : Option (List ℕ)) (after : Session) (new : C) → is_quiet line ≡ false → asked_by line ≡ reading
+    → CarriesOut Runs old (ReadingBecomes session reading) reply after new → CarriesOut Runs old (LineBecomes session line) reply after new
+becomes_read Runs old session line reading reply after new loud is read =
+    let outcome : Outcome = record { reply = reply; steps = read.steps; session = after } in
     record {
-      steps = asks.steps;
-      run = asks.run;
-      becomes = becomes_loud session line outcome e (read_becomes session (asked_by line) asking outcome f (inr asks.becomes));
+      steps = read.steps;
+      run = read.run;
+      becomes = becomes_loud session line outcome loud (subst (λ r. ReadingBecomes session r outcome) (sym is) read.becomes);
     }
 
 -- the same session, written another way
@@ -131,13 +151,9 @@ respared Runs old becomes reply names spares after new e carried =
     resumed Runs old becomes reply (session_with names spares) (session_with names after) new (ap (λ ss. session_with names ss) e) carried
 
 -- what a line asks that is well spelled is told by its words
-asked_words : (line : List ℕ) → is_well_spelled line ≡ true → asked_by line ≡ request_of_words (words_of line)
-asked_words line spelled = rw spelled refl
-
-pub of_words : (P : Reading LineRequest → Type 0) (words line : List ℕ) → is_well_spelled line ≡ true → words ≡ line
-    → P (request_of_words (words_of words)) → P (asked_by line)
-of_words P words line spelled same h = subst P (ap (λ (w : List ℕ). request_of_words (words_of w)) same ∙ sym (asked_words line spelled)) h
+pub asked_words : (line words : List ℕ) → is_well_spelled line ≡ true → words ≡ line → asked_by line ≡ request_of_words (words_of words)
+asked_words line words spelled same = rw (spelled, same) refl
 
 -- one that isn't asks nothing
-pub misspelled : (line : List ℕ) → is_well_spelled line ≡ false → (asked_by line).value ≡ None
+pub misspelled : (line : List ℕ) → is_well_spelled line ≡ false → asked_by line ≡ misshapen
 misspelled line wrong = rw wrong refl

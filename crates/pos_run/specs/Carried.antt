@@ -15,9 +15,11 @@ use Rattle.pos_run.specs.Spares.{SpareStates, spares_in}
 use Rattle.pos_script.specs.declared.line_buffer.Line.{Line}
 use Rattle.pos_script.specs.LineBuffers.{IsLine, Kept, StandsFor}
 use Rattle.pos_script.specs.Lines.{complete_lines, lines_of}
+use Rattle.pos_script.specs.Arguments.{Reading}
 use Rattle.pos_script.specs.Commands.{LineRequest}
 use Rattle.pos_script.specs.Text.{reply_text}
-use Rattle.pos_run.specs.Transcript.{Session, session_with, CarriesOut, AskingBecomes, LineBecomes}
+use Rattle.pos_script.specs.Writing.{Writes}
+use Rattle.pos_run.specs.Transcript.{Session, session_with, CarriesOut, AskingBecomes, ReadingBecomes}
 use Rattle.pos_run.specs.declared.scripts.RunFault.{RunFault}
 use Rattle.pos_run.specs.Running.{Finishes, RunsScript, Stops, script_steps}
 use Rattle.pos_run.specs.Streams.{Streams, Writing}
@@ -51,17 +53,13 @@ abbrev pub CarriesOutWithSpare : {D P : Type 0} → DiskGhosts D → Ghosts P
 CarriesOutWithSpare bound peripherals old spares asking reply after new = (names : ControlNames)
     → CarriesOutAsking bound peripherals old (session_with names spares) asking reply (session_with names after) new
 
--- a line is carried out, and replied to if it isn't quiet
-abbrev pub CarriesOutLine : {D P : Type 0} → DiskGhosts D → Ghosts P
-    → Counter D P → Session → List ℕ → Option Reply → Session → Counter D P → Type 0
-CarriesOutLine bound peripherals old session line reply after new =
-    CarriesOut (IsRun bound peripherals) old (LineBecomes session line) (option_map reply_text reply) after new
-
--- what was read of a line decides what becomes of it: the line is carried out, and replied to if it isn't quiet
-abbrev pub CarriesOutRead : {D P : Type 0} → DiskGhosts D → Ghosts P
-    → Counter D P → Session → Line → Option Reply → Session → Counter D P → Type 0
-CarriesOutRead bound peripherals old session line reply after new = (bytes : List ℕ) → IsLine line bytes
-    → CarriesOutLine bound peripherals old session bytes reply after new
+-- what was read of a line's words is carried out and replied to, and the reply is written as far as it can be
+abbrev pub CarriesOutReading : {D P E : Type 0} → DiskGhosts D → Ghosts P
+    → Counter D P → Session → Reading LineRequest → Option (List ℕ) → Option (List ℕ) → Result (Unit {0}) E → Session
+    → Counter D P → Type 0
+CarriesOutReading bound peripherals old session reading before after result left new =
+    (reply : List ℕ) × CarriesOut (IsRun bound peripherals) old (ReadingBecomes session reading) (Some reply) left new
+    × Writes before after (reply ++ 10 ∷ []) result
 
 -- lines are carried out from one session to another, all of them or as far as they can be written
 abbrev pub CarriesOutLines : {D P E : Type 0} → DiskGhosts D → Ghosts P

@@ -1,39 +1,256 @@
+//! A line of a script, from its words to what it prints. Each verb has a function of its own, in place where it is
+//! called, so that what one verb reads and answers doesn't go through room that is large enough for all of them.
+ghost use Rattle.std.specs.Prelude.{ℕ};
 ghost use Rattle.pos_counter.specs.Counters.{IsCounterSound};
-ghost use Rattle.pos_run.specs.Carried.{CarriesOutRead, session_of};
-ghost use Rattle.pos_run.specs.Spares.{AreSparesSound, spares_in};
+ghost use Rattle.pos_script.specs.Arguments.{Reading, Reads, become};
+ghost use Rattle.pos_script.specs.Commands.{line_of, request_of_words};
+ghost use Rattle.pos_script.specs.Lines.{words_of};
+ghost use Rattle.pos_service.specs.declared.call.Call.{Call};
+ghost use Rattle.pos_service.specs.declared.category.Category.{Category};
+ghost use Rattle.pos_service.specs.declared.event.ErrorReply.{ErrorReply};
+ghost use Rattle.pos_service.specs.declared.input.Input.{Input};
+ghost use Rattle.pos_service.specs.declared.request.Request.TheVariants.{Attach, CallOf, Deliver, Detach, InputTo, NewControl, Snapshot, WorkOn};
+ghost use Rattle.pos_run.specs.Carried.{CarriesOutReading, session_of};
+ghost use Rattle.pos_run.specs.Names.{ControlNames, names_of};
+ghost use Rattle.pos_run.specs.Spares.{AreSparesSound, SpareStates, spares_in};
+ghost use Rattle.pos_run.specs.Transcript.{Session, session_with};
 
 use crate::ending::Ends;
 use crate::names::Names;
-use crate::session::carry_out_command;
+use crate::session::{
+    attach_spare, call_control, deliver_event, detach_device, input_device, new_control,
+    show_device, work_device,
+};
 use crate::spares::Spares;
 use pos_counter::Counter;
 use pos_disk::Disk;
-use pos_script::{Line, LineFault, Reply, read_words};
-use pos_service::Peripheral;
+use pos_script::{
+    Command, LineFault, Reply, Verb, WriteFault, print_fault, print_reply, read_called,
+    read_category, read_command, read_happening, read_none, read_reply, read_spare,
+};
+use pos_service::{Call, Category, ErrorReply, Input, Peripheral};
 use std::alloc::Global;
+use std::io::Write;
 
-/// Carries out a line, and says what it prints, if it prints anything.
-pub fn carry_out_line<D: Disk, P: Peripheral + Ends>(
-    alloc: Global,
+/// Makes the control of a `new` line, if its words were read.
+#[inline(always)]
+fn make_control<W: Write, D: Disk, P: Peripheral>(
+    writer: &mut W,
     counter: &mut Counter<D, P>,
     names: &mut Names,
+    name: &[u8],
+    read: Result<Category, LineFault>,
+) -> Result<(), WriteFault>
+    requires sound { IsCounterSound P.Peripheral counter.old }
+    ensures line { (reading : Reading Category) → Reads reading read → (spares : SpareStates) →
+        CarriesOutReading D.Disk P.Peripheral counter.old (session_with (names_of names.old) spares) (become (λ category. NewControl name.now category) reading)
+        (W.contents writer.old) (W.contents writer.new) result (session_with (names_of names.new) spares) counter.new }
+    ensures sound { IsCounterSound P.Peripheral counter.new }
+{
+    match read {
+        Ok(value) => print_reply(writer, new_control(counter, names, name, value)),
+        Err(fault) => print_fault(writer, fault),
+    }
+}
+
+/// Makes the call of a line, if its words were read.
+#[inline(always)]
+fn make_call<W: Write, D: Disk, P: Peripheral>(
+    writer: &mut W,
+    counter: &mut Counter<D, P>,
+    names: &Names,
+    name: &[u8],
+    read: Result<Call, LineFault>,
+) -> Result<(), WriteFault>
+    requires sound { IsCounterSound P.Peripheral counter.old }
+    ensures line { (reading : Reading Call) → Reads reading read → (spares : SpareStates) →
+        CarriesOutReading D.Disk P.Peripheral counter.old (session_with (names_of names.now) spares) (become (λ call. CallOf name.now call) reading)
+        (W.contents writer.old) (W.contents writer.new) result (session_with (names_of names.now) spares) counter.new }
+    ensures sound { IsCounterSound P.Peripheral counter.new }
+{
+    match read {
+        Ok(value) => print_reply(writer, call_control(counter, names, name, &value)),
+        Err(fault) => print_fault(writer, fault),
+    }
+}
+
+/// Delivers the event of a `deliver` line, if its words were read.
+#[inline(always)]
+fn deliver<W: Write, D: Disk, P: Peripheral>(
+    writer: &mut W,
+    counter: &mut Counter<D, P>,
+    names: &Names,
+    name: &[u8],
+    read: Result<ErrorReply, LineFault>,
+) -> Result<(), WriteFault>
+    requires sound { IsCounterSound P.Peripheral counter.old }
+    ensures line { (reading : Reading ErrorReply) → Reads reading read → (spares : SpareStates) →
+        CarriesOutReading D.Disk P.Peripheral counter.old (session_with (names_of names.now) spares) (become (λ reply. Deliver name.now reply) reading)
+        (W.contents writer.old) (W.contents writer.new) result (session_with (names_of names.now) spares) counter.new }
+    ensures sound { IsCounterSound P.Peripheral counter.new }
+{
+    match read {
+        Ok(value) => print_reply(writer, deliver_event(counter, names, name, value)),
+        Err(fault) => print_fault(writer, fault),
+    }
+}
+
+/// Hands in what happens by an `input` line, if its words were read.
+#[inline(always)]
+fn hand_in<W: Write, D: Disk, P: Peripheral>(
+    writer: &mut W,
+    counter: &mut Counter<D, P>,
+    name: &[u8],
+    read: Result<Input, LineFault>,
+) -> Result<(), WriteFault>
+    requires sound { IsCounterSound P.Peripheral counter.old }
+    ensures line { (reading : Reading Input) → Reads reading read → (session : Session) →
+        CarriesOutReading D.Disk P.Peripheral counter.old (session) (become (λ input. InputTo name.now input) reading)
+        (W.contents writer.old) (W.contents writer.new) result (session) counter.new }
+    ensures sound { IsCounterSound P.Peripheral counter.new }
+{
+    match read {
+        Ok(value) => print_reply(writer, input_device(counter, name, &value)),
+        Err(fault) => print_fault(writer, fault),
+    }
+}
+
+/// Shows the device of a `show` line, if it has no more words.
+#[inline(always)]
+fn show<W: Write, D: Disk, P: Peripheral>(
+    writer: &mut W,
+    counter: &mut Counter<D, P>,
+    name: &[u8],
+    read: Result<(), LineFault>,
+) -> Result<(), WriteFault>
+    requires sound { IsCounterSound P.Peripheral counter.old }
+    ensures line { (reading : Reading (Unit {0})) → Reads reading read → (session : Session) →
+        CarriesOutReading D.Disk P.Peripheral counter.old session (become (λ u. Snapshot name.now) reading)
+        (W.contents writer.old) (W.contents writer.new) result session counter.new }
+    ensures sound { IsCounterSound P.Peripheral counter.new }
+{
+    match read {
+        Ok(()) => print_reply(writer, show_device(counter, name)),
+        Err(fault) => print_fault(writer, fault),
+    }
+}
+
+/// Works on the output of the device of a `work` line, if it has no more words.
+#[inline(always)]
+fn work<W: Write, D: Disk, P: Peripheral>(
+    writer: &mut W,
+    counter: &mut Counter<D, P>,
+    name: &[u8],
+    read: Result<(), LineFault>,
+) -> Result<(), WriteFault>
+    requires sound { IsCounterSound P.Peripheral counter.old }
+    ensures line { (reading : Reading (Unit {0})) → Reads reading read → (session : Session) →
+        CarriesOutReading D.Disk P.Peripheral counter.old session (become (λ u. WorkOn name.now) reading)
+        (W.contents writer.old) (W.contents writer.new) result session counter.new }
+    ensures sound { IsCounterSound P.Peripheral counter.new }
+{
+    match read {
+        Ok(()) => print_reply(writer, work_device(counter, name)),
+        Err(fault) => print_fault(writer, fault),
+    }
+}
+
+/// Makes the device of a `detach` line vacant, if it has no more words.
+#[inline(always)]
+fn detach<W: Write, D: Disk, P: Peripheral + Ends>(
+    writer: &mut W,
+    counter: &mut Counter<D, P>,
+    name: &[u8],
+    read: Result<(), LineFault>,
+) -> Result<(), WriteFault>
+    requires sound { IsCounterSound P.Peripheral counter.old }
+    ensures line { (reading : Reading (Unit {0})) → Reads reading read → (session : Session) →
+        CarriesOutReading D.Disk P.Peripheral counter.old session (become (λ u. Detach name.now) reading)
+        (W.contents writer.old) (W.contents writer.new) result session counter.new }
+    ensures sound { IsCounterSound P.Peripheral counter.new }
+{
+    match read {
+        Ok(()) => print_reply(writer, detach_device(counter, name)),
+        Err(fault) => print_fault(writer, fault),
+    }
+}
+
+/// Has the spare of an `attach` line serve its device, if its words were read.
+#[inline(always)]
+fn attach<W: Write, D: Disk, P: Peripheral>(
+    writer: &mut W,
+    counter: &mut Counter<D, P>,
     spares: &mut Spares<P>,
-    line: Line<'_>,
-) -> Option<Reply>
+    name: &[u8],
+    read: Result<u32, LineFault>,
+) -> Result<(), WriteFault>
     requires sound { IsCounterSound P.Peripheral counter.old }
     requires spares { AreSparesSound P.Peripheral spares.old }
-    ensures becomes { CarriesOutRead D.Disk P.Peripheral counter.old (session_of P.Peripheral names.old spares.old)
-        line.entry result (session_of P.Peripheral names.new spares.new) counter.new }
+    ensures line { (reading : Reading ℕ) → Reads reading read → (names : ControlNames) →
+        CarriesOutReading D.Disk P.Peripheral counter.old (session_with names (spares_in P.Peripheral spares.old))
+        (become (λ number. Attach name.now number) reading) (W.contents writer.old) (W.contents writer.new) result
+        (session_with names (spares_in P.Peripheral spares.new)) counter.new }
     ensures sound { IsCounterSound P.Peripheral counter.new }
     ensures spares { AreSparesSound P.Peripheral spares.new }
 {
-    match line {
-        Line::Quiet => None,
-        Line::Misspelled => Some(Reply::BadLine),
-        Line::Words(words) => match read_words(alloc, words) {
-            Ok(command) => Some(carry_out_command(counter, names, spares, command)),
-            Err(LineFault::WrongShape) => Some(Reply::BadLine),
-            Err(LineFault::NoMemory) => Some(Reply::Memory),
-        },
+    match read {
+        Ok(number) => print_reply(writer, attach_spare(counter, spares, name, number)),
+        Err(fault) => print_fault(writer, fault),
+    }
+}
+
+/// Carries out a line that was taken apart, and writes what it prints.
+#[inline(always)]
+fn carry_out_command<W: Write, D: Disk, P: Peripheral + Ends>(
+    alloc: Global,
+    writer: &mut W,
+    counter: &mut Counter<D, P>,
+    names: &mut Names,
+    spares: &mut Spares<P>,
+    command: Command<'_>,
+) -> Result<(), WriteFault>
+    requires sound { IsCounterSound P.Peripheral counter.old }
+    requires spares { AreSparesSound P.Peripheral spares.old }
+    ensures line { CarriesOutReading D.Disk P.Peripheral counter.old (session_of P.Peripheral names.old spares.old)
+        (line_of command.entry.verb command.entry.name (words_of command.entry.words.now)) (W.contents writer.old) (W.contents writer.new)
+        result (session_of P.Peripheral names.new spares.new) counter.new }
+    ensures sound { IsCounterSound P.Peripheral counter.new }
+    ensures spares { AreSparesSound P.Peripheral spares.new }
+{
+    let Command { verb, name, words } = command;
+    let name = name.as_slice();
+    match verb {
+        Verb::New => make_control(writer, counter, names, name, read_category(alloc, words)),
+        Verb::Call(by) => make_call(writer, counter, names, name, read_called(alloc, by, words)),
+        Verb::Input => hand_in(writer, counter, name, read_happening(alloc, words)),
+        Verb::Deliver => deliver(writer, counter, names, name, read_reply(alloc, words)),
+        Verb::Show => show(writer, counter, name, read_none(words)),
+        Verb::Work => work(writer, counter, name, read_none(words)),
+        Verb::Attach => attach(writer, counter, spares, name, read_spare(alloc, words)),
+        Verb::Detach => detach(writer, counter, name, read_none(words)),
+    }
+}
+
+/// Carries out a line that is well spelled and not quiet, and writes what it prints.
+#[inline(always)]
+pub(crate) fn carry_out_words<W: Write, D: Disk, P: Peripheral + Ends>(
+    alloc: Global,
+    writer: &mut W,
+    counter: &mut Counter<D, P>,
+    names: &mut Names,
+    spares: &mut Spares<P>,
+    words: &[u8],
+) -> Result<(), WriteFault>
+    requires sound { IsCounterSound P.Peripheral counter.old }
+    requires spares { AreSparesSound P.Peripheral spares.old }
+    ensures line { CarriesOutReading D.Disk P.Peripheral counter.old (session_of P.Peripheral names.old spares.old)
+        (request_of_words (words_of words.now)) (W.contents writer.old) (W.contents writer.new) result
+        (session_of P.Peripheral names.new spares.new) counter.new }
+    ensures sound { IsCounterSound P.Peripheral counter.new }
+    ensures spares { AreSparesSound P.Peripheral spares.new }
+{
+    match read_command(words) {
+        Some(command) => carry_out_command(alloc, writer, counter, names, spares, command),
+        None => print_reply(writer, Reply::BadLine),
     }
 }

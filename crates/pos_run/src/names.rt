@@ -4,12 +4,15 @@ ghost use Rattle.pos_run.specs.Names.{names_of, number_named, room_of};
 use indexmap::IndexMap;
 use pos_service::NoMemory;
 use std::alloc::Global;
+use std::cell::Cell;
 
-/// The controls of a script: their numbers by their names.
+/// The controls of a script: their numbers by their names, and the place of the name that was found last, since a line
+/// mostly names the control of the line before.
 #[derive(Drop)]
 pub struct Names {
     alloc: Global,
     numbers: IndexMap<Vec<u8>, usize>,
+    last: Cell<usize>,
 }
 
 impl Names {
@@ -20,14 +23,26 @@ impl Names {
         Names {
             alloc,
             numbers: IndexMap::new(alloc),
+            last: Cell::new(0),
         }
     }
 
-    /// The number of the control with a name.
+    /// The number of the control with a name. That of the name that was found last is told without hashing it.
     pub fn find(&self, name: &[u8]) -> Option<usize>
         ensures { result ≡ number_named (names_of self.now) name.now }
     {
-        self.numbers.get(name).copied()
+        if let Some((last, number)) = self.numbers.get_index(self.last.get()) {
+            if last.as_slice() == name {
+                return Some(*number);
+            }
+        }
+        match self.numbers.get_full(name) {
+            Some((place, _, number)) => {
+                self.last.set(place);
+                Some(*number)
+            }
+            None => None,
+        }
     }
 
     /// A copy of a name, and room for it.

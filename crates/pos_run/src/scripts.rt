@@ -10,13 +10,13 @@ ghost use Rattle.pos_run.specs.Transcript.{begun_session, session_with};
 
 use crate::answers::AnswerWriter;
 use crate::ending::Ends;
-use crate::lines::carry_out_line;
+use crate::lines::carry_out_words;
 use crate::names::Names;
 use crate::reading::{ReadFault, ScriptReader};
 use crate::spares::Spares;
 use pos_counter::Counter;
 use pos_disk::Disk;
-use pos_script::{Line, LineBuffer, WriteFault, print_line};
+use pos_script::{Line, LineBuffer, Reply, WriteFault, print_reply};
 use pos_service::Peripheral;
 use std::alloc::Global;
 use std::io::{Read, Write};
@@ -56,8 +56,11 @@ fn carry_out_and_print<W: Write, D: Disk, P: Peripheral + Ends>(
     ensures sound { IsCounterSound P.Peripheral counter.new }
     ensures spares { AreSparesSound P.Peripheral spares.new }
 {
-    let reply = carry_out_line(alloc, counter, names, spares, line);
-    print_line(writer, reply)
+    match line {
+        Line::Quiet => Ok(()),
+        Line::Misspelled => print_reply(writer, Reply::BadLine),
+        Line::Words(words) => carry_out_words(alloc, writer, counter, names, spares, words),
+    }
 }
 
 /// Carries out the lines that a piece ends, each before a later one, and writes what each prints.

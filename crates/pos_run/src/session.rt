@@ -1,7 +1,7 @@
 ghost use Rattle.std.specs.Prelude.{◌≡◌};
 ghost use Rattle.pos_counter.specs.Counters.{IsCounterSound};
 ghost use Rattle.pos_counter.specs.Steps.{NewControl, CallOf, InputTo, Deliver, Snapshot, WorkOn, Attach, Detach};
-ghost use Rattle.pos_run.specs.Carried.{CarriesOutAsking, CarriesOutAtControl, CarriesOutAtDevice, CarriesOutWithSpare, session_of};
+ghost use Rattle.pos_run.specs.Carried.{CarriesOutAtControl, CarriesOutAtDevice, CarriesOutWithSpare};
 ghost use Rattle.pos_run.specs.Spares.{AreSparesSound, spares_in};
 
 use crate::ending::Ends;
@@ -9,11 +9,12 @@ use crate::names::Names;
 use crate::spares::Spares;
 use pos_counter::{ControlFault, Counter, InputFault, SnapshotFault, WorkFault};
 use pos_disk::Disk;
-use pos_script::{Command, Reply};
-use pos_service::{Call, Category, ErrorReply, Input, Peripheral, Request, Response};
+use pos_script::Reply;
+use pos_service::{Call, Category, ErrorReply, Input, Peripheral, Response};
 
 /// A new control, under a name that no control has.
-fn new_control<D: Disk, P: Peripheral>(
+#[inline(always)]
+pub(crate) fn new_control<D: Disk, P: Peripheral>(
     counter: &mut Counter<D, P>,
     names: &mut Names,
     name: &[u8],
@@ -41,7 +42,8 @@ fn new_control<D: Disk, P: Peripheral>(
 }
 
 /// A call on the control of a name.
-fn call_control<D: Disk, P: Peripheral>(
+#[inline(always)]
+pub(crate) fn call_control<D: Disk, P: Peripheral>(
     counter: &mut Counter<D, P>,
     names: &Names,
     name: &[u8],
@@ -62,7 +64,8 @@ fn call_control<D: Disk, P: Peripheral>(
 }
 
 /// The delivery of an event to the control of a name.
-fn deliver_event<D: Disk, P: Peripheral>(
+#[inline(always)]
+pub(crate) fn deliver_event<D: Disk, P: Peripheral>(
     counter: &mut Counter<D, P>,
     names: &Names,
     name: &[u8],
@@ -80,7 +83,8 @@ fn deliver_event<D: Disk, P: Peripheral>(
 }
 
 /// What happens at a device.
-fn input_device<D: Disk, P: Peripheral>(
+#[inline(always)]
+pub(crate) fn input_device<D: Disk, P: Peripheral>(
     counter: &mut Counter<D, P>,
     name: &[u8],
     input: &Input,
@@ -99,7 +103,8 @@ fn input_device<D: Disk, P: Peripheral>(
 }
 
 /// What a device is physically.
-fn show_device<D: Disk, P: Peripheral>(counter: &Counter<D, P>, name: &[u8]) -> Reply
+#[inline(always)]
+pub(crate) fn show_device<D: Disk, P: Peripheral>(counter: &Counter<D, P>, name: &[u8]) -> Reply
     requires sound { IsCounterSound P.Peripheral counter.now }
     ensures { CarriesOutAtDevice D.Disk P.Peripheral counter.now (Snapshot name.now) result counter.now }
 {
@@ -111,7 +116,8 @@ fn show_device<D: Disk, P: Peripheral>(counter: &Counter<D, P>, name: &[u8]) -> 
 }
 
 /// Work on a device's output.
-fn work_device<D: Disk, P: Peripheral>(counter: &mut Counter<D, P>, name: &[u8]) -> Reply
+#[inline(always)]
+pub(crate) fn work_device<D: Disk, P: Peripheral>(counter: &mut Counter<D, P>, name: &[u8]) -> Reply
     requires sound { IsCounterSound P.Peripheral counter.old }
     ensures asks { CarriesOutAtDevice D.Disk P.Peripheral counter.old (WorkOn name.now) result counter.new }
     ensures sound { IsCounterSound P.Peripheral counter.new }
@@ -124,7 +130,8 @@ fn work_device<D: Disk, P: Peripheral>(counter: &mut Counter<D, P>, name: &[u8])
 }
 
 /// The spare of a number is to serve a device. One that is refused goes back to its place.
-fn attach_spare<D: Disk, P: Peripheral>(
+#[inline(always)]
+pub(crate) fn attach_spare<D: Disk, P: Peripheral>(
     counter: &mut Counter<D, P>,
     spares: &mut Spares<P>,
     name: &[u8],
@@ -150,7 +157,11 @@ fn attach_spare<D: Disk, P: Peripheral>(
 }
 
 /// A device is to be vacant. Its peripheral, which is out of service then, is ended.
-fn detach_device<D: Disk, P: Peripheral + Ends>(counter: &mut Counter<D, P>, name: &[u8]) -> Reply
+#[inline(always)]
+pub(crate) fn detach_device<D: Disk, P: Peripheral + Ends>(
+    counter: &mut Counter<D, P>,
+    name: &[u8],
+) -> Reply
     requires sound { IsCounterSound P.Peripheral counter.old }
     ensures asks { CarriesOutAtDevice D.Disk P.Peripheral counter.old (Detach name.now) result counter.new }
     ensures sound { IsCounterSound P.Peripheral counter.new }
@@ -161,33 +172,5 @@ fn detach_device<D: Disk, P: Peripheral + Ends>(counter: &mut Counter<D, P>, nam
             Reply::Responded(Response::Detached(()))
         }
         Err(fault) => Reply::Responded(Response::NotDetached(fault)),
-    }
-}
-
-/// Carries out what a line asks, and replies to it.
-pub fn carry_out_command<D: Disk, P: Peripheral + Ends>(
-    counter: &mut Counter<D, P>,
-    names: &mut Names,
-    spares: &mut Spares<P>,
-    command: Command<'_>,
-) -> Reply
-    requires sound { IsCounterSound P.Peripheral counter.old }
-    requires spares { AreSparesSound P.Peripheral spares.old }
-    ensures asks { CarriesOutAsking D.Disk P.Peripheral counter.old (session_of P.Peripheral names.old spares.old)
-        command.entry result (session_of P.Peripheral names.new spares.new) counter.new }
-    ensures sound { IsCounterSound P.Peripheral counter.new }
-    ensures spares { AreSparesSound P.Peripheral spares.new }
-{
-    match command {
-        Request::NewControl(name, category) => {
-            new_control(counter, names, name.as_slice(), category)
-        }
-        Request::CallOf(name, call) => call_control(counter, names, name.as_slice(), &call),
-        Request::InputTo(name, input) => input_device(counter, name.as_slice(), &input),
-        Request::Deliver(name, reply) => deliver_event(counter, names, name.as_slice(), reply),
-        Request::Snapshot(name) => show_device(counter, name.as_slice()),
-        Request::WorkOn(name) => work_device(counter, name.as_slice()),
-        Request::Attach(name, number) => attach_spare(counter, spares, name.as_slice(), number),
-        Request::Detach(name) => detach_device(counter, name.as_slice()),
     }
 }

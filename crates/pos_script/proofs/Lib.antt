@@ -3,4 +3,3 @@ pub mod LineLemmas
 pub mod BufferLemmas
 pub mod WriteLemmas
 pub mod ReceiptLemmas
-pub mod Readings

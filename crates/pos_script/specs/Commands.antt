@@ -1,5 +1,6 @@
 -- What a line of a script asks (docs/CONSOLE.md, "Lines").
-use Rattle.std.specs.Prelude.{ℕ, Bool, true, false, List, [], ◌∷◌, bytes_eq, codes, if◌then◌else◌}
+use Rattle.std.specs.Prelude.{ℕ, Bool, true, false, List, [], ◌∷◌, Option, Some, None, bytes_eq, codes, if◌then◌else◌}
+use Rattle.pos_service.specs.declared.call.Call.{Call}
 use Rattle.pos_service.specs.declared.call.Call.TheVariants as call
 use Rattle.pos_service.specs.declared.input.Input.{Input}
 use Rattle.pos_service.specs.declared.input.Input.TheVariants as input
@@ -8,7 +9,11 @@ use Rattle.pos_service.specs.declared.event.ErrorReply.TheVariants as reply
 use Rattle.pos_service.specs.declared.request.Request.{Request}
 use Rattle.pos_service.specs.declared.request.Request.TheVariants as request
 use Rattle.pos_script.specs.Lines.{words_of, is_well_spelled}
-use Rattle.pos_script.specs.Arguments.{Reading, misshapen, become, one, from_none, from_one, from_two, from_three}
+use Rattle.pos_script.specs.declared.command.CallVerb.{CallVerb}
+use Rattle.pos_script.specs.declared.command.CallVerb.TheVariants as call_verb
+use Rattle.pos_script.specs.declared.command.Verb.{Verb}
+use Rattle.pos_script.specs.declared.command.Verb.TheVariants as verb
+use Rattle.pos_script.specs.Arguments.{Reading, misshapen, become, none, one, from_none, from_one, from_two, from_three}
 use Rattle.pos_service.specs.Names.{is_device_name}
 use Rattle.pos_script.specs.Words.{bytes_shape, category_shape, count_shape, device_shape, number_shape, property_shape, value_shape, error_reply_shape}
 use Rattle.pos_script.specs.Methods.{call_of}
@@ -17,39 +22,20 @@ use Rattle.pos_script.specs.Methods.{call_of}
 abbrev pub LineRequest : Type 0
 LineRequest = Request (List ℕ) (List ℕ) ℕ
 
--- new CONTROL CATEGORY
-abbrev pub new_line : List ℕ → List (List ℕ) → Reading LineRequest
-new_line name words = from_one category_shape (λ category. request.NewControl name category) words
+-- a method of `call CONTROL METHOD`, and its arguments
+abbrev pub method_of : List (List ℕ) → Reading Call
+method_of [] = misshapen
+method_of (method ∷ words) = call_of method words
 
--- open CONTROL DEVICE
-abbrev pub open_line : List ℕ → List (List ℕ) → Reading LineRequest
-open_line name words = from_one device_shape (λ device. request.CallOf name (call.Open device.name)) words
-
--- close CONTROL
-abbrev pub close_line : List ℕ → List (List ℕ) → Reading LineRequest
-close_line name words = from_none (request.CallOf name call.Close) words
-
--- claim CONTROL TIMEOUT
-abbrev pub claim_line : List ℕ → List (List ℕ) → Reading LineRequest
-claim_line name words = from_one number_shape (λ timeout. request.CallOf name (call.Claim timeout)) words
-
--- release CONTROL
-abbrev pub release_line : List ℕ → List (List ℕ) → Reading LineRequest
-release_line name words = from_none (request.CallOf name call.Release) words
-
--- set CONTROL PROPERTY VALUE
-abbrev pub set_line : List ℕ → List (List ℕ) → Reading LineRequest
-set_line name words =
-    from_two property_shape value_shape (λ property v. request.CallOf name (call.Set property v)) words
-
--- get CONTROL PROPERTY
-abbrev pub get_line : List ℕ → List (List ℕ) → Reading LineRequest
-get_line name words = from_one property_shape (λ property. request.CallOf name (call.Get property)) words
-
--- call CONTROL METHOD, and the method's arguments
-abbrev pub call_line : List ℕ → List (List ℕ) → Reading LineRequest
-call_line name [] = misshapen
-call_line name (method ∷ words) = become (λ call. request.CallOf name call) (call_of method words)
+-- a call of a verb, by the words behind the control's name
+abbrev pub called : CallVerb → List (List ℕ) → Reading Call
+called call_verb.Open words = from_one device_shape (λ device. call.Open device.name) words
+called call_verb.Close words = from_none call.Close words
+called call_verb.Claim words = from_one number_shape call.Claim words
+called call_verb.Release words = from_none call.Release words
+called call_verb.Set words = from_two property_shape value_shape call.Set words
+called call_verb.Get words = from_one property_shape call.Get words
+called call_verb.Method words = method_of words
 
 -- the last word of a line, which is one of two: whether it is the first of them
 abbrev pub choice_of : List ℕ → List ℕ → List (List ℕ) → Reading Bool
@@ -74,71 +60,68 @@ input_of word words =
     else (if bytes_eq word (codes "power") then become input.PowerMoved (choice_of (codes "on") (codes "off") words)
     else printer_input_of word words))))
 
--- input DEVICE, and what happens there
-abbrev pub input_line : List ℕ → List (List ℕ) → Reading LineRequest
-input_line name [] = misshapen
-input_line name (word ∷ words) = become (λ input. request.InputTo name input) (input_of word words)
+-- what happens at a device
+abbrev pub happening : List (List ℕ) → Reading Input
+happening [] = misshapen
+happening (word ∷ words) = input_of word words
 
 -- the answer to an ErrorEvent, which is the default one where no word gives it
 abbrev pub reply_of : List (List ℕ) → Reading ErrorReply
 reply_of [] = from_none reply.Default []
 reply_of (word ∷ words) = one error_reply_shape (word ∷ words)
 
--- deliver CONTROL, or deliver CONTROL REPLY
-abbrev pub deliver_line : List ℕ → List (List ℕ) → Reading LineRequest
-deliver_line name words = become (λ reply. request.Deliver name reply) (reply_of words)
+-- a line of a verb, by the name of a control or a device and the words behind it
+abbrev pub line_of : Verb → List ℕ → List (List ℕ) → Reading LineRequest
+line_of verb.New name words = become (λ category. request.NewControl name category) (one category_shape words)
+line_of (verb.Call by) name words = become (λ call. request.CallOf name call) (called by words)
+line_of verb.Input name words = become (λ input. request.InputTo name input) (happening words)
+line_of verb.Deliver name words = become (λ reply. request.Deliver name reply) (reply_of words)
+line_of verb.Show name words = become (λ u. request.Snapshot name) (none words)
+line_of verb.Work name words = become (λ u. request.WorkOn name) (none words)
+line_of verb.Attach name words = become (λ spare. request.Attach name spare) (one count_shape words)
+line_of verb.Detach name words = become (λ u. request.Detach name) (none words)
 
--- show DEVICE
-abbrev pub show_line : List ℕ → List (List ℕ) → Reading LineRequest
-show_line name words = from_none (request.Snapshot name) words
+-- the verb of a call
+abbrev pub call_verb_named : List ℕ → Option CallVerb
+call_verb_named word =
+    if bytes_eq word (codes "call") then Some call_verb.Method
+    else (if bytes_eq word (codes "get") then Some call_verb.Get
+    else (if bytes_eq word (codes "set") then Some call_verb.Set
+    else (if bytes_eq word (codes "open") then Some call_verb.Open
+    else (if bytes_eq word (codes "close") then Some call_verb.Close
+    else (if bytes_eq word (codes "claim") then Some call_verb.Claim
+    else (if bytes_eq word (codes "release") then Some call_verb.Release else None))))))
 
--- work DEVICE
-abbrev pub work_line : List ℕ → List (List ℕ) → Reading LineRequest
-work_line name words = from_none (request.WorkOn name) words
+-- another verb
+abbrev pub other_verb_named : List ℕ → Option Verb
+other_verb_named word =
+    if bytes_eq word (codes "deliver") then Some verb.Deliver
+    else (if bytes_eq word (codes "input") then Some verb.Input
+    else (if bytes_eq word (codes "show") then Some verb.Show
+    else (if bytes_eq word (codes "work") then Some verb.Work
+    else (if bytes_eq word (codes "new") then Some verb.New
+    else (if bytes_eq word (codes "attach") then Some verb.Attach
+    else (if bytes_eq word (codes "detach") then Some verb.Detach else None))))))
 
--- attach DEVICE SPARE
-abbrev pub attach_line : List ℕ → List (List ℕ) → Reading LineRequest
-attach_line name words = from_one count_shape (λ spare. request.Attach name spare) words
+-- the verb of a call, or else another
+abbrev pub verb_or : Option CallVerb → Option Verb → Option Verb
+verb_or None other = other
+verb_or (Some by) other = Some (verb.Call by)
 
--- detach DEVICE
-abbrev pub detach_line : List ℕ → List (List ℕ) → Reading LineRequest
-detach_line name words = from_none (request.Detach name) words
+-- the verb of this word
+abbrev pub verb_named : List ℕ → Option Verb
+verb_named word = verb_or (call_verb_named word) (other_verb_named word)
 
--- a line about the peripheral of a device, by its verb
-abbrev pub exchange_line : List ℕ → List ℕ → List (List ℕ) → Reading LineRequest
-exchange_line verb name words =
-    if bytes_eq verb (codes "attach") then attach_line name words
-    else (if bytes_eq verb (codes "detach") then detach_line name words else misshapen)
-
--- a line that asks something of a device, by its verb
-abbrev pub device_line : List ℕ → List ℕ → List (List ℕ) → Reading LineRequest
-device_line verb name words =
-    if bytes_eq verb (codes "input") then input_line name words
-    else (if bytes_eq verb (codes "show") then show_line name words
-    else (if bytes_eq verb (codes "work") then work_line name words else exchange_line verb name words))
-
--- a line that claims or releases a control's device, or asks something of a device, by its verb
-abbrev pub claims_line : List ℕ → List ℕ → List (List ℕ) → Reading LineRequest
-claims_line verb name words =
-    if bytes_eq verb (codes "claim") then claim_line name words
-    else (if bytes_eq verb (codes "release") then release_line name words else device_line verb name words)
-
--- a line that asks something of a control or a device, by its verb
-abbrev pub verb_line : List ℕ → List ℕ → List (List ℕ) → Reading LineRequest
-verb_line verb name words =
-    if bytes_eq verb (codes "new") then new_line name words
-    else (if bytes_eq verb (codes "open") then open_line name words
-    else (if bytes_eq verb (codes "close") then close_line name words
-    else (if bytes_eq verb (codes "set") then set_line name words
-    else (if bytes_eq verb (codes "get") then get_line name words
-    else (if bytes_eq verb (codes "call") then call_line name words
-    else (if bytes_eq verb (codes "deliver") then deliver_line name words else claims_line verb name words))))))
+-- a line, by its verb
+abbrev pub line_by : Option Verb → List ℕ → List (List ℕ) → Reading LineRequest
+line_by None name words = misshapen
+line_by (Some is) name words = line_of is name words
 
 -- what the words of a line ask: the second is the name of a control or a device
 abbrev pub request_of_words : List (List ℕ) → Reading LineRequest
 request_of_words [] = misshapen
 request_of_words (verb ∷ []) = misshapen
-request_of_words (verb ∷ name ∷ words) = if is_device_name name then verb_line verb name words else misshapen
+request_of_words (verb ∷ name ∷ words) = if is_device_name name then line_by (verb_named verb) name words else misshapen
 
 -- what a line that isn't quiet asks
 abbrev pub asked_by : List ℕ → Reading LineRequest

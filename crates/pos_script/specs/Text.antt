@@ -24,6 +24,8 @@ use Rattle.pos_service.specs.declared.worked.Worked.TheVariants as worked
 use Rattle.pos_service.specs.Codes.{number_of, locus_number_of}
 use Rattle.pos_script.specs.Glyphs.{cells_text}
 use Rattle.pos_script.specs.ReceiptText.{printer_text}
+use Rattle.pos_script.specs.declared.arguments.LineFault.{LineFault}
+use Rattle.pos_script.specs.declared.arguments.LineFault.TheVariants as fault
 use Rattle.pos_script.specs.declared.reply.Reply.{Reply}
 use Rattle.pos_script.specs.declared.reply.Reply.TheVariants as reply
 
@@ -124,6 +126,11 @@ reply_text reply.BadControl = codes "bad control"
 reply_text reply.BadSpare = codes "bad spare"
 reply_text reply.Memory = codes "memory"
 reply_text (reply.Responded response) = response_text response
+
+-- what is printed for a line that was not read
+abbrev pub fault_text : LineFault → List ℕ
+fault_text fault.WrongShape = reply_text reply.BadLine
+fault_text fault.NoMemory = reply_text reply.Memory
 
 -- what is printed for a line: nothing, or a line
 abbrev pub printed : Option (List ℕ) → List ℕ

@@ -14,10 +14,13 @@ mod reply;
 mod words;
 mod write;
 
-pub use arguments::LineFault;
-pub use command::{Command, read_words};
+pub use arguments::{LineFault, read_none};
+pub use command::{
+    CallVerb, Command, Verb, read_called, read_category, read_command, read_happening, read_reply,
+    read_spare,
+};
 pub use laws::{lines_fall_in_two, lines_go_on};
 pub use line_buffer::{EndedLine, Line, LineBuffer};
-pub use print::print_line;
+pub use print::{print_fault, print_reply};
 pub use reply::Reply;
 pub use write::WriteFault;

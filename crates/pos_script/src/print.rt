@@ -1,10 +1,11 @@
-ghost use Rattle.std.specs.Prelude.{◌++◌, ◌∷◌, [], codes, option_map};
+ghost use Rattle.std.specs.Prelude.{◌++◌, ◌∷◌, [], codes};
 ghost use Rattle.std.specs.Fmt.{signed_decimal};
 ghost use Rattle.pos_script.specs.Writing.{Writes};
 ghost use Rattle.pos_script.specs.Glyphs.{cells_text};
 ghost use Rattle.pos_script.specs.ReceiptText.{printer_text};
-ghost use Rattle.pos_script.specs.Text.{answer_text, attach_text, delivered_text, detach_text, event_text, hex_text, plant_text, printed, reply_text, response_text, worked_text};
+ghost use Rattle.pos_script.specs.Text.{answer_text, attach_text, delivered_text, detach_text, event_text, fault_text, hex_text, plant_text, reply_text, response_text, worked_text};
 
+use crate::arguments::LineFault;
 use crate::glyphs::write_glyphs;
 use crate::receipt::write_receipt;
 use crate::reply::Reply;
@@ -247,9 +248,10 @@ fn print_response<W: Write>(writer: &mut W, response: Response<()>) -> Result<()
     }
 }
 
-/// Writes the reply to a line, as a line of its own.
+/// Writes the reply to a line, as a line of its own (docs/CONSOLE.md, "Answers"). It takes no memory. At a fault a front
+/// of the text is written, and not all of it.
 #[inline(always)]
-fn print_reply<W: Write>(writer: &mut W, reply: Reply) -> Result<(), WriteFault>
+pub fn print_reply<W: Write>(writer: &mut W, reply: Reply) -> Result<(), WriteFault>
     ensures { Writes (W.contents writer.old) (W.contents writer.new) (reply_text reply ++ 10 ∷ []) result }
 {
     match reply {
@@ -261,13 +263,12 @@ fn print_reply<W: Write>(writer: &mut W, reply: Reply) -> Result<(), WriteFault>
     }
 }
 
-/// Writes what a line prints: its reply as a line of its own, or nothing where there is no reply (docs/CONSOLE.md,
-/// "Answers"). It takes no memory. At a fault a front of the text is written, and not all of it.
-pub fn print_line<W: Write>(writer: &mut W, reply: Option<Reply>) -> Result<(), WriteFault>
-    ensures { Writes (W.contents writer.old) (W.contents writer.new) (printed (option_map reply_text reply)) result }
+/// Writes why a line was not read, as a line of its own. At a fault a front of the text is written, and not all of it.
+pub fn print_fault<W: Write>(writer: &mut W, fault: LineFault) -> Result<(), WriteFault>
+    ensures { Writes (W.contents writer.old) (W.contents writer.new) (fault_text fault ++ 10 ∷ []) result }
 {
-    match reply {
-        Some(reply) => print_reply(writer, reply),
-        None => Ok(()),
+    match fault {
+        LineFault::WrongShape => print_reply(writer, Reply::BadLine),
+        LineFault::NoMemory => print_reply(writer, Reply::Memory),
     }
 }

@@ -1,15 +1,35 @@
-use Rattle.std.proofs.Common.{refl}
-use Rattle.std.specs.Prelude.{option_map}
+use Rattle.std.proofs.Common.{None, Some, refl, subst}
+use Rattle.std.specs.Prelude.{Result, Ok, codes}
+use Rattle.std.proofs.KnownBytes.{Appends-nil}
 use Rattle.pos_counter.specs.Counters.{IsRun}
-use Rattle.pos_script.specs.Text.{reply_text}
+use Rattle.pos_script.specs.LineBuffers.{IsLine}
+use Rattle.pos_script.specs.declared.write.WriteFault.{WriteFault}
 use Rattle.pos_run.specs.Carried.{session_of}
 use Rattle.pos_run.proofs.Finishing.{one_line}
+use Rattle.pos_run.proofs.Sessions.{asked_words, becomes_quiet, becomes_read, misspelled, read_misshapen}
 use Rattle.pos_run.proofs.scripts.carry_out_and_print.Goals as goal
 
-pub returns-clause-line : goal.returns-clause-line
-returns-clause-line g c = λ bytes is.
-    one_line (IsRun g.D.Disk g.P.Peripheral) c.args.counter.now (session_of g.P.Peripheral c.args.names.now c.args.spares.now) refl bytes
-    (option_map reply_text c.carry_out_line-reply.result)
-    (g.W.Write.contents c.args.writer.now) (g.W.Write.contents c.print_line.new.writer) c.print_line.result
-    (session_of g.P.Peripheral c.carry_out_line-reply.new.names c.carry_out_line-reply.new.spares) c.carry_out_line-reply.new.counter
-    (c.carry_out_line-reply.ensures.becomes bytes is) c.print_line.ensures
+pub returns-in-Quiet-clause-line : goal.returns-in-Quiet-clause-line
+returns-in-Quiet-clause-line g c = λ bytes is.
+    let session = session_of g.P.Peripheral c.args.names.now c.args.spares.now in
+    let quiet = subst (λ line. IsLine line bytes) c.in-Quiet.is is in
+    let contents = g.W.Write.contents c.args.writer.now in
+    let done : Result (Unit {0}) WriteFault = Ok tt in
+    one_line (IsRun g.D.Disk g.P.Peripheral) c.args.counter.now session refl bytes None contents contents done session
+    c.args.counter.now (becomes_quiet (IsRun g.D.Disk g.P.Peripheral) c.args.counter.now session bytes quiet refl) (Appends-nil contents)
+
+pub returns-in-Misspelled-clause-line : goal.returns-in-Misspelled-clause-line
+returns-in-Misspelled-clause-line g c = λ bytes is.
+    let session = session_of g.P.Peripheral c.args.names.now c.args.spares.now in
+    let (loud, wrong) = subst (λ line. IsLine line bytes) c.in-Misspelled.is is in
+    one_line (IsRun g.D.Disk g.P.Peripheral) c.args.counter.now session refl bytes (Some (codes "bad line")) _ _ _ session c.args.counter.now
+    (becomes_read _ _ session bytes _ _ _ _ loud (misspelled bytes wrong)
+    (read_misshapen (IsRun g.D.Disk g.P.Peripheral) c.args.counter.now session _ refl refl)) c.print_reply.ensures
+
+pub returns-in-Words-clause-line : goal.returns-in-Words-clause-line
+returns-in-Words-clause-line g c = λ bytes is.
+    let session = session_of g.P.Peripheral c.args.names.now c.args.spares.now in
+    let (loud, spelled, same) = subst (λ line. IsLine line bytes) c.in-Words.is is in
+    let (reply, carried, writes) = c.carry_out_words.ensures.line in
+    one_line (IsRun g.D.Disk g.P.Peripheral) c.args.counter.now session refl bytes (Some reply) _ _ _ _ _
+    (becomes_read _ _ session bytes _ _ _ _ loud (asked_words bytes c.in-Words.words.now spelled same) carried) writes
