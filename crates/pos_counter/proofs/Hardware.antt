@@ -142,7 +142,8 @@ pub device_step : (hs gs : List KeptControl) (ds es : List Device) (cl : List (O
     → IsLet (machine_with hs cl ds part) n c asked
     → IsDoneAt ds place (CallsAt n asked place r) hs gs es → Step (machine_with hs cl ds part) (CallOf n asked) (answered r) (machine_with gs cl es part)
 device_step hs gs ds es cl part n place c asked r own found is device lets done =
-    by_outcome r (MatchOption-at_some ⊥ (λ control. CallsFor n asked place r control (controls_of hs) done.before (controls_of gs) done.after) c found done.does)
+    by_outcome r (MatchOption-at_some ⊥ (λ control. CallsFor n asked place r control (controls_of hs) done.before (controls_of gs) done.after)
+    c found done.does)
   where
     m : Machine
     m = machine_with hs cl ds part

@@ -82,7 +82,8 @@ files_serve bound peripherals old now n c asked outcome own found is lets only (
           any_moment = f.any_moment;
         };
     spared = λ left failures spares.
-        absurd (puts.uses (spares_own (machine peripherals old (part_with old.totals.totals left failures)) n c asked own found is (lets left failures) spares));
+        absurd (puts.uses (spares_own (machine peripherals old (part_with old.totals.totals left failures)) n c asked own found is (lets left
+        failures) spares));
     otherwise = λ left failures. inr (rw found (is, inl refl));
     unchanged = λ undone was ready. elim (puts.unchanged (not_done outcome undone)) [
       | inl turns ↦ absurd (still_ready old.totals.totals.mode now.totals.mode turns ready)

@@ -79,5 +79,6 @@ returns g c =
     quiet_serves g.D.Disk g.P.Peripheral old _ _ _ old.totals.totals (g.met.D.Disk.only_now _) refl refl (λ left. refl) c.requires.sound
     c.call_there.ensures.sound
     (λ left failures so. device_step _ _ _ _ _ (part_with old.totals.totals left failures) n c.in-Some.place h.control c.args.call.now
-    c.call_there.result c.requires.own (kept_at old.controls.items n h c.requires.in_range c.index-control.ensures) (sym c.is_totals.ensures ∙ c.if-is_totals.false)
+    c.call_there.result c.requires.own (kept_at old.controls.items n h c.requires.in_range c.index-control.ensures) (sym c.is_totals.ensures ∙
+    c.if-is_totals.false)
     (sym c.in-Some.ensures) lets done)
