@@ -5,7 +5,8 @@ use Rattle.std.proofs.lemmas.List.Sums.{fold-append}
 use Rattle.pos_service.specs.declared.receipt_text.PrintedCharacter.{PrintedCharacter}
 use Rattle.pos_service.specs.declared.receipt_text.Piece.{Piece}
 use Rattle.pos_service.specs.declared.receipt_text.Piece.TheVariants as piece
-use Rattle.pos_service.specs.Receipts.{Item, Line, CutAt, Style, plain, SegmentCharacter, in_style, Printout, after_items, begun_segment, characters_of, chunks_of}
+use Rattle.pos_service.specs.Receipts.{Item, Line, CutAt, Style, plain, SegmentCharacter, in_style, Printout, after_items, begun_segment}
+use Rattle.pos_service.specs.Receipts.{characters_of, chunks_of}
 use Rattle.pos_service.specs.Receipts.{lines_if_begun, lines_of, printed_from, lines_needed, printed_by}
 use Rattle.pos_sims.specs.Tapes.{put, ended, Work, end_line, end_begun, end_full, add_cut, step, steps}
 use Rattle.pos_sims.proofs.ChunkLemmas.{chunked_more, put_behind, chunked_some, fitting}

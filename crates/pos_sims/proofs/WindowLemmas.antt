@@ -64,7 +64,8 @@ scrolled manner old cells next strip place within last moved h =
     let more : rows_above manner.rows (fed strip).place ≡ above + 1 = omega arith in
     let see = shown_at manner.columns manner.attribute old strip.placed in
     record {
-      window = rw more (scrolled_window manner.rows manner.columns above cells next see within.count (shifted cells next manner.columns moved) h.window h.below);
+      window = rw more (scrolled_window manner.rows manner.columns above cells next see within.count
+          (shifted cells next manner.columns moved) h.window h.below);
       below = λ row column le. h.below row column (omega arith);
       row = omega arith;
       column = refl;
