@@ -1,5 +1,6 @@
-//! A line of a script, from its words to what it prints. Each verb has a function of its own, in place where it is
-//! called, so that what one verb reads and answers doesn't go through room that is large enough for all of them.
+//! A line of a script, from its words to what it prints. Each verb has a function of its own, so that what one verb reads
+//! and answers doesn't go through room that is large enough for all of them; those of most lines are in place where they
+//! are called, the others are not.
 ghost use Rattle.std.specs.Prelude.{ℕ};
 ghost use Rattle.pos_counter.specs.Counters.{IsCounterSound};
 ghost use Rattle.pos_script.specs.Arguments.{Reading, Reads, become};
@@ -33,7 +34,7 @@ use std::alloc::Global;
 use std::io::Write;
 
 /// Makes the control of a `new` line, if its words were read.
-#[inline(always)]
+#[inline(never)]
 fn make_control<W: Write, D: Disk, P: Peripheral>(
     writer: &mut W,
     counter: &mut Counter<D, P>,
@@ -116,7 +117,7 @@ fn hand_in<W: Write, D: Disk, P: Peripheral>(
 }
 
 /// Shows the device of a `show` line, if it has no more words.
-#[inline(always)]
+#[inline(never)]
 fn show<W: Write, D: Disk, P: Peripheral>(
     writer: &mut W,
     counter: &mut Counter<D, P>,
@@ -136,7 +137,7 @@ fn show<W: Write, D: Disk, P: Peripheral>(
 }
 
 /// Works on the output of the device of a `work` line, if it has no more words.
-#[inline(always)]
+#[inline(never)]
 fn work<W: Write, D: Disk, P: Peripheral>(
     writer: &mut W,
     counter: &mut Counter<D, P>,
@@ -156,7 +157,7 @@ fn work<W: Write, D: Disk, P: Peripheral>(
 }
 
 /// Makes the device of a `detach` line vacant, if it has no more words.
-#[inline(always)]
+#[inline(never)]
 fn detach<W: Write, D: Disk, P: Peripheral + Ends>(
     writer: &mut W,
     counter: &mut Counter<D, P>,
@@ -176,7 +177,7 @@ fn detach<W: Write, D: Disk, P: Peripheral + Ends>(
 }
 
 /// Has the spare of an `attach` line serve its device, if its words were read.
-#[inline(always)]
+#[inline(never)]
 fn attach<W: Write, D: Disk, P: Peripheral>(
     writer: &mut W,
     counter: &mut Counter<D, P>,

@@ -81,36 +81,40 @@ line_of verb.Work name words = become (λ u. request.WorkOn name) (none words)
 line_of verb.Attach name words = become (λ spare. request.Attach name spare) (one count_shape words)
 line_of verb.Detach name words = become (λ u. request.Detach name) (none words)
 
--- the verb of a call
-abbrev pub call_verb_named : List ℕ → Option CallVerb
-call_verb_named word =
-    if bytes_eq word (codes "call") then Some call_verb.Method
-    else (if bytes_eq word (codes "get") then Some call_verb.Get
-    else (if bytes_eq word (codes "set") then Some call_verb.Set
-    else (if bytes_eq word (codes "open") then Some call_verb.Open
-    else (if bytes_eq word (codes "close") then Some call_verb.Close
-    else (if bytes_eq word (codes "claim") then Some call_verb.Claim
-    else (if bytes_eq word (codes "release") then Some call_verb.Release else None))))))
+-- a verb of most lines
+abbrev pub frequent_verb_named : List ℕ → Option Verb
+frequent_verb_named word =
+    if bytes_eq word (codes "call") then Some (verb.Call call_verb.Method)
+    else (if bytes_eq word (codes "get") then Some (verb.Call call_verb.Get)
+    else (if bytes_eq word (codes "set") then Some (verb.Call call_verb.Set)
+    else (if bytes_eq word (codes "deliver") then Some verb.Deliver
+    else (if bytes_eq word (codes "input") then Some verb.Input else None))))
 
--- another verb
-abbrev pub other_verb_named : List ℕ → Option Verb
-other_verb_named word =
-    if bytes_eq word (codes "deliver") then Some verb.Deliver
-    else (if bytes_eq word (codes "input") then Some verb.Input
-    else (if bytes_eq word (codes "show") then Some verb.Show
+-- another verb of a control
+abbrev pub control_verb_named : List ℕ → Option Verb
+control_verb_named word =
+    if bytes_eq word (codes "open") then Some (verb.Call call_verb.Open)
+    else (if bytes_eq word (codes "claim") then Some (verb.Call call_verb.Claim)
+    else (if bytes_eq word (codes "release") then Some (verb.Call call_verb.Release)
+    else (if bytes_eq word (codes "close") then Some (verb.Call call_verb.Close)
+    else (if bytes_eq word (codes "new") then Some verb.New else None))))
+
+-- another verb of a device
+abbrev pub device_verb_named : List ℕ → Option Verb
+device_verb_named word =
+    if bytes_eq word (codes "show") then Some verb.Show
     else (if bytes_eq word (codes "work") then Some verb.Work
-    else (if bytes_eq word (codes "new") then Some verb.New
     else (if bytes_eq word (codes "attach") then Some verb.Attach
-    else (if bytes_eq word (codes "detach") then Some verb.Detach else None))))))
+    else (if bytes_eq word (codes "detach") then Some verb.Detach else None)))
 
--- the verb of a call, or else another
-abbrev pub verb_or : Option CallVerb → Option Verb → Option Verb
+-- the first of two that is there
+abbrev pub verb_or : Option Verb → Option Verb → Option Verb
 verb_or None other = other
-verb_or (Some by) other = Some (verb.Call by)
+verb_or (Some first) other = Some first
 
 -- the verb of this word
 abbrev pub verb_named : List ℕ → Option Verb
-verb_named word = verb_or (call_verb_named word) (other_verb_named word)
+verb_named word = verb_or (frequent_verb_named word) (verb_or (control_verb_named word) (device_verb_named word))
 
 -- a line, by its verb
 abbrev pub line_by : Option Verb → List ℕ → List (List ℕ) → Reading LineRequest

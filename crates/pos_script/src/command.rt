@@ -3,7 +3,7 @@ ghost use Rattle.pos_script.specs.Lines.{words_of};
 ghost use Rattle.pos_script.specs.Arguments.{Reads, from_three, misshapen, one};
 ghost use Rattle.pos_script.specs.Words.{bytes_shape, category_shape, count_shape};
 ghost use Rattle.pos_service.specs.declared.input.Input.TheVariants as input;
-ghost use Rattle.pos_script.specs.Commands.{call_verb_named, called, choice_of, happening, input_of, line_of, method_of, other_verb_named, printer_input_of, reply_of, request_of_words, verb_named};
+ghost use Rattle.pos_script.specs.Commands.{called, choice_of, control_verb_named, device_verb_named, frequent_verb_named, happening, input_of, line_of, method_of, printer_input_of, reply_of, request_of_words, verb_named};
 
 use crate::arguments::{DeviceName, LineFault, read_none, read_one, read_three, read_two};
 use crate::lines::next_word;
@@ -63,54 +63,62 @@ pub struct Command<'a> {
     pub words: &'a [u8],
 }
 
-/// The verb of a call.
+/// A verb of most lines.
 #[inline(always)]
-fn call_verb(word: &[u8]) -> Option<CallVerb>
-    ensures { result ≡ call_verb_named word.now }
+fn frequent_verb(word: &[u8]) -> Option<Verb>
+    ensures { result ≡ frequent_verb_named word.now }
 {
     if is(word, "call") {
-        return Some(CallVerb::Method);
+        return Some(Verb::Call(CallVerb::Method));
     }
     if is(word, "get") {
-        return Some(CallVerb::Get);
+        return Some(Verb::Call(CallVerb::Get));
     }
     if is(word, "set") {
-        return Some(CallVerb::Set);
+        return Some(Verb::Call(CallVerb::Set));
     }
-    if is(word, "open") {
-        return Some(CallVerb::Open);
-    }
-    if is(word, "close") {
-        return Some(CallVerb::Close);
-    }
-    if is(word, "claim") {
-        return Some(CallVerb::Claim);
-    }
-    if is(word, "release") {
-        return Some(CallVerb::Release);
-    }
-    None
-}
-
-/// Another verb.
-#[inline(always)]
-fn other_verb(word: &[u8]) -> Option<Verb>
-    ensures { result ≡ other_verb_named word.now }
-{
     if is(word, "deliver") {
         return Some(Verb::Deliver);
     }
     if is(word, "input") {
         return Some(Verb::Input);
     }
+    None
+}
+
+/// Another verb of a control.
+#[inline(always)]
+fn control_verb(word: &[u8]) -> Option<Verb>
+    ensures { result ≡ control_verb_named word.now }
+{
+    if is(word, "open") {
+        return Some(Verb::Call(CallVerb::Open));
+    }
+    if is(word, "claim") {
+        return Some(Verb::Call(CallVerb::Claim));
+    }
+    if is(word, "release") {
+        return Some(Verb::Call(CallVerb::Release));
+    }
+    if is(word, "close") {
+        return Some(Verb::Call(CallVerb::Close));
+    }
+    if is(word, "new") {
+        return Some(Verb::New);
+    }
+    None
+}
+
+/// Another verb of a device.
+#[inline(always)]
+fn device_verb(word: &[u8]) -> Option<Verb>
+    ensures { result ≡ device_verb_named word.now }
+{
     if is(word, "show") {
         return Some(Verb::Show);
     }
     if is(word, "work") {
         return Some(Verb::Work);
-    }
-    if is(word, "new") {
-        return Some(Verb::New);
     }
     if is(word, "attach") {
         return Some(Verb::Attach);
@@ -121,14 +129,17 @@ fn other_verb(word: &[u8]) -> Option<Verb>
     None
 }
 
-/// The verb of this word.
+/// The verb of this word, which is sought first among those of most lines.
 #[inline(always)]
 fn named_verb(word: &[u8]) -> Option<Verb>
     ensures { result ≡ verb_named word.now }
 {
-    match call_verb(word) {
-        Some(by) => Some(Verb::Call(by)),
-        None => other_verb(word),
+    match frequent_verb(word) {
+        Some(verb) => Some(verb),
+        None => match control_verb(word) {
+            Some(verb) => Some(verb),
+            None => device_verb(word),
+        },
     }
 }
 
