@@ -4,8 +4,7 @@ use Rattle.std.proofs.Common.{Ok, refl, sym, ap, subst, arith}
 use Rattle.std.specs.Prelude.{is_none, is_some, slice_set}
 use Rattle.std.specs.List.{find, list_any, AllByRecursion}
 use Rattle.std.proofs.lemmas.Bool.{eqb-true}
-use Rattle.pos_dir.specs.Changes.{outcome_of_all, and_then}
-use Rattle.pos_dir.specs.declared.change.Change.{Change as FileChange}
+use Rattle.pos_dir.specs.Changes.{outcome_of_all}
 use Rattle.pos_image.specs.declared.layout.Layout.{Layout}
 use Rattle.pos_totals.specs.HardTotals.{File, Mode, Off, Ready, Change, Create, Delete, Rename, Edit, totals_limits, transaction_at}
 use Rattle.pos_totals.specs.HardTotals.{without_transactions}
@@ -16,7 +15,7 @@ use Rattle.pos_totals.specs.TotalsChanges.{change_rows, files_after, fits_file, 
 use Rattle.pos_totals.specs.TotalsCommits.{is_of_none}
 use Rattle.pos_service.specs.Refusals.{first_refusal}
 use Rattle.pos_store.specs.Layouts.{limits_of}
-use Rattle.pos_totals.proofs.Grouped.{Makes, made_edit, edit_fits, neither, some_file, fitting, only_called}
+use Rattle.pos_totals.proofs.Grouped.{made_edit, edit_fits, neither, some_file, fitting, only_called}
 use Rattle.pos_totals.proofs.Handled.{all_so, all_with, same_tags}
 use Rattle.pos_totals.proofs.Outlined.{outline, outlines, same_buffered, same_group, same_gone, same_distinct, outlines_kept, all_files, one_meets}
 use Rattle.pos_totals.proofs.Outlined.{found_has, all_left}

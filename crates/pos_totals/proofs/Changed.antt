@@ -1,10 +1,10 @@
 -- What a change of the totals did, by what its table says and by what the store did.
-use Rattle.std.proofs.Common.{◌≡◌, ◌∙◌, inl, inr, ⊎_elim, ◌⊎◌, ℕ, ◌+◌, ℤ, pos, negsuc, ◌^◌, ◌<◌, ◌≤◌, Bool, true, false, not, ◌&&◌, ◌||◌, cond, List, [], ◌∷◌}
+use Rattle.std.proofs.Common.{◌≡◌, ◌∙◌, inl, inr, ⊎_elim, ◌⊎◌, ℕ, ◌+◌, ℤ, pos, negsuc, ◌^◌, ◌<◌, ◌≤◌, Bool, true, false, not, ◌&&◌, cond, List, [], ◌∷◌}
 use Rattle.std.proofs.Common.{◌++◌, length, Option, Some, None, Result, Ok, Err, IfSome, refl, sym, ap, subst, arith}
-use Rattle.std.specs.Prelude.{slice_set, nat_eq, nat_lt, nat_le, is_none, is_some}
+use Rattle.std.specs.Prelude.{slice_set, nat_eq, is_none, is_some}
 use Rattle.std.specs.List.{find, AllByRecursion}
 use Rattle.std.specs.Option.{option_map}
-use Rattle.std.proofs.lemmas.Bool.{and_parts, not-false, ltb-true, leb-true, eqb-true, eqb-false, eq-eqb}
+use Rattle.std.proofs.lemmas.Bool.{eqb-true, eqb-false, eq-eqb}
 use Rattle.std.proofs.lemmas.List.{length-map}
 use Rattle.std.proofs.lemmas.Bool.Decides.{nat_tests}
 use Rattle.pos_dir.specs.declared.change.Change.{Change as FileChange}
@@ -22,12 +22,11 @@ use Rattle.pos_service.specs.declared.memory.NoMemory.{NoMemory}
 use Rattle.pos_service.specs.Claims.{is_foreign}
 use Rattle.pos_totals.specs.HardTotals.{File, Off, Ready, Totals, Change, Create, Delete, Rename, Edit, last_number, totals_limits, after_disk_fault}
 use Rattle.pos_totals.specs.HardTotals.{transaction_at, with_transaction}
-use Rattle.pos_totals.specs.TotalsFiles.{is_name, is_named, is_called, has_file, has_room, free_data, is_foreign_file}
+use Rattle.pos_totals.specs.TotalsFiles.{is_named, is_called}
 use Rattle.pos_totals.specs.Edits.{FileEdit, edit_cost, edit_in}
 use Rattle.pos_totals.proofs.Edited.{is_edit, keeps_handles}
-use Rattle.pos_service.specs.Numbers.{is_natural, is_up_to}
 use Rattle.pos_totals.specs.TotalsChanges.{is_create, change_rows, refusals_of_change, group_by_change, number_rows, files_after, next_after, after_changes}
-use Rattle.pos_totals.specs.TotalsChanges.{given_by, spent_by, fits_file, cost_of_all, is_over, Changed, DoesChange, Done, RunsOut}
+use Rattle.pos_totals.specs.TotalsChanges.{given_by, spent_by, cost_of_all, Changed, DoesChange, Done, RunsOut}
 use Rattle.pos_totals.specs.TotalsClaims.{is_foreign_claim}
 use Rattle.pos_service.specs.Refusals.{first_refusal, Decided}
 use Rattle.pos_store.specs.Commits.{Commits, IsApplicable, sequence_after}
@@ -38,7 +37,7 @@ use Rattle.pos_store.specs.declared.fault.StoreFault.{StoreFault}
 use Rattle.pos_store.specs.declared.fault.StoreFault.TheVariants as fault
 use Rattle.pos_totals.proofs.Apart.{apart_after, files_apart}
 use Rattle.pos_totals.proofs.Buffered.{all_fit, buffered_after, holds_so, held_with, held_at, none_hold}
-use Rattle.pos_totals.proofs.Grouped.{not_refused, deleted, makes_group, edit_fits, fitting}
+use Rattle.pos_totals.proofs.Grouped.{deleted, makes_group, edit_fits, fitting}
 use Rattle.pos_totals.proofs.Handled.{all_with, given_is, next_is, value_is, are_after}
 use Rattle.pos_totals.proofs.Largest.{most_bytes, most_files}
 use Rattle.pos_totals.proofs.Pairs.{plain_of, tags_in, numbers_in, called_again}

@@ -1,5 +1,5 @@
 -- Claims: the tags with other claims are those of the files with other claims.
-use Rattle.std.proofs.Common.{◌≡◌, ◌∙◌, ℕ, ◌<◌, ℤ, pos, not, ◌&&◌, ◌||◌, List, [], ◌∷◌, ◌++◌, length, map, Option, Some, None, Ok}
+use Rattle.std.proofs.Common.{◌≡◌, ◌∙◌, ℕ, ◌<◌, ℤ, pos, not, ◌&&◌, ◌||◌, List, [], ◌∷◌, length, map, Option, Some, None, Ok}
 use Rattle.std.proofs.Common.{refl, sym, ap, subst, arith}
 use Rattle.std.specs.Prelude.{slice_set}
 use Rattle.std.specs.List.{find, list_any, AllByRecursion}
@@ -10,7 +10,7 @@ use Rattle.pos_image.specs.declared.layout.Layout.{Layout}
 use Rattle.pos_service.specs.declared.answer.Answer.TheVariants as answer
 use Rattle.pos_service.specs.declared.answer.Value.TheVariants as value
 use Rattle.pos_service.specs.Claims.{is_foreign, is_timeout}
-use Rattle.pos_totals.specs.HardTotals.{Mode, Off, Ready, Change, with_files, files_of}
+use Rattle.pos_totals.specs.HardTotals.{Mode, Off, Ready, with_files, files_of}
 use Rattle.pos_totals.specs.TotalsArrangements.{ClaimFile, ReleaseFile, claimed, refusals_of_arrangement, after_arrangement, Arranges}
 use Rattle.pos_totals.specs.TotalsFiles.{is_called, with_each, has_file, is_foreign_file}
 use Rattle.pos_totals.specs.TotalsClaims.{is_own_claim, is_foreign_claim, foreign_area, without_control}

@@ -16,10 +16,9 @@ use Rattle.pos_service.specs.declared.answer.Answer.TheVariants as answer
 use Rattle.pos_service.specs.declared.answer.Value.TheVariants as value
 use Rattle.pos_service.specs.declared.memory.NoMemory.{NoMemory}
 use Rattle.pos_service.specs.Claims.{is_foreign}
-use Rattle.pos_totals.specs.TotalsRows.{while_ready}
-use Rattle.pos_totals.specs.HardTotals.{files_of, File, Mode, Off, Ready, Totals, Change, last_number, changes_in, transaction_at, transaction_of}
+use Rattle.pos_totals.specs.HardTotals.{files_of, File, Off, Ready, Totals, Change, last_number, transaction_at}
 use Rattle.pos_totals.specs.HardTotals.{with_transaction, without_transactions, after_disk_fault}
-use Rattle.pos_totals.specs.TotalsCommits.{is_of_none, is_of_foreign, commit_rows, refusals_of_commit, group_by_commit, DoesCommit, Committed}
+use Rattle.pos_totals.specs.TotalsCommits.{is_of_none, is_of_foreign, commit_rows, refusals_of_commit, group_by_commit, Committed}
 use Rattle.pos_totals.specs.TotalsChanges.{after_changes, files_after_all, Done, RunsOut}
 use Rattle.pos_service.specs.Refusals.{first_refusal}
 use Rattle.pos_store.specs.Commits.{Commits, IsApplicable, sequence_after}

@@ -1,26 +1,22 @@
 -- What each change does to the files is what its group does to the directory.
-use Rattle.std.proofs.Common.{◌≡◌, ◌∙◌, ℕ, suc, ◌≤◌, ℤ, pos, negsuc, nat_abs, Bool, true, false, not, ◌&&◌, ◌||◌, cond, List, [], ◌∷◌, ◌++◌, length, take}
-use Rattle.std.proofs.Common.{drop, set, replicate, map, Option, Some, None, Result, Ok, Err, refl, sym, ap, subst, arith}
-use Rattle.std.specs.Prelude.{slice_get, slice_set, remove, nat_eq, is_some}
+use Rattle.std.proofs.Common.{◌≡◌, ◌∙◌, ℕ, suc, ◌≤◌, ℤ, pos, negsuc, nat_abs, Bool, true, false, not, ◌||◌, cond, List, [], ◌∷◌, ◌++◌, length, take}
+use Rattle.std.proofs.Common.{drop, set, replicate, map, Option, Some, None, Ok, refl, sym, ap, subst, arith}
+use Rattle.std.specs.Prelude.{remove, nat_eq, is_some}
 use Rattle.std.specs.List.{find, AllByRecursion}
 use Rattle.std.specs.Option.{option_map}
-use Rattle.std.proofs.lemmas.Bool.{and_parts, not-true, not-false, leb-true, eqb-true, cond-false}
+use Rattle.std.proofs.lemmas.Bool.{and_parts, not-true, leb-true, eqb-true}
 use Rattle.std.proofs.lemmas.List.{map-set, map-append, take-map, drop-map, length-map}
 use Rattle.std.proofs.lemmas.List.Sums.{sum_by-cons}
 use Rattle.std.proofs.lemmas.Option.{slice_get-map}
 use Rattle.std.proofs.lemmas.Slice.Eq.{bytes_eq-Decides}
 use Rattle.std.proofs.lemmas.Bool.Decides.{nat_tests}
-use Rattle.pos_dir.specs.Changes.{with_file, outcome, outcome_of_all}
+use Rattle.pos_dir.specs.Changes.{outcome, outcome_of_all}
 use Rattle.pos_dir.specs.Files.{IsDirectory, has_name, are_distinct, total_size}
-use Rattle.pos_dir.specs.declared.change.Change.{Change as FileChange}
-use Rattle.pos_dir.specs.declared.fault.DirectoryFault.{DirectoryFault}
-use Rattle.pos_dir.specs.declared.fault.DirectoryFault.TheVariants as fault
 use Rattle.pos_dir.specs.declared.file.File.{File as PlainFile}
-use Rattle.pos_dir.specs.declared.limits.Limits.{Limits}
 use Rattle.pos_image.specs.declared.layout.Layout.{Layout}
 use Rattle.pos_service.specs.declared.answer.Answer.{Answer}
 use Rattle.pos_totals.specs.HardTotals.{File, Change, Create, Delete, Rename, Edit, totals_limits}
-use Rattle.pos_totals.specs.TotalsFiles.{is_name, is_named, is_called, has_file, free_data, size_in_sum, with_each}
+use Rattle.pos_totals.specs.TotalsFiles.{is_named, is_called, has_file, free_data, size_in_sum, with_each}
 use Rattle.pos_totals.specs.Edits.{FileEdit, fits, edited}
 use Rattle.pos_totals.proofs.Edited.{makes_edit}
 use Rattle.pos_service.specs.Numbers.{is_up_to}
