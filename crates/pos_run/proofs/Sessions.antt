@@ -2,7 +2,13 @@
 use Rattle.std.proofs.Common.{◌≡◌, ◌∷◌, ◌++◌, [], inl, inr, ℕ, true, false, List, Option, Some, None, sym, ap, subst, refl}
 use Rattle.std.specs.Prelude.{◌⊎◌, is_some, option_map, Result, Ok, Err, MatchOption, codes, IsTrue}
 use Rattle.std.specs.Bool.{MatchBool}
+use Rattle.pos_disk.specs.declared.device.Disk.{Ghosts as DiskGhosts}
+use Rattle.pos_service.specs.declared.peripheral.Peripheral.{Ghosts}
+use Rattle.pos_counter.specs.declared.counter.Counter.{Counter}
+use Rattle.pos_counter.specs.Counters.{IsRun, IsStepBeside}
 use Rattle.pos_counter.specs.Steps.{Request, Response}
+use Rattle.pos_counter.proofs.Runs.{one_beside}
+use Rattle.pos_counter.proofs.Serving.{OnlyNow}
 use Rattle.pos_script.specs.Lines.{is_quiet, is_well_spelled, words_of}
 use Rattle.pos_script.specs.Arguments.{Reading, Reads, become, misshapen}
 use Rattle.pos_script.specs.Commands.{LineRequest, asked_by, request_of_words}
@@ -48,6 +54,16 @@ asks_request Runs old session asking request response new e run =
       becomes = subst (λ o. MatchOption o (outcome ≡ turned_down session (rebuke asking)) (λ request. RequestBecomes session asking request outcome))
           (sym e) (inr (response, refl));
     }
+
+-- a request of a device, and its response: the session stays
+pub at_device : {D P : Type 0} (bound : DiskGhosts D) (peripherals : Ghosts P) (old new : Counter D P) → OnlyNow bound old.totals.disk
+    → (request : Request) (response : Response) (asking : LineRequest) → ((session : Session) → request_of session asking ≡ Some request)
+    → ((session : Session) → session_after session asking response ≡ session) → IsStepBeside peripherals old request response new
+    → (session : Session) → CarriesOut (IsRun bound peripherals) old (AskingBecomes session asking) (Some (response_text response)) session new
+at_device bound peripherals old new only request response asking asks stays step session =
+    subst (λ after. CarriesOut (IsRun bound peripherals) old (AskingBecomes session asking) (Some (response_text response)) after new) (stays session)
+    (asks_request (IsRun bound peripherals) old session asking request response new (asks session)
+    (one_beside bound peripherals old new request response only step))
 
 -- a line that prints nothing
 pub becomes_quiet : {C : Type 0} (Runs : Leads C) (state : C) (session : Session) (line : List ℕ) → is_quiet line ≡ true → Runs state [] state

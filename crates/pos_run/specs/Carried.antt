@@ -1,5 +1,5 @@
 -- What the program does to a counter as it carries out lines (docs/CONSOLE.md, "Answers").
-use Rattle.std.specs.Prelude.{◌≡◌, ◌++◌, ◌⊎◌, ◌∷◌, [], ℕ, List, Option, Some, Result, option_map, MatchResult, OnOk}
+use Rattle.std.specs.Prelude.{◌≡◌, ◌++◌, ◌⊎◌, ◌∷◌, [], ℕ, List, Option, Some, Result, MatchResult, OnOk}
 use Rattle.pos_disk.specs.declared.device.Disk.{Ghosts as DiskGhosts}
 use Rattle.pos_service.specs.declared.peripheral.Peripheral.{Ghosts}
 use Rattle.pos_counter.specs.declared.counter.Counter.{Counter}

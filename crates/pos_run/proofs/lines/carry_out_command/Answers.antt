@@ -4,25 +4,35 @@ use Rattle.pos_run.specs.Spares.{spares_in}
 use Rattle.pos_run.proofs.lines.carry_out_command.Goals as goal
 
 pub returns-in-New-clause-line : goal.returns-in-New-clause-line
-returns-in-New-clause-line g c = rw (c.in-New.is, ← c.as_slice-name.ensures) (c.make_control.ensures.line _ c.read_category.ensures (spares_in g.P.Peripheral c.args.spares.now))
+returns-in-New-clause-line g c =
+    rw (c.in-New.is, ← c.as_slice-name.ensures) (c.make_control.ensures.line _ c.read_category.ensures (spares_in g.P.Peripheral c.args.spares.now))
 
 pub returns-in-Call-clause-line : goal.returns-in-Call-clause-line
-returns-in-Call-clause-line g c = rw (c.in-Call.is, ← c.as_slice-name.ensures) (c.make_call.ensures.line _ c.read_called.ensures (spares_in g.P.Peripheral c.args.spares.now))
+returns-in-Call-clause-line g c =
+    rw (c.in-Call.is, ← c.as_slice-name.ensures) (c.make_call.ensures.line _ c.read_called.ensures (spares_in g.P.Peripheral c.args.spares.now))
 
 pub returns-in-Input-clause-line : goal.returns-in-Input-clause-line
-returns-in-Input-clause-line g c = rw (c.in-Input.is, ← c.as_slice-name.ensures) (c.hand_in.ensures.line _ c.read_happening.ensures (session_of g.P.Peripheral c.args.names.now c.args.spares.now))
+returns-in-Input-clause-line g c =
+    rw (c.in-Input.is, ← c.as_slice-name.ensures) (c.hand_in.ensures.line _ c.read_happening.ensures
+    (session_of g.P.Peripheral c.args.names.now c.args.spares.now))
 
 pub returns-in-Deliver-clause-line : goal.returns-in-Deliver-clause-line
-returns-in-Deliver-clause-line g c = rw (c.in-Deliver.is, ← c.as_slice-name.ensures) (c.deliver.ensures.line _ c.read_reply.ensures (spares_in g.P.Peripheral c.args.spares.now))
+returns-in-Deliver-clause-line g c =
+    rw (c.in-Deliver.is, ← c.as_slice-name.ensures) (c.deliver.ensures.line _ c.read_reply.ensures (spares_in g.P.Peripheral c.args.spares.now))
 
 pub returns-in-Show-clause-line : goal.returns-in-Show-clause-line
-returns-in-Show-clause-line g c = rw (c.in-Show.is, ← c.as_slice-name.ensures) (c.show.ensures.line _ c.read_none.ensures (session_of g.P.Peripheral c.args.names.now c.args.spares.now))
+returns-in-Show-clause-line g c =
+    rw (c.in-Show.is, ← c.as_slice-name.ensures) (c.show.ensures.line _ c.read_none.ensures (session_of g.P.Peripheral c.args.names.now c.args.spares.now))
 
 pub returns-in-Work-clause-line : goal.returns-in-Work-clause-line
-returns-in-Work-clause-line g c = rw (c.in-Work.is, ← c.as_slice-name.ensures) (c.work.ensures.line _ c.read_none-in-Work.ensures (session_of g.P.Peripheral c.args.names.now c.args.spares.now))
+returns-in-Work-clause-line g c =
+    rw (c.in-Work.is, ← c.as_slice-name.ensures) (c.work.ensures.line _ c.read_none-in-Work.ensures
+    (session_of g.P.Peripheral c.args.names.now c.args.spares.now))
 
 pub returns-in-Attach-clause-line : goal.returns-in-Attach-clause-line
 returns-in-Attach-clause-line g c = rw (c.in-Attach.is, ← c.as_slice-name.ensures) (c.attach.ensures.line _ c.read_spare.ensures (names_of c.args.names.now))
 
 pub returns-in-Detach-clause-line : goal.returns-in-Detach-clause-line
-returns-in-Detach-clause-line g c = rw (c.in-Detach.is, ← c.as_slice-name.ensures) (c.detach.ensures.line _ c.read_none-in-Detach.ensures (session_of g.P.Peripheral c.args.names.now c.args.spares.now))
+returns-in-Detach-clause-line g c =
+    rw (c.in-Detach.is, ← c.as_slice-name.ensures) (c.detach.ensures.line _ c.read_none-in-Detach.ensures
+    (session_of g.P.Peripheral c.args.names.now c.args.spares.now))

@@ -7,8 +7,11 @@ use Rattle.pos_run.proofs.lines.make_control.Goals as goal
 
 pub returns-in-Ok-clause-line : goal.returns-in-Ok-clause-line
 returns-in-Ok-clause-line g c = λ reading reads spares.
-    asks_what_was_read _ _ (session_with (names_of c.args.names.now) spares) (λ category. NewControl c.args.name.now category) reading _ c.in-Ok.value _ _ _ _ _ _ c.in-Ok.is reads (c.new_control.ensures.asks spares) c.print_reply.ensures
+    asks_what_was_read _ _ (session_with (names_of c.args.names.now) spares) (λ category. NewControl c.args.name.now category)
+    reading _ c.in-Ok.value _ _ _ _ _ _
+    c.in-Ok.is reads (c.new_control.ensures.asks spares) c.print_reply.ensures
 
 pub returns-in-Err-clause-line : goal.returns-in-Err-clause-line
 returns-in-Err-clause-line g c = λ reading reads spares.
-    asks_nothing_unread _ _ (session_with (names_of c.args.names.now) spares) (λ category. NewControl c.args.name.now category) reading _ c.in-Err.fault _ _ _ c.in-Err.is reads refl c.print_fault.ensures
+    asks_nothing_unread _ _ (session_with (names_of c.args.names.now) spares) (λ category. NewControl c.args.name.now category) reading _ c.in-Err.fault _ _ _
+    c.in-Err.is reads refl c.print_fault.ensures

@@ -5,7 +5,8 @@ use Rattle.pos_run.proofs.lines.show.Goals as goal
 
 pub returns-in-Ok-clause-line : goal.returns-in-Ok-clause-line
 returns-in-Ok-clause-line g c = λ reading reads session.
-    asks_what_was_read _ _ session (λ u. Snapshot c.args.name.now) reading _ c.in-Ok.field-0 _ _ _ _ _ _ c.in-Ok.is reads (c.show_device.ensures session) c.print_reply.ensures
+    asks_what_was_read _ _ session (λ u. Snapshot c.args.name.now) reading _ c.in-Ok.field-0 _ _ _ _ _ _
+    c.in-Ok.is reads (c.show_device.ensures session) c.print_reply.ensures
 
 pub returns-in-Err-clause-line : goal.returns-in-Err-clause-line
 returns-in-Err-clause-line g c = λ reading reads session.

@@ -39,7 +39,7 @@ returns-in-Ok-clause-asks g c =
     (asks_request (IsRun g.D.Disk g.P.Peripheral) old (session_with names spares) (Attach c.args.name.now number) request Attached c.attach.new.self
     (ap (option_map (λ spare. Attach c.args.name.now (hardware_of spare))) there)
     (one_beside g.D.Disk g.P.Peripheral old c.attach.new.self request Attached
-    (λ bytes honest since. g.met.D.Disk.only_now c.args.counter.now.totals.disk bytes honest since) c.in-Ok.ensures.step))
+    (g.met.D.Disk.only_now _) c.in-Ok.ensures.step))
 
 pub returns-in-Err-clause-asks : goal.returns-in-Err-clause-asks
 returns-in-Err-clause-asks g c =
@@ -57,4 +57,4 @@ returns-in-Err-clause-asks g c =
     ((asks_request (IsRun g.D.Disk g.P.Peripheral) old (session_with names spares) (Attach c.args.name.now number) request response c.attach.new.self
     (ap (option_map (λ spare. Attach c.args.name.now (hardware_of spare))) there)
     (one_beside g.D.Disk g.P.Peripheral old c.attach.new.self request response
-    (λ bytes honest since. g.met.D.Disk.only_now c.args.counter.now.totals.disk bytes honest since) c.in-Err.ensures.step)))
+    (g.met.D.Disk.only_now _) c.in-Err.ensures.step)))

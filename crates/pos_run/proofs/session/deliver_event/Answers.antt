@@ -15,7 +15,7 @@ returns-in-Some-clause-asks g c =
     (Deliver c.args.name.now c.args.reply) (Deliver c.in-Some.number c.args.reply) (Delivered c.deliver.result) c.deliver.new.self
     (ap (option_map (λ number. Deliver number c.args.reply)) (sym c.in-Some.ensures))
     (one_beside g.D.Disk g.P.Peripheral old c.deliver.new.self (Deliver c.in-Some.number c.args.reply) (Delivered c.deliver.result)
-    (λ bytes honest since. g.met.D.Disk.only_now c.args.counter.now.totals.disk bytes honest since) c.deliver.ensures.step)
+    (g.met.D.Disk.only_now _) c.deliver.ensures.step)
 
 pub returns-in-None-clause-asks : goal.returns-in-None-clause-asks
 returns-in-None-clause-asks g c =
