@@ -177,7 +177,7 @@ unnamed_before : (entries : List Entry) (i : ℕ) (entry : Entry) → i < length
     → is_repeated (names_of entries) i ≡ false → list_any (bytes_eq entry.name) (names_of (take i entries)) ≡ false
 unnamed_before entries i entry lt is single =
     ap (λ (names : List (List ℕ)). stands_after names (Some entry.name)) (sym (take-map (λ (e : Entry). e.name) i entries))
-    ∙ ap (stands_after (take i (names_of entries))) (sym (name_at entries i entry lt is)) ∙ single
+    ∙ ap (stands_after (take i (names_of entries))) (sym (name_at entries i entry entry.name lt is refl)) ∙ single
 
 module _ (entries : List Entry) (i : ℕ) (entry : Entry) (lt : i < length entries) (is : entry ≡ get_or entries i entry) where
   abbrev totals : Option (List ℕ)
