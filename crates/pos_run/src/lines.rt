@@ -1,6 +1,6 @@
-//! A line of a script, from its words to what it prints. Each verb has a function of its own, so that what one verb reads
-//! and answers doesn't go through room that is large enough for all of them; those of most lines are in place where they
-//! are called, the others are not.
+//! A line of a script, from its words to what it prints. Each verb has a function of its own, so that what one verb
+//! reads and answers doesn't go through room that is large enough for all of them; those of most lines are in place
+//! where they are called, the others are not.
 ghost use Rattle.std.specs.Prelude.{ℕ};
 ghost use Rattle.pos_counter.specs.Counters.{IsCounterSound};
 ghost use Rattle.pos_script.specs.Arguments.{Reading, Reads, become};
@@ -44,7 +44,8 @@ fn make_control<W: Write, D: Disk, P: Peripheral>(
 ) -> Result<(), WriteFault>
     requires sound { IsCounterSound P.Peripheral counter.old }
     ensures line { (reading : Reading Category) → Reads reading read → (spares : SpareStates) →
-        CarriesOutReading D.Disk P.Peripheral counter.old (session_with (names_of names.old) spares) (become (λ category. NewControl name.now category) reading)
+        CarriesOutReading D.Disk P.Peripheral counter.old (session_with (names_of names.old) spares)
+        (become (λ category. NewControl name.now category) reading)
         (W.contents writer.old) (W.contents writer.new) result (session_with (names_of names.new) spares) counter.new }
     ensures sound { IsCounterSound P.Peripheral counter.new }
 {
@@ -65,7 +66,8 @@ fn make_call<W: Write, D: Disk, P: Peripheral>(
 ) -> Result<(), WriteFault>
     requires sound { IsCounterSound P.Peripheral counter.old }
     ensures line { (reading : Reading Call) → Reads reading read → (spares : SpareStates) →
-        CarriesOutReading D.Disk P.Peripheral counter.old (session_with (names_of names.now) spares) (become (λ call. CallOf name.now call) reading)
+        CarriesOutReading D.Disk P.Peripheral counter.old (session_with (names_of names.now) spares)
+        (become (λ call. CallOf name.now call) reading)
         (W.contents writer.old) (W.contents writer.new) result (session_with (names_of names.now) spares) counter.new }
     ensures sound { IsCounterSound P.Peripheral counter.new }
 {
@@ -86,7 +88,8 @@ fn deliver<W: Write, D: Disk, P: Peripheral>(
 ) -> Result<(), WriteFault>
     requires sound { IsCounterSound P.Peripheral counter.old }
     ensures line { (reading : Reading ErrorReply) → Reads reading read → (spares : SpareStates) →
-        CarriesOutReading D.Disk P.Peripheral counter.old (session_with (names_of names.now) spares) (become (λ reply. Deliver name.now reply) reading)
+        CarriesOutReading D.Disk P.Peripheral counter.old (session_with (names_of names.now) spares)
+        (become (λ reply. Deliver name.now reply) reading)
         (W.contents writer.old) (W.contents writer.new) result (session_with (names_of names.now) spares) counter.new }
     ensures sound { IsCounterSound P.Peripheral counter.new }
 {
@@ -213,8 +216,9 @@ fn carry_out_command<W: Write, D: Disk, P: Peripheral + Ends>(
     requires sound { IsCounterSound P.Peripheral counter.old }
     requires spares { AreSparesSound P.Peripheral spares.old }
     ensures line { CarriesOutReading D.Disk P.Peripheral counter.old (session_of P.Peripheral names.old spares.old)
-        (line_of command.entry.verb command.entry.name (words_of command.entry.words.now)) (W.contents writer.old) (W.contents writer.new)
-        result (session_of P.Peripheral names.new spares.new) counter.new }
+        (line_of command.entry.verb command.entry.name (words_of command.entry.words.now))
+        (W.contents writer.old) (W.contents writer.new) result
+        (session_of P.Peripheral names.new spares.new) counter.new }
     ensures sound { IsCounterSound P.Peripheral counter.new }
     ensures spares { AreSparesSound P.Peripheral spares.new }
 {

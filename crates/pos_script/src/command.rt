@@ -148,7 +148,8 @@ fn named_verb(word: &[u8]) -> Option<Verb>
 #[inline(always)]
 pub fn read_command(line: &[u8]) -> Option<Command<'_>>
     ensures { MatchOption result (request_of_words (words_of line.now) ≡ misshapen)
-        (λ command. request_of_words (words_of line.now) ≡ line_of command.verb command.name (words_of command.words.now)) }
+        (λ command. request_of_words (words_of line.now)
+        ≡ line_of command.verb command.name (words_of command.words.now)) }
 {
     let (word, text) = next_word(line)?;
     let (name, words) = next_word(text)?;
@@ -275,7 +276,8 @@ pub fn read_happening(alloc: Global, words: &[u8]) -> Result<Input, LineFault>
     read_event(alloc, word, rest)
 }
 
-/// The answer to an ErrorEvent, by the words of a `deliver` line behind its name: the default one where no word gives it.
+/// The answer to an ErrorEvent, by the words of a `deliver` line behind its name: the default one where no word gives
+/// it.
 pub fn read_reply(alloc: Global, words: &[u8]) -> Result<ErrorReply, LineFault>
     ensures { Reads (reply_of (words_of words.now)) result }
 {

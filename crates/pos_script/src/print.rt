@@ -248,8 +248,8 @@ fn print_response<W: Write>(writer: &mut W, response: Response<()>) -> Result<()
     }
 }
 
-/// Writes the reply to a line, as a line of its own (docs/CONSOLE.md, "Answers"). It takes no memory. At a fault a front
-/// of the text is written, and not all of it.
+/// Writes the reply to a line, as a line of its own (docs/CONSOLE.md, "Answers"). It takes no memory. At a fault a
+/// front of the text is written, and not all of it.
 #[inline(always)]
 pub fn print_reply<W: Write>(writer: &mut W, reply: Reply) -> Result<(), WriteFault>
     ensures { Writes (W.contents writer.old) (W.contents writer.new) (reply_text reply ++ 10 ∷ []) result }

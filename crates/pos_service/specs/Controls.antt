@@ -42,8 +42,8 @@ pub record Writer : Type 0 where
 abbrev pub default_writer : ℕ → Writer
 default_writer next = record { output_id = 0; output = no_output next }
 
--- a control: closed where it has no device, which is named by its place in the profile; with DeviceEnabled, and the scan
--- that ScanData, ScanDataLabel and ScanDataType show
+-- a control: closed where it has no device, which is named by its place in the profile; with DeviceEnabled, and the
+-- scan that ScanData, ScanDataLabel and ScanDataType show
 pub record Control : Type 0 where
   pub category : Category
   pub device : Option ℕ

@@ -81,8 +81,7 @@ pub enum Property {
     CapErrorDetection,
 }
 
-/// The properties of a control that are set and do nothing but by what is told of them: those of events, of input and of
-/// output.
+/// The properties of a control that are set, but for DeviceEnabled and those of the cursor.
 #[derive(Clone, Copy, PartialEq, Eq)]
 pub struct Settings {
     /// FreezeEvents.

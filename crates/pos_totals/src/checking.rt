@@ -128,7 +128,8 @@ fn check_edit<'a>(
     edit: &Edit<'a>,
 ) -> Result<Checked<'a>, Answer>
     requires { AreFiles files }
-    ensures { Checks (limits_in files.entry) (files_in files.entry) caller (model.Edit handle (edit_of edit.now)) result }
+    ensures { Checks (limits_in files.entry) (files_in files.entry) caller
+        (model.Edit handle (edit_of edit.now)) result }
 {
     let Some(found) = find_handle(files, handle) else {
         return Err(Answer::Refused(Code::Illegal, 0));

@@ -15,9 +15,9 @@ const COST_OF_EDIT: usize = 16;
 
 /// An edit of a file, as a call asks for it.
 ///
-/// Refused with E_ILLEGAL where no file has the handle, or the edit doesn't fit the file, E_CLAIMED where another control
-/// has claimed it; in a transaction of the control E_EXTENDED ETOT_NOROOM where it costs more than is left (at most
-/// TotalsSize in sum); else E_FAILURE where no sequence is left or the disk fails.
+/// Refused with E_ILLEGAL where no file has the handle, or the edit doesn't fit the file, E_CLAIMED where another
+/// control has claimed it; in a transaction of the control E_EXTENDED ETOT_NOROOM where it costs more than is left (at
+/// most TotalsSize in sum); else E_FAILURE where no sequence is left or the disk fails.
 #[derive(Clone, Copy)]
 pub enum Edit<'a> {
     /// `write`: puts bytes in the place of those of the file from an offset on. It fits where they lie within the file,
