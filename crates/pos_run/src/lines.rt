@@ -109,8 +109,8 @@ fn hand_in<W: Write, D: Disk, P: Peripheral>(
 ) -> Result<(), WriteFault>
     requires sound { IsCounterSound P.Peripheral counter.old }
     ensures line { (reading : Reading Input) → Reads reading read → (session : Session) →
-        CarriesOutReading D.Disk P.Peripheral counter.old (session) (become (λ input. InputTo name.now input) reading)
-        (W.contents writer.old) (W.contents writer.new) result (session) counter.new }
+        CarriesOutReading D.Disk P.Peripheral counter.old session (become (λ input. InputTo name.now input) reading)
+        (W.contents writer.old) (W.contents writer.new) result session counter.new }
     ensures sound { IsCounterSound P.Peripheral counter.new }
 {
     match read {

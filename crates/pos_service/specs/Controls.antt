@@ -208,12 +208,12 @@ scan_in (Some event) = scan_of event
 abbrev pub as_shown : Bool → Scan → Scan
 as_shown decode scan = if decode then scan else record scan { kind = 0; label = [] }
 
--- once a DataEvent with this scan has been delivered, DataEventEnabled is false, and the scan is shown as DecodeData is
--- now; another event changes nothing of it
+-- once a DataEvent with this scan has been delivered, DataEventEnabled is false; another event changes nothing of it
 abbrev pub disabled_by : Option Scan → Settings → Settings
 disabled_by None settings = settings
 disabled_by (Some scan) settings = record settings { data_event_enabled = false }
 
+-- and the scan is shown as DecodeData is now; with another event what was shown stays
 abbrev pub shown_after : Option Scan → Bool → Scan → Scan
 shown_after None decode shown = shown
 shown_after (Some scan) decode shown = as_shown decode scan
