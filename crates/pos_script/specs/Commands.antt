@@ -1,5 +1,6 @@
 -- What a line of a script asks (docs/CONSOLE.md, "Lines").
 use Rattle.std.specs.Prelude.{ℕ, Bool, true, false, List, [], ◌∷◌, Option, Some, None, bytes_eq, codes, if◌then◌else◌}
+use Rattle.std.specs.Map.{lookup}
 use Rattle.pos_service.specs.declared.call.Call.{Call}
 use Rattle.pos_service.specs.declared.call.Call.TheVariants as call
 use Rattle.pos_service.specs.declared.input.Input.{Input}
@@ -81,40 +82,28 @@ line_of verb.Work name words = become (λ u. request.WorkOn name) (none words)
 line_of verb.Attach name words = become (λ spare. request.Attach name spare) (one count_shape words)
 line_of verb.Detach name words = become (λ u. request.Detach name) (none words)
 
--- a verb of most lines
-abbrev pub frequent_verb_named : List ℕ → Option Verb
-frequent_verb_named word =
-    if bytes_eq word (codes "call") then Some (verb.Call call_verb.Method)
-    else (if bytes_eq word (codes "get") then Some (verb.Call call_verb.Get)
-    else (if bytes_eq word (codes "set") then Some (verb.Call call_verb.Set)
-    else (if bytes_eq word (codes "deliver") then Some verb.Deliver
-    else (if bytes_eq word (codes "input") then Some verb.Input else None))))
-
--- another verb of a control
-abbrev pub control_verb_named : List ℕ → Option Verb
-control_verb_named word =
-    if bytes_eq word (codes "open") then Some (verb.Call call_verb.Open)
-    else (if bytes_eq word (codes "claim") then Some (verb.Call call_verb.Claim)
-    else (if bytes_eq word (codes "release") then Some (verb.Call call_verb.Release)
-    else (if bytes_eq word (codes "close") then Some (verb.Call call_verb.Close)
-    else (if bytes_eq word (codes "new") then Some verb.New else None))))
-
--- another verb of a device
-abbrev pub device_verb_named : List ℕ → Option Verb
-device_verb_named word =
-    if bytes_eq word (codes "show") then Some verb.Show
-    else (if bytes_eq word (codes "work") then Some verb.Work
-    else (if bytes_eq word (codes "attach") then Some verb.Attach
-    else (if bytes_eq word (codes "detach") then Some verb.Detach else None)))
-
--- the first of two that is there
-abbrev pub verb_or : Option Verb → Option Verb → Option Verb
-verb_or None other = other
-verb_or (Some first) other = Some first
+-- the verbs, and their words
+abbrev pub verbs : List (List ℕ × Verb)
+verbs =
+    (codes "call", verb.Call call_verb.Method)
+    ∷ (codes "get", verb.Call call_verb.Get)
+    ∷ (codes "set", verb.Call call_verb.Set)
+    ∷ (codes "deliver", verb.Deliver)
+    ∷ (codes "input", verb.Input)
+    ∷ (codes "open", verb.Call call_verb.Open)
+    ∷ (codes "claim", verb.Call call_verb.Claim)
+    ∷ (codes "release", verb.Call call_verb.Release)
+    ∷ (codes "close", verb.Call call_verb.Close)
+    ∷ (codes "new", verb.New)
+    ∷ (codes "show", verb.Show)
+    ∷ (codes "work", verb.Work)
+    ∷ (codes "attach", verb.Attach)
+    ∷ (codes "detach", verb.Detach)
+    ∷ []
 
 -- the verb of this word
 abbrev pub verb_named : List ℕ → Option Verb
-verb_named word = verb_or (frequent_verb_named word) (verb_or (control_verb_named word) (device_verb_named word))
+verb_named word = lookup (bytes_eq word) verbs
 
 -- a line, by its verb
 abbrev pub line_by : Option Verb → List ℕ → List (List ℕ) → Reading LineRequest

@@ -3,7 +3,7 @@ ghost use Rattle.pos_script.specs.Lines.{words_of};
 ghost use Rattle.pos_script.specs.Arguments.{Reads, from_three, misshapen, one};
 ghost use Rattle.pos_script.specs.Words.{bytes_shape, category_shape, count_shape};
 ghost use Rattle.pos_service.specs.declared.input.Input.TheVariants as input;
-ghost use Rattle.pos_script.specs.Commands.{called, choice_of, control_verb_named, device_verb_named, frequent_verb_named, happening, input_of, line_of, method_of, printer_input_of, reply_of, request_of_words, verb_named};
+ghost use Rattle.pos_script.specs.Commands.{called, choice_of, happening, input_of, line_of, method_of, printer_input_of, reply_of, request_of_words, verb_named};
 
 use crate::arguments::{DeviceName, LineFault, read_none, read_one, read_three, read_two};
 use crate::lines::next_word;
@@ -63,83 +63,27 @@ pub struct Command<'a> {
     pub words: &'a [u8],
 }
 
-/// A verb of most lines.
-#[inline(always)]
-fn frequent_verb(word: &[u8]) -> Option<Verb>
-    ensures { result ≡ frequent_verb_named word.now }
-{
-    if is(word, "call") {
-        return Some(Verb::Call(CallVerb::Method));
-    }
-    if is(word, "get") {
-        return Some(Verb::Call(CallVerb::Get));
-    }
-    if is(word, "set") {
-        return Some(Verb::Call(CallVerb::Set));
-    }
-    if is(word, "deliver") {
-        return Some(Verb::Deliver);
-    }
-    if is(word, "input") {
-        return Some(Verb::Input);
-    }
-    None
-}
-
-/// Another verb of a control.
-#[inline(always)]
-fn control_verb(word: &[u8]) -> Option<Verb>
-    ensures { result ≡ control_verb_named word.now }
-{
-    if is(word, "open") {
-        return Some(Verb::Call(CallVerb::Open));
-    }
-    if is(word, "claim") {
-        return Some(Verb::Call(CallVerb::Claim));
-    }
-    if is(word, "release") {
-        return Some(Verb::Call(CallVerb::Release));
-    }
-    if is(word, "close") {
-        return Some(Verb::Call(CallVerb::Close));
-    }
-    if is(word, "new") {
-        return Some(Verb::New);
-    }
-    None
-}
-
-/// Another verb of a device.
-#[inline(always)]
-fn device_verb(word: &[u8]) -> Option<Verb>
-    ensures { result ≡ device_verb_named word.now }
-{
-    if is(word, "show") {
-        return Some(Verb::Show);
-    }
-    if is(word, "work") {
-        return Some(Verb::Work);
-    }
-    if is(word, "attach") {
-        return Some(Verb::Attach);
-    }
-    if is(word, "detach") {
-        return Some(Verb::Detach);
-    }
-    None
-}
-
-/// The verb of this word, which is sought first among those of most lines.
+/// The verb of this word. Those of most lines are sought first.
 #[inline(always)]
 fn named_verb(word: &[u8]) -> Option<Verb>
     ensures { result ≡ verb_named word.now }
 {
-    match frequent_verb(word) {
-        Some(verb) => Some(verb),
-        None => match control_verb(word) {
-            Some(verb) => Some(verb),
-            None => device_verb(word),
-        },
+    match word {
+        _ if is(word, "call") => Some(Verb::Call(CallVerb::Method)),
+        _ if is(word, "get") => Some(Verb::Call(CallVerb::Get)),
+        _ if is(word, "set") => Some(Verb::Call(CallVerb::Set)),
+        _ if is(word, "deliver") => Some(Verb::Deliver),
+        _ if is(word, "input") => Some(Verb::Input),
+        _ if is(word, "open") => Some(Verb::Call(CallVerb::Open)),
+        _ if is(word, "claim") => Some(Verb::Call(CallVerb::Claim)),
+        _ if is(word, "release") => Some(Verb::Call(CallVerb::Release)),
+        _ if is(word, "close") => Some(Verb::Call(CallVerb::Close)),
+        _ if is(word, "new") => Some(Verb::New),
+        _ if is(word, "show") => Some(Verb::Show),
+        _ if is(word, "work") => Some(Verb::Work),
+        _ if is(word, "attach") => Some(Verb::Attach),
+        _ if is(word, "detach") => Some(Verb::Detach),
+        _ => None,
     }
 }
 

@@ -1,5 +1,6 @@
 -- The properties of every category: their refusals, their values, and what setting one does.
 use Rattle.std.specs.Prelude.{ℕ, nat_abs, Bool, true, false, not, ◌&&◌, ◌||◌, if◌then◌else◌, pos, List, [], ◌∷◌, Option, Some, None, is_none, length, filter, codes, bytes_eq}
+use Rattle.std.specs.Map.{lookup}
 use Rattle.pos_service.specs.declared.category.Category.{Category}
 use Rattle.pos_service.specs.declared.category.Category.TheVariants as category
 use Rattle.pos_service.specs.declared.display_text.Cursor.{Cursor}
@@ -137,14 +138,9 @@ property_names =
 abbrev pub names_of : (ℕ → Bool) → List (List ℕ × Property)
 names_of is_length = filter (λ name. is_length (length name.0)) property_names
 
--- the property of this name among some
-abbrev pub named_in : List (List ℕ × Property) → List ℕ → Option Property
-named_in [] word = None
-named_in (name ∷ names) word = if bytes_eq word name.0 then Some name.1 else named_in names word
-
 -- the property of this name
 abbrev pub property_named : List ℕ → Option Property
-property_named word = named_in property_names word
+property_named word = lookup (bytes_eq word) property_names
 
 -- the controls of a category have what the category's controls have, or those of each
 abbrev pub is_in : Option Category → Category → Bool

@@ -1,6 +1,7 @@
-ghost use Rattle.std.specs.Prelude.{◌≡◌, ◌==◌, ◌||◌, nat_le};
+ghost use Rattle.std.specs.Prelude.{◌≡◌, ◌==◌, ◌||◌, bytes_eq, nat_le};
+ghost use Rattle.std.specs.Map.{lookup};
 ghost use Rattle.pos_service.specs.Controls.{default_settings};
-ghost use Rattle.pos_service.specs.Properties.{named_in, names_of, property_named, row_of, plain, settable, of_device, is_in, needs_of, needs_to_set};
+ghost use Rattle.pos_service.specs.Properties.{names_of, property_named, row_of, plain, settable, of_device, is_in, needs_of, needs_to_set};
 
 use crate::category::Category;
 use crate::needs::{ClaimNeed, Needs};
@@ -171,7 +172,7 @@ fn of_device(category: Category, claim: ClaimNeed) -> PropertyRow
 
 /// The property of this name of at most 7 bytes.
 fn named_shortly(word: &[u8]) -> Option<Property>
-    ensures { result ≡ named_in (names_of (λ k. nat_le k 7)) word.now }
+    ensures { result ≡ lookup (bytes_eq word.now) (names_of (λ k. nat_le k 7)) }
 {
     match word {
         _ if is(word, "State") => Some(Property::State),
@@ -184,7 +185,7 @@ fn named_shortly(word: &[u8]) -> Option<Property>
 
 /// The property of this name of 8 bytes.
 fn named_in_eight(word: &[u8]) -> Option<Property>
-    ensures { result ≡ named_in (names_of (λ k. k == 8)) word.now }
+    ensures { result ≡ lookup (bytes_eq word.now) (names_of (λ k. k == 8)) }
 {
     match word {
         _ if is(word, "ScanData") => Some(Property::ScanData),
@@ -197,7 +198,7 @@ fn named_in_eight(word: &[u8]) -> Option<Property>
 
 /// The property of this name of 9 bytes.
 fn named_in_nine(word: &[u8]) -> Option<Property>
-    ensures { result ≡ named_in (names_of (λ k. k == 9)) word.now }
+    ensures { result ≡ lookup (bytes_eq word.now) (names_of (λ k. k == 9)) }
 {
     match word {
         _ if is(word, "DataCount") => Some(Property::DataCount),
@@ -211,7 +212,7 @@ fn named_in_nine(word: &[u8]) -> Option<Property>
 
 /// The property of this name of 10 or 11 bytes.
 fn named_in_ten(word: &[u8]) -> Option<Property>
-    ensures { result ≡ named_in (names_of (λ k. k == 10 || k == 11)) word.now }
+    ensures { result ≡ lookup (bytes_eq word.now) (names_of (λ k. k == 10 || k == 11)) }
 {
     match word {
         _ if is(word, "PowerNotify") => Some(Property::PowerNotify),
@@ -226,7 +227,7 @@ fn named_in_ten(word: &[u8]) -> Option<Property>
 
 /// The property of this name of 12 bytes.
 fn named_in_twelve(word: &[u8]) -> Option<Property>
-    ensures { result ≡ named_in (names_of (λ k. k == 12)) word.now }
+    ensures { result ≡ lookup (bytes_eq word.now) (names_of (λ k. k == 12)) }
 {
     match word {
         _ if is(word, "FreezeEvents") => Some(Property::FreezeEvents),
@@ -241,7 +242,7 @@ fn named_in_twelve(word: &[u8]) -> Option<Property>
 
 /// The property of this name of 13 bytes.
 fn named_in_thirteen(word: &[u8]) -> Option<Property>
-    ensures { result ≡ named_in (names_of (λ k. k == 13)) word.now }
+    ensures { result ≡ lookup (bytes_eq word.now) (names_of (λ k. k == 13)) }
 {
     match word {
         _ if is(word, "DeviceEnabled") => Some(Property::DeviceEnabled),
@@ -254,7 +255,7 @@ fn named_in_thirteen(word: &[u8]) -> Option<Property>
 
 /// The property of this name of 14 bytes or more.
 fn named_at_length(word: &[u8]) -> Option<Property>
-    ensures { result ≡ named_in (names_of (λ k. nat_le 14 k)) word.now }
+    ensures { result ≡ lookup (bytes_eq word.now) (names_of (λ k. nat_le 14 k)) }
 {
     match word {
         _ if is(word, "CapPowerReporting") => Some(Property::CapPowerReporting),
