@@ -3,9 +3,7 @@ use Rattle.pos_counter.proofs.Common.{AllByRecursion, Bool, Device, Does, Effect
 use Rattle.pos_counter.proofs.Common.{Option, PeripheralState, Registered, Some, [], ap, controls_of, device_at, device_of, devices_of, false, hardware_in}
 use Rattle.pos_counter.proofs.Common.{hardware_of, input_fits, is_some, option_map, place_of, refl, set, slice_get, standing_at, subst, suc, sym, true, zero, ℕ}
 use Rattle.pos_counter.proofs.Common.{◌∙◌, ◌∷◌, ◌≡◌}
-use Rattle.pos_profile.proofs.CallerLemmas.{put_back, with_twice}
-use Rattle.pos_profile.specs.Registries.{MayServe, with_peripheral}
-use Rattle.pos_service.specs.Hardware.{StaysInService}
+use Rattle.pos_profile.specs.Registries.{with_peripheral}
 use Rattle.pos_service.specs.declared.kind.Kind.TheVariants as kind
 
 -- what stands at it
@@ -37,24 +35,24 @@ devices_with (y ∷ list) totals zero d x at =
     ap (λ (z : Registered). let first : Device = record (device_of z) { hardware = option_map hardware_of x } in first ∷ devices_of list totals) same
 devices_with (y ∷ list) totals (suc place) d x at = ap (λ ds. device_of y ∷ ds) (devices_with list totals place d x at)
 
-served_kind : (d : Registered) (was : PeripheralState) → IsServed d → Some was ≡ d.peripheral → d.kind ≡ was.kind
+served_kind : (d : Registered) (was : PeripheralState) → IsServed d → d.peripheral ≡ Some was → d.kind ≡ was.kind
 served_kind d was served is = sym
-    (subst (λ (o : Option PeripheralState). IfSome o (λ state. (state.is_parked ≡ false) × (state.kind ≡ d.kind))) (sym is) served).1
+    (subst (λ (o : Option PeripheralState). IfSome o (λ state. (state.is_parked ≡ false) × (state.kind ≡ d.kind))) is served).1
 
--- what is out at a place is of a device there, and of its kind
-registered_out : (list : List Registered) (place : ℕ) (was : PeripheralState) → AllByRecursion IsServed list → Some was ≡ standing_at list place
+-- what stands at a place serves a device there, and is of its kind
+registered_at : (list : List Registered) (place : ℕ) (was : PeripheralState) → AllByRecursion IsServed list → standing_at list place ≡ Some was
     → (d : Registered) × (slice_get list place ≡ Some d) × (d.peripheral ≡ Some was) × (d.kind ≡ was.kind)
-registered_out [] place was served is = absurd cc
-registered_out (d ∷ list) zero was served is = (d, refl, sym is, served_kind d was served.0 is)
-registered_out (d ∷ list) (suc place) was served is = registered_out list place was served.1 is
+registered_at [] place was served is = absurd cc
+registered_at (d ∷ list) zero was served is = (d, refl, is, served_kind d was served.0 is)
+registered_at (d ∷ list) (suc place) was served is = registered_at list place was served.1 is
 
--- what is done with it, once it is back
-pub done_there : {hs gs : List KeptControl} (list vacated new : List Registered) (totals : Option (List ℕ)) (place : ℕ) (was now : PeripheralState)
-    (Does : Effect) → AllByRecursion IsServed list → Some was ≡ standing_at list place → vacated ≡ with_peripheral list place None
-    → new ≡ with_peripheral vacated place (Some now) → Does (controls_of hs) (hardware_of was) (controls_of gs) (hardware_of now)
+-- what is done with what serves a device
+pub done_there : {hs gs : List KeptControl} (list new : List Registered) (totals : Option (List ℕ)) (place : ℕ) (was now : PeripheralState)
+    (Does : Effect) → AllByRecursion IsServed list → standing_at list place ≡ Some was → new ≡ with_peripheral list place (Some now)
+    → Does (controls_of hs) (hardware_of was) (controls_of gs) (hardware_of now)
     → IsDoneAt (devices_of list totals) place Does hs gs (devices_of new totals)
-done_there list vacated new totals place was now Does served is out back does =
-    let there = registered_out list place was served is in
+done_there list new totals place was now Does served stands is does =
+    let there = registered_at list place was served stands in
     record {
       device = device_of there.0;
       before = hardware_of was;
@@ -63,15 +61,8 @@ done_there list vacated new totals place was now Does served is out back does =
       is_attached = ap (option_map hardware_of) there.2;
       kind = ap Some there.3;
       does = does;
-      changed = ap (λ ds. devices_of ds totals) (back ∙ ap (λ ds. with_peripheral ds place (Some now)) out ∙ with_twice list place None (Some now))
-          ∙ devices_with list totals place there.0 (Some now) there.1;
+      changed = ap (λ ds. devices_of ds totals) is ∙ devices_with list totals place there.0 (Some now) there.1;
     }
-
--- what is out may be put back, once it is in service again
-pub may_go_back : (list vacated : List Registered) (place : ℕ) (was now : PeripheralState) → AllByRecursion IsServed list
-    → Some was ≡ standing_at list place → vacated ≡ with_peripheral list place None → StaysInService was now → MayServe vacated place now
-may_go_back list vacated place was now served is out stays =
-    subst (λ ds. MayServe ds place now) (sym out) (put_back list place was now served is stays.kind)
 
 -- a device whose peripheral isn't found has none
 pub vacant_there : {B : Type 0} (list : List Registered) (totals : Option (List ℕ)) (place : ℕ) (found : Option B) (f : B → PeripheralState)

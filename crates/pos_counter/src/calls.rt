@@ -95,12 +95,8 @@ fn call_there<P: Peripheral>(
         controls.old controls.new (devices_in P.Peripheral devices.new) }
     ensures sound { AreDevicesSound P.Peripheral devices.new }
 {
-    let Some(mut peripheral) = devices.registry.take(place) else {
-        unreachable!();
-    };
-    let answer = call_device(alloc, controls, number, place, &mut peripheral, call);
-    devices.registry.put(place, peripheral);
-    answer
+    let peripheral = devices.registry.serving(place);
+    call_device(alloc, controls, number, place, peripheral, call)
 }
 
 /// A call of the control with a number, which may make it, on its device at a place, where this peripheral stands.

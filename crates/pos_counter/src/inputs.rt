@@ -80,10 +80,6 @@ fn input_there<P: Peripheral>(
         controls.old controls.new (devices_in P.Peripheral devices.new) }
     ensures sound { AreDevicesSound P.Peripheral devices.new }
 {
-    let Some(mut peripheral) = devices.registry.take(place) else {
-        unreachable!();
-    };
-    let taken = take_input(alloc, controls, place, &mut peripheral, input);
-    devices.registry.put(place, peripheral);
-    taken
+    let peripheral = devices.registry.serving(place);
+    take_input(alloc, controls, place, peripheral, input)
 }

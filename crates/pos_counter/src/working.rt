@@ -60,12 +60,8 @@ fn work_there<P: Peripheral>(
         controls.old controls.new (devices_in P.Peripheral devices.new) }
     ensures sound { AreDevicesSound P.Peripheral devices.new }
 {
-    let Some(mut peripheral) = devices.registry.take(place) else {
-        unreachable!();
-    };
-    let outcome = work_at(controls, place, claims, &mut peripheral);
-    devices.registry.put(place, peripheral);
-    outcome
+    let peripheral = devices.registry.serving(place);
+    work_at(controls, place, claims, peripheral)
 }
 
 /// Works on the first request of the control that holds the device at a place. There is nothing to do at a device that

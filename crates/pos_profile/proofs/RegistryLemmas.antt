@@ -1,10 +1,10 @@
 -- The devices of a registry, where the peripheral of one changes.
 use Rattle.std.proofs.Common.{◌≡◌, ◌∙◌, ◌<◌, ◌≤◌, ◌+◌, ℕ, zero, suc, List, [], ◌∷◌, ◌++◌, true, false, Option, Some, None, map, length, take, drop, get_or, set}
-use Rattle.std.proofs.Common.{slice_get, refl, sym, ap, arith}
+use Rattle.std.proofs.Common.{slice_get, refl, sym, ap, inl, inr, arith}
 use Rattle.std.specs.Prelude.{IfSome, is_some}
 use Rattle.std.specs.List.{All, AllByRecursion, cons_option}
 use Rattle.std.specs.Option.{option_map}
-use Rattle.std.proofs.lemmas.Bool.{false≢true}
+use Rattle.std.proofs.lemmas.Bool.{cases_lt, false≢true}
 use Rattle.std.proofs.lemmas.List.{append-nil, drop_all, length-map, get_or-map, map-set, take_all, take_more}
 use Rattle.std.proofs.lemmas.List.Edits.{map_over_more}
 use Rattle.std.proofs.lemmas.List.Elements.{filter_map-append, recursion_from_All}
@@ -115,6 +115,12 @@ with_past (device ∷ list) (suc place) x past = rw (with_past list place x (ome
 pub standing_past : (list : List Device) (place : ℕ) → length list ≤ place → standing_at list place ≡ None
 standing_past list place past = rw (slice_get_past list place past)
 
+pub standing_within : (list : List Device) (place : ℕ) → is_some (standing_at list place) ≡ true → place < length list
+standing_within list place stands = elim (cases_lt place (length list)) [
+  | inl within ↦ within
+  | inr past ↦ absurd (false≢true (rw (standing_past list place past) at stands))
+]
+
 -- what stands at the place of a device
 pub standing_is : (list : List Device) (place : ℕ) (device : Device) → slice_get list place ≡ Some device → standing_at list place ≡ device.peripheral
 standing_is list place device at = rw at
@@ -157,6 +163,20 @@ pub same_kind : (list : List Device) (place : ℕ) (state : PeripheralState) (de
 same_kind list place state device may at =
     let same : may.device ≡ device = cc in
     may.kind ∙ ap (λ (d : Device). d.kind) same
+
+-- what serves a device is of its kind
+kind_here : (device : Device) (state : PeripheralState) → IsServed device → device.peripheral ≡ Some state → state.kind ≡ device.kind
+kind_here device state served is =
+    let here : (state.is_parked ≡ false) × (state.kind ≡ device.kind) = rw is at served in
+    here.1
+
+pub served_kind : (list : List Device) (place : ℕ) (device : Device) (state : PeripheralState) → AllByRecursion IsServed list
+    → slice_get list place ≡ Some device → standing_at list place ≡ Some state → state.kind ≡ device.kind
+served_kind [] place device state served at stands = cc
+served_kind (first ∷ list) zero device state served at stands =
+    let same : first ≡ device = cc in
+    kind_here first state served.0 stands ∙ ap (λ (d : Device). d.kind) same
+served_kind (first ∷ list) (suc place) device state served at stands = served_kind list place device state served.1 at stands
 
 -- what is planned is sound, vacant
 names_vacant : (plan : List Planned) → names_of (map vacant plan) ≡ map (λ (p : Planned). p.name) plan

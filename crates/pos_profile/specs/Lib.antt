@@ -9,4 +9,5 @@ pub mod Mistakes
 pub mod Soundness
 pub mod Places
 pub mod Registries
+pub mod Lending
 pub mod Built

@@ -1,5 +1,8 @@
-ghost use Rattle.std.specs.Prelude.{◌≡◌, ◌≢◌, ◌≤◌, [], None, Some, true, false, IfOk, IfErr, map, length, vec_capacity};
+ghost use Rattle.std.specs.Prelude.{◌≡◌, ◌≢◌, ◌≤◌, [], None, Some, true, false, IfOk, IfErr, is_some, map, length, vec_capacity};
 ghost use Rattle.std.specs.Option.{option_map};
+ghost use Rattle.std.specs.Borrow.{sem};
+ghost use Rattle.pos_service.specs.Hardware.{StaysInService};
+ghost use Rattle.pos_profile.specs.Lending.{registry_lends, registry_with};
 ghost use Rattle.pos_profile.specs.Places.{IsIndexOf, place_of};
 ghost use Rattle.pos_profile.specs.Registries.{Attaches, Detaches, IsRegistrySound, MayServe, devices, devices_of, kind_at, names_of, parked, planned_of, standing_at, vacant, vacant_devices, with_peripheral};
 
@@ -115,8 +118,24 @@ impl<P: Peripheral> Registry<P> {
         }
     }
 
+    /// Lends what serves the device at a place, which is not vacant. The registry stays sound where this stays in
+    /// service and of its kind.
+    pub fn serving(&mut self, place: usize) -> &mut P
+        requires sound { IsRegistrySound P.Peripheral self.old }
+        requires served { is_some (standing_at (devices P.Peripheral self.old) place) ≡ true }
+        ensures* lends { sem 𝓛 (registry_lends P.row self.entry place result) }
+        ensures value { standing_at (devices P.Peripheral self.old) place
+            ≡ Some (P.Peripheral.state result.now) }
+        ensures devices { (left : P) → devices P.Peripheral (registry_with self.old place left)
+            ≡ with_peripheral (devices P.Peripheral self.old) place (Some (P.Peripheral.state left)) }
+        ensures stays_sound { (left : P) → StaysInService (P.Peripheral.state result.now) (P.Peripheral.state left) →
+            IsRegistrySound P.Peripheral (registry_with self.old place left) }
+    {
+        self.slots[place].serving()
+    }
+
     /// Hands out what serves the device at a place, which is vacant then; None where it is vacant, or no place.
-    pub fn take(&mut self, place: usize) -> Option<P>
+    pub(crate) fn take(&mut self, place: usize) -> Option<P>
         requires sound { IsRegistrySound P.Peripheral self.old }
         ensures taken { option_map P.Peripheral.state result ≡ standing_at (devices P.Peripheral self.old) place }
         ensures vacated { devices P.Peripheral self.new ≡ with_peripheral (devices P.Peripheral self.old) place None }
@@ -129,7 +148,7 @@ impl<P: Peripheral> Registry<P> {
     }
 
     /// Has a peripheral serve the device at a vacant place.
-    pub fn put(&mut self, place: usize, peripheral: P)
+    pub(crate) fn put(&mut self, place: usize, peripheral: P)
         requires sound { IsRegistrySound P.Peripheral self.old }
         requires may_serve { MayServe (devices P.Peripheral self.old) place (P.Peripheral.state peripheral) }
         requires unparked { (P.Peripheral.state peripheral).is_parked ≡ false }

@@ -1,4 +1,6 @@
-ghost use Rattle.std.specs.Prelude.{◌≡◌};
+ghost use Rattle.std.specs.Prelude.{◌≡◌, Some, is_some, true};
+ghost use Rattle.std.specs.Borrow.{sem};
+ghost use Rattle.pos_profile.specs.Lending.{slot_lends};
 ghost use Rattle.pos_profile.specs.Registries.{device_of, parked};
 
 use pos_service::{Bytes, Kind, Peripheral};
@@ -11,6 +13,20 @@ pub struct Slot<P> {
     pub kind: Kind,
     /// Its peripheral, or none where the device is vacant.
     pub peripheral: Option<P>,
+}
+
+impl<P> Slot<P> {
+    /// What serves the device, which is not vacant.
+    pub(crate) fn serving(&mut self) -> &mut P
+        requires { is_some self.old.peripheral ≡ true }
+        ensures* lends { sem 𝓛 (slot_lends P.row self.entry result) }
+        ensures value { self.old.peripheral ≡ Some result.now }
+    {
+        match &mut self.peripheral {
+            Some(peripheral) => peripheral,
+            None => unreachable!(),
+        }
+    }
 }
 
 impl<P: Peripheral> Slot<P> {
