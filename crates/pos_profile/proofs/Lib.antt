@@ -5,4 +5,3 @@ pub mod VariationLemmas
 pub mod SoundLemmas
 pub mod PlaceLemmas
 pub mod RegistryLemmas
-pub mod CallerLemmas

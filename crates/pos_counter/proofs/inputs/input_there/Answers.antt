@@ -5,4 +5,4 @@ use Rattle.pos_counter.proofs.inputs.input_there.Goals as goal
 pub returns-clause-done : goal.returns-clause-done
 returns-clause-done g c =
     done_there (registered g.P.Peripheral c.args.devices.now.registry) _ c.args.devices.now.totals c.args.place _ _ _
-    c.requires.sound.registry.served c.serving.ensures.value (c.serving.ensures.devices _) c.take_input.ensures.taken
+    c.requires.sound.registry.served c.serving-peripheral.ensures.value (c.serving-peripheral.ensures.devices _) c.take_input.ensures.taken
