@@ -4,13 +4,13 @@
 ghost use Rattle.std.specs.Prelude.{ℕ};
 ghost use Rattle.pos_counter.specs.Counters.{IsCounterSound};
 ghost use Rattle.pos_script.specs.Arguments.{Reading, Reads, become};
-ghost use Rattle.pos_script.specs.Commands.{line_of, request_of_words};
+ghost use Rattle.pos_script.specs.Commands.{asked_of, line_of, request_of_words};
 ghost use Rattle.pos_script.specs.Lines.{words_of};
 ghost use Rattle.pos_service.specs.declared.call.Call.{Call};
 ghost use Rattle.pos_service.specs.declared.category.Category.{Category};
 ghost use Rattle.pos_service.specs.declared.event.ErrorReply.{ErrorReply};
 ghost use Rattle.pos_service.specs.declared.input.Input.{Input};
-ghost use Rattle.pos_service.specs.declared.request.Request.TheVariants.{Attach, CallOf, Deliver, Detach, InputTo, NewControl, Snapshot, WorkOn};
+ghost use Rattle.pos_service.specs.declared.request.Request.TheVariants.{Attach, CallOf, Deliver, InputTo, NewControl};
 ghost use Rattle.pos_run.specs.Carried.{CarriesOutReading, session_of};
 ghost use Rattle.pos_run.specs.Names.{ControlNames, names_of};
 ghost use Rattle.pos_run.specs.Spares.{AreSparesSound, SpareStates, spares_in};
@@ -19,14 +19,13 @@ ghost use Rattle.pos_run.specs.Transcript.{Session, session_with};
 use crate::ending::Ends;
 use crate::names::Names;
 use crate::session::{
-    attach_spare, call_control, deliver_event, detach_device, input_device, new_control,
-    show_device, work_device,
+    ask_device, attach_spare, call_control, deliver_event, input_device, new_control,
 };
 use crate::spares::Spares;
 use pos_counter::Counter;
 use pos_disk::Disk;
 use pos_script::{
-    Command, LineFault, Reply, Verb, WriteFault, print_fault, print_reply, read_called,
+    Command, DeviceVerb, LineFault, Reply, Verb, WriteFault, print_fault, print_reply, read_called,
     read_category, read_command, read_happening, read_none, read_reply, read_spare,
 };
 use pos_service::{Call, Category, ErrorReply, Input, Peripheral};
@@ -119,62 +118,23 @@ fn hand_in<W: Write, D: Disk, P: Peripheral>(
     }
 }
 
-/// Shows the device of a `show` line, if it has no more words.
+/// Asks of a device what a line of this verb does, if it has no more words.
 #[inline(never)]
-fn show<W: Write, D: Disk, P: Peripheral>(
+fn ask<W: Write, D: Disk, P: Peripheral + Ends>(
     writer: &mut W,
     counter: &mut Counter<D, P>,
     name: &[u8],
+    by: DeviceVerb,
     read: Result<(), LineFault>,
 ) -> Result<(), WriteFault>
     requires sound { IsCounterSound P.Peripheral counter.old }
     ensures line { (reading : Reading (Unit {0})) → Reads reading read → (session : Session) →
-        CarriesOutReading D.Disk P.Peripheral counter.old session (become (λ u. Snapshot name.now) reading)
+        CarriesOutReading D.Disk P.Peripheral counter.old session (become (λ u. asked_of by name.now) reading)
         (W.contents writer.old) (W.contents writer.new) result session counter.new }
     ensures sound { IsCounterSound P.Peripheral counter.new }
 {
     match read {
-        Ok(()) => print_reply(writer, show_device(counter, name)),
-        Err(fault) => print_fault(writer, fault),
-    }
-}
-
-/// Works on the output of the device of a `work` line, if it has no more words.
-#[inline(never)]
-fn work<W: Write, D: Disk, P: Peripheral>(
-    writer: &mut W,
-    counter: &mut Counter<D, P>,
-    name: &[u8],
-    read: Result<(), LineFault>,
-) -> Result<(), WriteFault>
-    requires sound { IsCounterSound P.Peripheral counter.old }
-    ensures line { (reading : Reading (Unit {0})) → Reads reading read → (session : Session) →
-        CarriesOutReading D.Disk P.Peripheral counter.old session (become (λ u. WorkOn name.now) reading)
-        (W.contents writer.old) (W.contents writer.new) result session counter.new }
-    ensures sound { IsCounterSound P.Peripheral counter.new }
-{
-    match read {
-        Ok(()) => print_reply(writer, work_device(counter, name)),
-        Err(fault) => print_fault(writer, fault),
-    }
-}
-
-/// Makes the device of a `detach` line vacant, if it has no more words.
-#[inline(never)]
-fn detach<W: Write, D: Disk, P: Peripheral + Ends>(
-    writer: &mut W,
-    counter: &mut Counter<D, P>,
-    name: &[u8],
-    read: Result<(), LineFault>,
-) -> Result<(), WriteFault>
-    requires sound { IsCounterSound P.Peripheral counter.old }
-    ensures line { (reading : Reading (Unit {0})) → Reads reading read → (session : Session) →
-        CarriesOutReading D.Disk P.Peripheral counter.old session (become (λ u. Detach name.now) reading)
-        (W.contents writer.old) (W.contents writer.new) result session counter.new }
-    ensures sound { IsCounterSound P.Peripheral counter.new }
-{
-    match read {
-        Ok(()) => print_reply(writer, detach_device(counter, name)),
+        Ok(()) => print_reply(writer, ask_device(counter, name, by)),
         Err(fault) => print_fault(writer, fault),
     }
 }
@@ -229,10 +189,8 @@ fn carry_out_command<W: Write, D: Disk, P: Peripheral + Ends>(
         Verb::Call(by) => make_call(writer, counter, names, name, read_called(alloc, by, words)),
         Verb::Input => hand_in(writer, counter, name, read_happening(alloc, words)),
         Verb::Deliver => deliver(writer, counter, names, name, read_reply(alloc, words)),
-        Verb::Show => show(writer, counter, name, read_none(words)),
-        Verb::Work => work(writer, counter, name, read_none(words)),
         Verb::Attach => attach(writer, counter, spares, name, read_spare(alloc, words)),
-        Verb::Detach => detach(writer, counter, name, read_none(words)),
+        Verb::Device(by) => ask(writer, counter, name, by, read_none(words)),
     }
 }
 

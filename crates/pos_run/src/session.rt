@@ -1,6 +1,7 @@
 ghost use Rattle.std.specs.Prelude.{◌≡◌};
 ghost use Rattle.pos_counter.specs.Counters.{IsCounterSound};
 ghost use Rattle.pos_counter.specs.Steps.{NewControl, CallOf, InputTo, Deliver, Snapshot, WorkOn, Attach, Detach};
+ghost use Rattle.pos_script.specs.Commands.{asked_of};
 ghost use Rattle.pos_run.specs.Carried.{CarriesOutAtControl, CarriesOutAtDevice, CarriesOutWithSpare};
 ghost use Rattle.pos_run.specs.Spares.{AreSparesSound, spares_in};
 
@@ -9,7 +10,7 @@ use crate::names::Names;
 use crate::spares::Spares;
 use pos_counter::{ControlFault, Counter, InputFault, SnapshotFault, WorkFault};
 use pos_disk::Disk;
-use pos_script::Reply;
+use pos_script::{DeviceVerb, Reply};
 use pos_service::{Call, Category, ErrorReply, Input, Peripheral, Response};
 
 /// A new control, under a name that no control has.
@@ -104,7 +105,7 @@ pub(crate) fn input_device<D: Disk, P: Peripheral>(
 
 /// What a device is physically.
 #[inline(always)]
-pub(crate) fn show_device<D: Disk, P: Peripheral>(counter: &Counter<D, P>, name: &[u8]) -> Reply
+fn show_device<D: Disk, P: Peripheral>(counter: &Counter<D, P>, name: &[u8]) -> Reply
     requires sound { IsCounterSound P.Peripheral counter.now }
     ensures { CarriesOutAtDevice D.Disk P.Peripheral counter.now (Snapshot name.now) result counter.now }
 {
@@ -117,7 +118,7 @@ pub(crate) fn show_device<D: Disk, P: Peripheral>(counter: &Counter<D, P>, name:
 
 /// Work on a device's output.
 #[inline(always)]
-pub(crate) fn work_device<D: Disk, P: Peripheral>(counter: &mut Counter<D, P>, name: &[u8]) -> Reply
+fn work_device<D: Disk, P: Peripheral>(counter: &mut Counter<D, P>, name: &[u8]) -> Reply
     requires sound { IsCounterSound P.Peripheral counter.old }
     ensures asks { CarriesOutAtDevice D.Disk P.Peripheral counter.old (WorkOn name.now) result counter.new }
     ensures sound { IsCounterSound P.Peripheral counter.new }
@@ -158,10 +159,7 @@ pub(crate) fn attach_spare<D: Disk, P: Peripheral>(
 
 /// A device is to be vacant. Its peripheral, which is out of service then, is ended.
 #[inline(always)]
-pub(crate) fn detach_device<D: Disk, P: Peripheral + Ends>(
-    counter: &mut Counter<D, P>,
-    name: &[u8],
-) -> Reply
+fn detach_device<D: Disk, P: Peripheral + Ends>(counter: &mut Counter<D, P>, name: &[u8]) -> Reply
     requires sound { IsCounterSound P.Peripheral counter.old }
     ensures asks { CarriesOutAtDevice D.Disk P.Peripheral counter.old (Detach name.now) result counter.new }
     ensures sound { IsCounterSound P.Peripheral counter.new }
@@ -172,5 +170,23 @@ pub(crate) fn detach_device<D: Disk, P: Peripheral + Ends>(
             Reply::Responded(Response::Detached(()))
         }
         Err(fault) => Reply::Responded(Response::NotDetached(fault)),
+    }
+}
+
+/// What a line of this verb asks of a device.
+#[inline(always)]
+pub(crate) fn ask_device<D: Disk, P: Peripheral + Ends>(
+    counter: &mut Counter<D, P>,
+    name: &[u8],
+    by: DeviceVerb,
+) -> Reply
+    requires sound { IsCounterSound P.Peripheral counter.old }
+    ensures asks { CarriesOutAtDevice D.Disk P.Peripheral counter.old (asked_of by name.now) result counter.new }
+    ensures sound { IsCounterSound P.Peripheral counter.new }
+{
+    match by {
+        DeviceVerb::Show => show_device(counter, name),
+        DeviceVerb::Work => work_device(counter, name),
+        DeviceVerb::Detach => detach_device(counter, name),
     }
 }

@@ -12,6 +12,8 @@ use Rattle.pos_service.specs.declared.request.Request.TheVariants as request
 use Rattle.pos_script.specs.Lines.{words_of, is_well_spelled}
 use Rattle.pos_script.specs.declared.command.CallVerb.{CallVerb}
 use Rattle.pos_script.specs.declared.command.CallVerb.TheVariants as call_verb
+use Rattle.pos_script.specs.declared.command.DeviceVerb.{DeviceVerb}
+use Rattle.pos_script.specs.declared.command.DeviceVerb.TheVariants as device_verb
 use Rattle.pos_script.specs.declared.command.Verb.{Verb}
 use Rattle.pos_script.specs.declared.command.Verb.TheVariants as verb
 use Rattle.pos_script.specs.Arguments.{Reading, misshapen, become, none, one, from_none, from_one, from_two, from_three}
@@ -71,16 +73,20 @@ abbrev pub reply_of : List (List ℕ) → Reading ErrorReply
 reply_of [] = from_none reply.Default []
 reply_of (word ∷ words) = one error_reply_shape (word ∷ words)
 
+-- what a verb asks of a device
+abbrev pub asked_of : DeviceVerb → List ℕ → LineRequest
+asked_of device_verb.Show name = request.Snapshot name
+asked_of device_verb.Work name = request.WorkOn name
+asked_of device_verb.Detach name = request.Detach name
+
 -- a line of a verb, by the name of a control or a device and the words behind it
 abbrev pub line_of : Verb → List ℕ → List (List ℕ) → Reading LineRequest
 line_of verb.New name words = become (λ category. request.NewControl name category) (one category_shape words)
 line_of (verb.Call by) name words = become (λ call. request.CallOf name call) (called by words)
 line_of verb.Input name words = become (λ input. request.InputTo name input) (happening words)
 line_of verb.Deliver name words = become (λ reply. request.Deliver name reply) (reply_of words)
-line_of verb.Show name words = become (λ u. request.Snapshot name) (none words)
-line_of verb.Work name words = become (λ u. request.WorkOn name) (none words)
 line_of verb.Attach name words = become (λ spare. request.Attach name spare) (one count_shape words)
-line_of verb.Detach name words = become (λ u. request.Detach name) (none words)
+line_of (verb.Device by) name words = become (λ u. asked_of by name) (none words)
 
 -- the verbs, and their words
 abbrev pub verbs : List (List ℕ × Verb)
@@ -95,10 +101,10 @@ verbs =
     ∷ (codes "release", verb.Call call_verb.Release)
     ∷ (codes "close", verb.Call call_verb.Close)
     ∷ (codes "new", verb.New)
-    ∷ (codes "show", verb.Show)
-    ∷ (codes "work", verb.Work)
+    ∷ (codes "show", verb.Device device_verb.Show)
+    ∷ (codes "work", verb.Device device_verb.Work)
     ∷ (codes "attach", verb.Attach)
-    ∷ (codes "detach", verb.Detach)
+    ∷ (codes "detach", verb.Device device_verb.Detach)
     ∷ []
 
 -- the verb of this word

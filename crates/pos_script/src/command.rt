@@ -31,6 +31,17 @@ pub enum CallVerb {
     Method,
 }
 
+/// The verb of a line that asks something of a device, behind which stands its name alone.
+#[derive(Clone, Copy)]
+pub enum DeviceVerb {
+    /// `show DEVICE`
+    Show,
+    /// `work DEVICE`
+    Work,
+    /// `detach DEVICE`
+    Detach,
+}
+
 /// The verb of a line: what kind of request it makes.
 #[derive(Clone, Copy)]
 pub enum Verb {
@@ -42,14 +53,10 @@ pub enum Verb {
     Input,
     /// `deliver CONTROL`, or `deliver CONTROL REPLY`
     Deliver,
-    /// `show DEVICE`
-    Show,
-    /// `work DEVICE`
-    Work,
     /// `attach DEVICE SPARE`
     Attach,
-    /// `detach DEVICE`
-    Detach,
+    /// What is asked of a device.
+    Device(DeviceVerb),
 }
 
 /// A line of a script, taken apart (docs/CONSOLE.md, "Lines").
@@ -79,10 +86,10 @@ fn named_verb(word: &[u8]) -> Option<Verb>
         _ if is(word, "release") => Some(Verb::Call(CallVerb::Release)),
         _ if is(word, "close") => Some(Verb::Call(CallVerb::Close)),
         _ if is(word, "new") => Some(Verb::New),
-        _ if is(word, "show") => Some(Verb::Show),
-        _ if is(word, "work") => Some(Verb::Work),
+        _ if is(word, "show") => Some(Verb::Device(DeviceVerb::Show)),
+        _ if is(word, "work") => Some(Verb::Device(DeviceVerb::Work)),
         _ if is(word, "attach") => Some(Verb::Attach),
-        _ if is(word, "detach") => Some(Verb::Detach),
+        _ if is(word, "detach") => Some(Verb::Device(DeviceVerb::Detach)),
         _ => None,
     }
 }

@@ -16,8 +16,8 @@ mod write;
 
 pub use arguments::{LineFault, read_none};
 pub use command::{
-    CallVerb, Command, Verb, read_called, read_category, read_command, read_happening, read_reply,
-    read_spare,
+    CallVerb, Command, DeviceVerb, Verb, read_called, read_category, read_command, read_happening,
+    read_reply, read_spare,
 };
 pub use laws::{lines_fall_in_two, lines_go_on};
 pub use line_buffer::{EndedLine, Line, LineBuffer};

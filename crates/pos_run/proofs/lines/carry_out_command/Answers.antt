@@ -20,19 +20,9 @@ pub returns-in-Deliver-clause-line : goal.returns-in-Deliver-clause-line
 returns-in-Deliver-clause-line g c =
     rw (c.in-Deliver.is, ← c.as_slice-name.ensures) (c.deliver.ensures.line _ c.read_reply.ensures (spares_in g.P.Peripheral c.args.spares.now))
 
-pub returns-in-Show-clause-line : goal.returns-in-Show-clause-line
-returns-in-Show-clause-line g c =
-    rw (c.in-Show.is, ← c.as_slice-name.ensures) (c.show.ensures.line _ c.read_none.ensures (session_of g.P.Peripheral c.args.names.now c.args.spares.now))
-
-pub returns-in-Work-clause-line : goal.returns-in-Work-clause-line
-returns-in-Work-clause-line g c =
-    rw (c.in-Work.is, ← c.as_slice-name.ensures) (c.work.ensures.line _ c.read_none-in-Work.ensures
-    (session_of g.P.Peripheral c.args.names.now c.args.spares.now))
-
 pub returns-in-Attach-clause-line : goal.returns-in-Attach-clause-line
 returns-in-Attach-clause-line g c = rw (c.in-Attach.is, ← c.as_slice-name.ensures) (c.attach.ensures.line _ c.read_spare.ensures (names_of c.args.names.now))
 
-pub returns-in-Detach-clause-line : goal.returns-in-Detach-clause-line
-returns-in-Detach-clause-line g c =
-    rw (c.in-Detach.is, ← c.as_slice-name.ensures) (c.detach.ensures.line _ c.read_none-in-Detach.ensures
-    (session_of g.P.Peripheral c.args.names.now c.args.spares.now))
+pub returns-in-Device-clause-line : goal.returns-in-Device-clause-line
+returns-in-Device-clause-line g c =
+    rw (c.in-Device.is, ← c.as_slice-name.ensures) (c.ask.ensures.line _ c.read_none.ensures (session_of g.P.Peripheral c.args.names.now c.args.spares.now))
