@@ -1,4 +1,4 @@
-//! A line of a script, from its words to what it prints. Each verb has a function of its own, so that what one verb
+//! A line of a script, from its words to what it prints. Each kind of verb has a function of its own, so that what one
 //! reads and answers doesn't go through room that is large enough for all of them; those of most lines are in place
 //! where they are called, the others are not.
 ghost use Rattle.std.specs.Prelude.{ℕ};
