@@ -135,7 +135,7 @@ impl<P: Peripheral> Registry<P> {
     }
 
     /// Hands out what serves the device at a place, which is vacant then; None where it is vacant, or no place.
-    pub(crate) fn take(&mut self, place: usize) -> Option<P>
+    fn take(&mut self, place: usize) -> Option<P>
         requires sound { IsRegistrySound P.Peripheral self.old }
         ensures taken { option_map P.Peripheral.state result ≡ standing_at (devices P.Peripheral self.old) place }
         ensures vacated { devices P.Peripheral self.new ≡ with_peripheral (devices P.Peripheral self.old) place None }
@@ -148,7 +148,7 @@ impl<P: Peripheral> Registry<P> {
     }
 
     /// Has a peripheral serve the device at a vacant place.
-    pub(crate) fn put(&mut self, place: usize, peripheral: P)
+    fn put(&mut self, place: usize, peripheral: P)
         requires sound { IsRegistrySound P.Peripheral self.old }
         requires may_serve { MayServe (devices P.Peripheral self.old) place (P.Peripheral.state peripheral) }
         requires unparked { (P.Peripheral.state peripheral).is_parked ≡ false }
