@@ -1,28 +1,13 @@
 -- The tags after a change are those of the files after it, their handles distinct and below the next one.
-use Rattle.std.proofs.Common.{◌≡◌, ◌∙◌, ℕ, zero, suc, ◌+◌, ◌<◌, nat_abs, Bool, true, List, [], ◌∷◌, ◌++◌, length, replicate, Option, None, refl}
-use Rattle.std.proofs.Common.{sym, ap, arith}
-use Rattle.std.specs.Prelude.{remove}
-use Rattle.std.specs.List.{AllByRecursion}
-use Rattle.std.proofs.lemmas.List.{map-append, length-map}
-use Rattle.std.proofs.Math.Seq.{take-nil, drop-nil}
-use Rattle.std.proofs.lemmas.Bool.Decides.{nat_tests}
-use Rattle.pos_dir.specs.Files.{are_distinct}
-use Rattle.pos_dir.specs.declared.change.Change.{Change as FileChange}
-use Rattle.pos_dir.specs.declared.change.Change.TheVariants as file
-use Rattle.pos_image.specs.declared.layout.Layout.{Layout}
-use Rattle.pos_totals.specs.HardTotals.{File, Change, Create, Delete, Rename, Edit, totals_limits}
-use Rattle.pos_totals.specs.TotalsFiles.{is_named, is_called, with_each}
-use Rattle.pos_totals.specs.Edits.{edited}
+use Rattle.pos_totals.proofs.Common.{AllByRecursion, AreDistinct, AreHandles, Bool, Change, Create, Delete, Edit, File, FileChange, Layout, List, None, Option}
+use Rattle.pos_totals.proofs.Common.{Rename, Tag, [], ap, are_distinct, arith, change_rows, drop-nil, edited, file_change, files_after, first_refusal}
+use Rattle.pos_totals.proofs.Common.{following, given_after, given_by, index_of, is_called, is_named, length, length-map, map-append, nat_abs, nat_tests}
+use Rattle.pos_totals.proofs.Common.{new_tag, next_after, numbers_of, plain, plain_file, refl, remove, replicate, suc, sym, tag_of, tags_of, take-nil}
+use Rattle.pos_totals.proofs.Common.{totals_limits, true, value_after, with_each, zero, ℕ, ◌++◌, ◌+◌, ◌<◌, ◌∙◌, ◌∷◌, ◌≡◌}
 use Rattle.pos_totals.proofs.Edited.{keeps_handles}
-use Rattle.pos_totals.specs.TotalsChanges.{change_rows, files_after, next_after, given_by}
-use Rattle.pos_service.specs.Refusals.{first_refusal}
 use Rattle.pos_totals.proofs.Grouped.{deleted, only_named, map-remove}
 use Rattle.pos_totals.proofs.Places.{one_gone}
-use Rattle.pos_totals.specs.Groups.{index_of, file_change}
-use Rattle.pos_totals.specs.Numbering.{given_after, following, value_after}
-use Rattle.pos_totals.specs.Tables.{new_tag}
-use Rattle.pos_totals.specs.Views.{plain, plain_file, tag_of, tags_of, numbers_of, AreDistinct, AreHandles}
-use Rattle.pos_totals.specs.declared.handles.Tag.{Tag}
+use Rattle.pos_dir.specs.declared.change.Change.TheVariants as file
 
 -- ---- the files' tags
 

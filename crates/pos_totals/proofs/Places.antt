@@ -1,15 +1,7 @@
 -- A file that a test finds: its index, and the files with it changed or without it.
-use Rattle.std.proofs.Common.{◌≡◌, ◌∙◌, ℕ, suc, ◌+◌, ◌<◌, ◌≤◌, Bool, true, false, not, cond, List, [], ◌∷◌, length, set, Option, Some, None, refl, sym}
-use Rattle.std.proofs.Common.{subst, arith}
-use Rattle.std.specs.Prelude.{slice_get, remove, ⊤}
-use Rattle.std.specs.List.{find, filter, position, position_or_len}
-use Rattle.std.proofs.lemmas.List.Folds.{find_at}
-use Rattle.std.proofs.lemmas.List.Sums.{prefix_len-le-length}
-use Rattle.std.proofs.lemmas.Option.{slice_get_within, same_Some}
-use Rattle.std.proofs.lemmas.Bool.Decides.{nat_tests}
-use Rattle.pos_totals.specs.HardTotals.{File}
-use Rattle.pos_totals.specs.TotalsFiles.{with_each}
-use Rattle.pos_totals.specs.Groups.{index_of}
+use Rattle.pos_totals.proofs.Common.{Bool, File, List, None, Option, Some, [], arith, cases_Bool, filter, find, find_at, index_of, length, nat_tests, not}
+use Rattle.pos_totals.proofs.Common.{position, position_or_len, prefix_len-le-length, refl, remove, same_Some, set, slice_get, slice_get_within, subst, suc}
+use Rattle.pos_totals.proofs.Common.{sym, true, with_each, ℕ, ⊎_elim, ⊤, ◌+◌, ◌<◌, ◌∙◌, ◌∷◌, ◌≡◌, ◌≤◌}
 
 -- at most one file meets a test
 abbrev pub OnlyOne : (File → Bool) → List File → Type 0
@@ -28,11 +20,8 @@ found_inside test files file found = slice_get_within files (index_of test files
 
 pub found_meets : (test : File → Bool) (files : List File) (file : File) → find test files ≡ Some file → test file ≡ true
 found_meets test [] file found = absurd cc
-found_meets test (first ∷ files) file found = by (test first) refl found (found_meets test files file)
-  where
-    by : (b : Bool) → test first ≡ b → cond b (Some first) (find test files) ≡ Some file → (find test files ≡ Some file → test file ≡ true) → test file ≡ true
-    by true here is rest = subst (λ (x : File). test x ≡ true) (same_Some first file is) here
-    by false here is rest = rest is
+found_meets test (first ∷ files) file found = ⊎_elim (λ is. subst (λ (x : File). test x ≡ true) (same_Some first file (rw is at found)) is)
+    (λ is. found_meets test files file (rw is at found)) (cases_Bool (test first))
 
 -- the place that a search through another list tells is the index
 pub is_at : {A : Type 0} (p : A → Bool) (test : File → Bool) (xs : List A) (files : List File) (i : ℕ) → index_of test files ≡ position_or_len p xs

@@ -1,16 +1,8 @@
-use Rattle.std.proofs.Common.{◌≡◌, ◌∙◌, false, ℤ, sym, subst}
-use Rattle.std.specs.Int.{w128}
-use Rattle.std.proofs.lemmas.Int.{to_z-of_z}
-use Rattle.std.specs.Prelude.{nat_eq}
-use Rattle.std.specs.List.{position_or_len}
-use Rattle.std.proofs.lemmas.Option.{IfSome_then}
-use Rattle.pos_service.specs.Numbers.{is_natural}
-use Rattle.pos_totals.specs.TotalsFiles.{is_called}
+use Rattle.pos_totals.proofs.Common.{IfSome_then, false, index_of, is_called, is_natural, nat_eq, position_or_len, subst, sym, to_z-of_z, w128, with_tags, ℤ}
+use Rattle.pos_totals.proofs.Common.{◌∙◌, ◌≡◌}
 use Rattle.pos_totals.proofs.Found.{index_by_handle, none_below}
 use Rattle.pos_totals.proofs.Pairs.{length-with_tags}
 use Rattle.pos_totals.proofs.Places.{is_at, is_none, at_index}
-use Rattle.pos_totals.specs.Groups.{index_of}
-use Rattle.pos_totals.specs.Views.{with_tags}
 use Rattle.pos_totals.proofs.files.find_handle.Goals as goal
 
 pub returns-in_default : goal.returns-in_default

@@ -1,11 +1,7 @@
-use Rattle.std.proofs.Common.{◌∙◌, sym}
-use Rattle.std.specs.Prelude.{bytes_eq}
-use Rattle.std.proofs.lemmas.Option.{IfSome_then}
-use Rattle.pos_totals.specs.TotalsFiles.{is_named}
+use Rattle.pos_totals.proofs.Common.{IfSome_then, bytes_eq, is_named, sym, with_tags, ◌∙◌}
 use Rattle.pos_totals.proofs.Found.{index_by_name}
 use Rattle.pos_totals.proofs.Pairs.{length-with_tags}
 use Rattle.pos_totals.proofs.Places.{is_at, is_none, at_index}
-use Rattle.pos_totals.specs.Views.{with_tags}
 use Rattle.pos_totals.proofs.files.find_name.Goals as goal
 
 pub returns-in-Some : goal.returns-in-Some
