@@ -1,8 +1,9 @@
 -- Where a control has claimed the area, no other has claimed a file.
 use Rattle.pos_totals.proofs.Common.{AllByRecursion, AreApart, FileChange, Holdings, IfSome, IfSome_then, IsSound, Layout, List, None, Option, PlainFile, Some}
 use Rattle.pos_totals.proofs.Common.{State, StoreOff, StoreReady, Tag, [], arith, cases_Bool, false, foreign_area, given_after, is_area_taken, is_foreign}
-use Rattle.pos_totals.proofs.Common.{is_foreign_claim, length, list_any, map, nat_eq, nat_tests, new_tag, refl, suc, tag_claimed, tag_released, tags_from}
-use Rattle.pos_totals.proofs.Common.{totals_of, with_tags, zero, ℕ, ⊎_elim, ◌+◌, ◌∷◌, ◌≡◌}
+use Rattle.pos_totals.proofs.Common.{is_foreign_claim, is_own, length, list_any, map, nat_eq, nat_tests, new_tag, refl, suc, tag_claimed, tag_released}
+use Rattle.pos_totals.proofs.Common.{tags_from, totals_of, with_tags, zero, ℕ, ⊎_elim, ◌+◌, ◌∷◌, ◌≡◌}
+use Rattle.std.specs.Prelude.{Bool, cond}
 use Rattle.pos_totals.proofs.Grouped.{neither}
 use Rattle.pos_totals.proofs.Handled.{all_with, all_without}
 use Rattle.pos_dir.specs.declared.change.Change.TheVariants as file
@@ -32,30 +33,33 @@ pub apart_new : (area : Option ℕ) (first count : ℕ) → IsApart area (tags_f
 apart_new None first count = tt
 apart_new (Some holder) first count = no_other_new holder first count
 
--- a file is claimed
-no_other_claimed : (holder number : ℕ) (claim : Option ℕ) (tags : List Tag) → is_foreign holder claim ≡ false → NoOther holder tags
-    → NoOther holder (map (tag_claimed number claim) tags)
-no_other_claimed holder number claim [] own apart = tt
-no_other_claimed holder number claim (tag ∷ tags) own apart = (grind (arith, nat_tests, apart.0), no_other_claimed holder number claim tags own apart.1)
+-- the tag with another claim, where a test meets it
+abbrev pub retagged : (Tag → Bool) → Option ℕ → Tag → Tag
+retagged test claim tag = cond (test tag) (record tag { claim = claim }) tag
+
+-- files are claimed
+no_other_claimed : (test : Tag → Bool) (holder : ℕ) (claim : Option ℕ) (tags : List Tag) → is_foreign holder claim ≡ false → NoOther holder tags
+    → NoOther holder (map (retagged test claim) tags)
+no_other_claimed test holder claim [] own apart = tt
+no_other_claimed test holder claim (tag ∷ tags) own apart =
+    (grind (arith, nat_tests, apart.0), no_other_claimed test holder claim tags own apart.1)
 
 pub apart_claimed : (area : Option ℕ) (control number : ℕ) (tags : List Tag) → is_foreign control area ≡ false → IsApart area tags
     → IsApart area (map (tag_claimed number (Some control)) tags)
 apart_claimed None control number tags own apart = tt
-apart_claimed (Some holder) control number tags own apart = no_other_claimed holder number (Some control) tags (grind (arith, nat_tests)) apart
+apart_claimed (Some holder) control number tags own apart =
+    no_other_claimed (λ tag. nat_eq tag.handle number) holder (Some control) tags (grind (arith, nat_tests)) apart
 
 pub apart_released : (area : Option ℕ) (number : ℕ) (tags : List Tag) → IsApart area tags → IsApart area (map (tag_claimed number None) tags)
-apart_released area number tags apart = IfSome_then area apart (λ holder own. no_other_claimed holder number None tags refl own)
+apart_released area number tags apart = IfSome_then area apart
+    (λ holder own. no_other_claimed (λ tag. nat_eq tag.handle number) holder None tags refl own)
 
 -- all of a control is released
-no_other_dropped : (holder control : ℕ) (tags : List Tag) → NoOther holder tags → NoOther holder (map (tag_released control) tags)
-no_other_dropped holder control [] apart = tt
-no_other_dropped holder control (tag ∷ tags) apart = (grind (arith, nat_tests, apart.0), no_other_dropped holder control tags apart.1)
-
 pub apart_dropped : (area : Option ℕ) (control : ℕ) (tags : List Tag) → IsApart area tags
     → IsApart (foreign_area control area) (map (tag_released control) tags)
 apart_dropped None control tags apart = tt
 apart_dropped (Some holder) control tags apart =
-    ⊎_elim (λ is. rw is tt) (λ is. rw is (no_other_dropped holder control tags apart)) (cases_Bool (nat_eq holder control))
+    ⊎_elim (λ is. rw is tt) (λ is. rw is (no_other_claimed (λ tag. is_own control tag.claim) holder None tags refl apart)) (cases_Bool (nat_eq holder control))
 
 -- the area is claimed where no other control has claimed a file
 no_other_left : (control : ℕ) (tags : List Tag) (files : List PlainFile) → length tags ≡ length files

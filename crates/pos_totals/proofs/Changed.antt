@@ -274,15 +274,16 @@ module _ {D : Type 0} {bound : Ghosts D} {store : StoreView D} {holdings : Holdi
       m.theirs.directory.distinct m.passes.unrefused) in
       let handles : AreHandles (tags_of there) (plain there) next =
       rw (m.tags, plain_of holdings.handles.given is.0 m.begins.sound.handles.count) m.begins.sound.handles in
-      let put_down = puts m.begins change [] (one m) new (Changed (HasFailed bound store.disk new.disk) (totals_of (StoreReady is.0 is.1) holdings) control change)
-      holdings.transactions (given_by next change) (kept_holdings holdings as_made) (answered m free _ left) put
-      (rw (given, next_is there change next, called_again after) refl) in
+      let told = Changed (HasFailed bound store.disk new.disk) (totals_of (StoreReady is.0 is.1) holdings) control change in
+      let put_down = puts m.begins change [] (one m) new told holdings.transactions (given_by next change) (kept_holdings holdings as_made)
+      (answered m free _ left) put (rw (given, next_is there change next, called_again after) refl) in
       rw (value_is there change next) (
         record { answer = put_down.0; disk = rw (grouped m free) put_down.1 },
         rw down.1 (record {
           found = put.layout;
           handles = rw m.tags at (are_after holdings.layout there control spent change next m.theirs.directory.distinct handles m.passes.unrefused);
-          buffers = rw (given, called_again after, next_is there change next) (holds_so there after is.1 (sequence_after holdings.layout store.tail (as_made ∷ []) is.1) next (next_after next change)
+          buffers = rw (given, called_again after, next_is there change next)
+              (holds_so there after is.1 (sequence_after holdings.layout store.tail (as_made ∷ []) is.1) next (next_after next change)
               holdings.transactions
               (λ other was. buffered_after holdings.layout there control spent change next other m.theirs.distinct m.passes.unrefused was)
               m.begins.sound.buffers);

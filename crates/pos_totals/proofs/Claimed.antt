@@ -1,11 +1,12 @@
 -- Claims: the tags with other claims are those of the files with other claims.
-use Rattle.pos_totals.proofs.Common.{AllByRecursion, AreApart, AreDistinct, Arranges, ClaimFile, Files, HandleTable, HasHandles, HaveBuffers, Holdings, IsSeen}
-use Rattle.pos_totals.proofs.Common.{IsSound, Layout, LetsThroughAt, List, Mode, None, Off, Ok, Option, PlainFile, Ready, ReleaseFile, Some, State, StoreOff}
-use Rattle.pos_totals.proofs.Common.{StoreReady, Tag, [], ap, arith, claimed, files_in, files_of, find, first_refusal, foreign_area, has_file, is_called}
-use Rattle.pos_totals.proofs.Common.{is_foreign, is_foreign_claim, is_foreign_file, is_own_claim, is_timeout, length, length-map, list_any, map, mode_of}
-use Rattle.pos_totals.proofs.Common.{nat_tests, not, numbers_of, pos, refl, refusals_of_arrangement, slice_set, subst, sym, tag_claimed, tag_released}
-use Rattle.pos_totals.proofs.Common.{totals_of, with_each, with_files, with_tags, without_control, ℕ, ℤ, ◌&&◌, ◌<◌, ◌||◌, ◌∙◌, ◌∷◌, ◌≡◌}
-use Rattle.pos_totals.proofs.Apart.{apart_claimed, apart_dropped, apart_released, apart_so}
+use Rattle.pos_totals.proofs.Common.{AllByRecursion, AreApart, AreDistinct, Arranges, ClaimFile, File, Files, HandleTable, HasHandles, HaveBuffers, Holdings}
+use Rattle.pos_totals.proofs.Common.{IsSeen, IsSound, Layout, LetsThroughAt, List, Mode, None, Off, Ok, Option, PlainFile, Ready, ReleaseFile, Some, State}
+use Rattle.pos_totals.proofs.Common.{StoreOff, StoreReady, Tag, [], ap, arith, called, claimed, files_in, files_of, find, first_refusal, foreign_area, has_file}
+use Rattle.pos_totals.proofs.Common.{is_called, is_foreign, is_foreign_claim, is_foreign_file, is_own, is_own_claim, is_timeout, length, length-map, list_any}
+use Rattle.pos_totals.proofs.Common.{map, mode_of, nat_eq, nat_tests, not, numbers_of, pos, refl, refusals_of_arrangement, slice_set, subst, sym, tag_claimed}
+use Rattle.pos_totals.proofs.Common.{tag_released, totals_of, with_each, with_files, with_tags, without_control, ℕ, ℤ, ◌&&◌, ◌<◌, ◌||◌, ◌∙◌, ◌∷◌, ◌≡◌}
+use Rattle.std.specs.Prelude.{Bool}
+use Rattle.pos_totals.proofs.Apart.{retagged, apart_claimed, apart_dropped, apart_released, apart_so}
 use Rattle.pos_totals.proofs.Buffered.{holds_so, held_with, none_held}
 use Rattle.pos_totals.proofs.Grouped.{neither, not_refused}
 use Rattle.pos_totals.proofs.Outlined.{outlines, same_buffered}
@@ -15,37 +16,25 @@ use Rattle.pos_service.specs.declared.answer.Value.TheVariants as value
 
 -- ---- other claims
 
-claimed_files : (handle : ℕ) (claim : Option ℕ) (tags : List Tag) (files : List PlainFile)
-    → with_tags (map (tag_claimed handle claim) tags) files ≡ with_each (is_called (pos handle)) (claimed claim) (with_tags tags files)
-claimed_files handle claim [] files = refl
-claimed_files handle claim (tag ∷ tags) [] = refl
-claimed_files handle claim (tag ∷ tags) (file ∷ files) = grind (arith, nat_tests, claimed_files handle claim tags files)
+retagged_files : (test : Tag → Bool) (claim : Option ℕ) (meets : File → Bool) → ((tag : Tag) (file : PlainFile) → meets (called tag file) ≡ test tag)
+    → (tags : List Tag) (files : List PlainFile)
+    → with_tags (map (retagged test claim) tags) files ≡ with_each meets (claimed claim) (with_tags tags files)
+retagged_files test claim meets same [] files = refl
+retagged_files test claim meets same (tag ∷ tags) [] = refl
+retagged_files test claim meets same (tag ∷ tags) (file ∷ files) =
+    grind (arith, nat_tests, same tag file, retagged_files test claim meets same tags files)
 
-released_files : (control : ℕ) (tags : List Tag) (files : List PlainFile)
-    → with_tags (map (tag_released control) tags) files ≡ with_each (is_own_claim control) (claimed None) (with_tags tags files)
-released_files control [] files = refl
-released_files control (tag ∷ tags) [] = refl
-released_files control (tag ∷ tags) (file ∷ files) = grind (arith, nat_tests, released_files control tags files)
-
-claimed_mode : (handle : ℕ) (claim : Option ℕ) (tags : List Tag) (state : State)
-    → mode_of (map (tag_claimed handle claim) tags) state ≡ with_files (with_each (is_called (pos handle)) (claimed claim)) (mode_of tags state)
-claimed_mode handle claim tags StoreOff = refl
-claimed_mode handle claim tags (StoreReady files sequence) = ap (λ fs. Ready fs sequence) (claimed_files handle claim tags files)
-
-pub released_mode : (control : ℕ) (tags : List Tag) (state : State)
-    → mode_of (map (tag_released control) tags) state ≡ with_files (with_each (is_own_claim control) (claimed None)) (mode_of tags state)
-released_mode control tags StoreOff = refl
-released_mode control tags (StoreReady files sequence) = ap (λ fs. Ready fs sequence) (released_files control tags files)
+retagged_mode : (test : Tag → Bool) (claim : Option ℕ) (meets : File → Bool) → ((tag : Tag) (file : PlainFile) → meets (called tag file) ≡ test tag)
+    → (tags : List Tag) (state : State)
+    → mode_of (map (retagged test claim) tags) state ≡ with_files (with_each meets (claimed claim)) (mode_of tags state)
+retagged_mode test claim meets same tags StoreOff = refl
+retagged_mode test claim meets same tags (StoreReady files sequence) = ap (λ fs. Ready fs sequence) (retagged_files test claim meets same tags files)
 
 -- ---- the handles stay
 
-claimed_numbers : (handle : ℕ) (claim : Option ℕ) (tags : List Tag) → numbers_of (map (tag_claimed handle claim) tags) ≡ numbers_of tags
-claimed_numbers handle claim [] = refl
-claimed_numbers handle claim (tag ∷ tags) = grind (arith, nat_tests, claimed_numbers handle claim tags)
-
-pub released_numbers : (control : ℕ) (tags : List Tag) → numbers_of (map (tag_released control) tags) ≡ numbers_of tags
-released_numbers control [] = refl
-released_numbers control (tag ∷ tags) = grind (arith, nat_tests, released_numbers control tags)
+retagged_numbers : (test : Tag → Bool) (claim : Option ℕ) (tags : List Tag) → numbers_of (map (retagged test claim) tags) ≡ numbers_of tags
+retagged_numbers test claim [] = refl
+retagged_numbers test claim (tag ∷ tags) = grind (arith, nat_tests, retagged_numbers test claim tags)
 
 same_outlines : (xs ys : List Tag) (files : List PlainFile) → numbers_of xs ≡ numbers_of ys → outlines (with_tags xs files) ≡ outlines (with_tags ys files)
 same_outlines [] [] files same = refl
@@ -80,9 +69,10 @@ with_claim : {layout : Layout} (state : State) (holdings : Holdings) (table : Ha
     ≡ record (totals_of state holdings) { mode = with_files (with_each (is_called handle) (claimed claim)) (mode_of holdings.handles.given state) })
     × IsSound layout state (record holdings { handles = table })
 with_claim state holdings table handle number claim is given next sound apart = rw (is, given, next) (
-  ap (λ (m : Mode). record (totals_of state holdings) { mode = m }) (claimed_mode number claim holdings.handles.given state),
+  ap (λ (m : Mode). record (totals_of state holdings) { mode = m })
+      (retagged_mode (λ tag. nat_eq tag.handle number) claim (is_called (pos number)) (λ tag file. refl) holdings.handles.given state),
   let still = sound_retagged state holdings (map (tag_claimed number claim) holdings.handles.given)
-      (claimed_numbers number claim holdings.handles.given) sound in
+      (retagged_numbers (λ tag. nat_eq tag.handle number) claim holdings.handles.given) sound in
       record { found = sound.found; handles = still.0; buffers = still.1; apart = apart },
 )
 
@@ -149,9 +139,10 @@ pub control_dropped : {layout : Layout} (state : State) (holdings : Holdings) (c
     × IsSound layout state (dropped holdings control table)
 control_dropped state holdings control table given next sound =
     let tags = map (tag_released control) holdings.handles.given in
-    let still = sound_retagged state holdings tags (released_numbers control holdings.handles.given) sound in
+    let still = sound_retagged state holdings tags (retagged_numbers (λ tag. is_own control tag.claim) None holdings.handles.given) sound in
     rw (given, next) (
-      ap (λ (m : Mode). record (without_control (totals_of state holdings) control) { mode = m }) (released_mode control holdings.handles.given state),
+      ap (λ (m : Mode). record (without_control (totals_of state holdings) control) { mode = m })
+          (retagged_mode (λ tag. is_own control tag.claim) None (is_own_claim control) (λ tag file. refl) holdings.handles.given state),
       record {
         found = sound.found;
         handles = still.0;

@@ -157,6 +157,7 @@ module _ {D : Type 0} {bound : Ghosts D} {store : StoreView D} {holdings : Holdi
       let down = put_down b first others (one b control pass first others some) (Ok tt) new commits.answer in
       let keeps = keeps_all there next (first ∷ others) buffered in
       let given : holdings.handles.given ≡ tags_of after = sym (keeps.1 ∙ tags_in holdings.handles.given is.0 b.sound.handles.count) in
+      let later = sequence_after holdings.layout store.tail (group_of there (first ∷ others)) is.1 in
       let mode : with_tags holdings.handles.given (plain after) ≡ after =
       ap (λ (tags : List Tag). with_tags tags (plain after)) given ∙ called_again after in
       let both = puts b first others (one b control pass first others some) new
@@ -172,8 +173,8 @@ module _ {D : Type 0} {bound : Ghosts D} {store : StoreView D} {holdings : Holdi
             below = b.sound.handles.below;
           };
           apart = b.sound.apart;
-          buffers = rw mode (held_with (Ready after (sequence_after holdings.layout store.tail (group_of there (first ∷ others)) is.1)) next holdings.transactions control None
-              (holds_so there after is.1 (sequence_after holdings.layout store.tail (group_of there (first ∷ others)) is.1) next next holdings.transactions
+          buffers = rw mode (held_with (Ready after later) next holdings.transactions control None
+              (holds_so there after is.1 later next next holdings.transactions
               (λ change was. same_buffered there after next change (sym keeps.0) was) b.sound.buffers) tt);
         }),
       )

@@ -2,22 +2,22 @@
 pub use Rattle.pos_dir.specs.Changes.{outcome, outcome_of_all}
 pub use Rattle.pos_dir.specs.Files.{DirectoryView, IsDirectory, are_distinct, has_name, total_size}
 pub use Rattle.pos_dir.specs.declared.change.Change.{Change as FileChange}
-pub use Rattle.pos_dir.specs.declared.fault.DirectoryFault.{DirectoryFault}
 pub use Rattle.pos_dir.specs.declared.file.File.{File as PlainFile}
 pub use Rattle.pos_dir.specs.declared.limits.Limits.{Limits}
 pub use Rattle.pos_dir.specs.declared.limits.TheConstants.{LAYOUT_2}
 pub use Rattle.pos_disk.specs.Keeps.{KeepsDisk}
-pub use Rattle.pos_disk.specs.State.{DiskState, HasNotFailed, MayLeave}
+pub use Rattle.pos_disk.specs.State.{DiskState, MayLeave}
 pub use Rattle.pos_disk.specs.declared.device.Disk.{Ghosts}
 pub use Rattle.pos_image.specs.declared.layout.Layout.{Layout}
 pub use Rattle.pos_image.specs.declared.layout.Layout.TheVariants.{Layout1, Layout2}
-pub use Rattle.pos_service.specs.Claims.{is_foreign, is_timeout}
+pub use Rattle.pos_service.specs.Claims.{is_foreign, is_own, is_timeout}
 pub use Rattle.pos_service.specs.Numbers.{is_natural, is_up_to}
 pub use Rattle.pos_service.specs.Refusals.{Decided, Row, first_refusal}
 pub use Rattle.pos_service.specs.declared.answer.Answer.{Answer}
 pub use Rattle.pos_service.specs.declared.answer.Value.{Value}
 pub use Rattle.pos_service.specs.declared.memory.NoMemory.{NoMemory}
 pub use Rattle.pos_store.proofs.Passing.{settles, stays, wider}
+pub use Rattle.pos_store.proofs.Recovered.{never_failed}
 pub use Rattle.pos_store.specs.Commits.{Commits, IsApplicable, IsExhausted, PutsDown, fits_behind, sequence_after}
 pub use Rattle.pos_store.specs.Layouts.{limits_of}
 pub use Rattle.pos_store.specs.Standing.{LeavesOneOf, Passes, Standing, Stands, StandsFor, StandsForOneOf}
@@ -50,9 +50,9 @@ pub use Rattle.pos_totals.specs.declared.files.Files.{Files}
 pub use Rattle.pos_totals.specs.declared.handles.Tag.{Tag}
 pub use Rattle.pos_totals.specs.declared.holdings.Holdings.{Holdings}
 pub use Rattle.pos_totals.specs.declared.request.Checked.{Checked}
-pub use Rattle.std.proofs.Common.{Bool, Err, IfSome, IsErrOf, List, MatchResult, None, Ok, Option, Result, Some, [], ap, arith, cond, drop, false, get_or, inl}
-pub use Rattle.std.proofs.Common.{inr, length, lit<, map, nat_abs, negsuc, not, pos, refl, replicate, rules, set, subst, suc, sym, take, true, zero, ℕ, ℤ}
-pub use Rattle.std.proofs.Common.{⊎_elim, ◌&&◌, ◌++◌, ◌+◌, ◌-◌, ◌<◌, ◌^◌, ◌||◌, ◌↔◌, ◌∙◌, ◌∷◌, ◌≡◌, ◌≤◌, ◌⊎◌}
+pub use Rattle.std.proofs.Common.{Bool, Err, IfSome, IsErrOf, List, None, Ok, Option, Result, Some, [], ap, arith, cond, drop, false, get_or, inl, inr, length}
+pub use Rattle.std.proofs.Common.{lit<, map, nat_abs, negsuc, not, pos, refl, replicate, rules, set, subst, suc, sym, take, true, zero, ℕ, ℤ, ⊎_elim, ◌&&◌}
+pub use Rattle.std.proofs.Common.{◌++◌, ◌+◌, ◌-◌, ◌<◌, ◌^◌, ◌||◌, ◌↔◌, ◌∙◌, ◌∷◌, ◌≡◌, ◌≤◌, ◌⊎◌}
 pub use Rattle.std.proofs.Math.ListN.{length-replicate}
 pub use Rattle.std.proofs.Math.Seq.{drop-nil, take-nil}
 pub use Rattle.std.proofs.lemmas.Bool.{and_parts, cases_Bool, cond-true, eq-eqb, eqb-false, eqb-true, leb-true, not-true}

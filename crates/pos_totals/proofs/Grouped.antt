@@ -86,22 +86,6 @@ up_to : (limit : ℕ) (n : ℤ) → is_up_to limit n ≡ true → nat_abs n ≤ 
 up_to limit (pos n) fits = leb-true n limit fits
 up_to limit (negsuc n) fits = absurd cc
 
-made_create : (layout : Layout) (files : List File) (control : ℕ) (spent : Option ℕ) (name : List ℕ) (size : ℤ) (next : ℕ)
-    → total_size (plain files) ≤ (limits_of layout).bytes
-    → first_refusal (change_rows (totals_limits layout) files control spent (Create name size)) ≡ None → Makes layout files (Create name size) next
-made_create layout files control spent name size next small unrefused =
-    let new : PlainFile = record { name = name; bytes = replicate (nat_abs size) 0 } in
-    let made : outcome (limits_of layout) (plain files) (file_change files (Create name size)) ≡ Ok (plain files ++ new ∷ []) = grind (
-      arith,
-      nat_tests,
-      plain_name files name,
-      plain_size files,
-      length-map files plain_file,
-      up_to (free_data (totals_limits layout) files) size,
-    ) in
-    made ∙ ap (λ (fs : List PlainFile). Ok fs)
-    (sym (map-append plain_file files (record { handle = next; name = name; bytes = replicate (nat_abs size) 0; claim = None } ∷ [])))
-
 -- the file of a delete that nothing refuses
 pub deleted : (layout : Layout) (files : List File) (control : ℕ) (spent : Option ℕ) (name : List ℕ)
     → first_refusal (change_rows (totals_limits layout) files control spent (Delete name)) ≡ None → (file : File) × (find (is_named name) files ≡ Some file)
@@ -109,30 +93,12 @@ deleted layout files control spent name unrefused =
     let there : has_file (is_named name) files ≡ true = grind (arith, nat_tests) in
     some_of (find (is_named name) files) there
 
-made_delete : (layout : Layout) (files : List File) (control : ℕ) (spent : Option ℕ) (name : List ℕ) (next : ℕ) → are_distinct (plain files) ≡ true
-    → first_refusal (change_rows (totals_limits layout) files control spent (Delete name)) ≡ None → Makes layout files (Delete name) next
-made_delete layout files control spent name next distinct unrefused =
-    let found = deleted layout files control spent name unrefused in
-    let index = index_of (is_named name) files in
-    rw (slice_get-map plain_file files index, found_at (is_named name) files found.0 found.1) (ap (λ (fs : List PlainFile). Ok fs)
-    (sym (map-remove plain_file files index) ∙ ap (λ (fs : List File). plain fs)
-    (sym (one_gone (is_named name) files found.0 (only_named files name distinct) found.1))))
-
 -- the one file with a handle, changed in its place
 set_plain : (files : List File) (handle : ℤ) (f : File) (change : File → File) → AreDistinct (handles_of files) → find (is_called handle) files ≡ Some f
     → set (plain files) (index_of (is_called handle) files) (plain_file (change f)) ≡ plain (with_each (is_called handle) change files)
 set_plain files handle f change distinct found =
     sym (map-set plain_file files (index_of (is_called handle) files) (change f))
     ∙ ap (λ (fs : List File). plain fs) (sym (one_changed (is_called handle) change files f (only_called files handle distinct) found))
-
-made_rename : (layout : Layout) (files : List File) (control : ℕ) (spent : Option ℕ) (handle : ℤ) (name : List ℕ) (next : ℕ) → AreDistinct (handles_of files)
-    → first_refusal (change_rows (totals_limits layout) files control spent (Rename handle name)) ≡ None → Makes layout files (Rename handle name) next
-made_rename layout files control spent handle name next distinct unrefused =
-    let there : has_file (is_called handle) files ≡ true = grind (arith, nat_tests) in
-    let free : has_name (plain files) name ≡ false = grind (arith, nat_tests, plain_name files name) in
-    let found = some_of (find (is_called handle) files) there in
-    rw (slice_get-map plain_file files (index_of (is_called handle) files), found_at (is_called handle) files found.0 found.1, free)
-    (ap (λ (fs : List PlainFile). Ok fs) (set_plain files handle found.0 (λ f. record f { name = name }) distinct found.1))
 
 -- an edit that fits is of a file that is there
 pub fitting : (found : Option File) (edit : FileEdit) → fits_file found edit ≡ true → (f : File) × (found ≡ Some f) × (fits (length f.bytes) edit ≡ true)
@@ -157,9 +123,31 @@ edit_fits layout files control spent handle edit unrefused = grind (arith, nat_t
 -- Where nothing refuses a change, it makes of the plain files those after it.
 pub makes : (layout : Layout) (files : List File) (control : ℕ) (spent : Option ℕ) (change : Change) (next : ℕ) → IsDirectory (limits_of layout) (plain files)
     → AreDistinct (handles_of files) → first_refusal (change_rows (totals_limits layout) files control spent change) ≡ None → Makes layout files change next
-makes layout files control spent (Create name size) next sound distinct unrefused = made_create layout files control spent name size next sound.size unrefused
-makes layout files control spent (Delete name) next sound distinct unrefused = made_delete layout files control spent name next sound.distinct unrefused
-makes layout files control spent (Rename handle name) next sound distinct unrefused = made_rename layout files control spent handle name next distinct unrefused
+makes layout files control spent (Create name size) next sound distinct unrefused =
+    let small = sound.size in
+    let new : PlainFile = record { name = name; bytes = replicate (nat_abs size) 0 } in
+    let made : outcome (limits_of layout) (plain files) (file_change files (Create name size)) ≡ Ok (plain files ++ new ∷ []) = grind (
+      arith,
+      nat_tests,
+      plain_name files name,
+      plain_size files,
+      length-map files plain_file,
+      up_to (free_data (totals_limits layout) files) size,
+    ) in
+    made ∙ ap (λ (fs : List PlainFile). Ok fs)
+    (sym (map-append plain_file files (record { handle = next; name = name; bytes = replicate (nat_abs size) 0; claim = None } ∷ [])))
+makes layout files control spent (Delete name) next sound distinct unrefused =
+    let found = deleted layout files control spent name unrefused in
+    let index = index_of (is_named name) files in
+    rw (slice_get-map plain_file files index, found_at (is_named name) files found.0 found.1) (ap (λ (fs : List PlainFile). Ok fs)
+    (sym (map-remove plain_file files index) ∙ ap (λ (fs : List File). plain fs)
+    (sym (one_gone (is_named name) files found.0 (only_named files name sound.distinct) found.1))))
+makes layout files control spent (Rename handle name) next sound distinct unrefused =
+    let there : has_file (is_called handle) files ≡ true = grind (arith, nat_tests) in
+    let free : has_name (plain files) name ≡ false = grind (arith, nat_tests, plain_name files name) in
+    let found = some_of (find (is_called handle) files) there in
+    rw (slice_get-map plain_file files (index_of (is_called handle) files), found_at (is_called handle) files found.0 found.1, free)
+    (ap (λ (fs : List PlainFile). Ok fs) (set_plain files handle found.0 (λ f. record f { name = name }) distinct found.1))
 makes layout files control spent (Edit handle edit) next sound distinct unrefused =
     made_edit layout files handle edit next distinct (edit_fits layout files control spent handle edit unrefused)
 

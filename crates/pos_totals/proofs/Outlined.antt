@@ -1,7 +1,7 @@
 -- What is buffered depends on the handles and the sizes of the files alone.
 use Rattle.pos_totals.proofs.Common.{AllByRecursion, AreDistinct, Bool, Change, Edit, File, IsBuffered, List, None, Some, [], ap, arith, cases_Bool, filter}
-use Rattle.pos_totals.proofs.Common.{find, fits, group_of, handles_of, index_of, is_called, is_none, is_of_none, length, list_any, map, nat_eq, nat_tests}
-use Rattle.pos_totals.proofs.Common.{negsuc, pos, refl, same_Some, subst, sym, true, with_each, ℕ, ℤ, ⊎_elim, ◌∙◌, ◌∷◌, ◌≡◌}
+use Rattle.pos_totals.proofs.Common.{find, fits, group_of, handles_of, index_of, is_called, is_none, is_of_none, length, list_any, map, map-map, nat_eq}
+use Rattle.pos_totals.proofs.Common.{nat_tests, negsuc, pos, refl, same_Some, subst, sym, true, with_each, ℕ, ℤ, ⊎_elim, ◌∙◌, ◌∷◌, ◌≡◌}
 use Rattle.pos_totals.proofs.Places.{OnlyOne}
 
 -- a file's handle and size, and those of all files
@@ -44,8 +44,10 @@ same_sizes : (P : ℕ → Type 0) (handle : ℤ) (xs ys : List File) → outline
     → AllByRecursion (λ file. is_called handle file ≡ true → P (length file.bytes)) ys
 same_sizes P handle [] [] same all = tt
 same_sizes P handle (x ∷ xs) (y ∷ ys) same all =
-    let first = same_first x y xs ys same in
-    (λ called. subst P (ap (λ (p : ℕ × ℕ). p.1) first) (all.0 (same_called handle x y first ∙ called)), same_sizes P handle xs ys (same_others x y xs ys same) all.1)
+    let first = same_first x y xs ys same in (
+      λ called. subst P (ap (λ (p : ℕ × ℕ). p.1) first) (all.0 (same_called handle x y first ∙ called)),
+      same_sizes P handle xs ys (same_others x y xs ys same) all.1,
+    )
 same_sizes P handle xs ys same all = absurd cc
 
 -- what is buffered for files may be buffered for files that are like them
@@ -67,14 +69,10 @@ same_gone xs ys next (Edit handle edit ∷ changes) same all = cc (same_none han
 same_gone xs ys next (other ∷ changes) same all = absurd all.0
 
 -- files that are alike have the same handles
-same_numbers : (xs ys : List File) → outlines xs ≡ outlines ys → handles_of xs ≡ handles_of ys
-same_numbers [] [] same = refl
-same_numbers (x ∷ xs) (y ∷ ys) same =
-    cc (ap (λ (p : ℕ × ℕ). p.0) (same_first x y xs ys same), same_numbers xs ys (same_others x y xs ys same))
-same_numbers xs ys same = absurd cc
-
 pub same_distinct : (xs ys : List File) → outlines xs ≡ outlines ys → AreDistinct (handles_of xs) → AreDistinct (handles_of ys)
-same_distinct xs ys same distinct = subst AreDistinct (same_numbers xs ys same) distinct
+same_distinct xs ys same distinct =
+    let numbers = λ (zs : List File). map-map (λ (p : ℕ × ℕ). p.0) outline zs in
+    subst AreDistinct (sym (numbers xs) ∙ ap (map (λ (p : ℕ × ℕ). p.0)) same ∙ numbers ys) distinct
 
 -- ---- a change of some files
 

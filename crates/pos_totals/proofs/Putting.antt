@@ -1,13 +1,13 @@
 -- A group that is put on the disk: what the store did, and what it says of the totals.
-use Rattle.pos_totals.proofs.Common.{Answer, AreHandles, AreTheirFiles, Bool, Change, Commits, Decided, DirectoryFault, DiskState, Done, Err, File, FileChange}
-use Rattle.pos_totals.proofs.Common.{Ghosts, HasDirectory, HasFailed, HasNotFailed, HaveBuffers, Holdings, IsAmong, IsApplicable, IsDirectory, IsDone, IsErrOf}
-use Rattle.pos_totals.proofs.Common.{IsExhausted, IsOneGroup, IsReady, IsSound, KeepsDisk, Layout, LeavesItsFiles, LeavesOneOf, LeavesTheirFiles, List}
-use Rattle.pos_totals.proofs.Common.{MatchResult, MayLeave, Mode, NoMemory, None, Off, Ok, Option, Passes, PlainFile, PutsDown, PutsGroup, Ready, Result, Row}
-use Rattle.pos_totals.proofs.Common.{RunsOut, Some, Standing, Stands, StandsFor, StandsForOneOf, State, StoreFault, StoreOff, StoreReady, StoreView, Totals}
-use Rattle.pos_totals.proofs.Common.{TotalsView, Value, WhenOff, [], after_changes, answer_of, ap, arith, before_or_after, cond, eq-eqb, eqb-true, false}
-use Rattle.pos_totals.proofs.Common.{files_after_all, files_of, first_refusal, fits_behind, group_of, in_doubt, inl, inr, last_number, limits_of, map, mode_of}
-use Rattle.pos_totals.proofs.Common.{nat_eq, next_sequences, outcome_of_all, plain, refl, sequence_after, settled, stays, store_settled, subst, sym, totals_of}
-use Rattle.pos_totals.proofs.Common.{transactions_after, true, view_of, wider, with_tags, without_transactions, ℕ, ⊎_elim, ◌+◌, ◌∷◌, ◌≡◌, ◌⊎◌}
+use Rattle.pos_totals.proofs.Common.{Answer, AreHandles, AreTheirFiles, Bool, Change, Commits, Decided, DiskState, Done, Err, File, FileChange, Ghosts}
+use Rattle.pos_totals.proofs.Common.{HasDirectory, HasFailed, HaveBuffers, Holdings, IsAmong, IsApplicable, IsDirectory, IsDone, IsExhausted, IsOneGroup}
+use Rattle.pos_totals.proofs.Common.{IsReady, IsSound, KeepsDisk, Layout, LeavesItsFiles, LeavesOneOf, LeavesTheirFiles, List, MayLeave, Mode, NoMemory, None}
+use Rattle.pos_totals.proofs.Common.{Off, Ok, Option, Passes, PlainFile, PutsDown, PutsGroup, Ready, Result, Row, RunsOut, Some, Standing, Stands, StandsFor}
+use Rattle.pos_totals.proofs.Common.{StandsForOneOf, State, StoreFault, StoreOff, StoreReady, StoreView, Totals, TotalsView, Value, WhenOff, [], after_changes}
+use Rattle.pos_totals.proofs.Common.{answer_of, ap, arith, before_or_after, cond, eq-eqb, eqb-true, false, files_after_all, files_of, first_refusal}
+use Rattle.pos_totals.proofs.Common.{fits_behind, group_of, in_doubt, inl, inr, last_number, limits_of, map, mode_of, nat_eq, never_failed, next_sequences}
+use Rattle.pos_totals.proofs.Common.{outcome_of_all, plain, refl, sequence_after, settled, stays, store_settled, subst, sym, totals_of, transactions_after}
+use Rattle.pos_totals.proofs.Common.{true, view_of, wider, with_tags, without_transactions, ℕ, ⊎_elim, ◌+◌, ◌∷◌, ◌≡◌, ◌⊎◌}
 use Rattle.pos_totals.proofs.Pairs.{plain_of, numbers_in}
 use Rattle.pos_totals.proofs.Buffered.{none_hold}
 use Rattle.pos_service.specs.declared.answer.Answer.TheVariants as answer
@@ -142,10 +142,6 @@ stands_among layout files sequence (first ∷ others) among bytes stands =
     ⊎_elim (λ same. inl (subst (λ (n : ℕ). StandsFor (Stands layout files n) bytes) same stands))
     (λ rest. inr (stands_among layout files sequence others rest bytes stands)) among
 
--- without the disk's fault the disk hasn't failed
-pub never_failed : (old new : DiskState) → IsErrOf {T = Unit {0}} (Ok tt) fault.Device ⊎ HasNotFailed old new → HasNotFailed old new
-never_failed old new counts = ⊎_elim (λ is. absurd cc) (λ same. same) counts
-
 -- ---- a group that the store takes
 
 -- a group of the files without their handles is applicable to the files of the store
@@ -191,40 +187,32 @@ module _ {D : Type 0} {bound : Ghosts D} {disk : D} {files : List PlainFile} {se
   -- what the store's commit may leave is among the candidates of the call
   among : ¬ (IsExhausted layout tail all sequence) → (bytes : List ℕ) → StandsForOneOf (store.left_by layout files sequence tail all) bytes
       → StandsForOneOf (before_or_after layout holdings.handles.next (Ready xs sequence) (change ∷ changes)) bytes
-  among left bytes stands =
-      ⊎_elim
-      (λ before. inl (subst (λ (fs : List PlainFile). StandsFor (Stands layout fs sequence) bytes) (sym plain_is)
-      before))
+  among left bytes stands = rw plain_is (⊎_elim (λ before. inl before)
       (λ rest. ⊎_elim (λ behind. inr
-      (stands_among layout (plain after) then_sequence (next_sequences sequence) (follows layout tail all sequence left) bytes behind)) (λ none. absurd none)
-      rest)
-      (subst (λ (o : Result (List PlainFile) DirectoryFault). StandsForOneOf (store.before_or_after layout files sequence then_sequence o) bytes) made stands)
+      (stands_among layout (plain after) then_sequence (next_sequences sequence) (follows layout tail all sequence left) bytes behind))
+      (λ none. absurd none) rest) (rw made at stands))
 
   -- what a crash leaves around the store's commit, by the files of the totals before it and the store's state after it
   passes : {result : Result (Unit {0}) StoreFault} (new : StoreView D) (state : State) → Commits bound old_store all result new → new.state ≡ state
       → bound.honest disk
       → Passes (bound.state disk) (bound.state new.disk) (Stands layout (plain xs) sequence ∷ [])
       (store_settled layout state (store.left_by layout files sequence tail all))
-  passes new state commits is h =
-      subst (λ (s : State). Passes (bound.state disk) (bound.state new.disk) (Stands layout (plain xs) sequence ∷ [])
-      (store_settled layout s (store.left_by layout files sequence tail all))) is
-      (subst (λ (fs : List PlainFile). Passes (bound.state disk) (bound.state new.disk) (Stands layout fs sequence ∷ [])
-      (store_settled layout new.state (store.left_by layout files sequence tail all))) (sym plain_is)
-      (commits.crash h))
+  passes new state commits is h = rw (plain_is, ← is) (commits.crash h)
 
   -- what the store's commit answered
   pub put_down : (result : Result (Unit {0}) StoreFault) (new : StoreView D) → store.Answers (StoreReady files sequence) old_store all result new
       → PutsDown sequence (plain after) old_store all result new
-  put_down result new answers =
-      subst (λ (o : Result (List PlainFile) DirectoryFault). MatchResult o (λ next. PutsDown sequence next old_store all result new)
-      (λ refusal. ⊥))
-      made answers
+  put_down result new answers = rw made at answers
 
-  -- a call that is done, its group being put down, by the answers A that its table leaves it
-  pub puts : (new : StoreView D) (A : Result Answer NoMemory → Totals → Type 0) (ended : List (Option (List Change))) (given : Value) (later : Holdings)
-      → ((result : Answer) (totals : Totals)
+  -- the answers A that its table leaves a call, by what becomes of the group
+  abbrev Does : StoreView D → (Result Answer NoMemory → Totals → Type 0) → List (Option (List Change)) → Value → Type 0
+  Does new A ended given = (result : Answer) (totals : Totals)
       → RunsOut ready result totals ⊎ Done (HasFailed bound disk new.disk) (record ready { transactions = ended }) (change ∷ changes) given result totals
-      → A (Ok result) totals) → Commits bound old_store all (Ok tt) new
+      → A (Ok result) totals
+
+  -- a call that is done, its group being put down
+  pub puts : (new : StoreView D) (A : Result Answer NoMemory → Totals → Type 0) (ended : List (Option (List Change))) (given : Value) (later : Holdings)
+      → Does new A ended given → Commits bound old_store all (Ok tt) new
       → totals_of (StoreReady (plain after) then_sequence) later ≡ after_changes (record ready { transactions = ended }) (change ∷ changes) then_sequence
       → A (Ok (answer.Done given)) (totals_of new.state later)
       × PutsGroup bound (view_of old_store holdings) (change ∷ changes) (Ok (answer.Done given)) (view_of new later)
@@ -238,16 +226,14 @@ module _ {D : Type 0} {bound : Ghosts D} {disk : D} {files : List PlainFile} {se
           untouched = λ none. absurd cc;
           unchanged = λ refused. absurd (refused tt);
           crash = λ h left leaves. passes new (StoreReady (plain after) then_sequence) commits down.1 h;
-          counts = λ h. inr (never_failed (bound.state disk) (bound.state new.disk) (commits.counts h));
+          counts = λ h. inr (never_failed _ _ tt fault.Device (commits.counts h));
           kept = commits.keeps;
         },
       ))
 
   -- a call whose group the store refused, the transactions ending with the disk
   pub fails : (new : StoreView D) (A : Result Answer NoMemory → Totals → Type 0) (ended : List (Option (List Change))) (given : Value) (cause : StoreFault)
-      → ((result : Answer) (totals : Totals)
-      → RunsOut ready result totals ⊎ Done (HasFailed bound disk new.disk) (record ready { transactions = ended }) (change ∷ changes) given result totals
-      → A (Ok result) totals) → A (Err (record {})) ready → without_transactions ended ≡ without_transactions holdings.transactions
+      → Does new A ended given → A (Err (record {})) ready → without_transactions ended ≡ without_transactions holdings.transactions
       → Commits bound old_store all (Err cause) new
       → A (answer_of cause) (totals_of new.state (refused_holdings holdings cause))
       × PutsGroup bound (view_of old_store holdings) (change ∷ changes) (answer_of cause) (view_of new (refused_holdings holdings cause))

@@ -135,7 +135,8 @@ module _ {D : Type 0} {bound : Ghosts D} {old mid : StoreView D} (holdings : Hol
   store_failed why result recovers tells = rw (was_off old off) (
       let did = rw (was_off old off) at recovers in
       let none = (told_finds (store.DiskStandsFor bound old.disk) holdings why result mid.layout mid.state did.answer tells).0 in
-      let still : IsSound mid.layout mid.state holdings = rw none (record { found = tt; handles = tt; buffers = (rw (was_off old off) at sound).buffers; apart = tt }) in (
+      let buffers = (rw (was_off old off) at sound).buffers in
+      let still : IsSound mid.layout mid.state holdings = rw none (record { found = tt; handles = tt; buffers = buffers; apart = tt }) in (
         off_recovers holdings did (Err result) mid.state holdings
             (λ P finds. rw none (told_finds P holdings why result mid.layout mid.state finds tells).1) (same_device why result tells)
             (λ h. their_files mid.state holdings (bound.state mid.disk) still (did.now h)),
@@ -178,8 +179,9 @@ module _ {D : Type 0} {bound : Ghosts D} {old mid : StoreView D} (holdings : Hol
   store_found_more files table new recovers shows numbers turned =
       let is = shown mid.disk mid.layout mid.state mid.tail files shows in
       rw (was_off old off, turned, numbers.1, numbers.2) (
-        off_recovers holdings (rw (was_off old off, is.1) at recovers) (Err fault.Handles) StoreOff holdings
-            (λ P finds. (record { layout = mid.layout; files = files; sequence = is.0; found = finds; handles = λ few. let many = numbers.0 in omega arith }, refl))
+        let many = numbers.0 in
+            off_recovers holdings (rw (was_off old off, is.1) at recovers) (Err fault.Handles) StoreOff holdings
+            (λ P finds. (record { layout = mid.layout; files = files; sequence = is.0; found = finds; handles = λ few. omega (arith, few, many) }, refl))
             ((λ e. absurd cc), (λ e. absurd cc)) (λ h. tt),
         record { found = tt; handles = tt; buffers = (rw (was_off old off) at sound).buffers; apart = tt },
       )
