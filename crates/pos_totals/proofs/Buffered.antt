@@ -2,7 +2,7 @@
 use Rattle.pos_totals.proofs.Common.{AllByRecursion, AreDistinct, Change, Create, Delete, Edit, File, FileEdit, FitsEach, HaveBuffers, IsBuffered, IsGiven}
 use Rattle.pos_totals.proofs.Common.{Layout, List, MayHold, Mode, None, Off, Ok, Option, Ready, Rename, Some, [], ap, arith, change_rows, edited, eqb-true}
 use Rattle.pos_totals.proofs.Common.{false, files_after, files_after_all, find, first_refusal, fits, fits_file, group_of, handles_of, is_called, is_named}
-use Rattle.pos_totals.proofs.Common.{is_none, is_of_none, is_some, length, limits_of, list_any, nat_abs, negsuc, next_after, next_after_all, not}
+use Rattle.pos_totals.proofs.Common.{is_none, is_of_none, length, limits_of, list_any, nat_abs, nat_tests, negsuc, next_after, next_after_all, not}
 use Rattle.pos_totals.proofs.Common.{outcome_of_all, plain, pos, refl, replicate, slice_set, subst, suc, sym, tags_of, totals_limits, transaction_at, true}
 use Rattle.pos_totals.proofs.Common.{with_each, without_transactions, zero, ℕ, ℤ, ◌+◌, ◌∙◌, ◌∷◌, ◌≡◌, ◌≤◌}
 use Rattle.pos_totals.proofs.Edited.{keeps_size}
@@ -78,10 +78,6 @@ keeps_all files next (Edit handle edit ∷ changes) all =
     (rest.0 ∙ same, rest.1 ∙ same_tags (is_called handle) (λ file. record file { bytes = edited edit file.bytes }) files (λ file. refl), rest.2)
 keeps_all files next (other ∷ changes) all = absurd all.0
 
-is_there : (found : Option File) → is_none found ≡ false → is_some found ≡ true
-is_there None none = absurd cc
-is_there (Some file) none = refl
-
 -- where no file is gone, the group of all that is buffered makes of the plain files those after it
 pub makes_all : (layout : Layout) (files : List File) (next : ℕ) (changes : List Change) → AreDistinct (handles_of files)
     → AllByRecursion (IsBuffered files next) changes → list_any (is_of_none files) changes ≡ false
@@ -90,7 +86,8 @@ makes_all layout files next [] distinct all there = refl
 makes_all layout files next (Edit handle edit ∷ changes) distinct all there =
     let after = files_after next files (Edit handle edit) in
     let both = neither (is_none (find (is_called handle) files)) (list_any (is_of_none files) changes) there in
-    let found = some_of (find (is_called handle) files) (is_there (find (is_called handle) files) both.0) in
+    let there = both.0 in
+    let found = some_of (find (is_called handle) files) (grind (arith, nat_tests)) in
     let fit : fits_file (find (is_called handle) files) edit ≡ true =
     ap (λ (o : Option File). fits_file o edit) found.1
     ∙ found_has (is_called handle) (λ file. fits (length file.bytes) edit ≡ true) files found.0 all.0.1 found.1 in

@@ -29,11 +29,6 @@ use Rattle.pos_store.specs.declared.fault.StoreFault.TheVariants as fault
 
 -- ---- a change that changes nothing
 
--- while the totals are off each change is refused
-off_refused : (holdings : Holdings) (control : ℕ) (change : Change)
-    → first_refusal (refusals_of_change (totals_of StoreOff holdings) control change) ≡ None → ⊥
-off_refused holdings control change passes = absurd (let rest = (not_refused (is_foreign control holdings.area) _ _ passes).1 in cc)
-
 -- the group of a change of files that are sound is one
 is_group : {layout : Layout} (state : State) (holdings : Holdings) (control : ℕ) (change : Change) → HasDirectory holdings.layout state
     → IsSound layout state holdings → IsOneGroup (totals_of state holdings) (group_by_change (totals_of state holdings) control change)
@@ -42,7 +37,7 @@ is_group state holdings control change directory sound =
   where
     one : {layout : Layout} (state : State) → HasDirectory holdings.layout state → IsSound layout state holdings
         → first_refusal (refusals_of_change (totals_of state holdings) control change) ≡ None → IsOneGroup (totals_of state holdings) (change ∷ [])
-    one StoreOff directory sound passes = absurd (off_refused holdings control change passes)
+    one StoreOff directory sound passes = absurd (let rest = (not_refused (is_foreign control holdings.area) _ _ passes).1 in cc)
     one (StoreReady files sequence) directory sound passes =
         let theirs = sound_files holdings files directory sound.handles in
         makes_group holdings.layout (with_tags holdings.handles.given files) control _ change holdings.handles.next theirs.directory theirs.distinct

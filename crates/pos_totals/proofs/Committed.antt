@@ -2,10 +2,10 @@
 use Rattle.pos_totals.proofs.Common.{Answer, Change, CommitsBuffer, Committed, Done, EndsBuffer, Err, File, FileChange, Gathers, Ghosts, HasDirectory}
 use Rattle.pos_totals.proofs.Common.{HasFailed, Holdings, IsApplicable, IsOneGroup, IsReady, IsSound, Layout, List, NoMemory, None, Ok, Option, PutsBuffer}
 use Rattle.pos_totals.proofs.Common.{Ready, Result, RunsOut, Some, State, StoreFault, StoreOff, StoreReady, StoreView, Tag, Totals, [], answer_of, ap}
-use Rattle.pos_totals.proofs.Common.{changes_in, commit_rows, cond, false, files_after_all, files_of, first_refusal, group_by_commit, group_of, inl, inr}
-use Rattle.pos_totals.proofs.Common.{is_foreign, is_none, is_of_foreign, is_of_none, length, length-map, list_any, mode_of, nat_eq, plain, plain_file, refl}
-use Rattle.pos_totals.proofs.Common.{refusals_of_commit, sequence_after, slice_set, suc, sym, tag_of, tags_of, totals_of, transaction_at, view_of, with_tags}
-use Rattle.pos_totals.proofs.Common.{with_transaction, without_transactions, zero, ℕ, ◌∙◌, ◌∷◌, ◌≡◌, ◌⊎◌}
+use Rattle.pos_totals.proofs.Common.{changes_in, cond, false, files_after_all, files_of, first_refusal, group_by_commit, group_of, inl, inr, is_foreign}
+use Rattle.pos_totals.proofs.Common.{is_none, is_of_none, length, length-map, list_any, mode_of, nat_eq, plain, plain_file, refl, refusals_of_commit}
+use Rattle.pos_totals.proofs.Common.{sequence_after, slice_set, suc, sym, tag_of, tags_of, totals_of, transaction_at, view_of, with_tags, with_transaction}
+use Rattle.pos_totals.proofs.Common.{without_transactions, zero, ℕ, ◌∙◌, ◌∷◌, ◌≡◌, ◌⊎◌}
 use Rattle.pos_totals.proofs.Buffered.{makes_all, keeps_all, held_at, held_with, holds_so, none_held}
 use Rattle.pos_totals.proofs.Grouped.{not_refused}
 use Rattle.pos_totals.proofs.Outlined.{same_buffered}
@@ -23,11 +23,6 @@ pub gathers : (files : List File) (changes : List Change) (group : List FileChan
     → group ≡ group_of files changes → Gathers files (Some changes) group
 gathers files [] group some made = absurd cc
 gathers files (first ∷ others) group some made = record { first = first; others = others; buffered = refl; made = made }
-
--- nothing refuses the commit
-pub unrefused : (files : List File) (control : ℕ) (changes : List Change) → list_any (is_of_none files) changes ≡ false
-    → list_any (is_of_foreign files control) changes ≡ false → first_refusal (commit_rows files control (Some changes)) ≡ None
-unrefused files control changes there own = rw (there, own) refl
 
 -- ---- a commit that is let through
 

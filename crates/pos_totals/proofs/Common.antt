@@ -27,7 +27,7 @@ pub use Rattle.pos_store.specs.declared.fault.StoreFault.{StoreFault}
 pub use Rattle.pos_totals.specs.Buffers.{Buffers, FitsEach, HaveBuffers, IsBuffered, IsEdit, IsGiven, IsOf, MayHold, placed_change, transactions_after}
 pub use Rattle.pos_totals.specs.Buffers.{with_buffered}
 pub use Rattle.pos_totals.specs.Changes.{Changes, CommitsBuffer, HasFailed, IsDone, IsOneGroup, PutsGroup, before_or_after, in_doubt, settled}
-pub use Rattle.pos_totals.specs.Checks.{ChecksAt, EndsBuffer, Gathers, IsSeen, LetsThroughAt, PutsBuffer, answer_of, change_of, file_of, files_in}
+pub use Rattle.pos_totals.specs.Checks.{ChecksAt, EndsBuffer, FindsFile, Gathers, IsSeen, LetsThroughAt, PutsBuffer, answer_of, change_of, file_of, files_in}
 pub use Rattle.pos_totals.specs.Edits.{FileEdit, SetAll, Write, edit_change, edit_in, edit_of, edited, fits}
 pub use Rattle.pos_totals.specs.Groups.{file_change, group_of, index_of}
 pub use Rattle.pos_totals.specs.HardTotals.{Change, Create, Delete, Edit, File, IsAmong, Mode, Off, Ready, Rename, Totals, changes_in, files_of, last_number}
@@ -40,25 +40,28 @@ pub use Rattle.pos_totals.specs.TotalsArrangements.{Arranges, ClaimFile, Release
 pub use Rattle.pos_totals.specs.TotalsChanges.{Changed, Done, RunsOut, after_changes, change_rows, files_after, files_after_all, fits_file, given_by}
 pub use Rattle.pos_totals.specs.TotalsChanges.{group_by_change, is_create, next_after, next_after_all, number_rows, refusals_of_change, spent_by}
 pub use Rattle.pos_totals.specs.TotalsClaims.{foreign_area, is_area_taken, is_foreign_claim, is_own_claim, without_control}
-pub use Rattle.pos_totals.specs.TotalsCommits.{Committed, commit_rows, group_by_commit, is_of_foreign, is_of_none, refusals_of_commit}
+pub use Rattle.pos_totals.specs.TotalsCommits.{Committed, group_by_commit, is_of_foreign, is_of_none, refusals_of_commit}
 pub use Rattle.pos_totals.specs.TotalsFiles.{free_data, has_file, is_called, is_foreign_file, is_named, size_in_sum, with_each}
 pub use Rattle.pos_totals.specs.Views.{AreApart, AreDistinct, AreHandles, AreTheirFiles, HasDirectory, HasHandles, HasItsFiles, IsReady, IsSound}
 pub use Rattle.pos_totals.specs.Views.{LeavesTheirFiles, TotalsView, WhenOff, called, handles_of, mode_of, numbers_of, plain, plain_file, stored, tag_of}
 pub use Rattle.pos_totals.specs.Views.{tags_of, totals_of, view_of, with_tags}
 pub use Rattle.pos_totals.specs.declared.fault.RecoveryFault.{RecoveryFault}
 pub use Rattle.pos_totals.specs.declared.files.Files.{Files}
+pub use Rattle.pos_totals.specs.declared.files.Found.{Found}
 pub use Rattle.pos_totals.specs.declared.handles.Tag.{Tag}
 pub use Rattle.pos_totals.specs.declared.holdings.Holdings.{Holdings}
 pub use Rattle.pos_totals.specs.declared.request.Checked.{Checked}
-pub use Rattle.std.proofs.Common.{Bool, Err, IfSome, IsErrOf, List, None, Ok, Option, Result, Some, [], ap, arith, cond, drop, false, get_or, inl, inr, length}
-pub use Rattle.std.proofs.Common.{lit<, map, nat_abs, negsuc, not, pos, refl, replicate, rules, set, subst, suc, sym, take, true, zero, ℕ, ℤ, ⊎_elim, ◌&&◌}
-pub use Rattle.std.proofs.Common.{◌++◌, ◌+◌, ◌-◌, ◌<◌, ◌^◌, ◌||◌, ◌↔◌, ◌∙◌, ◌∷◌, ◌≡◌, ◌≤◌, ◌⊎◌}
+pub use Rattle.std.proofs.Common.{Bool, Err, IfSome, IsErrOf, List, None, Ok, Option, Result, SFits, Some, [], ap, arith, bytes_eq, cond, drop, eq-eqb}
+pub use Rattle.std.proofs.Common.{eqb-true, false, filter, find, get_or, inl, inr, is_none, is_some, leb-true, length, length-append, length-drop, length-take}
+pub use Rattle.std.proofs.Common.{lit<, map, nat_abs, nat_eq, nat_le, negsuc, not, option_map, pos, position, refl, remove, replicate, rules, set, set-set}
+pub use Rattle.std.proofs.Common.{slice_get, slice_set, subst, suc, sym, take, true, zero, ℕ, ℤ, ⊎_elim, ◌&&◌, ◌++◌, ◌+◌, ◌-◌, ◌<◌, ◌^◌, ◌||◌, ◌↔◌, ◌∙◌, ◌∷◌}
+pub use Rattle.std.proofs.Common.{◌≡◌, ◌≤◌, ◌⊎◌}
 pub use Rattle.std.proofs.Math.ListN.{length-replicate}
 pub use Rattle.std.proofs.Math.Seq.{drop-nil, take-nil}
-pub use Rattle.std.proofs.lemmas.Bool.{and_parts, cases_Bool, cond-true, eq-eqb, eqb-false, eqb-true, leb-true, not-true}
+pub use Rattle.std.proofs.lemmas.Bool.{and_parts, cases_Bool, cond-true, eqb-false, not-true}
 pub use Rattle.std.proofs.lemmas.Bool.Decides.{nat_tests}
 pub use Rattle.std.proofs.lemmas.Int.{to_z-of_z}
-pub use Rattle.std.proofs.lemmas.List.{drop-map, get_or_default, length-append, length-drop, length-map, length-take, map-append, map-set, set-set, take-map}
+pub use Rattle.std.proofs.lemmas.List.{drop-map, get_or_default, length-map, map-append, map-set, take-map}
 pub use Rattle.std.proofs.lemmas.List.Edits.{map_over_more}
 pub use Rattle.std.proofs.lemmas.List.Folds.{find_at}
 pub use Rattle.std.proofs.lemmas.List.Sums.{prefix_len-le-length, sum_by-cons}
@@ -67,7 +70,5 @@ pub use Rattle.std.proofs.lemmas.Result.{on_err_weaker, on_ok_weaker}
 pub use Rattle.std.proofs.lemmas.Simd.{map-map}
 pub use Rattle.std.proofs.lemmas.Slice.Eq.{bytes_eq-Decides}
 pub use Rattle.std.specs.Int.{w128}
-pub use Rattle.std.specs.List.{AllByRecursion, filter, find, list_any, position, position_or_len}
-pub use Rattle.std.specs.Option.{option_map}
-pub use Rattle.std.specs.Prelude.{bytes_eq, is_none, is_some, nat_eq, nat_le, remove, slice_get, slice_set, ⊤}
-pub use mir.Val.{SFits}
+pub use Rattle.std.specs.List.{AllByRecursion, list_any, position_or_len}
+pub use Rattle.std.specs.Prelude.{⊤}

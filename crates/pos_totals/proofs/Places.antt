@@ -1,7 +1,8 @@
 -- A file that a test finds: its index, and the files with it changed or without it.
-use Rattle.pos_totals.proofs.Common.{Bool, File, List, None, Option, Some, [], arith, cases_Bool, filter, find, find_at, index_of, length, nat_tests, not}
-use Rattle.pos_totals.proofs.Common.{position, position_or_len, prefix_len-le-length, refl, remove, same_Some, set, slice_get, slice_get_within, subst, suc}
-use Rattle.pos_totals.proofs.Common.{sym, true, with_each, ℕ, ⊎_elim, ⊤, ◌+◌, ◌<◌, ◌∙◌, ◌∷◌, ◌≡◌, ◌≤◌}
+use Rattle.pos_totals.proofs.Common.{Bool, File, FindsFile, Found, IfSome, IfSome_then, LAYOUT_2, List, None, Option, Some, [], arith, cases_Bool, file_of}
+use Rattle.pos_totals.proofs.Common.{filter, find, find_at, index_of, length, nat_tests, not, option_map, position, position_or_len, prefix_len-le-length, refl}
+use Rattle.pos_totals.proofs.Common.{remove, same_Some, set, slice_get, slice_get_within, subst, suc, sym, true, with_each, ℕ, ⊎_elim, ⊤, ◌+◌, ◌<◌, ◌∙◌, ◌∷◌}
+use Rattle.pos_totals.proofs.Common.{◌≡◌, ◌≤◌}
 
 -- at most one file meets a test
 abbrev pub OnlyOne : (File → Bool) → List File → Type 0
@@ -28,9 +29,13 @@ pub is_at : {A : Type 0} (p : A → Bool) (test : File → Bool) (xs : List A) (
     → position p xs ≡ Some i → i ≡ index_of test files
 is_at p test xs files i index found = grind (arith, nat_tests)
 
--- a look at the index gives the file
-pub at_index : (test : File → Bool) (files : List File) (i : ℕ) → i ≡ index_of test files → slice_get files i ≡ find test files
-at_index test files i index = rw index (sym (find_at test files))
+-- so the file there is found
+pub finds_at : {A : Type 0} (p : A → Bool) (test : File → Bool) (xs : List A) (files : List File) (i : ℕ) (found : Option Found)
+    → index_of test files ≡ position_or_len p xs → position p xs ≡ Some i → option_map file_of found ≡ slice_get files i
+    → IfSome found (λ f. f.index ≡ i) → IfSome found (λ f. length f.bytes.now ≤ LAYOUT_2.bytes) → FindsFile test files found
+finds_at p test xs files i found index place file place_is small =
+    let here = is_at p test xs files i index place in
+    record { file = (rw here at file) ∙ sym (find_at test files); index = IfSome_then found place_is (λ f is. is ∙ here); small = small }
 
 none_past : (test : File → Bool) (files : List File) → length files ≤ index_of test files → find test files ≡ None
 none_past test files past = by (find test files) refl
@@ -39,9 +44,10 @@ none_past test files past = by (find test files) refl
     by None is = is
     by (Some file) is = absurd (let inside = found_inside test files file is in omega (arith, past, inside))
 
-pub is_none : {A : Type 0} (p : A → Bool) (test : File → Bool) (xs : List A) (files : List File) → length files ≡ length xs
-    → index_of test files ≡ position_or_len p xs → position p xs ≡ None → find test files ≡ None
-is_none p test xs files same index none = none_past test files (grind (arith, nat_tests))
+pub finds_none : {A : Type 0} (p : A → Bool) (test : File → Bool) (xs : List A) (files : List File) → length files ≡ length xs
+    → index_of test files ≡ position_or_len p xs → position p xs ≡ None → FindsFile test files None
+finds_none p test xs files same index none =
+    record { file = sym (none_past test files (grind (arith, nat_tests))); index = tt; small = tt }
 
 -- a search through another list that finds nothing tells the end
 pub is_past : {A : Type 0} (p : A → Bool) (test : File → Bool) (xs : List A) (files : List File) → index_of test files ≡ position_or_len p xs

@@ -3,11 +3,11 @@ use Rattle.pos_totals.proofs.Common.{Answer, AreHandles, AreTheirFiles, Bool, Ch
 use Rattle.pos_totals.proofs.Common.{HasDirectory, HasFailed, HaveBuffers, Holdings, IsAmong, IsApplicable, IsDirectory, IsDone, IsExhausted, IsOneGroup}
 use Rattle.pos_totals.proofs.Common.{IsReady, IsSound, KeepsDisk, Layout, LeavesItsFiles, LeavesOneOf, LeavesTheirFiles, List, MayLeave, Mode, NoMemory, None}
 use Rattle.pos_totals.proofs.Common.{Off, Ok, Option, Passes, PlainFile, PutsDown, PutsGroup, Ready, Result, Row, RunsOut, Some, Standing, Stands, StandsFor}
-use Rattle.pos_totals.proofs.Common.{StandsForOneOf, State, StoreFault, StoreOff, StoreReady, StoreView, Totals, TotalsView, Value, WhenOff, [], after_changes}
-use Rattle.pos_totals.proofs.Common.{answer_of, ap, arith, before_or_after, cond, eq-eqb, eqb-true, false, files_after_all, files_of, first_refusal}
-use Rattle.pos_totals.proofs.Common.{fits_behind, group_of, in_doubt, inl, inr, last_number, limits_of, map, mode_of, nat_eq, never_failed, next_sequences}
-use Rattle.pos_totals.proofs.Common.{outcome_of_all, plain, refl, sequence_after, settled, stays, store_settled, subst, sym, totals_of, transactions_after}
-use Rattle.pos_totals.proofs.Common.{true, view_of, wider, with_tags, without_transactions, ℕ, ⊎_elim, ◌+◌, ◌∷◌, ◌≡◌, ◌⊎◌}
+use Rattle.pos_totals.proofs.Common.{StandsForOneOf, State, StoreFault, StoreOff, StoreReady, StoreView, Totals, Value, WhenOff, [], after_changes, answer_of}
+use Rattle.pos_totals.proofs.Common.{ap, arith, before_or_after, cond, eq-eqb, eqb-true, false, files_after_all, files_of, first_refusal, fits_behind, group_of}
+use Rattle.pos_totals.proofs.Common.{in_doubt, inl, inr, last_number, limits_of, map, mode_of, nat_eq, nat_tests, never_failed, next_sequences, outcome_of_all}
+use Rattle.pos_totals.proofs.Common.{plain, refl, sequence_after, settled, stays, store_settled, subst, sym, totals_of, transactions_after, true, view_of}
+use Rattle.pos_totals.proofs.Common.{wider, with_tags, without_transactions, ℕ, ⊎_elim, ◌+◌, ◌∷◌, ◌≡◌, ◌⊎◌}
 use Rattle.pos_totals.proofs.Pairs.{plain_of, numbers_in}
 use Rattle.pos_totals.proofs.Buffered.{none_hold}
 use Rattle.pos_service.specs.declared.answer.Answer.TheVariants as answer
@@ -24,10 +24,6 @@ pub closed_table : (rows : List Row) (result refusal : Answer) (Same Done : Type
 closed_table rows result refusal Same Done some is same = record { outcome = rw some (is, same) }
 
 -- ---- the view
-
--- what a disk, a store's state and the holdings mean
-abbrev pub view_at : {D : Type 0} → D → State → Holdings → TotalsView D
-view_at disk state holdings = record { disk = disk; totals = totals_of state holdings }
 
 -- the holdings after a call whose group the store refused
 abbrev pub refused_holdings : Holdings → StoreFault → Holdings
@@ -122,10 +118,7 @@ module _ {D : Type 0} {bound : Ghosts D} {store : StoreView D} {holdings : Holdi
 -- a group that fits keeps the sequence, and one that doesn't has the next one, which the last one hasn't
 one_follows : (sequence : ℕ) (fits last : Bool) → ¬ ((fits ≡ false) × (last ≡ true))
     → IsAmong (cond fits sequence (sequence + 1)) (cond last (sequence ∷ []) (sequence ∷ (sequence + 1) ∷ []))
-one_follows sequence true true left = inl refl
-one_follows sequence true false left = inl refl
-one_follows sequence false true left = absurd (left (refl, refl))
-one_follows sequence false false left = inr (inl refl)
+one_follows sequence fits last left = grind (arith, nat_tests)
 
 -- the sequence after a group that a store takes is one of the next ones
 pub follows : (layout : Layout) (tail : ℕ) (changes : List FileChange) (sequence : ℕ) → ¬ (IsExhausted layout tail changes sequence)
