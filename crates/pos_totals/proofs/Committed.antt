@@ -14,7 +14,6 @@ use Rattle.pos_totals.proofs.Putting.{Begins, open_table, closed_table, refused_
 use Rattle.pos_totals.proofs.Putting.{put_down, puts, fails}
 use Rattle.pos_service.specs.declared.answer.Answer.TheVariants as answer
 use Rattle.pos_service.specs.declared.answer.Value.TheVariants as value
-use Rattle.pos_store.specs.declared.fault.StoreFault.TheVariants as fault
 
 -- ---- the plan
 
