@@ -1,25 +1,11 @@
 -- What an append or a renewal of the log means for the files.
-use Rattle.std.proofs.Common.{◌≡◌, ◌≢◌, true, false, cond, ◌+◌, ◌≤◌, length, inl, inr, ⊎_elim, ℕ, List, [], ◌∷◌, Ok, Err, refl, sym, ap, ◌∙◌, arith}
-use Rattle.pos_dir.specs.Changes.{outcome_of_all, IsGroup}
-use Rattle.pos_dir.specs.Files.{IsDirectory}
-use Rattle.pos_dir.specs.Spelling.{spelling, group_spelling, body_limit}
-use Rattle.pos_dir.specs.declared.change.Change.{Change}
-use Rattle.pos_dir.specs.declared.file.File.{File}
-use Rattle.pos_disk.proofs.Moments.{weaker}
-use Rattle.pos_disk.specs.State.{LeavesOnly, CountsNow, HasNotFailed, Rises}
-use Rattle.pos_disk.specs.Keeps.{KeepsDisk}
-use Rattle.pos_disk.specs.declared.device.Disk.{Ghosts}
-use Rattle.pos_image.specs.Images.{IsReady}
-use Rattle.pos_image.specs.Layout.{layout_of, log_place, longest}
-use Rattle.pos_image.specs.declared.layout.Layout.{Layout}
-use Rattle.pos_image.specs.declared.layout.Layout.TheVariants.{Layout1, Layout2}
-use Rattle.pos_image.specs.Standing as image
-use Rattle.pos_log.specs.Logs.{LogView, log_over, IsLogReady, KeepsRecords, HasOldOrNew, Appends, Renews}
+use Rattle.pos_store.proofs.Common.{Appends, Change, Commits, CountsNow, Err, File, Ghosts, HasNotFailed, HasOldOrNew, HoldsFiles, IsDirectory, IsExhausted}
+use Rattle.pos_store.proofs.Common.{IsGroup, IsLast, IsLogReady, IsReady, IsStep, KeepsDisk, KeepsRecords, Layout, Layout1, Layout2, LeavesOnly, List, LogView}
+use Rattle.pos_store.proofs.Common.{Ok, Ready, Renews, Rises, Stands, StandsForEither, StandsForOneOf, [], ap, arith, body_limit, cond, false, fits_behind}
+use Rattle.pos_store.proofs.Common.{group_spelling, inl, inr, layout_of, left_by, length, limits_of, log_over, log_place, longest, outcome_of_all, refl}
+use Rattle.pos_store.proofs.Common.{sequence_after, spelling, sym, tail_after, true, view_of, weaker, ℕ, ⊎_elim, ◌+◌, ◌∙◌, ◌∷◌, ◌≡◌, ◌≢◌, ◌≤◌}
 use Rattle.pos_store.proofs.FilesOnDisk.{shows_now, still_holds, holds_more, holds_new, old_or_new_holds, leaves_files, ready_with}
-use Rattle.pos_store.specs.Commits.{Commits, IsExhausted, IsLast, left_by, fits_behind, sequence_after, tail_after}
-use Rattle.pos_store.specs.Layouts.{limits_of}
-use Rattle.pos_store.specs.StoreViews.{Ready, view_of}
-use Rattle.pos_store.specs.Standing.{Stands, HoldsFiles, IsStep, StandsForEither, StandsForOneOf}
+use Rattle.pos_image.specs.Standing as image
 use Rattle.pos_store.specs.declared.fault.StoreFault.TheVariants as fault
 use Rattle.pos_store.specs.declared.disk_or_log.DiskOrLog.TheVariants as which
 

@@ -1,30 +1,15 @@
 -- Bytes always stand for something: what it is is found by reading them.
-use Rattle.std.proofs.Common.{◌≡◌, ◌⊎◌, inl, inr, ⊎_elim, ℕ, ◌+◌, Bool, cond, List, [], ◌∷◌, ◌++◌, length, drop, refl, sym, ap, subst, ◌∙◌}
-use Rattle.std.proofs.Common.{arith, Option, Some, None, Result, Ok, Err}
-use Rattle.std.specs.List.{AllByRecursion}
-use Rattle.std.proofs.lemmas.List.{take_at, drop_at}
-use Rattle.pos_dir.proofs.Directories.{directory_takes, no_body}
-use Rattle.pos_dir.proofs.Groups.{group_takes, no_group, one_group_spelling}
-use Rattle.pos_dir.proofs.Readers.{IsBytes, IsBytes-drop, IsBytes-take}
-use Rattle.pos_dir.specs.Changes.{outcome_of_all, IsGroup}
-use Rattle.pos_dir.specs.Reading.{directory_at, group_at}
-use Rattle.pos_dir.specs.Spelling.{group_spelling}
-use Rattle.pos_dir.specs.declared.change.Change.{Change}
-use Rattle.pos_dir.specs.declared.fault.DirectoryFault.{DirectoryFault}
-use Rattle.pos_dir.specs.declared.file.File.{File}
-use Rattle.pos_dir.specs.declared.limits.Limits.{Limits}
-use Rattle.pos_image.proofs.Places.{log_some}
-use Rattle.pos_image.proofs.Spanned.{image_length}
-use Rattle.pos_image.specs.Layout.{body_at, sequence_at, log_place, log_size, start, layout_of}
-use Rattle.pos_image.specs.declared.layout.Layout.{Layout}
-use Rattle.pos_image.specs.Standing as image
-use Rattle.pos_log.proofs.Deciding.{records_or_none}
-use Rattle.pos_log.specs.Records as log
+use Rattle.pos_image.specs.Layout.{body_at}
+use Rattle.pos_store.proofs.Common.{AllByRecursion, Applies, Bool, Change, Damaged, DirectoryFault, Err, File, IsBytes, IsBytes-drop, IsBytes-take, IsGroup}
+use Rattle.pos_store.proofs.Common.{IsStep, Layout, Limits, List, None, Ok, Option, Result, Some, Standing, Stands, StandsFor, Unformatted, [], ap, arith}
+use Rattle.pos_store.proofs.Common.{cond, directory_at, directory_takes, drop, drop_at, group_at, group_spelling, group_takes, image_length, inl, inr}
+use Rattle.pos_store.proofs.Common.{layout_of, length, limits_of, log_place, log_size, log_some, no_body, no_group, one_group_spelling, outcome_of_all}
+use Rattle.pos_store.proofs.Common.{records_or_none, refl, sequence_at, start, subst, sym, take_at, ℕ, ⊎_elim, ◌++◌, ◌+◌, ◌∙◌, ◌∷◌, ◌≡◌, ◌⊎◌}
 use Rattle.pos_store.proofs.Found.{one_step, writable}
 use Rattle.pos_store.proofs.Recovered.{damaged_stands, no_body_stands, no_log_stands, no_groups_stand}
 use Rattle.pos_store.proofs.Stepped.{empty_step}
-use Rattle.pos_store.specs.Layouts.{limits_of}
-use Rattle.pos_store.specs.Standing.{Standing, Unformatted, Damaged, Stands, StandsFor, IsStep, Applies}
+use Rattle.pos_image.specs.Standing as image
+use Rattle.pos_log.specs.Records as log
 
 -- what is shown is the body in the current slot
 shown : (none damaged fits : Bool) (by layout : Layout) (there body : List ℕ) (number sequence : ℕ)

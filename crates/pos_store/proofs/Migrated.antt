@@ -1,23 +1,11 @@
 -- What a new image of layout 2 in the place of one of layout 1 means for the files.
-use Rattle.std.proofs.Common.{◌≡◌, inl, inr, ⊎_elim, List, [], ◌∷◌, ℕ, Ok, Err, IsErrOf, refl, ◌∙◌, arith}
-use Rattle.pos_dir.specs.Files.{IsDirectory}
-use Rattle.pos_dir.specs.Spelling.{spelling}
-use Rattle.pos_dir.specs.declared.file.File.{File}
-use Rattle.pos_disk.proofs.Moments.{weaker}
-use Rattle.pos_disk.specs.State.{CountsNow, LeavesOnly, MayLeave}
-use Rattle.pos_disk.specs.declared.device.Disk.{Ghosts}
-use Rattle.pos_image.specs.Layout.{layout_of}
-use Rattle.pos_image.specs.Standing as image
-use Rattle.pos_image.specs.declared.fault.ImageFault.TheVariants as images
-use Rattle.pos_image.specs.declared.layout.Layout.TheVariants.{Layout1, Layout2}
-use Rattle.pos_log.specs.Logs.{LogView, IsLogReady, HasOldOrNew, Renews}
+use Rattle.pos_store.proofs.Common.{AnswersMigration, CountsNow, Err, File, Ghosts, HasOldOrNew, HoldsFiles, IsDirectory, IsErrOf, IsLogReady, Layout1, Layout2}
+use Rattle.pos_store.proofs.Common.{LeavesOnly, List, LogView, MayLeave, Migrates, Ok, Ready, Renews, Stands, StandsForEither, StandsForOneOf, StoreFault, []}
+use Rattle.pos_store.proofs.Common.{arith, inl, inr, layout_of, limits_of, refl, spelling, view_of, weaker, ℕ, ⊎_elim, ◌∙◌, ◌∷◌, ◌≡◌}
 use Rattle.pos_store.proofs.FilesOnDisk.{shows_now, holds_new, old_or_new_holds, leaves_files, ready_with}
 use Rattle.pos_store.proofs.Passing.{stays}
-use Rattle.pos_store.specs.Layouts.{limits_of}
-use Rattle.pos_store.specs.Migrations.{Migrates, AnswersMigration}
-use Rattle.pos_store.specs.StoreViews.{Ready, view_of}
-use Rattle.pos_store.specs.Standing.{Stands, HoldsFiles, StandsForEither, StandsForOneOf}
-use Rattle.pos_store.specs.declared.fault.StoreFault.{StoreFault}
+use Rattle.pos_image.specs.Standing as image
+use Rattle.pos_image.specs.declared.fault.ImageFault.TheVariants as images
 use Rattle.pos_store.specs.declared.fault.StoreFault.TheVariants as fault
 use Rattle.pos_store.specs.declared.disk_or_log.DiskOrLog.TheVariants as which
 

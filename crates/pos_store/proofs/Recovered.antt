@@ -1,32 +1,13 @@
 -- What a recovery of a store that is off did, by what it found and that it only looked at the disk.
-use Rattle.std.proofs.Common.{◌≡◌, ◌⊎◌, inr, ⊎_elim, ℕ, List, Result, Ok, Err, OnOk, IsErr, IsErrOf, refl, sym, ◌∙◌, arith, rules}
-use Rattle.pos_dir.specs.Calls.{IsBody, Decodes}
-use Rattle.pos_dir.specs.declared.fault.DirectoryFault.{DirectoryFault}
-use Rattle.pos_dir.specs.declared.fault.DirectoryFault.TheVariants as directory
-use Rattle.pos_dir.specs.Files.{IsDirectory}
-use Rattle.pos_dir.specs.Spelling.{spelling}
-use Rattle.pos_dir.specs.declared.file.File.{File}
-use Rattle.pos_dir.proofs.Directories.{one_spelling}
-use Rattle.pos_log.specs.Records.{HoldsRecords, HoldsSome}
-use Rattle.pos_log.proofs.Unique.{one_log}
-use Rattle.pos_dir.specs.declared.limits.Limits.{Limits}
-use Rattle.pos_disk.specs.State.{Watches, Rises, HasNotFailed}
-use Rattle.pos_disk.specs.Keeps.{KeepsDisk}
-use Rattle.pos_disk.specs.declared.device.Disk.{Ghosts}
-use Rattle.pos_image.specs.Standing as image
-use Rattle.pos_image.specs.Standing.{image_on}
-use Rattle.pos_image.specs.declared.fault.ImageFault.{ImageFault}
-use Rattle.pos_image.specs.declared.fault.ImageFault.TheVariants as images
-use Rattle.pos_image.specs.declared.layout.Layout.{Layout}
+use Rattle.pos_store.proofs.Common.{Applies, Damaged, Decodes, DirectoryFault, DiskStandsFor, EndsAt, Err, File, FindsStanding, Ghosts, HasNotFailed}
+use Rattle.pos_store.proofs.Common.{HoldsRecords, HoldsSome, ImageFault, IsBody, IsDirectory, IsErr, IsErrOf, KeepsDisk, Layout, LeavesItsFiles, Limits, List}
+use Rattle.pos_store.proofs.Common.{LogFault, Off, Ok, OnOk, Recovers, Result, Rises, Standing, StandsFor, StoreFault, StoreView, Tells, TellsLog, Unformatted}
+use Rattle.pos_store.proofs.Common.{Watches, arith, image_on, inr, limits_of, one_log, one_spelling, refl, rules, spelling, sym, ℕ, ⊎_elim, ◌∙◌, ◌≡◌, ◌⊎◌}
 use Rattle.pos_store.proofs.Found.{finds_so, recovers_one, writable}
-use Rattle.pos_store.specs.Layouts.{limits_of}
-use Rattle.pos_store.specs.StoreViews.{StoreView, Off, LeavesItsFiles}
-use Rattle.pos_store.specs.Recoveries.{FindsStanding, DiskStandsFor, EndsAt, Recovers}
-use Rattle.pos_store.specs.Standing.{Standing, Unformatted, Damaged, StandsFor, Applies}
-use Rattle.pos_log.specs.declared.fault.LogFault.{LogFault}
+use Rattle.pos_dir.specs.declared.fault.DirectoryFault.TheVariants as directory
+use Rattle.pos_image.specs.Standing as image
+use Rattle.pos_image.specs.declared.fault.ImageFault.TheVariants as images
 use Rattle.pos_log.specs.declared.fault.LogFault.TheVariants as logs
-use Rattle.pos_store.specs.Faults.{Tells, TellsLog}
-use Rattle.pos_store.specs.declared.fault.StoreFault.{StoreFault}
 use Rattle.pos_store.specs.declared.fault.StoreFault.TheVariants as fault
 
 -- a recovery that only looked at the disk of a store that was off

@@ -1,20 +1,14 @@
-use Rattle.std.proofs.Common.{◌≡◌, ◌+◌, ⊎_elim, Ok, Err, IsErrOf, refl, sym, ap, ◌∙◌, arith, rules}
-use Rattle.pos_disk.proofs.Moments.{weaker}
-use Rattle.pos_dir.specs.Changes.{outcome_of_all}
-use Rattle.pos_image.specs.Layout.{layout_of}
-use Rattle.pos_image.specs.declared.fault.ImageFault.{ImageFault}
-use Rattle.pos_image.specs.declared.fault.ImageFault.TheVariants as image
-use Rattle.std.proofs.lemmas.Bool.{leb-true}
-use Rattle.pos_log.specs.declared.fault.LogFault.TheVariants as log
-use Rattle.pos_store.specs.Layouts.{limits_of}
-use Rattle.pos_store.specs.StoreViews.{HasItsFiles}
-use Rattle.pos_store.specs.declared.disk_or_log.DiskOrLog.TheVariants as which
-use Rattle.pos_store.specs.declared.draft.Draft.TheVariants as draft
+use Rattle.pos_store.proofs.Common.{Err, HasItsFiles, ImageFault, IsErrOf, Ok, ap, arith, layout_of, leb-true, limits_of, outcome_of_all, refl, rules, sym}
+use Rattle.pos_store.proofs.Common.{weaker, ⊎_elim, ◌+◌, ◌∙◌, ◌≡◌}
 use Rattle.pos_store.proofs.Committed.{IsGiven, same_layout, fits_not, stays, rises, short, appending_stands, renewing_stands, failed_commits, appended_holds}
 use Rattle.pos_store.proofs.Committed.{appended_commits, renewed_holds, renewed_commits}
 use Rattle.pos_store.proofs.Drafted.{unmade_commits}
 use Rattle.pos_store.proofs.committing.commit_group.Given.{Over}
 use Rattle.pos_store.proofs.committing.commit_group.Goals.{After-make_draft}
+use Rattle.pos_image.specs.declared.fault.ImageFault.TheVariants as image
+use Rattle.pos_log.specs.declared.fault.LogFault.TheVariants as log
+use Rattle.pos_store.specs.declared.disk_or_log.DiskOrLog.TheVariants as which
+use Rattle.pos_store.specs.declared.draft.Draft.TheVariants as draft
 use Rattle.pos_store.proofs.committing.commit_group.Goals as goal
 
 module _ (g : Over) (c : After-make_draft g) where

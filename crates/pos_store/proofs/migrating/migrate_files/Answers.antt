@@ -1,15 +1,9 @@
-use Rattle.std.proofs.Common.{◌≡◌, ⊎_elim, refl, sym, ap, ◌∙◌, rules}
-use Rattle.pos_dir.specs.Files.{IsDirectory}
-use Rattle.pos_dir.specs.Spelling.{spelling}
-use Rattle.pos_image.specs.Layout.{layout_of}
-use Rattle.pos_image.specs.declared.layout.Layout.TheVariants.{Layout1, Layout2}
-use Rattle.pos_log.specs.Logs.{IsLogReady}
-use Rattle.pos_store.specs.Layouts.{limits_of}
-use Rattle.pos_store.specs.Standing.{HoldsFiles}
-use Rattle.pos_store.specs.declared.fault.StoreFault.TheVariants as fault
+use Rattle.pos_store.proofs.Common.{HoldsFiles, IsDirectory, IsLogReady, Layout1, Layout2, ap, layout_of, limits_of, refl, rules, spelling, sym, ⊎_elim, ◌∙◌}
+use Rattle.pos_store.proofs.Common.{◌≡◌}
 use Rattle.pos_store.proofs.Migrated.{refused_migrates, moved_holds, moved_migrates, failed_migrates}
 use Rattle.pos_store.proofs.migrating.migrate_files.Given.{Over}
 use Rattle.pos_store.proofs.migrating.migrate_files.Goals.{After-migrate}
+use Rattle.pos_store.specs.declared.fault.StoreFault.TheVariants as fault
 use Rattle.pos_store.proofs.migrating.migrate_files.Goals as goal
 
 pub returns-then-eq-clause-migrates : goal.returns-then-eq-clause-migrates

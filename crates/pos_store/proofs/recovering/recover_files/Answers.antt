@@ -1,28 +1,15 @@
-use Rattle.std.proofs.Common.{◌≡◌, Err, ℕ, List, map, Vec, Global, inl, inr, ⊎_elim, refl, sym, ap, subst, ◌∙◌}
-use Rattle.pos_dir.specs.Calls.{IsBody, Decodes}
-use Rattle.pos_dir.specs.declared.limits.Limits.{Limits}
-use Rattle.pos_dir.specs.Files.{IsDirectory}
-use Rattle.pos_disk.specs.State.{Watches, HasNotFailed}
-use Rattle.pos_disk.specs.Keeps.{KeepsDisk}
-use Rattle.pos_dir.specs.Spelling.{spelling}
-use Rattle.pos_dir.specs.declared.file.File.{File}
-use Rattle.pos_disk.proofs.Moments.{watches_on}
-use Rattle.pos_image.specs.Images.{View}
-use Rattle.pos_image.specs.Layout.{layout_of}
-use Rattle.pos_image.specs.declared.layout.Layout.{Layout}
+use Rattle.pos_store.proofs.Common.{Applies, Decodes, DiskStandsFor, EndsAt, Err, File, Global, HasNotFailed, HoldsFiles, HoldsRecords, IsBody, IsDirectory}
+use Rattle.pos_store.proofs.Common.{KeepsDisk, Layout, Limits, List, Vec, View, Watches, ap, inl, inr, layout_of, limits_of, map, refl, spelling, subst, sym}
+use Rattle.pos_store.proofs.Common.{watches_on, ℕ, ⊎_elim, ◌∙◌, ◌≡◌}
+use Rattle.pos_store.proofs.FilesOnDisk.{leaves_files}
+use Rattle.pos_store.proofs.Recovered.{off_recovers, refused_recovers, told_finds, told_device, told_counts, told_log_finds, told_log_device, told_log_counts}
+use Rattle.pos_store.proofs.Recovered.{told_text_finds, never_failed, both_keep, later, not_device, damaged_stands, no_body_stands, no_log_stands}
+use Rattle.pos_store.proofs.Recovered.{no_groups_stand, malformed_none}
+use Rattle.pos_store.proofs.recovering.recover_files.Given.{Over}
+use Rattle.pos_store.proofs.recovering.recover_files.Goals.{After-apply_texts}
 use Rattle.pos_image.specs.Standing as image
 use Rattle.pos_image.specs.declared.fault.ImageFault.TheVariants as images
 use Rattle.pos_log.specs.declared.fault.LogFault.TheVariants as logs
-use Rattle.pos_log.specs.Records.{HoldsRecords}
-use Rattle.pos_store.specs.Layouts.{limits_of}
-use Rattle.pos_store.specs.Standing.{HoldsFiles, Applies}
-use Rattle.pos_store.specs.Recoveries.{DiskStandsFor, EndsAt}
-use Rattle.pos_store.proofs.FilesOnDisk.{leaves_files}
-use Rattle.pos_store.proofs.Recovered.{off_recovers, refused_recovers, told_finds, told_device, told_counts, told_log_finds, told_log_device}
-use Rattle.pos_store.proofs.Recovered.{told_log_counts, told_text_finds, never_failed, both_keep, later, not_device, damaged_stands, no_body_stands}
-use Rattle.pos_store.proofs.Recovered.{no_log_stands, no_groups_stand, malformed_none}
-use Rattle.pos_store.proofs.recovering.recover_files.Given.{Over}
-use Rattle.pos_store.proofs.recovering.recover_files.Goals.{After-apply_texts}
 use Rattle.pos_store.proofs.recovering.recover_files.Goals as goal
 
 pub returns-in-Err-clause-recovers : goal.returns-in-Err-clause-recovers
