@@ -41,6 +41,6 @@ pub use Rattle.pos_store.specs.StoreViews.{HasItsFiles, LeavesItsFiles, Off, Rea
 pub use Rattle.pos_store.specs.declared.fault.StoreFault.{StoreFault}
 pub use Rattle.std.proofs.Common.{Bool, Err, Global, IsErr, IsErrOf, IsOk, List, None, Ok, OnOk, Option, Result, Some, Vec, [], add-one, ap, arith, cond, drop}
 pub use Rattle.std.proofs.Common.{drop-cons, drop_at, false, get_or, inl, inr, leb-true, length, map, refl, rules, subst, suc, sym, take_at, true, ℕ, ⊎_elim}
-pub use Rattle.std.proofs.Common.{◌++◌, ◌+◌, ◌<◌, ◌∙◌, ◌∷◌, ◌≡◌, ◌≢◌, ◌≤◌, ◌⊎◌}
+pub use Rattle.std.proofs.Common.{◌++◌, ◌+◌, ◌<◌, ◌↔◌, ◌∙◌, ◌∷◌, ◌≡◌, ◌≢◌, ◌≤◌, ◌⊎◌}
 pub use Rattle.std.specs.List.{AllByRecursion}
 pub use Rattle.std.specs.Result.{result_err}

@@ -1,10 +1,10 @@
 -- Bytes always stand for something: what it is is found by reading them.
-use Rattle.pos_image.specs.Layout.{body_at}
 use Rattle.pos_store.proofs.Common.{AllByRecursion, Applies, Bool, Change, Damaged, DirectoryFault, Err, File, IsBytes, IsBytes-drop, IsBytes-take, IsGroup}
-use Rattle.pos_store.proofs.Common.{IsStep, Layout, Limits, List, None, Ok, Option, Result, Some, Standing, Stands, StandsFor, Unformatted, [], ap, arith}
-use Rattle.pos_store.proofs.Common.{cond, directory_at, directory_takes, drop, drop_at, group_at, group_spelling, group_takes, image_length, inl, inr}
-use Rattle.pos_store.proofs.Common.{layout_of, length, limits_of, log_place, log_size, log_some, no_body, no_group, one_group_spelling, outcome_of_all}
-use Rattle.pos_store.proofs.Common.{records_or_none, refl, sequence_at, start, subst, sym, take_at, ℕ, ⊎_elim, ◌++◌, ◌+◌, ◌∙◌, ◌∷◌, ◌≡◌, ◌⊎◌}
+use Rattle.pos_store.proofs.Common.{IsStep, Layout, Limits, List, None, Ok, Option, Result, Some, Standing, Stands, StandsFor, Unformatted, [], ap, arith, cond}
+use Rattle.pos_store.proofs.Common.{directory_at, directory_takes, drop, drop_at, group_at, group_spelling, group_takes, image_length, inl, inr, layout_of}
+use Rattle.pos_store.proofs.Common.{length, limits_of, log_place, log_size, log_some, no_body, no_group, one_group_spelling, outcome_of_all, records_or_none}
+use Rattle.pos_store.proofs.Common.{refl, sequence_at, start, subst, sym, take_at, ℕ, ⊎_elim, ◌++◌, ◌+◌, ◌∙◌, ◌∷◌, ◌≡◌, ◌⊎◌}
+use Rattle.pos_image.specs.Layout.{body_at}
 use Rattle.pos_store.proofs.Found.{one_step, writable}
 use Rattle.pos_store.proofs.Recovered.{damaged_stands, no_body_stands, no_log_stands, no_groups_stand}
 use Rattle.pos_store.proofs.Stepped.{empty_step}
@@ -49,9 +49,6 @@ text_bytes groups span each holds = spelled_bytes groups (subst IsBytes holds.fr
 abbrev StepOrNone : Limits → List File → List ℕ → Type 0
 StepOrNone limits files text = ((next : List File) × IsStep limits files text next) ⊎ ((next : List File) → IsStep limits files text next → ⊥)
 
-never_ok : (cause : DirectoryFault) (next : List File) → ◌≡◌ {A = Result (List File) DirectoryFault} (Err cause) (Ok next) → ⊥
-never_ok cause next is = absurd cc
-
 carried_out : (limits : Limits) (files : List File) (text : List ℕ) (first : Change) (changes : List Change) → IsGroup (first ∷ changes)
     → text ≡ group_spelling (first ∷ changes) → (outcome : Result (List File) DirectoryFault) → outcome_of_all limits files (first ∷ changes) ≡ outcome
     → StepOrNone limits files text
@@ -59,7 +56,7 @@ carried_out limits files text first changes group spelled (Ok next) is =
     inl (next, record { changes = first ∷ changes; group = group; some = (λ none. absurd cc); spelled = spelled; outcome = is })
 carried_out limits files text first changes group spelled (Err cause) is = inr (λ next step.
     let same = one_group_spelling step.changes (first ∷ changes) step.group group (sym step.spelled ∙ spelled) in
-    never_ok cause next (sym is ∙ ap (outcome_of_all limits files) (sym same) ∙ step.outcome))
+    let ok = sym is ∙ ap (outcome_of_all limits files) (sym same) ∙ step.outcome in cc)
 
 step_or_none : (limits : Limits) (files : List File) (text : List ℕ) → IsBytes text → (read : Option (List Change)) → group_at text ≡ read
     → StepOrNone limits files text

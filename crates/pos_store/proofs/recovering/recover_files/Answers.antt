@@ -2,9 +2,8 @@ use Rattle.pos_store.proofs.Common.{Applies, Decodes, DiskStandsFor, EndsAt, Err
 use Rattle.pos_store.proofs.Common.{KeepsDisk, Layout, Limits, List, Vec, View, Watches, ap, inl, inr, layout_of, limits_of, map, refl, spelling, subst, sym}
 use Rattle.pos_store.proofs.Common.{watches_on, ℕ, ⊎_elim, ◌∙◌, ◌≡◌}
 use Rattle.pos_store.proofs.FilesOnDisk.{leaves_files}
-use Rattle.pos_store.proofs.Recovered.{off_recovers, refused_recovers, told_finds, told_device, told_counts, told_log_finds, told_log_device, told_log_counts}
-use Rattle.pos_store.proofs.Recovered.{told_text_finds, never_failed, both_keep, later, not_device, damaged_stands, no_body_stands, no_log_stands}
-use Rattle.pos_store.proofs.Recovered.{no_groups_stand, malformed_none}
+use Rattle.pos_store.proofs.Recovered.{off_recovers, refused_recovers, told_finds, told_alone, told_log_finds, told_log_alone, told_text_finds, never_failed}
+use Rattle.pos_store.proofs.Recovered.{both_keep, later, not_device, damaged_stands, no_body_stands, no_log_stands, no_groups_stand, malformed_none}
 use Rattle.pos_store.proofs.recovering.recover_files.Given.{Over}
 use Rattle.pos_store.proofs.recovering.recover_files.Goals.{After-apply_texts}
 use Rattle.pos_image.specs.Standing as image
@@ -15,6 +14,7 @@ use Rattle.pos_store.proofs.recovering.recover_files.Goals as goal
 pub returns-in-Err-clause-recovers : goal.returns-in-Err-clause-recovers
 returns-in-Err-clause-recovers g c =
     let opened = c.in-Err.ensures in
+    let told = told_alone c.in-Err.fault c.tell_images.result c.tell_images.ensures in
     rw c.in-Off.is (off_recovers g.D.Disk c.in-Off.disk c.in-Off.layout _ _
     (told_finds (DiskStandsFor g.D.Disk c.in-Off.disk) c.in-Off.layout c.in-Err.fault c.tell_images.result c.tell_images.ensures
     (λ is h. opened.unformatted h is) (λ is h. damaged_stands _ (opened.damaged h is)) opened.faults)
@@ -22,8 +22,8 @@ returns-in-Err-clause-recovers g c =
     opened.any_moment
     (λ h. tt)
     (λ h. tt)
-    (λ h is. opened.device h (told_device c.in-Err.fault c.tell_images.result c.tell_images.ensures is))
-    (λ h. told_counts _ _ c.in-Err.fault c.tell_images.result c.tell_images.ensures (opened.counts h))
+    (λ h is. opened.device h (told.0 is))
+    (λ h. ⊎_elim (λ is. inl (told.1 (cc is))) (λ same. inr same) (opened.counts h))
     opened.keeps)
 
 pub returns-in-Err-Malformed-clause-recovers : goal.returns-in-Err-Malformed-clause-recovers
@@ -47,6 +47,7 @@ pub returns-in-Err-open-clause-recovers : goal.returns-in-Err-open-clause-recove
 returns-in-Err-open-clause-recovers g c =
     let opened = c.in-Ok.ensures in
     let logged = c.in-Err-open.ensures in
+    let told = told_log_alone c.in-Err-open.fault c.tell_log.result c.tell_log.ensures in
     rw (c.in-Off.is, c.into_disk-in-Err-open.ensures) (off_recovers g.D.Disk c.in-Off.disk c.in-Off.layout _ _
     (told_log_finds (DiskStandsFor g.D.Disk c.in-Off.disk) c.in-Off.layout c.in-Err-open.fault c.tell_log.result c.tell_log.ensures
     (λ is h. no_log_stands _ (layout_of c.in-Ok.images.slot) c.in-Ok.images.body c.in-Ok.images.sequence (opened.found h)
@@ -55,10 +56,9 @@ returns-in-Err-open-clause-recovers g c =
     (λ h. watches_on _ _ _ (opened.any_moment h) (logged.any_moment (opened.keeps.honest.0 h)))
     (λ h. tt)
     (λ h. tt)
-    (λ h is. later g.D.Disk _ _ _ opened.keeps logged.keeps h
-    (logged.device (opened.keeps.honest.0 h) (told_log_device c.in-Err-open.fault c.tell_log.result c.tell_log.ensures is)))
-    (λ h. ⊎_elim (λ is. inl is) (λ same. inr (same ∙ never_failed _ _ _ images.Device (opened.counts h)))
-    (told_log_counts _ _ c.in-Err-open.fault c.tell_log.result c.tell_log.ensures (logged.counts (opened.keeps.honest.0 h))))
+    (λ h is. later g.D.Disk _ _ _ opened.keeps logged.keeps h (logged.device (opened.keeps.honest.0 h) (told.0 is)))
+    (λ h. ⊎_elim (λ is. inl (told.1 (cc is))) (λ same. inr (same ∙ never_failed _ _ _ images.Device (opened.counts h)))
+    (logged.counts (opened.keeps.honest.0 h)))
     (both_keep g.D.Disk _ _ _ opened.keeps logged.keeps))
 
 module _ (g : Over) (c : After-apply_texts g) where
