@@ -19,22 +19,17 @@ module _ (g : Over) (c : After-make_draft g) where
       → IsGiven g.D.Disk c.in-Ready.log c.in-Ready.directory.files c.make_draft.new.directory.files c.args.call.1.now
   given outcome = record { ready = sound.0; holds = sound.1; group = c.is_group.ensures; some = search rules; outcome = rw sound.2 at outcome }
 
-pub returns-in-Ok-clause-commits : goal.returns-in-Ok-clause-commits
-returns-in-Ok-clause-commits g c =
+pub returns-in-Ok : goal.returns-in-Ok
+returns-in-Ok g c =
+    let here = (goal.at.returns-in-Ok g c).After-make_draft in
     let made = rw c.in-Ok-Record.field-0-is at c.in-Ok-Record.ensures.made in
     let did = rw (c.deref.ensures.value, made.1.1) at c.in-Ok.ensures.appends in
-    rw c.in-Ready.is (appended_commits (given g (goal.at.returns-in-Ok-clause-commits g c).After-make_draft made.0) c.append.new.self made.1.0 did)
-
-pub returns-in-Ok-clause-sound : goal.returns-in-Ok-clause-sound
-returns-in-Ok-clause-sound g c =
-    let here = (goal.at.returns-in-Ok-clause-sound g c).After-make_draft in
-    let made = rw c.in-Ok-Record.field-0-is at c.in-Ok-Record.ensures.made in
-    let did = rw (c.deref.ensures.value, made.1.1) at c.in-Ok.ensures.appends in (
-      did.ready,
-      appended_holds (given g here made.0) c.append.new.self made.1.0 did,
-      c.make_draft.ensures.limits ∙ (sound g here).2
-          ∙ ap limits_of (sym (same_layout c.in-Ready.log c.append.new.self c.append.new.self.images.disk _ did.appended)),
-    )
+    let it = given g here made.0 in
+    let kept = same_layout c.in-Ready.log c.append.new.self c.append.new.self.images.disk _ did.appended in
+    record {
+      sound = (did.ready, appended_holds it c.append.new.self made.1.0 did, c.make_draft.ensures.limits ∙ (sound g here).2 ∙ ap limits_of (sym kept));
+      commits = rw c.in-Ready.is (appended_commits it c.append.new.self made.1.0 did);
+    }
 
 pub returns-in-Err-append-clause-commits : goal.returns-in-Err-append-clause-commits
 returns-in-Err-append-clause-commits g c =
@@ -54,22 +49,20 @@ returns-in-Err-append-clause-commits g c =
     (λ h bytes. g.met.D.Disk.counts_now c.append.new.self.images.disk (g.D.Disk.state c.in-Ready.log.images.disk).moment bytes (did.keeps.honest.0 h))
     (λ h. did.device h failed) did.keeps)
 
-pub returns-in-Ok-renew-clause-commits : goal.returns-in-Ok-renew-clause-commits
-returns-in-Ok-renew-clause-commits g c =
+pub returns-in-Ok-renew : goal.returns-in-Ok-renew
+returns-in-Ok-renew g c =
+    let here = (goal.at.returns-in-Ok-renew g c).After-make_draft in
     let made = rw c.in-Ok-Image.field-0-is at c.in-Ok-Image.ensures.made in
-    let it = given g (goal.at.returns-in-Ok-renew-clause-commits g c).After-make_draft made.0 in
-    rw c.in-Ready.is
-    (renewed_commits it c.renew.new.self made.1.0 c.in-Ok-Image.body.items made.1.2 made.1.3 c.in-Ok-renew.ensures.renews made.1.1)
-
-pub returns-in-Ok-renew-clause-sound : goal.returns-in-Ok-renew-clause-sound
-returns-in-Ok-renew-clause-sound g c =
-    let here = (goal.at.returns-in-Ok-renew-clause-sound g c).After-make_draft in
-    let made = rw c.in-Ok-Image.field-0-is at c.in-Ok-Image.ensures.made in
-    let did = c.in-Ok-renew.ensures.renews in (
-      did.ready,
-      renewed_holds (given g here made.0) c.renew.new.self made.1.0 c.in-Ok-Image.body.items made.1.2 made.1.3 did,
-      c.make_draft.ensures.limits ∙ (sound g here).2 ∙ ap limits_of (sym did.layout_is),
-    )
+    let did = c.in-Ok-renew.ensures.renews in
+    let it = given g here made.0 in
+    record {
+      sound = (
+        did.ready,
+        renewed_holds it c.renew.new.self made.1.0 c.in-Ok-Image.body.items made.1.2 made.1.3 did,
+        c.make_draft.ensures.limits ∙ (sound g here).2 ∙ ap limits_of (sym did.layout_is),
+      );
+      commits = rw c.in-Ready.is (renewed_commits it c.renew.new.self made.1.0 c.in-Ok-Image.body.items made.1.2 made.1.3 did made.1.1);
+    }
 
 pub returns-in-Err-renew-clause-commits : goal.returns-in-Err-renew-clause-commits
 returns-in-Err-renew-clause-commits g c =

@@ -33,21 +33,14 @@ moves g c =
       spelled = c.in-Ok.ensures.spelling;
     }
 
-pub returns-in-Ok-migrate-clause-sound : goal.returns-in-Ok-migrate-clause-sound
-returns-in-Ok-migrate-clause-sound g c =
-    let here = (goal.at.returns-in-Ok-migrate-clause-sound g c).After-migrate in
+pub returns-in-Ok-migrate : goal.returns-in-Ok-migrate
+returns-in-Ok-migrate g c =
+    let it = moves g (goal.at.returns-in-Ok-migrate g c).After-migrate in
     let renews = c.in-Ok-migrate.ensures.migrates in
-    rw c.widen.ensures (
-      renews.ready,
-      moved_holds (moves g here) c.migrate.new.self renews,
-      c.limits_of.ensures ∙ ap limits_of (sym renews.layout_is),
-    )
-
-pub returns-in-Ok-migrate-clause-migrates : goal.returns-in-Ok-migrate-clause-migrates
-returns-in-Ok-migrate-clause-migrates g c =
-    let here = (goal.at.returns-in-Ok-migrate-clause-migrates g c).After-migrate in
-    rw (c.in-Ready.is, c.widen.ensures)
-    (moved_migrates (moves g here) c.migrate.new.self c.in-Ok-migrate.ensures.migrates)
+    rw (c.in-Ready.is, c.widen.ensures) (record {
+      sound = (renews.ready, moved_holds it c.migrate.new.self renews, c.limits_of.ensures ∙ ap limits_of (sym renews.layout_is));
+      migrates = moved_migrates it c.migrate.new.self renews;
+    })
 
 pub returns-in-Device-clause-migrates : goal.returns-in-Device-clause-migrates
 returns-in-Device-clause-migrates g c =

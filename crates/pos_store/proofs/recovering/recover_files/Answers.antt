@@ -120,27 +120,22 @@ module _ (g : Over) (c : After-apply_texts g) where
   ends : g.D.Disk.honest c.in-Off.disk → EndsAt (layout_of c.in-Ok-open.log.images.slot) c.in-Ok-open.log.tail (g.D.Disk.state c.in-Off.disk).reading
   ends h = rw (watches h).reading at (c.in-Ok-open.ensures.ready.records (keeps.honest.0 h))
 
-pub returns-in-Ok-apply_texts-clause-sound : goal.returns-in-Ok-apply_texts-clause-sound
-returns-in-Ok-apply_texts-clause-sound g c =
-    let here = (goal.at.returns-in-Ok-apply_texts-clause-sound g c).After-apply_texts in (
-      c.in-Ok-open.ensures.ready,
-      found_now g here c.apply_texts.new.directory.files c.in-Ok-apply_texts.ensures.ok,
-      c.apply_texts.ensures.limits ∙ limits g here ∙ ap limits_of (sym (layout_is g here)),
-    )
-
-pub returns-in-Ok-apply_texts-clause-recovers : goal.returns-in-Ok-apply_texts-clause-recovers
-returns-in-Ok-apply_texts-clause-recovers g c =
-    let here = (goal.at.returns-in-Ok-apply_texts-clause-recovers g c).After-apply_texts in
-    rw c.in-Off.is (off_recovers g.D.Disk c.in-Off.disk c.in-Off.layout _ _
-    (found g here c.apply_texts.new.directory.files c.in-Ok-apply_texts.ensures.ok)
-    (λ err. absurd cc)
-    (watches g here)
-    (λ h. leaves_files g.D.Disk c.in-Ok-open.log.images c.apply_texts.new.directory.files c.in-Ok-open.ensures.ready.images
-    (found_now g here c.apply_texts.new.directory.files c.in-Ok-apply_texts.ensures.ok) ((keeps g here).honest.0 h))
-    (λ h. ends g here h)
-    (λ h is. absurd cc)
-    (λ h. inr (not_failed g here h))
-    (keeps g here))
+pub returns-in-Ok-apply_texts : goal.returns-in-Ok-apply_texts
+returns-in-Ok-apply_texts g c =
+    let here = (goal.at.returns-in-Ok-apply_texts g c).After-apply_texts in
+    let files = c.apply_texts.new.directory.files in
+    let now = found_now g here files c.in-Ok-apply_texts.ensures.ok in
+    record {
+      sound = (c.in-Ok-open.ensures.ready, now, c.apply_texts.ensures.limits ∙ limits g here ∙ ap limits_of (sym (layout_is g here)));
+      recovers = rw c.in-Off.is (off_recovers g.D.Disk c.in-Off.disk c.in-Off.layout _ _ (found g here files c.in-Ok-apply_texts.ensures.ok)
+          (λ err. absurd cc)
+          (watches g here)
+          (λ h. leaves_files g.D.Disk c.in-Ok-open.log.images files c.in-Ok-open.ensures.ready.images now ((keeps g here).honest.0 h))
+          (ends g here)
+          (λ h is. absurd cc)
+          (λ h. inr (not_failed g here h))
+          (keeps g here));
+    }
 
 pub returns-in-Err-apply_texts-clause-recovers : goal.returns-in-Err-apply_texts-clause-recovers
 returns-in-Err-apply_texts-clause-recovers g c =
