@@ -1,6 +1,6 @@
 use Rattle.pos_store.proofs.Common.{Err, HasItsFiles, ImageFault, IsErrOf, Ok, ap, arith, layout_of, leb-true, limits_of, outcome_of_all, refl, rules, sym}
 use Rattle.pos_store.proofs.Common.{weaker, ⊎_elim, ◌+◌, ◌∙◌, ◌≡◌}
-use Rattle.pos_store.proofs.Committed.{IsGiven, same_layout, fits_not, stays, rises, short, appending_stands, renewing_stands, failed_commits, appended_holds}
+use Rattle.pos_store.proofs.Committed.{IsGiven, same_layout, short, appending_stands, renewing_stands, failed_commits, appended_holds}
 use Rattle.pos_store.proofs.Committed.{appended_commits, renewed_holds, renewed_commits}
 use Rattle.pos_store.proofs.Drafted.{unmade_commits}
 use Rattle.pos_store.proofs.committing.commit_group.Given.{Over}
@@ -44,7 +44,7 @@ returns-in-Err-append-clause-commits g c =
     rw (c.in-Ready.is, c.turn_off.ensures)
     (failed_commits it c.append.new.self.images.disk (layout_of c.append.new.self.images.slot) c.in-Ready.log.images.sequence
     (same_layout c.in-Ready.log c.append.new.self c.append.new.self.images.disk c.in-Ready.log.tail (did.failed failed))
-    (stays it made.1.0) (fits_not _ c.in-Ready.log.tail c.args.call.1.now c.in-Ready.log.images.sequence made.1.0)
+    (rw made.1.0 refl) (λ exhausted. let fits = made.1.0 in let over = exhausted.0 in cc)
     (λ h. weaker _ _ _ _ (appending_stands it h) (did.any_moment h))
     (λ h bytes. g.met.D.Disk.counts_now c.append.new.self.images.disk (g.D.Disk.state c.in-Ready.log.images.disk).moment bytes (did.keeps.honest.0 h))
     (λ h. did.device h failed) did.keeps)
@@ -77,7 +77,7 @@ returns-in-Err-renew-clause-commits g c =
     c.in-Err-renew.ensures.faults in
     rw (c.in-Ready.is, c.turn_off-in-Err-renew.ensures)
     (failed_commits it c.renew.new.self.images.disk (layout_of c.renew.new.self.images.slot) (c.in-Ready.log.images.sequence + 1)
-    (did.same_layout (rw c.in-Err-renew.is refl)) (rises it made.1.0) (λ exhausted. made.1.1 exhausted.1)
+    (did.same_layout (rw c.in-Err-renew.is refl)) (rw made.1.0 refl) (λ exhausted. made.1.1 exhausted.1)
     (λ h. weaker _ _ _ _ (renewing_stands it c.in-Ok-Image.body.items made.1.2 made.1.3 h) (did.any_moment h))
     (λ h bytes. g.met.D.Disk.counts_now c.renew.new.self.images.disk (g.D.Disk.state c.in-Ready.log.images.disk).moment bytes (did.keeps.honest.0 h))
     (λ h. did.device h (c.in-Err-renew.is ∙ ap (λ (f : ImageFault). Err f) device)) did.keeps)

@@ -89,33 +89,28 @@ module _ (g : Over) (c : After-apply_texts g) where
   keeps : KeepsDisk g.D.Disk c.in-Off.disk c.in-Ok-open.log.images.disk
   keeps = both_keep g.D.Disk _ _ _ c.in-Ok.ensures.keeps c.in-Ok-open.ensures.keeps
 
-  sequence_is : c.in-Ok-open.log.images.sequence ≡ c.in-Ok.images.sequence
-  sequence_is = ap (λ (im : View g.row.D.Denot). im.sequence) c.in-Ok-open.ensures.same
-
   layout_is : layout_of c.in-Ok-open.log.images.slot ≡ layout
   layout_is = ap (λ (im : View g.row.D.Denot). layout_of im.slot) c.in-Ok-open.ensures.same
 
   -- the files that the disk holds
-  found : (files : List File) → Applies c.in-Ok-decode.directory.limits c.in-Ok-decode.directory.files
-      (map (λ (t : Vec ℕ Global). t.items) c.deref.result.now) files
-      → g.D.Disk.honest c.in-Off.disk
-      → HoldsFiles (layout_of c.in-Ok-open.log.images.slot) files c.in-Ok-open.log.images.sequence (g.D.Disk.state c.in-Off.disk).reading
-  found files applies h = rw (layout_is, sequence_is) record {
-    base = c.in-Ok-decode.directory.files;
-    texts = map (λ (t : Vec ℕ Global). t.items) c.in-Ok-open.texts.items;
-    directory = sound;
-    shows = c.in-Ok.ensures.found h ∙ ap (λ (b : List ℕ). image.OneImage layout b c.in-Ok.images.sequence) spelled;
-    log = records h;
-    applies = rw (limits, c.deref.ensures.value) at applies;
-  }
+  module _ (files : List File) (applies : Applies c.in-Ok-decode.directory.limits c.in-Ok-decode.directory.files
+      (map (λ (t : Vec ℕ Global). t.items) c.deref.result.now) files) where
+    found : g.D.Disk.honest c.in-Off.disk
+        → HoldsFiles (layout_of c.in-Ok-open.log.images.slot) files c.in-Ok-open.log.images.sequence (g.D.Disk.state c.in-Off.disk).reading
+    found h = rw c.in-Ok-open.ensures.same record {
+      base = c.in-Ok-decode.directory.files;
+      texts = map (λ (t : Vec ℕ Global). t.items) c.in-Ok-open.texts.items;
+      directory = sound;
+      shows = c.in-Ok.ensures.found h ∙ ap (λ (b : List ℕ). image.OneImage layout b c.in-Ok.images.sequence) spelled;
+      log = records h;
+      applies = rw (limits, c.deref.ensures.value) at applies;
+    }
 
-  found_now : (files : List File) → Applies c.in-Ok-decode.directory.limits c.in-Ok-decode.directory.files
-      (map (λ (t : Vec ℕ Global). t.items) c.deref.result.now) files
-      → g.D.Disk.honest c.in-Ok-open.log.images.disk
-      → HoldsFiles (layout_of c.in-Ok-open.log.images.slot) files c.in-Ok-open.log.images.sequence (g.D.Disk.state c.in-Ok-open.log.images.disk).reading
-  found_now files applies h =
-      let was = keeps.honest.1 h in
-      rw (watches was).reading (found files applies was)
+    found_now : g.D.Disk.honest c.in-Ok-open.log.images.disk
+        → HoldsFiles (layout_of c.in-Ok-open.log.images.slot) files c.in-Ok-open.log.images.sequence (g.D.Disk.state c.in-Ok-open.log.images.disk).reading
+    found_now h =
+        let was = keeps.honest.1 h in
+        rw (watches was).reading (found was)
 
   ends : g.D.Disk.honest c.in-Off.disk → EndsAt (layout_of c.in-Ok-open.log.images.slot) c.in-Ok-open.log.tail (g.D.Disk.state c.in-Off.disk).reading
   ends h = rw (watches h).reading at (c.in-Ok-open.ensures.ready.records (keeps.honest.0 h))
