@@ -8,8 +8,8 @@ use Rattle.pos_totals.proofs.Common.{eqb-true, false, file_change, files_after, 
 use Rattle.pos_totals.proofs.Common.{group_by_change, handles_of, index_of, is_called, is_create, is_foreign, is_foreign_claim, is_named, is_none, is_some}
 use Rattle.pos_totals.proofs.Common.{lacks, last_number, length, length-map, limits_of, mode_of, nat_eq, nat_tests, negsuc, next_after, not, number_rows}
 use Rattle.pos_totals.proofs.Common.{option_map, plain, pos, refl, refusals_of_change, sequence_after, slice_set, spent_by, sym, tag_of, tags_of, totals_limits}
-use Rattle.pos_totals.proofs.Common.{totals_of, transaction_at, true, value_after, view_of, with_buffered, with_tags, ℕ, ℤ, ◌&&◌, ◌++◌, ◌<◌, ◌^◌, ◌∙◌, ◌∷◌}
-use Rattle.pos_totals.proofs.Common.{◌≡◌, ◌⊎◌}
+use Rattle.pos_totals.proofs.Common.{totals_of, transaction_at, true, value_after, view_of, with_buffered, with_tags, ℕ, ℤ, ◌&&◌, ◌++◌, ◌<◌, ◌^◌, ◌∙◌, ◌∷◌, ◌≡◌}
+use Rattle.pos_totals.proofs.Common.{◌⊎◌}
 use Rattle.pos_totals.proofs.Edited.{is_edit, keeps_handles}
 use Rattle.pos_totals.proofs.Apart.{apart_after, files_apart}
 use Rattle.pos_totals.proofs.Buffered.{all_fit, buffered_after, holds_so, held_with, held_at}

@@ -53,9 +53,9 @@ pub use Rattle.pos_totals.specs.declared.holdings.Holdings.{Holdings}
 pub use Rattle.pos_totals.specs.declared.request.Checked.{Checked}
 pub use Rattle.std.proofs.Common.{Bool, Err, IfSome, IsErrOf, List, None, Ok, Option, Result, SFits, Some, [], ap, arith, bytes_eq, cond, drop, eq-eqb}
 pub use Rattle.std.proofs.Common.{eqb-true, false, filter, find, get_or, inl, inr, is_none, is_some, leb-true, length, length-append, length-drop, length-take}
-pub use Rattle.std.proofs.Common.{lit<, map, nat_abs, nat_eq, nat_le, negsuc, not, option_map, pos, position, refl, remove, replicate, rules, set, set-set}
-pub use Rattle.std.proofs.Common.{slice_get, slice_set, subst, suc, sym, take, true, zero, ℕ, ℤ, ⊎_elim, ◌&&◌, ◌++◌, ◌+◌, ◌-◌, ◌<◌, ◌^◌, ◌||◌, ◌↔◌, ◌∙◌, ◌∷◌}
-pub use Rattle.std.proofs.Common.{◌≡◌, ◌≤◌, ◌⊎◌}
+pub use Rattle.std.proofs.Common.{lit<, map, nat_abs, nat_eq, nat_le, negsuc, not, one-add, option_map, pos, position, refl, remove, replicate, rules, set}
+pub use Rattle.std.proofs.Common.{set-set, slice_get, slice_set, subst, suc, sym, take, true, zero, ℕ, ℤ, ⊎_elim, ◌&&◌, ◌++◌, ◌+◌, ◌-◌, ◌<◌, ◌^◌, ◌||◌, ◌↔◌}
+pub use Rattle.std.proofs.Common.{◌∙◌, ◌∷◌, ◌≡◌, ◌≤◌, ◌⊎◌}
 pub use Rattle.std.proofs.Math.ListN.{length-replicate}
 pub use Rattle.std.proofs.Math.Seq.{drop-nil, take-nil}
 pub use Rattle.std.proofs.lemmas.Bool.{and_parts, cases_Bool, cond-true, eqb-false, not-true}

@@ -1,16 +1,13 @@
 -- A file that a test finds: its index, and the files with it changed or without it.
 use Rattle.pos_totals.proofs.Common.{Bool, File, FindsFile, Found, IfSome, IfSome_then, LAYOUT_2, List, None, Option, Some, [], arith, cases_Bool, file_of}
-use Rattle.pos_totals.proofs.Common.{filter, find, find_at, index_of, length, nat_tests, not, option_map, position, position_or_len, prefix_len-le-length, refl}
-use Rattle.pos_totals.proofs.Common.{remove, same_Some, set, slice_get, slice_get_within, subst, suc, sym, true, with_each, ℕ, ⊎_elim, ⊤, ◌+◌, ◌<◌, ◌∙◌, ◌∷◌}
-use Rattle.pos_totals.proofs.Common.{◌≡◌, ◌≤◌}
+use Rattle.pos_totals.proofs.Common.{filter, find, find_at, index_of, length, nat_tests, not, one-add, option_map, position, position_or_len}
+use Rattle.pos_totals.proofs.Common.{prefix_len-le-length, refl, remove, same_Some, set, slice_get, slice_get_within, subst, sym, true, with_each, ℕ}
+use Rattle.pos_totals.proofs.Common.{⊎_elim, ⊤, ◌<◌, ◌∙◌, ◌∷◌, ◌≡◌, ◌≤◌}
 
 -- at most one file meets a test
 abbrev pub OnlyOne : (File → Bool) → List File → Type 0
 OnlyOne test [] = ⊤
 OnlyOne test (file ∷ files) = (test file ≡ true → find test files ≡ None) × OnlyOne test files
-
-one_more : (n : ℕ) → 1 + n ≡ suc n
-one_more n = omega arith
 
 -- a file that was found is at the index
 pub found_at : (test : File → Bool) (files : List File) (file : File) → find test files ≡ Some file → slice_get files (index_of test files) ≡ Some file
@@ -64,7 +61,7 @@ pub one_changed : (test : File → Bool) (change : File → File) (files : List 
     → with_each test change files ≡ set files (index_of test files) (change file)
 one_changed test change [] file only found = absurd cc
 one_changed test change (first ∷ files) file only found =
-    grind (arith, nat_tests, one_changed test change files file only.1, none_changed test change files, only.0, one_more (index_of test files))
+    grind (arith, nat_tests, one_changed test change files file only.1, none_changed test change files, only.0, one-add (index_of test files))
 
 -- no file goes where none meets the test
 none_gone : (test : File → Bool) (files : List File) → find test files ≡ None → filter (λ file. not (test file)) files ≡ files
@@ -76,4 +73,4 @@ pub one_gone : (test : File → Bool) (files : List File) (file : File) → Only
     → filter (λ file. not (test file)) files ≡ remove files (index_of test files)
 one_gone test [] file only found = absurd cc
 one_gone test (first ∷ files) file only found =
-    grind (arith, nat_tests, one_gone test files file only.1, none_gone test files, only.0, one_more (index_of test files))
+    grind (arith, nat_tests, one_gone test files file only.1, none_gone test files, only.0, one-add (index_of test files))

@@ -8,7 +8,6 @@ use Rattle.pos_store.proofs.committing.commit_group.Goals.{After-make_draft}
 use Rattle.pos_image.specs.declared.fault.ImageFault.TheVariants as image
 use Rattle.pos_log.specs.declared.fault.LogFault.TheVariants as log
 use Rattle.pos_store.specs.declared.disk_or_log.DiskOrLog.TheVariants as which
-use Rattle.pos_store.specs.declared.draft.Draft.TheVariants as draft
 use Rattle.pos_store.proofs.committing.commit_group.Goals as goal
 
 module _ (g : Over) (c : After-make_draft g) where
