@@ -2,8 +2,8 @@
 use Rattle.pos_store.proofs.Common.{Appends, Change, Commits, CountsNow, Err, File, Ghosts, HasNotFailed, HasOldOrNew, HoldsFiles, IsDirectory, IsExhausted}
 use Rattle.pos_store.proofs.Common.{IsGroup, IsLast, IsLogReady, IsReady, IsStep, KeepsDisk, KeepsRecords, Layout, Layout1, Layout2, LeavesOnly, List, LogView}
 use Rattle.pos_store.proofs.Common.{Ok, Ready, Renews, Rises, Stands, StandsForEither, StandsForOneOf, [], ap, arith, body_limit, false, fits_behind}
-use Rattle.pos_store.proofs.Common.{group_spelling, inl, inr, layout_of, left_by, length, limits_of, log_over, longest, outcome_of_all, refl}
-use Rattle.pos_store.proofs.Common.{sequence_after, spelling, sym, tail_after, true, view_of, weaker, ℕ, ⊎_elim, ◌+◌, ◌∙◌, ◌∷◌, ◌≡◌, ◌≢◌, ◌≤◌}
+use Rattle.pos_store.proofs.Common.{group_spelling, inl, inr, layout_of, left_by, length, limits_of, log_over, longest, outcome_of_all, refl, sequence_after}
+use Rattle.pos_store.proofs.Common.{spelling, sym, tail_after, true, view_of, weaker, ℕ, ⊎_elim, ◌+◌, ◌∙◌, ◌∷◌, ◌≡◌, ◌≢◌, ◌≤◌}
 use Rattle.pos_store.proofs.FilesOnDisk.{shows_now, still_holds, holds_more, holds_new, old_or_new_holds, leaves_files, ready_with}
 use Rattle.pos_image.specs.Standing as image
 use Rattle.pos_store.specs.declared.fault.StoreFault.TheVariants as fault

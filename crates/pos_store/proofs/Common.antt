@@ -43,4 +43,3 @@ pub use Rattle.std.proofs.Common.{Bool, Err, Global, IsErr, IsErrOf, IsOk, List,
 pub use Rattle.std.proofs.Common.{drop-cons, drop_at, false, get_or, inl, inr, leb-true, length, map, refl, rules, subst, suc, sym, take_at, true, ℕ, ⊎_elim}
 pub use Rattle.std.proofs.Common.{◌++◌, ◌+◌, ◌<◌, ◌↔◌, ◌∙◌, ◌∷◌, ◌≡◌, ◌≢◌, ◌≤◌, ◌⊎◌}
 pub use Rattle.std.specs.List.{AllByRecursion}
-pub use Rattle.std.specs.Result.{result_err}

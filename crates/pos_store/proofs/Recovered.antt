@@ -2,12 +2,14 @@
 use Rattle.pos_store.proofs.Common.{Applies, Damaged, Decodes, DirectoryFault, DiskStandsFor, EndsAt, Err, File, FindsStanding, Ghosts, HasNotFailed}
 use Rattle.pos_store.proofs.Common.{HoldsRecords, HoldsSome, ImageFault, IsBody, IsDirectory, IsErr, IsErrOf, KeepsDisk, Layout, LeavesItsFiles, Limits, List}
 use Rattle.pos_store.proofs.Common.{LogFault, Off, Ok, OnOk, Recovers, Result, Rises, Standing, StandsFor, StoreFault, StoreView, Tells, TellsLog, Unformatted}
-use Rattle.pos_store.proofs.Common.{Watches, arith, image_on, inr, limits_of, one_log, one_spelling, refl, rules, spelling, sym, ℕ, ⊎_elim, ◌↔◌, ◌∙◌, ◌≡◌, ◌⊎◌}
+use Rattle.pos_store.proofs.Common.{Watches, arith, image_on, inr, limits_of, one_log, one_spelling, refl, rules, spelling, sym, view_of, ℕ, ⊎_elim, ◌↔◌, ◌∙◌}
+use Rattle.pos_store.proofs.Common.{◌≡◌, ◌⊎◌}
 use Rattle.pos_store.proofs.Found.{finds_so, recovers_one, same_image, writable}
 use Rattle.pos_dir.specs.declared.fault.DirectoryFault.TheVariants as directory
 use Rattle.pos_image.specs.Standing as image
 use Rattle.pos_image.specs.declared.fault.ImageFault.TheVariants as images
 use Rattle.pos_log.specs.declared.fault.LogFault.TheVariants as logs
+use Rattle.pos_store.specs.declared.disk_or_log.DiskOrLog.TheVariants as which
 use Rattle.pos_store.specs.declared.fault.StoreFault.TheVariants as fault
 
 -- a recovery that only looked at the disk of a store that was off
@@ -20,7 +22,7 @@ pub off_recovers : {D : Type 0} (bound : Ghosts D) (disk : D) (layout : Layout) 
     → (bound.honest disk → IsErrOf result fault.Device → Rises (bound.state disk).failures (bound.state new.disk).failures)
     → (bound.honest disk → IsErrOf result fault.Device ⊎ HasNotFailed (bound.state disk) (bound.state new.disk))
     → KeepsDisk bound disk new.disk
-    → Recovers bound (record { disk = disk; layout = layout; state = Off; tail = 0 }) result new
+    → Recovers bound (view_of (which.Off disk layout)) result new
 off_recovers bound disk layout result new finds kept watches now ends device counts keeps = record {
   ready = tt;
   answer = finds;
@@ -42,12 +44,7 @@ pub refused_recovers : {D : Type 0} (bound : Ghosts D) (disk end : D) (layout : 
     → (IsErrOf {T = Unit {0}} (Err cause) fault.Device → ⊥) → FindsStanding (DiskStandsFor bound disk) (Err cause) layout Off
     → (bound.honest disk → Watches (bound.state disk) (bound.state end)) → (bound.honest disk → HasNotFailed (bound.state disk) (bound.state end))
     → KeepsDisk bound disk end
-    → Recovers bound (record { disk = disk; layout = layout; state = Off; tail = 0 }) (Err cause) (record {
-      disk = end;
-      layout = layout;
-      state = Off;
-      tail = 0;
-    })
+    → Recovers bound (view_of (which.Off disk layout)) (Err cause) (view_of (which.Off end layout))
 refused_recovers bound disk end layout cause none finds watches same keeps =
     off_recovers bound disk layout (Err cause) _ finds (λ err. refl) watches (λ h. tt) (λ h. tt) (λ h is. absurd (none is)) (λ h. inr (same h)) keeps
 

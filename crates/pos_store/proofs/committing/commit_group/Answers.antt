@@ -1,7 +1,7 @@
 use Rattle.pos_store.proofs.Common.{Err, HasItsFiles, ImageFault, IsErrOf, Ok, ap, arith, layout_of, leb-true, limits_of, outcome_of_all, refl, rules, sym}
 use Rattle.pos_store.proofs.Common.{weaker, ⊎_elim, ◌+◌, ◌∙◌, ◌≡◌}
-use Rattle.pos_store.proofs.Committed.{IsGiven, same_layout, short, appending_stands, renewing_stands, failed_commits, appended_holds}
-use Rattle.pos_store.proofs.Committed.{appended_commits, renewed_holds, renewed_commits}
+use Rattle.pos_store.proofs.Committed.{IsGiven, same_layout, short, appending_stands, renewing_stands, failed_commits, appended_holds, appended_commits}
+use Rattle.pos_store.proofs.Committed.{renewed_holds, renewed_commits}
 use Rattle.pos_store.proofs.Drafted.{unmade_commits}
 use Rattle.pos_store.proofs.committing.commit_group.Given.{Over}
 use Rattle.pos_store.proofs.committing.commit_group.Goals.{After-make_draft}
