@@ -1,25 +1,11 @@
 -- What an append or a renewal of the log means for the files.
-use Rattle.std.proofs.Common.{◌≡◌, ◌≢◌, true, false, cond, ◌+◌, ◌≤◌, length, inl, inr, ⊎_elim, ℕ, List, [], ◌∷◌, Ok, Err, refl, sym, ap, ◌∙◌, arith}
-use Rattle.pos_dir.specs.Changes.{outcome_of_all, IsGroup}
-use Rattle.pos_dir.specs.Files.{IsDirectory}
-use Rattle.pos_dir.specs.Spelling.{spelling, group_spelling, body_limit}
-use Rattle.pos_dir.specs.declared.change.Change.{Change}
-use Rattle.pos_dir.specs.declared.file.File.{File}
-use Rattle.pos_disk.proofs.Moments.{weaker}
-use Rattle.pos_disk.specs.State.{LeavesOnly, CountsNow, HasNotFailed, Rises}
-use Rattle.pos_disk.specs.Keeps.{KeepsDisk}
-use Rattle.pos_disk.specs.declared.device.Disk.{Ghosts}
-use Rattle.pos_image.specs.Images.{IsReady}
-use Rattle.pos_image.specs.Layout.{layout_of, log_place, longest}
-use Rattle.pos_image.specs.declared.layout.Layout.{Layout}
-use Rattle.pos_image.specs.declared.layout.Layout.TheVariants.{Layout1, Layout2}
-use Rattle.pos_image.specs.Standing as image
-use Rattle.pos_log.specs.Logs.{LogView, log_over, IsLogReady, KeepsRecords, HasOldOrNew, Appends, Renews}
+use Rattle.pos_store.proofs.Common.{Appends, Change, Commits, CountsNow, Err, File, Ghosts, HasNotFailed, HasOldOrNew, HoldsFiles, IsDirectory, IsExhausted}
+use Rattle.pos_store.proofs.Common.{IsGroup, IsLast, IsLogReady, IsReady, IsStep, KeepsDisk, KeepsRecords, Layout, Layout1, Layout2, LeavesOnly, List, LogView}
+use Rattle.pos_store.proofs.Common.{Ok, Ready, Renews, Rises, Stands, StandsForEither, StandsForOneOf, [], ap, arith, body_limit, false, fits_behind}
+use Rattle.pos_store.proofs.Common.{group_spelling, inl, inr, layout_of, left_by, length, limits_of, log_over, longest, outcome_of_all, refl, sequence_after}
+use Rattle.pos_store.proofs.Common.{spelling, sym, tail_after, true, view_of, weaker, ℕ, ⊎_elim, ◌+◌, ◌∙◌, ◌∷◌, ◌≡◌, ◌≢◌, ◌≤◌}
 use Rattle.pos_store.proofs.FilesOnDisk.{shows_now, still_holds, holds_more, holds_new, old_or_new_holds, leaves_files, ready_with}
-use Rattle.pos_store.specs.Commits.{Commits, IsExhausted, IsLast, left_by, fits_behind, sequence_after, tail_after}
-use Rattle.pos_store.specs.Layouts.{limits_of}
-use Rattle.pos_store.specs.StoreViews.{Ready, view_of}
-use Rattle.pos_store.specs.Standing.{Stands, HoldsFiles, IsStep, StandsForEither, StandsForOneOf}
+use Rattle.pos_image.specs.Standing as image
 use Rattle.pos_store.specs.declared.fault.StoreFault.TheVariants as fault
 use Rattle.pos_store.specs.declared.disk_or_log.DiskOrLog.TheVariants as which
 
@@ -41,10 +27,6 @@ pub short : (layout : Layout) (body : List ℕ) → length body ≤ body_limit (
 short Layout1 body fits = omega (arith, fits)
 short Layout2 body fits = omega (arith, fits)
 
-pub fits_not : (layout : Layout) (tail : ℕ) (changes : List Change) (sequence : ℕ) → fits_behind layout tail changes ≡ true
-    → IsExhausted layout tail changes sequence → ⊥
-fits_not layout tail changes sequence fits exhausted = absurd (let over = exhausted.0 in cc)
-
 module _ {D : Type 0} {bound : Ghosts D} {log : LogView D} {files after : List File} {changes : List Change}
     (given : IsGiven bound log files after changes) where
   -- the layout of the disk before it
@@ -56,13 +38,6 @@ module _ {D : Type 0} {bound : Ghosts D} {log : LogView D} {files after : List F
 
   shows : bound.honest log.images.disk → image.ShowsImage layout log.images.body log.images.sequence (bound.state log.images.disk).reading
   shows honest = shows_now bound log.images given.ready.images honest
-
-  -- which sequence the files have after the group
-  pub stays : fits_behind layout log.tail changes ≡ true → sequence_after layout log.tail changes log.images.sequence ≡ log.images.sequence
-  stays fits = ap (λ b. cond b log.images.sequence (log.images.sequence + 1)) fits
-
-  pub rises : fits_behind layout log.tail changes ≡ false → sequence_after layout log.tail changes log.images.sequence ≡ log.images.sequence + 1
-  rises over = ap (λ b. cond b log.images.sequence (log.images.sequence + 1)) over
 
   -- bytes that stand for the files before it, or for those after it
   abbrev Around : ℕ → List ℕ → Type 0
@@ -160,9 +135,9 @@ module _ {D : Type 0} {bound : Ghosts D} {log : LogView D} {files after : List F
           (appends.records was holds.texts holds.log))
 
       pub appended_commits : Commits bound (ready_with log files) changes (Ok tt) (ready_with new after)
-      appended_commits = put_commits log.images.sequence kept (stays fits) same_sequence
-          (ap (λ (l : LogView D). l.tail) appends.appended ∙ sym (ap (λ b. cond b (log.tail + 5 + length (group_spelling changes)) (log_place layout)) fits))
-          (fits_not layout log.tail changes log.images.sequence fits) appends.ready.images appended_holds
+      appended_commits = put_commits log.images.sequence kept (rw fits refl) same_sequence
+          (ap (λ (l : LogView D). l.tail) appends.appended ∙ (rw fits refl))
+          (λ exhausted. let over = exhausted.0 in cc) appends.ready.images appended_holds
           (λ h. weaker (bound.state log.images.disk) (bound.state new.images.disk) _ _ (appending_stands h) (appends.any_moment h))
           (λ h. ⊎_elim (λ is. absurd cc) (λ same. same) (appends.counts h))
           appends.keeps
@@ -177,8 +152,8 @@ module _ {D : Type 0} {bound : Ghosts D} {log : LogView D} {files after : List F
 
       pub renewed_commits : ¬ (IsLast log.images.sequence)
           → Commits bound (ready_with log files) changes (Ok tt) (ready_with new after)
-      renewed_commits more = put_commits (log.images.sequence + 1) renews.layout_is (rises over) renews.sequence_is
-          (renews.tail_is ∙ sym (ap (λ b. cond b (log.tail + 5 + length (group_spelling changes)) (log_place layout)) over))
+      renewed_commits more = put_commits (log.images.sequence + 1) renews.layout_is (rw over refl) renews.sequence_is
+          (renews.tail_is ∙ (rw over refl))
           (λ exhausted. more exhausted.1) renews.ready.images renewed_holds
           (λ h. weaker (bound.state log.images.disk) (bound.state new.images.disk) _ _ (renewing_stands body sound spelled h) (renews.any_moment h))
           (λ h. ⊎_elim (λ is. absurd cc) (λ same. same) (renews.counts h))

@@ -1,30 +1,15 @@
 -- Bytes always stand for something: what it is is found by reading them.
-use Rattle.std.proofs.Common.{◌≡◌, ◌⊎◌, inl, inr, ⊎_elim, ℕ, ◌+◌, Bool, cond, List, [], ◌∷◌, ◌++◌, length, drop, refl, sym, ap, subst, ◌∙◌}
-use Rattle.std.proofs.Common.{arith, Option, Some, None, Result, Ok, Err}
-use Rattle.std.specs.List.{AllByRecursion}
-use Rattle.std.proofs.lemmas.List.{take_at, drop_at}
-use Rattle.pos_dir.proofs.Directories.{directory_takes, no_body}
-use Rattle.pos_dir.proofs.Groups.{group_takes, no_group, one_group_spelling}
-use Rattle.pos_dir.proofs.Readers.{IsBytes, IsBytes-drop, IsBytes-take}
-use Rattle.pos_dir.specs.Changes.{outcome_of_all, IsGroup}
-use Rattle.pos_dir.specs.Reading.{directory_at, group_at}
-use Rattle.pos_dir.specs.Spelling.{group_spelling}
-use Rattle.pos_dir.specs.declared.change.Change.{Change}
-use Rattle.pos_dir.specs.declared.fault.DirectoryFault.{DirectoryFault}
-use Rattle.pos_dir.specs.declared.file.File.{File}
-use Rattle.pos_dir.specs.declared.limits.Limits.{Limits}
-use Rattle.pos_image.proofs.Places.{log_some}
-use Rattle.pos_image.proofs.Spanned.{image_length}
-use Rattle.pos_image.specs.Layout.{body_at, sequence_at, log_place, log_size, start, layout_of}
-use Rattle.pos_image.specs.declared.layout.Layout.{Layout}
-use Rattle.pos_image.specs.Standing as image
-use Rattle.pos_log.proofs.Deciding.{records_or_none}
-use Rattle.pos_log.specs.Records as log
+use Rattle.pos_store.proofs.Common.{AllByRecursion, Applies, Bool, Change, Damaged, DirectoryFault, Err, File, IsBytes, IsBytes-drop, IsBytes-take, IsGroup}
+use Rattle.pos_store.proofs.Common.{IsStep, Layout, Limits, List, None, Ok, Option, Result, Some, Standing, Stands, StandsFor, Unformatted, [], ap, arith, cond}
+use Rattle.pos_store.proofs.Common.{directory_at, directory_takes, drop, drop_at, group_at, group_spelling, group_takes, image_length, inl, inr, layout_of}
+use Rattle.pos_store.proofs.Common.{length, limits_of, log_place, log_size, log_some, no_body, no_group, one_group_spelling, outcome_of_all, records_or_none}
+use Rattle.pos_store.proofs.Common.{refl, sequence_at, start, subst, sym, take_at, ℕ, ⊎_elim, ◌++◌, ◌+◌, ◌∙◌, ◌∷◌, ◌≡◌, ◌⊎◌}
+use Rattle.pos_image.specs.Layout.{body_at}
 use Rattle.pos_store.proofs.Found.{one_step, writable}
 use Rattle.pos_store.proofs.Recovered.{damaged_stands, no_body_stands, no_log_stands, no_groups_stand}
 use Rattle.pos_store.proofs.Stepped.{empty_step}
-use Rattle.pos_store.specs.Layouts.{limits_of}
-use Rattle.pos_store.specs.Standing.{Standing, Unformatted, Damaged, Stands, StandsFor, IsStep, Applies}
+use Rattle.pos_image.specs.Standing as image
+use Rattle.pos_log.specs.Records as log
 
 -- what is shown is the body in the current slot
 shown : (none damaged fits : Bool) (by layout : Layout) (there body : List ℕ) (number sequence : ℕ)
@@ -64,9 +49,6 @@ text_bytes groups span each holds = spelled_bytes groups (subst IsBytes holds.fr
 abbrev StepOrNone : Limits → List File → List ℕ → Type 0
 StepOrNone limits files text = ((next : List File) × IsStep limits files text next) ⊎ ((next : List File) → IsStep limits files text next → ⊥)
 
-never_ok : (cause : DirectoryFault) (next : List File) → ◌≡◌ {A = Result (List File) DirectoryFault} (Err cause) (Ok next) → ⊥
-never_ok cause next is = absurd cc
-
 carried_out : (limits : Limits) (files : List File) (text : List ℕ) (first : Change) (changes : List Change) → IsGroup (first ∷ changes)
     → text ≡ group_spelling (first ∷ changes) → (outcome : Result (List File) DirectoryFault) → outcome_of_all limits files (first ∷ changes) ≡ outcome
     → StepOrNone limits files text
@@ -74,7 +56,7 @@ carried_out limits files text first changes group spelled (Ok next) is =
     inl (next, record { changes = first ∷ changes; group = group; some = (λ none. absurd cc); spelled = spelled; outcome = is })
 carried_out limits files text first changes group spelled (Err cause) is = inr (λ next step.
     let same = one_group_spelling step.changes (first ∷ changes) step.group group (sym step.spelled ∙ spelled) in
-    never_ok cause next (sym is ∙ ap (outcome_of_all limits files) (sym same) ∙ step.outcome))
+    let ok = sym is ∙ ap (outcome_of_all limits files) (sym same) ∙ step.outcome in cc)
 
 step_or_none : (limits : Limits) (files : List File) (text : List ℕ) → IsBytes text → (read : Option (List Change)) → group_at text ≡ read
     → StepOrNone limits files text

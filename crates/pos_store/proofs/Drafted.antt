@@ -1,22 +1,8 @@
 -- A group that is applicable, of which nothing was made.
-use Rattle.std.proofs.Common.{◌≡◌, arith, inl, inr, ⊎_elim, ℕ, List, Result, Ok, Err, IsErrOf, refl}
-use Rattle.std.specs.Prelude.{IsOk}
-use Rattle.pos_dir.specs.Changes.{outcome_of_all}
-use Rattle.pos_dir.specs.declared.change.Change.{Change}
-use Rattle.pos_dir.specs.declared.fault.DirectoryFault.{DirectoryFault}
-use Rattle.pos_dir.specs.declared.file.File.{File}
-use Rattle.pos_disk.proofs.Moments.{started}
-use Rattle.pos_disk.specs.State.{MayLeave}
-use Rattle.pos_disk.specs.declared.device.Disk.{Ghosts}
-use Rattle.pos_image.specs.Layout.{layout_of}
-use Rattle.pos_image.specs.declared.layout.Layout.{Layout}
-use Rattle.pos_log.specs.Logs.{LogView, IsLogReady}
+use Rattle.pos_store.proofs.Common.{Change, Commits, DirectoryFault, Err, File, Ghosts, HoldsFiles, IsErrOf, IsLogReady, IsOk, IsUnmade, Layout, List, LogView}
+use Rattle.pos_store.proofs.Common.{MayLeave, Ok, PutsDown, Result, StoreFault, StoreView, arith, inl, inr, layout_of, limits_of, outcome_of_all, refl, started}
+use Rattle.pos_store.proofs.Common.{ℕ, ⊎_elim, ◌≡◌}
 use Rattle.pos_store.proofs.FilesOnDisk.{leaves_files, ready_with}
-use Rattle.pos_store.specs.Commits.{Commits, PutsDown, IsUnmade}
-use Rattle.pos_store.specs.Layouts.{limits_of}
-use Rattle.pos_store.specs.StoreViews.{StoreView}
-use Rattle.pos_store.specs.Standing.{HoldsFiles}
-use Rattle.pos_store.specs.declared.fault.StoreFault.{StoreFault}
 use Rattle.pos_store.specs.declared.fault.StoreFault.TheVariants as fault
 
 -- a group that is applicable has files after it

@@ -1,22 +1,8 @@
 -- What files the bytes of a disk hold, after a call that kept its image or its records.
-use Rattle.std.proofs.Common.{◌≡◌, ℕ, List, [], ◌∷◌, ◌++◌, ◌⊎◌, inl, inr, ⊎_elim, refl, sym, ap, ◌∙◌, arith}
-use Rattle.pos_dir.specs.Files.{IsDirectory}
-use Rattle.pos_dir.specs.Spelling.{spelling}
-use Rattle.pos_dir.specs.declared.file.File.{File}
-use Rattle.pos_dir.specs.declared.limits.Limits.{Limits}
-use Rattle.pos_disk.specs.declared.device.Disk.{Ghosts}
-use Rattle.pos_image.specs.Images.{View, IsReady}
-use Rattle.pos_image.specs.Layout.{layout_of}
+use Rattle.pos_store.proofs.Common.{Applies, File, Ghosts, HasNoRecords, HasOldOrNew, HoldsFiles, HoldsRecords, IsDirectory, IsReady, IsStep, Layout, Layout1}
+use Rattle.pos_store.proofs.Common.{LeavesOneOf, Limits, List, LogView, Ready, Stands, StandsFor, StoreView, View, [], ap, arith, inl, inr, layout_of}
+use Rattle.pos_store.proofs.Common.{limits_of, no_files, no_records, refl, spelling, sym, ℕ, ⊎_elim, ◌++◌, ◌∙◌, ◌∷◌, ◌≡◌, ◌⊎◌}
 use Rattle.pos_image.specs.Standing as image
-use Rattle.pos_image.specs.NewDisk.{no_files}
-use Rattle.pos_image.specs.declared.layout.Layout.{Layout}
-use Rattle.pos_image.specs.declared.layout.Layout.TheVariants.{Layout1}
-use Rattle.pos_log.proofs.Emptied.{no_records}
-use Rattle.pos_log.specs.Logs.{LogView, HasNoRecords, HasOldOrNew}
-use Rattle.pos_log.specs.Records.{HoldsRecords}
-use Rattle.pos_store.specs.Layouts.{limits_of}
-use Rattle.pos_store.specs.StoreViews.{StoreView, Ready}
-use Rattle.pos_store.specs.Standing.{Stands, HoldsFiles, IsStep, Applies, StandsFor, LeavesOneOf}
 
 -- the texts lead one step further
 pub applies_more : (limits : Limits) (texts : List (List ℕ)) (files last : List File) (text : List ℕ) (next : List File) → Applies limits files texts last

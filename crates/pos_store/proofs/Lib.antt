@@ -1,4 +1,5 @@
 mod Committed
+pub mod Common
 pub mod Deciding
 mod Drafted
 pub mod FilesOnDisk

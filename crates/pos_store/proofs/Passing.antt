@@ -1,10 +1,6 @@
 -- How what a crash leaves of a disk goes on.
-use Rattle.std.proofs.Common.{inl, inr, ⊎_elim, ℕ, List, [], ◌∷◌}
-use Rattle.pos_disk.proofs.Moments.{started, weaker}
-use Rattle.pos_disk.specs.State.{DiskState, MayLeave}
-use Rattle.pos_image.specs.declared.layout.Layout.{Layout}
-use Rattle.pos_store.specs.StoreViews.{StoreState, Off, Ready, LeavesItsFiles, settled}
-use Rattle.pos_store.specs.Standing.{Standing, Stands, StandsForOneOf, StandsForEither, LeavesOneOf, Passes}
+use Rattle.pos_store.proofs.Common.{DiskState, Layout, LeavesItsFiles, LeavesOneOf, List, MayLeave, Off, Passes, Ready, Standing, Stands, StandsForEither}
+use Rattle.pos_store.proofs.Common.{StandsForOneOf, StoreState, [], inl, inr, settled, started, weaker, ℕ, ⊎_elim, ◌∷◌}
 
 -- a disk that no call has touched
 pub stays : (disk : DiskState) (left : List Standing) → ((c : List ℕ) → disk.left_since disk.moment c → MayLeave disk c) → LeavesOneOf left disk

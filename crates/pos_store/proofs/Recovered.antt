@@ -1,32 +1,15 @@
 -- What a recovery of a store that is off did, by what it found and that it only looked at the disk.
-use Rattle.std.proofs.Common.{◌≡◌, ◌⊎◌, inr, ⊎_elim, ℕ, List, Result, Ok, Err, OnOk, IsErr, IsErrOf, refl, sym, ◌∙◌, arith, rules}
-use Rattle.pos_dir.specs.Calls.{IsBody, Decodes}
-use Rattle.pos_dir.specs.declared.fault.DirectoryFault.{DirectoryFault}
+use Rattle.pos_store.proofs.Common.{Applies, Damaged, Decodes, DirectoryFault, DiskStandsFor, EndsAt, Err, File, FindsStanding, Ghosts, HasNotFailed}
+use Rattle.pos_store.proofs.Common.{HoldsRecords, HoldsSome, ImageFault, IsBody, IsDirectory, IsErr, IsErrOf, KeepsDisk, Layout, LeavesItsFiles, Limits, List}
+use Rattle.pos_store.proofs.Common.{LogFault, Off, Ok, OnOk, Recovers, Result, Rises, Standing, StandsFor, StoreFault, StoreView, Tells, TellsLog, Unformatted}
+use Rattle.pos_store.proofs.Common.{Watches, arith, image_on, inr, limits_of, one_log, one_spelling, refl, rules, spelling, sym, view_of, ℕ, ⊎_elim, ◌↔◌, ◌∙◌}
+use Rattle.pos_store.proofs.Common.{◌≡◌, ◌⊎◌}
+use Rattle.pos_store.proofs.Found.{finds_so, recovers_one, same_image, writable}
 use Rattle.pos_dir.specs.declared.fault.DirectoryFault.TheVariants as directory
-use Rattle.pos_dir.specs.Files.{IsDirectory}
-use Rattle.pos_dir.specs.Spelling.{spelling}
-use Rattle.pos_dir.specs.declared.file.File.{File}
-use Rattle.pos_dir.proofs.Directories.{one_spelling}
-use Rattle.pos_log.specs.Records.{HoldsRecords, HoldsSome}
-use Rattle.pos_log.proofs.Unique.{one_log}
-use Rattle.pos_dir.specs.declared.limits.Limits.{Limits}
-use Rattle.pos_disk.specs.State.{Watches, Rises, HasNotFailed}
-use Rattle.pos_disk.specs.Keeps.{KeepsDisk}
-use Rattle.pos_disk.specs.declared.device.Disk.{Ghosts}
 use Rattle.pos_image.specs.Standing as image
-use Rattle.pos_image.specs.Standing.{image_on}
-use Rattle.pos_image.specs.declared.fault.ImageFault.{ImageFault}
 use Rattle.pos_image.specs.declared.fault.ImageFault.TheVariants as images
-use Rattle.pos_image.specs.declared.layout.Layout.{Layout}
-use Rattle.pos_store.proofs.Found.{finds_so, recovers_one, writable}
-use Rattle.pos_store.specs.Layouts.{limits_of}
-use Rattle.pos_store.specs.StoreViews.{StoreView, Off, LeavesItsFiles}
-use Rattle.pos_store.specs.Recoveries.{FindsStanding, DiskStandsFor, EndsAt, Recovers}
-use Rattle.pos_store.specs.Standing.{Standing, Unformatted, Damaged, StandsFor, Applies}
-use Rattle.pos_log.specs.declared.fault.LogFault.{LogFault}
 use Rattle.pos_log.specs.declared.fault.LogFault.TheVariants as logs
-use Rattle.pos_store.specs.Faults.{Tells, TellsLog}
-use Rattle.pos_store.specs.declared.fault.StoreFault.{StoreFault}
+use Rattle.pos_store.specs.declared.disk_or_log.DiskOrLog.TheVariants as which
 use Rattle.pos_store.specs.declared.fault.StoreFault.TheVariants as fault
 
 -- a recovery that only looked at the disk of a store that was off
@@ -39,7 +22,7 @@ pub off_recovers : {D : Type 0} (bound : Ghosts D) (disk : D) (layout : Layout) 
     → (bound.honest disk → IsErrOf result fault.Device → Rises (bound.state disk).failures (bound.state new.disk).failures)
     → (bound.honest disk → IsErrOf result fault.Device ⊎ HasNotFailed (bound.state disk) (bound.state new.disk))
     → KeepsDisk bound disk new.disk
-    → Recovers bound (record { disk = disk; layout = layout; state = Off; tail = 0 }) result new
+    → Recovers bound (view_of (which.Off disk layout)) result new
 off_recovers bound disk layout result new finds kept watches now ends device counts keeps = record {
   ready = tt;
   answer = finds;
@@ -61,12 +44,7 @@ pub refused_recovers : {D : Type 0} (bound : Ghosts D) (disk end : D) (layout : 
     → (IsErrOf {T = Unit {0}} (Err cause) fault.Device → ⊥) → FindsStanding (DiskStandsFor bound disk) (Err cause) layout Off
     → (bound.honest disk → Watches (bound.state disk) (bound.state end)) → (bound.honest disk → HasNotFailed (bound.state disk) (bound.state end))
     → KeepsDisk bound disk end
-    → Recovers bound (record { disk = disk; layout = layout; state = Off; tail = 0 }) (Err cause) (record {
-      disk = end;
-      layout = layout;
-      state = Off;
-      tail = 0;
-    })
+    → Recovers bound (view_of (which.Off disk layout)) (Err cause) (view_of (which.Off end layout))
 refused_recovers bound disk end layout cause none finds watches same keeps =
     off_recovers bound disk layout (Err cause) _ finds (λ err. refl) watches (λ h. tt) (λ h. tt) (λ h is. absurd (none is)) (λ h. inr (same h)) keeps
 
@@ -78,48 +56,33 @@ pub told_finds : (P : Standing → Type 0) (layout : Layout) (cause : ImageFault
     → FindsStanding P (Err told) layout Off
 told_finds P layout cause told tells unformatted damaged known = grind arith
 
--- the disk's fault is told alone
-pub told_device : (cause : ImageFault) (told : StoreFault) → Tells cause told → IsErrOf {T = Unit {0}} (Err told) fault.Device → cause ≡ images.Device
-told_device cause told tells is = grind arith
-
--- a damaged image is no other
-damaged_alone : {layout : Layout} {body : List ℕ} {sequence : ℕ} → image.DamagedImage ≡ image.OneImage layout body sequence → ⊥
-damaged_alone same = cc
-
-one_differs : {layout : Layout} {body : List ℕ} {sequence : ℕ} → image.OneImage layout body sequence ≡ image.NoImage → ⊥
-one_differs same = cc
-
-one_body : (layout by : Layout) (body other : List ℕ) (sequence after : ℕ) → image.OneImage layout body sequence ≡ image.OneImage by other after
-    → (by ≡ layout) × (body ≡ other)
-one_body layout by body other sequence after same = (cc, cc)
-
--- and it is told wherever it is answered
-pub told_counts : {T : Type 0} (before now : ℕ) (cause : ImageFault) (told : StoreFault) → Tells cause told
-    → IsErrOf {T = T} (Err cause) images.Device ⊎ (now ≡ before) → IsErrOf {T = Unit {0}} (Err told) fault.Device ⊎ (now ≡ before)
-told_counts before now cause told tells counts = grind arith
+-- the disk's fault is told alone, wherever it is answered
+pub told_alone : (cause : ImageFault) (told : StoreFault) → Tells cause told
+    → IsErrOf {T = Unit {0}} (Err told) fault.Device ↔ (cause ≡ images.Device)
+told_alone cause told tells = ((λ is. grind arith), (λ is. grind arith))
 
 -- a damaged image is damage
 pub damaged_stands : (bytes : List ℕ) → image_on bytes ≡ image.DamagedImage → StandsFor Damaged bytes
 damaged_stands bytes same = (
   (λ none. let other = sym same ∙ none in cc other),
-  (λ layout files sequence holds. damaged_alone (sym same ∙ holds.shows)),
+  (λ layout files sequence holds. let is = sym same ∙ holds.shows in cc),
 )
 
 -- and so is one whose body spells no directory
 pub no_body_stands : (bytes : List ℕ) (layout : Layout) (body : List ℕ) (sequence : ℕ) → image_on bytes ≡ image.OneImage layout body sequence
     → ¬ (IsBody (limits_of layout) body) → StandsFor Damaged bytes
 no_body_stands bytes layout body sequence same none = (
-  (λ empty. one_differs (sym same ∙ empty)),
+  (λ empty. let is = sym same ∙ empty in cc),
   (λ by files after holds.
-      let shown = one_body layout by body (spelling holds.base) sequence after (sym same ∙ holds.shows) in
-      none (holds.base, rw shown.0 at holds.directory, shown.1)),
+      let shown = same_image layout by body (spelling holds.base) sequence after (sym same ∙ holds.shows) in
+      none (holds.base, rw (← shown.0) at holds.directory, shown.1)),
 )
 
 -- one behind which no records stand
 pub no_log_stands : (bytes : List ℕ) (layout : Layout) (body : List ℕ) (sequence : ℕ) → image_on bytes ≡ image.OneImage layout body sequence
     → ¬ (HoldsSome (image.log_of bytes)) → StandsFor Damaged bytes
 no_log_stands bytes layout body sequence same none = (
-  (λ empty. one_differs (sym same ∙ empty)),
+  (λ empty. let is = sym same ∙ empty in cc),
   (λ by files after holds. none (holds.texts, holds.log)),
 )
 
@@ -128,12 +91,12 @@ pub no_groups_stand : (bytes : List ℕ) (layout : Layout) (body : List ℕ) (se
     → image_on bytes ≡ image.OneImage layout body sequence → IsDirectory (limits_of layout) base → body ≡ spelling base
     → HoldsRecords texts (image.log_of bytes) → ((last : List File) → ¬ (Applies (limits_of layout) base texts last)) → StandsFor Damaged bytes
 no_groups_stand bytes layout body sequence base texts same sound spelled held none = (
-  (λ empty. one_differs (sym same ∙ empty)),
+  (λ empty. let is = sym same ∙ empty in cc),
   (λ by files after holds.
-      let shown = one_body layout by body (spelling holds.base) sequence after (sym same ∙ holds.shows) in
-      let is_base = one_spelling (limits_of layout) holds.base base (writable layout) (rw shown.0 at holds.directory) sound (sym shown.1 ∙ spelled) in
+      let shown = same_image layout by body (spelling holds.base) sequence after (sym same ∙ holds.shows) in
+      let is_base = one_spelling (limits_of layout) holds.base base (writable layout) (rw (← shown.0) at holds.directory) sound (sym shown.1 ∙ spelled) in
       let is_texts = one_log holds.texts texts (image.log_of bytes) holds.log held in
-      none files (rw (shown.0, is_base, is_texts) at holds.applies)),
+      none files (rw (← shown.0, is_base, is_texts) at holds.applies)),
 )
 
 -- malformed bytes spell no directory
@@ -146,14 +109,10 @@ pub told_log_finds : (P : Standing → Type 0) (layout : Layout) (cause : LogFau
     → FindsStanding P (Err told) layout Off
 told_log_finds P layout cause told tells damaged = grind arith
 
--- the disk's fault is told alone
-pub told_log_device : (cause : LogFault) (told : StoreFault) → TellsLog cause told → IsErrOf {T = Unit {0}} (Err told) fault.Device → cause ≡ logs.Device
-told_log_device cause told tells is = grind arith
-
--- and it is told wherever it is answered
-pub told_log_counts : {T : Type 0} (before now : ℕ) (cause : LogFault) (told : StoreFault) → TellsLog cause told
-    → IsErrOf {T = T} (Err cause) logs.Device ⊎ (now ≡ before) → IsErrOf {T = Unit {0}} (Err told) fault.Device ⊎ (now ≡ before)
-told_log_counts before now cause told tells counts = grind arith
+-- the disk's fault is told alone, wherever it is answered
+pub told_log_alone : (cause : LogFault) (told : StoreFault) → TellsLog cause told
+    → IsErrOf {T = Unit {0}} (Err told) fault.Device ↔ (cause ≡ logs.Device)
+told_log_alone cause told tells = ((λ is. grind arith), (λ is. grind arith))
 
 -- a call that answered no fault of the disk left its count
 pub never_failed : {T E : Type 0} (before now : ℕ) (made : T) (device : E) → IsErrOf (Ok made) device ⊎ (now ≡ before) → now ≡ before

@@ -1,24 +1,12 @@
 -- Where a control has claimed the area, no other has claimed a file.
-use Rattle.std.proofs.Common.{◌≡◌, ℕ, zero, suc, ◌+◌, Bool, true, false, cond, List, [], ◌∷◌, length, map, Option, Some, None, IfSome, refl}
-use Rattle.std.proofs.Common.{arith}
-use Rattle.std.specs.Prelude.{nat_eq}
-use Rattle.std.specs.List.{list_any, AllByRecursion}
-use Rattle.std.proofs.lemmas.Bool.Decides.{nat_tests}
-use Rattle.pos_dir.specs.declared.change.Change.{Change as FileChange}
-use Rattle.pos_dir.specs.declared.change.Change.TheVariants as file
-use Rattle.pos_dir.specs.declared.file.File.{File as PlainFile}
-use Rattle.pos_image.specs.declared.layout.Layout.{Layout}
-use Rattle.pos_service.specs.Claims.{is_foreign}
-use Rattle.pos_totals.specs.TotalsClaims.{is_foreign_claim, foreign_area, is_area_taken}
-use Rattle.pos_store.specs.StoreViews.{StoreState as State}
-use Rattle.pos_store.specs.StoreViews.{Off as StoreOff, Ready as StoreReady}
+use Rattle.pos_totals.proofs.Common.{AllByRecursion, AreApart, FileChange, Holdings, IfSome, IfSome_then, IsSound, Layout, List, None, Option, PlainFile, Some}
+use Rattle.pos_totals.proofs.Common.{State, StoreOff, StoreReady, Tag, [], arith, cases_Bool, false, foreign_area, given_after, is_area_taken, is_foreign}
+use Rattle.pos_totals.proofs.Common.{is_foreign_claim, is_own, length, list_any, map, nat_eq, nat_tests, new_tag, refl, suc, tag_claimed, tag_released}
+use Rattle.pos_totals.proofs.Common.{tags_from, totals_of, with_tags, zero, ℕ, ⊎_elim, ◌+◌, ◌∷◌, ◌≡◌}
+use Rattle.std.specs.Prelude.{Bool, cond}
 use Rattle.pos_totals.proofs.Grouped.{neither}
 use Rattle.pos_totals.proofs.Handled.{all_with, all_without}
-use Rattle.pos_totals.specs.Numbering.{given_after, tags_from}
-use Rattle.pos_totals.specs.Tables.{new_tag, tag_claimed, tag_released}
-use Rattle.pos_totals.specs.Views.{with_tags, totals_of, AreApart, IsSound}
-use Rattle.pos_totals.specs.declared.handles.Tag.{Tag}
-use Rattle.pos_totals.specs.declared.holdings.Holdings.{Holdings}
+use Rattle.pos_dir.specs.declared.change.Change.TheVariants as file
 
 -- nobody but the holder has claimed a file
 abbrev NoOther : ℕ → List Tag → Type 0
@@ -34,8 +22,7 @@ no_other_after holder tags next (file.Delete index) apart = all_without (λ tag.
 no_other_after holder tags next other apart = apart
 
 pub apart_after : (area : Option ℕ) (tags : List Tag) (next : ℕ) (made : FileChange) → IsApart area tags → IsApart area (given_after tags next made)
-apart_after None tags next made apart = tt
-apart_after (Some holder) tags next made apart = no_other_after holder tags next made apart
+apart_after area tags next made apart = IfSome_then area apart (λ holder own. no_other_after holder tags next made own)
 
 -- the tags of files that were found
 no_other_new : (holder first count : ℕ) → NoOther holder (tags_from first count)
@@ -46,37 +33,33 @@ pub apart_new : (area : Option ℕ) (first count : ℕ) → IsApart area (tags_f
 apart_new None first count = tt
 apart_new (Some holder) first count = no_other_new holder first count
 
--- a file is claimed
-no_other_claimed : (holder number : ℕ) (claim : Option ℕ) (tags : List Tag) → is_foreign holder claim ≡ false → NoOther holder tags
-    → NoOther holder (map (tag_claimed number claim) tags)
-no_other_claimed holder number claim [] own apart = tt
-no_other_claimed holder number claim (tag ∷ tags) own apart = (grind (arith, nat_tests, apart.0), no_other_claimed holder number claim tags own apart.1)
+-- the tag with another claim, where a test meets it
+abbrev pub retagged : (Tag → Bool) → Option ℕ → Tag → Tag
+retagged test claim tag = cond (test tag) (record tag { claim = claim }) tag
 
-same_holder : (holder control : ℕ) → is_foreign control (Some holder) ≡ false → is_foreign holder (Some control) ≡ false
-same_holder holder control own = grind (arith, nat_tests)
+-- files are claimed
+no_other_claimed : (test : Tag → Bool) (holder : ℕ) (claim : Option ℕ) (tags : List Tag) → is_foreign holder claim ≡ false → NoOther holder tags
+    → NoOther holder (map (retagged test claim) tags)
+no_other_claimed test holder claim [] own apart = tt
+no_other_claimed test holder claim (tag ∷ tags) own apart =
+    (grind (arith, nat_tests, apart.0), no_other_claimed test holder claim tags own apart.1)
 
 pub apart_claimed : (area : Option ℕ) (control number : ℕ) (tags : List Tag) → is_foreign control area ≡ false → IsApart area tags
     → IsApart area (map (tag_claimed number (Some control)) tags)
 apart_claimed None control number tags own apart = tt
-apart_claimed (Some holder) control number tags own apart = no_other_claimed holder number (Some control) tags (same_holder holder control own) apart
+apart_claimed (Some holder) control number tags own apart =
+    no_other_claimed (λ tag. nat_eq tag.handle number) holder (Some control) tags (grind (arith, nat_tests)) apart
 
 pub apart_released : (area : Option ℕ) (number : ℕ) (tags : List Tag) → IsApart area tags → IsApart area (map (tag_claimed number None) tags)
-apart_released None number tags apart = tt
-apart_released (Some holder) number tags apart = no_other_claimed holder number None tags refl apart
+apart_released area number tags apart = IfSome_then area apart
+    (λ holder own. no_other_claimed (λ tag. nat_eq tag.handle number) holder None tags refl own)
 
 -- all of a control is released
-no_other_dropped : (holder control : ℕ) (tags : List Tag) → NoOther holder tags → NoOther holder (map (tag_released control) tags)
-no_other_dropped holder control [] apart = tt
-no_other_dropped holder control (tag ∷ tags) apart = (grind (arith, nat_tests, apart.0), no_other_dropped holder control tags apart.1)
-
 pub apart_dropped : (area : Option ℕ) (control : ℕ) (tags : List Tag) → IsApart area tags
     → IsApart (foreign_area control area) (map (tag_released control) tags)
 apart_dropped None control tags apart = tt
-apart_dropped (Some holder) control tags apart = by (nat_eq holder control)
-  where
-    by : (b : Bool) → IsApart (cond b None (Some holder)) (map (tag_released control) tags)
-    by true = tt
-    by false = no_other_dropped holder control tags apart
+apart_dropped (Some holder) control tags apart =
+    ⊎_elim (λ is. rw is tt) (λ is. rw is (no_other_claimed (λ tag. is_own control tag.claim) holder None tags refl apart)) (cases_Bool (nat_eq holder control))
 
 -- the area is claimed where no other control has claimed a file
 no_other_left : (control : ℕ) (tags : List Tag) (files : List PlainFile) → length tags ≡ length files
@@ -106,8 +89,7 @@ no_other_file holder (tag ∷ tags) (file ∷ files) apart = (apart.0, no_other_
 
 pub files_apart : (area : Option ℕ) (tags : List Tag) (files : List PlainFile) → IsApart area tags
     → IfSome area (λ holder. AllByRecursion (λ file. is_foreign_claim holder file ≡ false) (with_tags tags files))
-files_apart None tags files apart = tt
-files_apart (Some holder) tags files apart = no_other_file holder tags files apart
+files_apart area tags files apart = IfSome_then area apart (λ holder own. no_other_file holder tags files own)
 
 -- what holds of the tags holds where the store is ready
 pub apart_so : (state : State) (area later : Option ℕ) (tags others : List Tag) → (IsApart area tags → IsApart later others)

@@ -1,27 +1,15 @@
 -- Changes that are buffered: they stay so whatever changes the files, and all of them make one group.
-use Rattle.std.proofs.Common.{◌≡◌, ◌∙◌, ℕ, zero, suc, ◌+◌, ◌≤◌, ℤ, pos, negsuc, nat_abs, true, false, not, List, [], ◌∷◌, length, replicate, Option, Some, None}
-use Rattle.std.proofs.Common.{Ok, refl, sym, ap, subst, arith}
-use Rattle.std.specs.Prelude.{is_none, is_some, slice_set}
-use Rattle.std.specs.List.{find, list_any, AllByRecursion}
-use Rattle.std.proofs.lemmas.Bool.{eqb-true}
-use Rattle.pos_dir.specs.Changes.{outcome_of_all}
-use Rattle.pos_image.specs.declared.layout.Layout.{Layout}
-use Rattle.pos_totals.specs.HardTotals.{File, Mode, Off, Ready, Change, Create, Delete, Rename, Edit, totals_limits, transaction_at}
-use Rattle.pos_totals.specs.HardTotals.{without_transactions}
-use Rattle.pos_totals.specs.TotalsFiles.{is_called, is_named, with_each}
-use Rattle.pos_totals.specs.Edits.{FileEdit, fits, edited}
+use Rattle.pos_totals.proofs.Common.{AllByRecursion, AreDistinct, Change, Create, Delete, Edit, File, FileEdit, FitsEach, HaveBuffers, IsBuffered, IsGiven}
+use Rattle.pos_totals.proofs.Common.{Layout, List, MayHold, Mode, None, Off, Ok, Option, Ready, Rename, Some, [], ap, arith, change_rows, edited, eqb-true}
+use Rattle.pos_totals.proofs.Common.{false, files_after, files_after_all, find, first_refusal, fits, fits_file, group_of, handles_of, is_called, is_named}
+use Rattle.pos_totals.proofs.Common.{is_none, is_of_none, length, limits_of, list_any, nat_abs, nat_tests, negsuc, next_after, next_after_all, not}
+use Rattle.pos_totals.proofs.Common.{outcome_of_all, plain, pos, refl, replicate, slice_set, subst, suc, sym, tags_of, totals_limits, transaction_at, true}
+use Rattle.pos_totals.proofs.Common.{with_each, without_transactions, zero, ℕ, ℤ, ◌+◌, ◌∙◌, ◌∷◌, ◌≡◌, ◌≤◌}
 use Rattle.pos_totals.proofs.Edited.{keeps_size}
-use Rattle.pos_totals.specs.TotalsChanges.{change_rows, files_after, fits_file, files_after_all, next_after, next_after_all}
-use Rattle.pos_totals.specs.TotalsCommits.{is_of_none}
-use Rattle.pos_service.specs.Refusals.{first_refusal}
-use Rattle.pos_store.specs.Layouts.{limits_of}
-use Rattle.pos_totals.proofs.Grouped.{made_edit, edit_fits, neither, some_file, fitting, only_called}
+use Rattle.pos_totals.proofs.Grouped.{made_edit, edit_fits, neither, some_of, fitting, only_called}
 use Rattle.pos_totals.proofs.Handled.{all_so, all_with, same_tags}
-use Rattle.pos_totals.proofs.Outlined.{outline, outlines, same_buffered, same_group, same_gone, same_distinct, outlines_kept, all_files, one_meets}
-use Rattle.pos_totals.proofs.Outlined.{found_has, all_left}
-use Rattle.pos_totals.specs.Buffers.{IsGiven, FitsEach, IsBuffered, MayHold, HaveBuffers}
-use Rattle.pos_totals.specs.Groups.{group_of}
-use Rattle.pos_totals.specs.Views.{plain, handles_of, tags_of, AreDistinct}
+use Rattle.pos_totals.proofs.Outlined.{outline, outlines, same_buffered, same_group, same_gone, same_distinct, outlines_kept, all_files, one_meets, found_has}
+use Rattle.pos_totals.proofs.Outlined.{all_left}
 
 -- ---- whatever changes the files
 
@@ -79,32 +67,16 @@ others_buffered : (files after : List File) (next : ℕ) (changes : List Change)
 others_buffered files after next changes same all =
     all_so (IsBuffered files next) (IsBuffered after next) changes (λ change is. same_buffered files after next change (sym same) is) all
 
--- the files after what is buffered have the same handles, claims and sizes
-pub outlines_after : (files : List File) (next : ℕ) (changes : List Change) → AllByRecursion (IsBuffered files next) changes
-    → outlines (files_after_all next files changes) ≡ outlines files
-outlines_after files next [] all = refl
-outlines_after files next (Edit handle edit ∷ changes) all =
+-- what is buffered keeps handles, claims and sizes, and the next handle
+pub keeps_all : (files : List File) (next : ℕ) (changes : List Change) → AllByRecursion (IsBuffered files next) changes
+    → let after = files_after_all next files changes in
+    (outlines after ≡ outlines files) × (tags_of after ≡ tags_of files) × (next_after_all next changes ≡ next)
+keeps_all files next [] all = (refl, refl, refl)
+keeps_all files next (Edit handle edit ∷ changes) all =
     let same = edits_keep files handle edit all.0.1 in
-    outlines_after (files_after next files (Edit handle edit)) next changes (others_buffered files _ next changes same all.1) ∙ same
-outlines_after files next (other ∷ changes) all = absurd all.0
-
-pub tags_after : (files : List File) (next : ℕ) (changes : List Change) → AllByRecursion (IsBuffered files next) changes
-    → tags_of (files_after_all next files changes) ≡ tags_of files
-tags_after files next [] all = refl
-tags_after files next (Edit handle edit ∷ changes) all =
-    tags_after (files_after next files (Edit handle edit)) next changes
-    (others_buffered files _ next changes (edits_keep files handle edit all.0.1) all.1)
-    ∙ same_tags (is_called handle) (λ file. record file { bytes = edited edit file.bytes }) files (λ file. refl)
-tags_after files next (other ∷ changes) all = absurd all.0
-
-pub next_stays : (files : List File) (next : ℕ) (changes : List Change) → AllByRecursion (IsBuffered files next) changes → next_after_all next changes ≡ next
-next_stays files next [] all = refl
-next_stays files next (Edit handle edit ∷ changes) all = next_stays files next changes all.1
-next_stays files next (other ∷ changes) all = absurd all.0
-
-is_there : (found : Option File) → is_none found ≡ false → is_some found ≡ true
-is_there None none = absurd cc
-is_there (Some file) none = refl
+    let rest = keeps_all (files_after next files (Edit handle edit)) next changes (others_buffered files _ next changes same all.1) in
+    (rest.0 ∙ same, rest.1 ∙ same_tags (is_called handle) (λ file. record file { bytes = edited edit file.bytes }) files (λ file. refl), rest.2)
+keeps_all files next (other ∷ changes) all = absurd all.0
 
 -- where no file is gone, the group of all that is buffered makes of the plain files those after it
 pub makes_all : (layout : Layout) (files : List File) (next : ℕ) (changes : List Change) → AreDistinct (handles_of files)
@@ -114,7 +86,8 @@ makes_all layout files next [] distinct all there = refl
 makes_all layout files next (Edit handle edit ∷ changes) distinct all there =
     let after = files_after next files (Edit handle edit) in
     let both = neither (is_none (find (is_called handle) files)) (list_any (is_of_none files) changes) there in
-    let found = some_file (find (is_called handle) files) (is_there (find (is_called handle) files) both.0) in
+    let there = both.0 in
+    let found = some_of (find (is_called handle) files) (grind (arith, nat_tests)) in
     let fit : fits_file (find (is_called handle) files) edit ≡ true =
     ap (λ (o : Option File). fits_file o edit) found.1
     ∙ found_has (is_called handle) (λ file. fits (length file.bytes) edit ≡ true) files found.0 all.0.1 found.1 in

@@ -1,68 +1,40 @@
 -- Claims: the tags with other claims are those of the files with other claims.
-use Rattle.std.proofs.Common.{◌≡◌, ◌∙◌, ℕ, ◌<◌, ℤ, pos, not, ◌&&◌, ◌||◌, List, [], ◌∷◌, length, map, Option, Some, None, Ok}
-use Rattle.std.proofs.Common.{refl, sym, ap, subst, arith}
-use Rattle.std.specs.Prelude.{slice_set}
-use Rattle.std.specs.List.{find, list_any, AllByRecursion}
-use Rattle.std.proofs.lemmas.List.{length-map}
-use Rattle.std.proofs.lemmas.Bool.Decides.{nat_tests}
-use Rattle.pos_dir.specs.declared.file.File.{File as PlainFile}
-use Rattle.pos_image.specs.declared.layout.Layout.{Layout}
-use Rattle.pos_service.specs.declared.answer.Answer.TheVariants as answer
-use Rattle.pos_service.specs.declared.answer.Value.TheVariants as value
-use Rattle.pos_service.specs.Claims.{is_foreign, is_timeout}
-use Rattle.pos_totals.specs.HardTotals.{Mode, Off, Ready, with_files, files_of}
-use Rattle.pos_totals.specs.TotalsArrangements.{ClaimFile, ReleaseFile, claimed, refusals_of_arrangement, after_arrangement, Arranges}
-use Rattle.pos_totals.specs.TotalsFiles.{is_called, with_each, has_file, is_foreign_file}
-use Rattle.pos_totals.specs.TotalsClaims.{is_own_claim, is_foreign_claim, foreign_area, without_control}
-use Rattle.pos_service.specs.Refusals.{first_refusal}
-use Rattle.pos_store.specs.StoreViews.{StoreState as State}
-use Rattle.pos_store.specs.StoreViews.{Off as StoreOff, Ready as StoreReady}
-use Rattle.pos_totals.proofs.Apart.{apart_claimed, apart_dropped, apart_released, apart_so}
+use Rattle.pos_totals.proofs.Common.{AllByRecursion, AreApart, AreDistinct, Arranges, ClaimFile, File, Files, HandleTable, HasHandles, HaveBuffers, Holdings}
+use Rattle.pos_totals.proofs.Common.{IsSeen, IsSound, Layout, LetsThroughAt, List, Mode, None, Off, Ok, Option, PlainFile, Ready, ReleaseFile, Some, State}
+use Rattle.pos_totals.proofs.Common.{StoreOff, StoreReady, Tag, [], ap, arith, called, claimed, files_in, files_of, find, first_refusal, foreign_area, has_file}
+use Rattle.pos_totals.proofs.Common.{is_called, is_foreign, is_foreign_claim, is_foreign_file, is_own, is_own_claim, is_timeout, length, length-map, list_any}
+use Rattle.pos_totals.proofs.Common.{map, mode_of, nat_eq, nat_tests, not, numbers_of, pos, refl, refusals_of_arrangement, slice_set, subst, sym, tag_claimed}
+use Rattle.pos_totals.proofs.Common.{tag_released, totals_of, with_each, with_files, with_tags, without_control, ℕ, ℤ, ◌&&◌, ◌<◌, ◌||◌, ◌∙◌, ◌∷◌, ◌≡◌}
+use Rattle.std.specs.Prelude.{Bool}
+use Rattle.pos_totals.proofs.Apart.{retagged, apart_claimed, apart_dropped, apart_released, apart_so}
 use Rattle.pos_totals.proofs.Buffered.{holds_so, held_with, none_held}
 use Rattle.pos_totals.proofs.Grouped.{neither, not_refused}
 use Rattle.pos_totals.proofs.Outlined.{outlines, same_buffered}
 use Rattle.pos_totals.proofs.Putting.{open_table}
-use Rattle.pos_totals.specs.Buffers.{HaveBuffers}
-use Rattle.pos_totals.specs.Checks.{files_in, IsSeen, LetsThroughAt}
-use Rattle.pos_totals.specs.Tables.{HandleTable, tag_claimed, tag_released}
-use Rattle.pos_totals.specs.Views.{with_tags, numbers_of, mode_of, totals_of, AreDistinct, AreApart, HasHandles, IsSound}
-use Rattle.pos_totals.specs.declared.files.Files.{Files}
-use Rattle.pos_totals.specs.declared.handles.Tag.{Tag}
-use Rattle.pos_totals.specs.declared.holdings.Holdings.{Holdings}
+use Rattle.pos_service.specs.declared.answer.Answer.TheVariants as answer
+use Rattle.pos_service.specs.declared.answer.Value.TheVariants as value
 
 -- ---- other claims
 
-claimed_files : (handle : ℕ) (claim : Option ℕ) (tags : List Tag) (files : List PlainFile)
-    → with_tags (map (tag_claimed handle claim) tags) files ≡ with_each (is_called (pos handle)) (claimed claim) (with_tags tags files)
-claimed_files handle claim [] files = refl
-claimed_files handle claim (tag ∷ tags) [] = refl
-claimed_files handle claim (tag ∷ tags) (file ∷ files) = grind (arith, nat_tests, claimed_files handle claim tags files)
+retagged_files : (test : Tag → Bool) (claim : Option ℕ) (meets : File → Bool) → ((tag : Tag) (file : PlainFile) → meets (called tag file) ≡ test tag)
+    → (tags : List Tag) (files : List PlainFile)
+    → with_tags (map (retagged test claim) tags) files ≡ with_each meets (claimed claim) (with_tags tags files)
+retagged_files test claim meets same [] files = refl
+retagged_files test claim meets same (tag ∷ tags) [] = refl
+retagged_files test claim meets same (tag ∷ tags) (file ∷ files) =
+    grind (arith, nat_tests, same tag file, retagged_files test claim meets same tags files)
 
-released_files : (control : ℕ) (tags : List Tag) (files : List PlainFile)
-    → with_tags (map (tag_released control) tags) files ≡ with_each (is_own_claim control) (claimed None) (with_tags tags files)
-released_files control [] files = refl
-released_files control (tag ∷ tags) [] = refl
-released_files control (tag ∷ tags) (file ∷ files) = grind (arith, nat_tests, released_files control tags files)
-
-claimed_mode : (handle : ℕ) (claim : Option ℕ) (tags : List Tag) (state : State)
-    → mode_of (map (tag_claimed handle claim) tags) state ≡ with_files (with_each (is_called (pos handle)) (claimed claim)) (mode_of tags state)
-claimed_mode handle claim tags StoreOff = refl
-claimed_mode handle claim tags (StoreReady files sequence) = ap (λ fs. Ready fs sequence) (claimed_files handle claim tags files)
-
-pub released_mode : (control : ℕ) (tags : List Tag) (state : State)
-    → mode_of (map (tag_released control) tags) state ≡ with_files (with_each (is_own_claim control) (claimed None)) (mode_of tags state)
-released_mode control tags StoreOff = refl
-released_mode control tags (StoreReady files sequence) = ap (λ fs. Ready fs sequence) (released_files control tags files)
+retagged_mode : (test : Tag → Bool) (claim : Option ℕ) (meets : File → Bool) → ((tag : Tag) (file : PlainFile) → meets (called tag file) ≡ test tag)
+    → (tags : List Tag) (state : State)
+    → mode_of (map (retagged test claim) tags) state ≡ with_files (with_each meets (claimed claim)) (mode_of tags state)
+retagged_mode test claim meets same tags StoreOff = refl
+retagged_mode test claim meets same tags (StoreReady files sequence) = ap (λ fs. Ready fs sequence) (retagged_files test claim meets same tags files)
 
 -- ---- the handles stay
 
-claimed_numbers : (handle : ℕ) (claim : Option ℕ) (tags : List Tag) → numbers_of (map (tag_claimed handle claim) tags) ≡ numbers_of tags
-claimed_numbers handle claim [] = refl
-claimed_numbers handle claim (tag ∷ tags) = grind (arith, nat_tests, claimed_numbers handle claim tags)
-
-pub released_numbers : (control : ℕ) (tags : List Tag) → numbers_of (map (tag_released control) tags) ≡ numbers_of tags
-released_numbers control [] = refl
-released_numbers control (tag ∷ tags) = grind (arith, nat_tests, released_numbers control tags)
+retagged_numbers : (test : Tag → Bool) (claim : Option ℕ) (tags : List Tag) → numbers_of (map (retagged test claim) tags) ≡ numbers_of tags
+retagged_numbers test claim [] = refl
+retagged_numbers test claim (tag ∷ tags) = grind (arith, nat_tests, retagged_numbers test claim tags)
 
 same_outlines : (xs ys : List Tag) (files : List PlainFile) → numbers_of xs ≡ numbers_of ys → outlines (with_tags xs files) ≡ outlines (with_tags ys files)
 same_outlines [] [] files same = refl
@@ -90,18 +62,17 @@ sound_retagged (StoreReady files sequence) holdings tags same sound = (
 -- ---- claims of a file
 
 -- the file is claimed, or no longer
-with_claim : {layout : Layout} (state : State) (holdings : Holdings) (table : HandleTable) (number : ℕ) (claim : Option ℕ)
-    → table.given ≡ map (tag_claimed number claim) holdings.handles.given → table.next ≡ holdings.handles.next → IsSound layout state holdings
-    → AreApart state holdings.area (map (tag_claimed number claim) holdings.handles.given)
-    → (totals_of state (record holdings { handles = table }) ≡ record
-    (totals_of state holdings) {
-      mode = with_files (with_each (is_called (pos number)) (claimed claim))
-          (mode_of holdings.handles.given state);
-    }) × IsSound layout state (record holdings { handles = table })
-with_claim state holdings table number claim given next sound apart = rw (given, next) (
-  ap (λ (m : Mode). record (totals_of state holdings) { mode = m }) (claimed_mode number claim holdings.handles.given state),
+with_claim : {layout : Layout} (state : State) (holdings : Holdings) (table : HandleTable) (handle : ℤ) (number : ℕ) (claim : Option ℕ)
+    → handle ≡ pos number → table.given ≡ map (tag_claimed number claim) holdings.handles.given → table.next ≡ holdings.handles.next
+    → IsSound layout state holdings → AreApart state holdings.area (map (tag_claimed number claim) holdings.handles.given)
+    → (totals_of state (record holdings { handles = table })
+    ≡ record (totals_of state holdings) { mode = with_files (with_each (is_called handle) (claimed claim)) (mode_of holdings.handles.given state) })
+    × IsSound layout state (record holdings { handles = table })
+with_claim state holdings table handle number claim is given next sound apart = rw (is, given, next) (
+  ap (λ (m : Mode). record (totals_of state holdings) { mode = m })
+      (retagged_mode (λ tag. nat_eq tag.handle number) claim (is_called (pos number)) (λ tag file. refl) holdings.handles.given state),
   let still = sound_retagged state holdings (map (tag_claimed number claim) holdings.handles.given)
-      (claimed_numbers number claim holdings.handles.given) sound in
+      (retagged_numbers (λ tag. nat_eq tag.handle number) claim holdings.handles.given) sound in
       record { found = sound.found; handles = still.0; buffers = still.1; apart = apart },
 )
 
@@ -123,13 +94,9 @@ pub file_claimed : {layout : Layout} (state : State) (holdings : Holdings) (cont
     → Arranges (totals_of state holdings) control (ClaimFile handle timeout) (answer.Done value.Empty)
     (totals_of state (record holdings { handles = table })) × IsSound layout state (record holdings { handles = table })
 file_claimed state holdings control handle timeout number table through given next sound =
-    let both = with_claim state holdings table number (Some control) given next sound
+    let both = with_claim state holdings table handle number (Some control) through.1 given next sound
     (still_apart state holdings control handle timeout number through.0 sound.apart) in
-    let is : handle ≡ pos number = through.1 in (
-      open_table (refusals_of_arrangement (totals_of state holdings) control (ClaimFile handle timeout)) _ _ _ through.0
-          (refl, both.0 ∙ ap (λ (h : ℤ). after_arrangement (totals_of state holdings) control (ClaimFile h timeout)) (sym is)),
-      both.1,
-    )
+    (open_table (refusals_of_arrangement (totals_of state holdings) control (ClaimFile handle timeout)) _ _ _ through.0 (refl, both.0), both.1)
 
 pub file_released : {layout : Layout} (state : State) (holdings : Holdings) (control : ℕ) (handle : ℤ) (number : ℕ) (table : HandleTable)
     → LetsThroughAt (totals_of state holdings) control (ReleaseFile handle) handle (Ok number)
@@ -137,13 +104,9 @@ pub file_released : {layout : Layout} (state : State) (holdings : Holdings) (con
     → Arranges (totals_of state holdings) control (ReleaseFile handle) (answer.Done value.Empty)
     (totals_of state (record holdings { handles = table })) × IsSound layout state (record holdings { handles = table })
 file_released state holdings control handle number table through given next sound =
-    let both = with_claim state holdings table number None given next sound
+    let both = with_claim state holdings table handle number None through.1 given next sound
     (apart_so state holdings.area holdings.area holdings.handles.given _ (apart_released holdings.area number holdings.handles.given) sound.apart) in
-    let is : handle ≡ pos number = through.1 in (
-      open_table (refusals_of_arrangement (totals_of state holdings) control (ReleaseFile handle)) _ _ _ through.0
-          (refl, both.0 ∙ ap (λ (h : ℤ). after_arrangement (totals_of state holdings) control (ReleaseFile h)) (sym is)),
-      both.1,
-    )
+    (open_table (refusals_of_arrangement (totals_of state holdings) control (ReleaseFile handle)) _ _ _ through.0 (refl, both.0), both.1)
 
 -- ---- claims of others
 
@@ -162,27 +125,24 @@ foreign_seen (Ready fs sequence) files control seen same =
 
 -- ---- the end of all that a control has
 
+abbrev pub dropped : Holdings → ℕ → HandleTable → Holdings
+dropped holdings control table = record {
+  layout = holdings.layout;
+  handles = table;
+  area = foreign_area control holdings.area;
+  transactions = slice_set holdings.transactions control None;
+}
+
 pub control_dropped : {layout : Layout} (state : State) (holdings : Holdings) (control : ℕ) (table : HandleTable)
     → table.given ≡ map (tag_released control) holdings.handles.given → table.next ≡ holdings.handles.next → IsSound layout state holdings
-    → (totals_of state (record {
-      layout = holdings.layout;
-      handles = table;
-      area = foreign_area control holdings.area;
-      transactions = slice_set holdings.transactions control
-          None;
-    }) ≡ without_control (totals_of state holdings) control)
-    × IsSound layout state (record {
-      layout = holdings.layout;
-      handles = table;
-      area = foreign_area control holdings.area;
-      transactions = slice_set
-          holdings.transactions control None;
-    })
+    → (totals_of state (dropped holdings control table) ≡ without_control (totals_of state holdings) control)
+    × IsSound layout state (dropped holdings control table)
 control_dropped state holdings control table given next sound =
     let tags = map (tag_released control) holdings.handles.given in
-    let still = sound_retagged state holdings tags (released_numbers control holdings.handles.given) sound in
+    let still = sound_retagged state holdings tags (retagged_numbers (λ tag. is_own control tag.claim) None holdings.handles.given) sound in
     rw (given, next) (
-      ap (λ (m : Mode). record (without_control (totals_of state holdings) control) { mode = m }) (released_mode control holdings.handles.given state),
+      ap (λ (m : Mode). record (without_control (totals_of state holdings) control) { mode = m })
+          (retagged_mode (λ tag. is_own control tag.claim) None (is_own_claim control) (λ tag file. refl) holdings.handles.given state),
       record {
         found = sound.found;
         handles = still.0;

@@ -1,18 +1,9 @@
 -- What an edit does to its file, to the directory, and to the handles.
-use Rattle.std.proofs.Common.{◌≡◌, ℕ, ◌+◌, ℤ, pos, negsuc, nat_abs, true, false, List, ◌++◌, length, take, drop, Some, Ok, refl, arith}
-use Rattle.std.specs.Prelude.{is_some, slice_get, slice_set, nat_le}
-use Rattle.std.proofs.lemmas.Bool.{cond-true, leb-true}
-use Rattle.std.proofs.lemmas.List.{length-append, length-take, length-drop}
-use Rattle.std.proofs.Math.ListN.{length-replicate}
-use Rattle.pos_dir.specs.Changes.{outcome}
-use Rattle.pos_dir.specs.declared.change.Change.{Change as FileChange}
-use Rattle.pos_dir.specs.declared.file.File.{File as PlainFile}
-use Rattle.pos_dir.specs.declared.limits.Limits.{Limits}
+use Rattle.pos_totals.proofs.Common.{FileChange, FileEdit, HasPlace, Limits, List, Ok, PlainFile, SetAll, Some, Tag, Write, arith, cond-true, drop, edit_change}
+use Rattle.pos_totals.proofs.Common.{edit_in, edited, false, fits, following, given_after, is_range, is_some, lacks, leb-true, length, length-append}
+use Rattle.pos_totals.proofs.Common.{length-drop, length-replicate, length-take, nat_abs, nat_le, negsuc, outcome, pos, refl, slice_get, slice_set, take, true}
+use Rattle.pos_totals.proofs.Common.{value_after, ℕ, ℤ, ◌++◌, ◌+◌, ◌≡◌}
 use Rattle.pos_service.specs.declared.answer.Value.TheVariants as value
-use Rattle.pos_totals.specs.Edits.{FileEdit, Write, SetAll, fits, edited, edit_change, edit_in}
-use Rattle.pos_totals.specs.Numbering.{lacks, HasPlace, given_after, following, value_after}
-use Rattle.pos_totals.specs.Ranges.{is_range}
-use Rattle.pos_totals.specs.declared.handles.Tag.{Tag}
 
 range_end : (size : ℕ) (offset : ℤ) (count : ℕ) → is_range size offset (pos count) ≡ true → nat_le (nat_abs offset + count) size ≡ true
 range_end size (pos offset) count fits = fits

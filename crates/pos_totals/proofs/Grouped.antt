@@ -1,31 +1,13 @@
 -- What each change does to the files is what its group does to the directory.
-use Rattle.std.proofs.Common.{◌≡◌, ◌∙◌, ℕ, suc, ◌≤◌, ℤ, pos, negsuc, nat_abs, Bool, true, false, not, ◌||◌, cond, List, [], ◌∷◌, ◌++◌, length, take}
-use Rattle.std.proofs.Common.{drop, set, replicate, map, Option, Some, None, Ok, refl, sym, ap, subst, arith}
-use Rattle.std.specs.Prelude.{remove, nat_eq, is_some}
-use Rattle.std.specs.List.{find, AllByRecursion}
-use Rattle.std.specs.Option.{option_map}
-use Rattle.std.proofs.lemmas.Bool.{and_parts, not-true, leb-true, eqb-true}
-use Rattle.std.proofs.lemmas.List.{map-set, map-append, take-map, drop-map, length-map}
-use Rattle.std.proofs.lemmas.List.Sums.{sum_by-cons}
-use Rattle.std.proofs.lemmas.Option.{slice_get-map}
-use Rattle.std.proofs.lemmas.Slice.Eq.{bytes_eq-Decides}
-use Rattle.std.proofs.lemmas.Bool.Decides.{nat_tests}
-use Rattle.pos_dir.specs.Changes.{outcome, outcome_of_all}
-use Rattle.pos_dir.specs.Files.{IsDirectory, has_name, are_distinct, total_size}
-use Rattle.pos_dir.specs.declared.file.File.{File as PlainFile}
-use Rattle.pos_image.specs.declared.layout.Layout.{Layout}
-use Rattle.pos_service.specs.declared.answer.Answer.{Answer}
-use Rattle.pos_totals.specs.HardTotals.{File, Change, Create, Delete, Rename, Edit, totals_limits}
-use Rattle.pos_totals.specs.TotalsFiles.{is_named, is_called, has_file, free_data, size_in_sum, with_each}
-use Rattle.pos_totals.specs.Edits.{FileEdit, fits, edited}
+use Rattle.pos_totals.proofs.Common.{AllByRecursion, Answer, AreDistinct, Bool, Change, Create, Delete, Edit, File, FileEdit, IsDirectory, Layout, List, None}
+use Rattle.pos_totals.proofs.Common.{Ok, Option, PlainFile, Rename, Some, [], and_parts, ap, are_distinct, arith, bytes_eq-Decides, cases_Bool, change_rows}
+use Rattle.pos_totals.proofs.Common.{cond, drop, drop-map, edited, eqb-true, false, file_change, files_after, find, first_refusal, fits, fits_file, free_data}
+use Rattle.pos_totals.proofs.Common.{group_of, handles_of, has_file, has_name, index_of, is_called, is_named, is_some, is_up_to, leb-true, length, length-map}
+use Rattle.pos_totals.proofs.Common.{limits_of, map, map-append, map-set, nat_abs, nat_eq, nat_tests, negsuc, not, not-true, option_map, outcome}
+use Rattle.pos_totals.proofs.Common.{outcome_of_all, plain, plain_file, pos, refl, remove, replicate, set, size_in_sum, slice_get-map, subst, suc, sum_by-cons}
+use Rattle.pos_totals.proofs.Common.{sym, take, take-map, total_size, totals_limits, true, with_each, ℕ, ℤ, ⊎_elim, ◌++◌, ◌||◌, ◌∙◌, ◌∷◌, ◌≡◌, ◌≤◌}
 use Rattle.pos_totals.proofs.Edited.{makes_edit}
-use Rattle.pos_service.specs.Numbers.{is_up_to}
-use Rattle.pos_totals.specs.TotalsChanges.{change_rows, files_after, fits_file}
-use Rattle.pos_service.specs.Refusals.{first_refusal}
-use Rattle.pos_store.specs.Layouts.{limits_of}
 use Rattle.pos_totals.proofs.Places.{OnlyOne, found_at, one_changed, one_gone}
-use Rattle.pos_totals.specs.Groups.{index_of, file_change, group_of}
-use Rattle.pos_totals.specs.Views.{plain, plain_file, handles_of, AreDistinct}
 
 -- ---- tables
 
@@ -44,20 +26,20 @@ pub plain_name : (files : List File) (name : List ℕ) → has_name (plain files
 plain_name [] name = refl
 plain_name (first ∷ files) name = grind (arith, nat_tests, plain_name files name)
 
-pub no_file : (found : Option File) → is_some found ≡ false → found ≡ None
-no_file None none = refl
-no_file (Some file) none = absurd cc
+pub none_of : {X : Type 0} (found : Option X) → is_some found ≡ false → found ≡ None
+none_of None none = refl
+none_of (Some x) none = absurd cc
 
-pub some_file : (found : Option File) → is_some found ≡ true → (file : File) × (found ≡ Some file)
-some_file None some = absurd cc
-some_file (Some file) some = (file, refl)
+pub some_of : {X : Type 0} (found : Option X) → is_some found ≡ true → (x : X) × (found ≡ Some x)
+some_of None some = absurd cc
+some_of (Some x) some = (x, refl)
 
 -- names are distinct, so at most one file has a name
 pub only_named : (files : List File) (name : List ℕ) → are_distinct (plain files) ≡ true → OnlyOne (is_named name) files
 only_named [] name distinct = tt
 only_named (first ∷ files) name distinct =
     let parts = and_parts (not (has_name (plain files) first.name)) (are_distinct (plain files)) distinct in (
-      λ same. no_file (find (is_named name) files)
+      λ same. none_of (find (is_named name) files)
           (sym (plain_name files name) ∙ ap (has_name (plain files)) (sym ((bytes_eq-Decides first.name name).0 same))
           ∙ not-true (has_name (plain files) first.name) parts.0),
       only_named files name parts.1,
@@ -66,12 +48,8 @@ only_named (first ∷ files) name distinct =
 -- none of the files has a handle that differs from all of theirs
 others : (files : List File) (handle : ℕ) → AllByRecursion (λ other. ¬ (other ≡ handle)) (handles_of files) → find (is_called (pos handle)) files ≡ None
 others [] handle differ = refl
-others (first ∷ files) handle differ = by (nat_eq first.handle handle) refl (others files handle differ.1)
-  where
-    by : (b : Bool) → nat_eq first.handle handle ≡ b → find (is_called (pos handle)) files ≡ None
-        → cond b (Some first) (find (is_called (pos handle)) files) ≡ None
-    by true same rest = absurd (differ.0 (eqb-true first.handle handle same))
-    by false same rest = rest
+others (first ∷ files) handle differ = ⊎_elim (λ is. absurd (differ.0 (eqb-true first.handle handle is)))
+    (λ is. rw is (others files handle differ.1)) (cases_Bool (nat_eq first.handle handle))
 
 -- handles are distinct, so at most one file has a handle
 pub only_called : (files : List File) (handle : ℤ) → AreDistinct (handles_of files) → OnlyOne (is_called handle) files
@@ -108,37 +86,12 @@ up_to : (limit : ℕ) (n : ℤ) → is_up_to limit n ≡ true → nat_abs n ≤ 
 up_to limit (pos n) fits = leb-true n limit fits
 up_to limit (negsuc n) fits = absurd cc
 
-made_create : (layout : Layout) (files : List File) (control : ℕ) (spent : Option ℕ) (name : List ℕ) (size : ℤ) (next : ℕ)
-    → total_size (plain files) ≤ (limits_of layout).bytes
-    → first_refusal (change_rows (totals_limits layout) files control spent (Create name size)) ≡ None → Makes layout files (Create name size) next
-made_create layout files control spent name size next small unrefused =
-    let new : PlainFile = record { name = name; bytes = replicate (nat_abs size) 0 } in
-    let made : outcome (limits_of layout) (plain files) (file_change files (Create name size)) ≡ Ok (plain files ++ new ∷ []) = grind (
-      arith,
-      nat_tests,
-      plain_name files name,
-      plain_size files,
-      length-map files plain_file,
-      up_to (free_data (totals_limits layout) files) size,
-    ) in
-    made ∙ ap (λ (fs : List PlainFile). Ok fs)
-    (sym (map-append plain_file files (record { handle = next; name = name; bytes = replicate (nat_abs size) 0; claim = None } ∷ [])))
-
 -- the file of a delete that nothing refuses
 pub deleted : (layout : Layout) (files : List File) (control : ℕ) (spent : Option ℕ) (name : List ℕ)
     → first_refusal (change_rows (totals_limits layout) files control spent (Delete name)) ≡ None → (file : File) × (find (is_named name) files ≡ Some file)
 deleted layout files control spent name unrefused =
     let there : has_file (is_named name) files ≡ true = grind (arith, nat_tests) in
-    some_file (find (is_named name) files) there
-
-made_delete : (layout : Layout) (files : List File) (control : ℕ) (spent : Option ℕ) (name : List ℕ) (next : ℕ) → are_distinct (plain files) ≡ true
-    → first_refusal (change_rows (totals_limits layout) files control spent (Delete name)) ≡ None → Makes layout files (Delete name) next
-made_delete layout files control spent name next distinct unrefused =
-    let found = deleted layout files control spent name unrefused in
-    let index = index_of (is_named name) files in
-    rw (slice_get-map plain_file files index, found_at (is_named name) files found.0 found.1) (ap (λ (fs : List PlainFile). Ok fs)
-    (sym (map-remove plain_file files index) ∙ ap (λ (fs : List File). plain fs)
-    (sym (one_gone (is_named name) files found.0 (only_named files name distinct) found.1))))
+    some_of (find (is_named name) files) there
 
 -- the one file with a handle, changed in its place
 set_plain : (files : List File) (handle : ℤ) (f : File) (change : File → File) → AreDistinct (handles_of files) → find (is_called handle) files ≡ Some f
@@ -146,15 +99,6 @@ set_plain : (files : List File) (handle : ℤ) (f : File) (change : File → Fil
 set_plain files handle f change distinct found =
     sym (map-set plain_file files (index_of (is_called handle) files) (change f))
     ∙ ap (λ (fs : List File). plain fs) (sym (one_changed (is_called handle) change files f (only_called files handle distinct) found))
-
-made_rename : (layout : Layout) (files : List File) (control : ℕ) (spent : Option ℕ) (handle : ℤ) (name : List ℕ) (next : ℕ) → AreDistinct (handles_of files)
-    → first_refusal (change_rows (totals_limits layout) files control spent (Rename handle name)) ≡ None → Makes layout files (Rename handle name) next
-made_rename layout files control spent handle name next distinct unrefused =
-    let there : has_file (is_called handle) files ≡ true = grind (arith, nat_tests) in
-    let free : has_name (plain files) name ≡ false = grind (arith, nat_tests, plain_name files name) in
-    let found = some_file (find (is_called handle) files) there in
-    rw (slice_get-map plain_file files (index_of (is_called handle) files), found_at (is_called handle) files found.0 found.1, free)
-    (ap (λ (fs : List PlainFile). Ok fs) (set_plain files handle found.0 (λ f. record f { name = name }) distinct found.1))
 
 -- an edit that fits is of a file that is there
 pub fitting : (found : Option File) (edit : FileEdit) → fits_file found edit ≡ true → (f : File) × (found ≡ Some f) × (fits (length f.bytes) edit ≡ true)
@@ -179,9 +123,31 @@ edit_fits layout files control spent handle edit unrefused = grind (arith, nat_t
 -- Where nothing refuses a change, it makes of the plain files those after it.
 pub makes : (layout : Layout) (files : List File) (control : ℕ) (spent : Option ℕ) (change : Change) (next : ℕ) → IsDirectory (limits_of layout) (plain files)
     → AreDistinct (handles_of files) → first_refusal (change_rows (totals_limits layout) files control spent change) ≡ None → Makes layout files change next
-makes layout files control spent (Create name size) next sound distinct unrefused = made_create layout files control spent name size next sound.size unrefused
-makes layout files control spent (Delete name) next sound distinct unrefused = made_delete layout files control spent name next sound.distinct unrefused
-makes layout files control spent (Rename handle name) next sound distinct unrefused = made_rename layout files control spent handle name next distinct unrefused
+makes layout files control spent (Create name size) next sound distinct unrefused =
+    let small = sound.size in
+    let new : PlainFile = record { name = name; bytes = replicate (nat_abs size) 0 } in
+    let made : outcome (limits_of layout) (plain files) (file_change files (Create name size)) ≡ Ok (plain files ++ new ∷ []) = grind (
+      arith,
+      nat_tests,
+      plain_name files name,
+      plain_size files,
+      length-map files plain_file,
+      up_to (free_data (totals_limits layout) files) size,
+    ) in
+    made ∙ ap (λ (fs : List PlainFile). Ok fs)
+    (sym (map-append plain_file files (record { handle = next; name = name; bytes = replicate (nat_abs size) 0; claim = None } ∷ [])))
+makes layout files control spent (Delete name) next sound distinct unrefused =
+    let found = deleted layout files control spent name unrefused in
+    let index = index_of (is_named name) files in
+    rw (slice_get-map plain_file files index, found_at (is_named name) files found.0 found.1) (ap (λ (fs : List PlainFile). Ok fs)
+    (sym (map-remove plain_file files index) ∙ ap (λ (fs : List File). plain fs)
+    (sym (one_gone (is_named name) files found.0 (only_named files name sound.distinct) found.1))))
+makes layout files control spent (Rename handle name) next sound distinct unrefused =
+    let there : has_file (is_called handle) files ≡ true = grind (arith, nat_tests) in
+    let free : has_name (plain files) name ≡ false = grind (arith, nat_tests, plain_name files name) in
+    let found = some_of (find (is_called handle) files) there in
+    rw (slice_get-map plain_file files (index_of (is_called handle) files), found_at (is_called handle) files found.0 found.1, free)
+    (ap (λ (fs : List PlainFile). Ok fs) (set_plain files handle found.0 (λ f. record f { name = name }) distinct found.1))
 makes layout files control spent (Edit handle edit) next sound distinct unrefused =
     made_edit layout files handle edit next distinct (edit_fits layout files control spent handle edit unrefused)
 

@@ -1,28 +1,13 @@
 -- The tags after a change are those of the files after it, their handles distinct and below the next one.
-use Rattle.std.proofs.Common.{◌≡◌, ◌∙◌, ℕ, zero, suc, ◌+◌, ◌<◌, nat_abs, Bool, true, List, [], ◌∷◌, ◌++◌, length, replicate, Option, None, refl}
-use Rattle.std.proofs.Common.{sym, ap, arith}
-use Rattle.std.specs.Prelude.{remove}
-use Rattle.std.specs.List.{AllByRecursion}
-use Rattle.std.proofs.lemmas.List.{map-append, length-map}
-use Rattle.std.proofs.Math.Seq.{take-nil, drop-nil}
-use Rattle.std.proofs.lemmas.Bool.Decides.{nat_tests}
-use Rattle.pos_dir.specs.Files.{are_distinct}
-use Rattle.pos_dir.specs.declared.change.Change.{Change as FileChange}
-use Rattle.pos_dir.specs.declared.change.Change.TheVariants as file
-use Rattle.pos_image.specs.declared.layout.Layout.{Layout}
-use Rattle.pos_totals.specs.HardTotals.{File, Change, Create, Delete, Rename, Edit, totals_limits}
-use Rattle.pos_totals.specs.TotalsFiles.{is_named, is_called, with_each}
-use Rattle.pos_totals.specs.Edits.{edited}
+use Rattle.pos_totals.proofs.Common.{AllByRecursion, AreDistinct, AreHandles, Bool, Change, Create, Delete, Edit, File, FileChange, Layout, List, None, Option}
+use Rattle.pos_totals.proofs.Common.{Rename, Tag, [], ap, are_distinct, arith, change_rows, drop-nil, edited, file_change, files_after, first_refusal}
+use Rattle.pos_totals.proofs.Common.{following, given_after, given_by, index_of, is_called, is_named, length, length-map, map-append, nat_abs, nat_tests}
+use Rattle.pos_totals.proofs.Common.{new_tag, next_after, numbers_of, plain, plain_file, refl, remove, replicate, suc, sym, tag_of, tags_of, take-nil}
+use Rattle.pos_totals.proofs.Common.{totals_limits, true, value_after, with_each, zero, ℕ, ◌++◌, ◌+◌, ◌<◌, ◌∙◌, ◌∷◌, ◌≡◌}
 use Rattle.pos_totals.proofs.Edited.{keeps_handles}
-use Rattle.pos_totals.specs.TotalsChanges.{change_rows, files_after, next_after, given_by}
-use Rattle.pos_service.specs.Refusals.{first_refusal}
 use Rattle.pos_totals.proofs.Grouped.{deleted, only_named, map-remove}
 use Rattle.pos_totals.proofs.Places.{one_gone}
-use Rattle.pos_totals.specs.Groups.{index_of, file_change}
-use Rattle.pos_totals.specs.Numbering.{given_after, following, value_after}
-use Rattle.pos_totals.specs.Tables.{new_tag}
-use Rattle.pos_totals.specs.Views.{plain, plain_file, tag_of, tags_of, numbers_of, AreDistinct, AreHandles}
-use Rattle.pos_totals.specs.declared.handles.Tag.{Tag}
+use Rattle.pos_dir.specs.declared.change.Change.TheVariants as file
 
 -- ---- the files' tags
 
@@ -82,36 +67,29 @@ distinct_without [] i distinct = simp (take-nil, drop-nil) tt
 distinct_without (first ∷ handles) zero distinct = distinct.1
 distinct_without (first ∷ handles) (suc i) distinct = (all_without (λ other. ¬ (other ≡ first)) handles i distinct.0, distinct_without handles i distinct.1)
 
--- the handles of tags with one more, and without one
-numbers_with : (tags : List Tag) (next : ℕ) → numbers_of (tags ++ new_tag next ∷ []) ≡ numbers_of tags ++ next ∷ []
-numbers_with tags next = map-append (λ (tag : Tag). tag.handle) tags (new_tag next ∷ [])
-
-numbers_without : (tags : List Tag) (i : ℕ) → numbers_of (remove tags i) ≡ remove (numbers_of tags) i
-numbers_without tags i = map-remove (λ (tag : Tag). tag.handle) tags i
-
-distinct_after : (made : FileChange) (tags : List Tag) (next : ℕ) → AreDistinct (numbers_of tags)
+-- the handles after a change are distinct and below the next one
+handles_after : (made : FileChange) (tags : List Tag) (next : ℕ) → AreDistinct (numbers_of tags)
     → AllByRecursion (λ handle. handle < next) (numbers_of tags) → AreDistinct (numbers_of (given_after tags next made))
-distinct_after (file.Create name size) tags next distinct below = rw (numbers_with tags next) (distinct_with (numbers_of tags) next distinct below)
-distinct_after (file.Delete index) tags next distinct below = rw (numbers_without tags index) (distinct_without (numbers_of tags) index distinct)
-distinct_after other tags next distinct below = distinct
-
-below_after : (made : FileChange) (tags : List Tag) (next : ℕ) → AllByRecursion (λ handle. handle < next) (numbers_of tags)
-    → AllByRecursion (λ handle. handle < following next made) (numbers_of (given_after tags next made))
-below_after (file.Create name size) tags next below = rw (numbers_with tags next)
-    (all_with (λ handle. handle < next + 1) (numbers_of tags) next
-    (all_so (λ handle. handle < next) (λ handle. handle < next + 1) (numbers_of tags) (λ handle lt. omega (arith, lt)) below) (omega arith))
-below_after (file.Delete index) tags next below =
-    rw (numbers_without tags index) (all_without (λ handle. handle < next) (numbers_of tags) index below)
-below_after other tags next below = below
+    × AllByRecursion (λ handle. handle < following next made) (numbers_of (given_after tags next made))
+handles_after (file.Create name size) tags next distinct below = rw (map-append (λ (tag : Tag). tag.handle) tags (new_tag next ∷ [])) (
+  distinct_with (numbers_of tags) next distinct below,
+  all_with (λ handle. handle < next + 1) (numbers_of tags) next
+      (all_so (λ handle. handle < next) (λ handle. handle < next + 1) (numbers_of tags) (λ handle lt. omega (arith, lt)) below) (omega arith),
+)
+handles_after (file.Delete index) tags next distinct below = rw (map-remove (λ (tag : Tag). tag.handle) tags index)
+    (distinct_without (numbers_of tags) index distinct, all_without (λ handle. handle < next) (numbers_of tags) index below)
+handles_after other tags next distinct below = (distinct, below)
 
 -- The tags after a change are tags of the files after it.
 pub are_after : (layout : Layout) (files : List File) (control : ℕ) (spent : Option ℕ) (change : Change) (next : ℕ) → are_distinct (plain files) ≡ true
     → AreHandles (tags_of files) (plain files) next → first_refusal (change_rows (totals_limits layout) files control spent change) ≡ None
     → AreHandles (given_after (tags_of files) next (file_change files change)) (plain (files_after next files change))
     (following next (file_change files change))
-are_after layout files control spent change next distinct handles unrefused = record {
-  count = ap length (given_is layout files control spent change next distinct unrefused) ∙ length-map (files_after next files change) tag_of
-      ∙ sym (length-map (files_after next files change) plain_file);
-  distinct = distinct_after (file_change files change) (tags_of files) next handles.distinct handles.below;
-  below = below_after (file_change files change) (tags_of files) next handles.below;
-}
+are_after layout files control spent change next distinct handles unrefused =
+    let after = handles_after (file_change files change) (tags_of files) next handles.distinct handles.below in
+    record {
+      count = ap length (given_is layout files control spent change next distinct unrefused) ∙ length-map (files_after next files change) tag_of
+          ∙ sym (length-map (files_after next files change) plain_file);
+      distinct = after.0;
+      below = after.1;
+    }

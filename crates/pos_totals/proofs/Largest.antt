@@ -1,9 +1,5 @@
 -- No disk holds more than one of layout 2.
-use Rattle.std.proofs.Common.{◌≤◌, arith}
-use Rattle.pos_dir.specs.declared.limits.TheConstants.{LAYOUT_2}
-use Rattle.pos_image.specs.declared.layout.Layout.{Layout}
-use Rattle.pos_image.specs.declared.layout.Layout.TheVariants.{Layout1, Layout2}
-use Rattle.pos_store.specs.Layouts.{limits_of}
+use Rattle.pos_totals.proofs.Common.{LAYOUT_2, Layout, Layout1, Layout2, arith, limits_of, ◌≤◌}
 
 pub most_bytes : (layout : Layout) → (limits_of layout).bytes ≤ LAYOUT_2.bytes
 most_bytes Layout1 = omega arith

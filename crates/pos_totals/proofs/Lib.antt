@@ -3,6 +3,7 @@ mod Buffered
 mod Changed
 mod Claimed
 mod Committed
+mod Common
 mod Edited
 mod Ended
 mod Found

@@ -1,11 +1,6 @@
 -- Files numbered from a handle on.
-use Rattle.std.proofs.Common.{◌≡◌, ◌∙◌, ℕ, zero, suc, ◌+◌, ◌<◌, ◌≤◌, List, [], ◌∷◌, ◌++◌, length, refl, ap, arith}
-use Rattle.std.specs.List.{AllByRecursion}
-use Rattle.pos_dir.specs.declared.file.File.{File as PlainFile}
-use Rattle.pos_totals.specs.Numbering.{tags_from}
-use Rattle.pos_totals.specs.Recoveries.{numbered}
-use Rattle.pos_totals.specs.Tables.{new_tag}
-use Rattle.pos_totals.specs.Views.{called, with_tags, numbers_of, AreDistinct, AreHandles}
+use Rattle.pos_totals.proofs.Common.{AllByRecursion, AreDistinct, AreHandles, List, PlainFile, [], ap, arith, called, length, new_tag, numbered, numbers_of}
+use Rattle.pos_totals.proofs.Common.{refl, suc, tags_from, with_tags, zero, ℕ, ◌++◌, ◌+◌, ◌<◌, ◌∙◌, ◌∷◌, ◌≡◌, ◌≤◌}
 
 pub with_numbers : (files : List PlainFile) (next : ℕ) → with_tags (tags_from next (length files)) files ≡ numbered next files
 with_numbers [] next = refl

@@ -1,18 +1,8 @@
 -- What is buffered depends on the handles and the sizes of the files alone.
-use Rattle.std.proofs.Common.{◌≡◌, ℕ, ℤ, pos, negsuc, Bool, true, false, cond, List, [], ◌∷◌, length, map, Some}
-use Rattle.std.proofs.Common.{None, refl, sym, ap, subst, arith}
-use Rattle.std.specs.Prelude.{is_none, nat_eq}
-use Rattle.std.specs.List.{find, filter, list_any, AllByRecursion}
-use Rattle.std.proofs.lemmas.Option.{same_Some}
-use Rattle.std.proofs.lemmas.Bool.Decides.{nat_tests}
-use Rattle.pos_totals.specs.HardTotals.{File, Change, Edit}
-use Rattle.pos_totals.specs.TotalsFiles.{is_called, with_each}
-use Rattle.pos_totals.specs.Edits.{fits}
-use Rattle.pos_totals.specs.TotalsCommits.{is_of_none}
+use Rattle.pos_totals.proofs.Common.{AllByRecursion, AreDistinct, Bool, Change, Edit, File, IsBuffered, List, None, Some, [], ap, arith, cases_Bool, filter}
+use Rattle.pos_totals.proofs.Common.{find, fits, group_of, handles_of, index_of, is_called, is_none, is_of_none, length, list_any, map, map-map, nat_eq}
+use Rattle.pos_totals.proofs.Common.{nat_tests, negsuc, pos, refl, same_Some, subst, sym, true, with_each, ℕ, ℤ, ⊎_elim, ◌∙◌, ◌∷◌, ◌≡◌}
 use Rattle.pos_totals.proofs.Places.{OnlyOne}
-use Rattle.pos_totals.specs.Buffers.{IsBuffered}
-use Rattle.pos_totals.specs.Groups.{index_of, group_of}
-use Rattle.pos_totals.specs.Views.{handles_of, AreDistinct}
 
 -- a file's handle and size, and those of all files
 abbrev pub outline : File → ℕ × ℕ
@@ -29,19 +19,23 @@ same_first x y xs ys same = cc
 same_others : (x y : File) (xs ys : List File) → outlines (x ∷ xs) ≡ outlines (y ∷ ys) → outlines xs ≡ outlines ys
 same_others x y xs ys same = cc
 
+-- whether a file has a handle
+same_called : (handle : ℤ) (x y : File) → outline x ≡ outline y → is_called handle x ≡ is_called handle y
+same_called (pos h) x y same = ap (λ (p : ℕ × ℕ). nat_eq p.0 h) same
+same_called (negsuc n) x y same = refl
+
 -- a handle's index
 same_index : (handle : ℤ) (xs ys : List File) → outlines xs ≡ outlines ys → index_of (is_called handle) xs ≡ index_of (is_called handle) ys
 same_index handle [] [] same = refl
-same_index (pos h) (x ∷ xs) (y ∷ ys) same =
-    cc (ap (λ (p : ℕ × ℕ). p.0) (same_first x y xs ys same), same_index (pos h) xs ys (same_others x y xs ys same))
-same_index (negsuc n) (x ∷ xs) (y ∷ ys) same = cc (same_index (negsuc n) xs ys (same_others x y xs ys same))
+same_index handle (x ∷ xs) (y ∷ ys) same =
+    cc (same_called handle x y (same_first x y xs ys same), same_index handle xs ys (same_others x y xs ys same))
 same_index handle xs ys same = absurd cc
 
 -- whether there is a file with a handle
 same_none : (handle : ℤ) (xs ys : List File) → outlines xs ≡ outlines ys → is_none (find (is_called handle) xs) ≡ is_none (find (is_called handle) ys)
 same_none handle [] [] same = refl
-same_none (pos h) (x ∷ xs) (y ∷ ys) same = grind (arith, nat_tests, same_none (pos h) xs ys (same_others x y xs ys same))
-same_none (negsuc n) (x ∷ xs) (y ∷ ys) same = same_none (negsuc n) xs ys (same_others x y xs ys same)
+same_none handle (x ∷ xs) (y ∷ ys) same =
+    grind (arith, nat_tests, same_called handle x y (same_first x y xs ys same), same_none handle xs ys (same_others x y xs ys same))
 same_none handle xs ys same = absurd cc
 
 -- what holds of the size of each file with a handle
@@ -49,11 +43,11 @@ same_sizes : (P : ℕ → Type 0) (handle : ℤ) (xs ys : List File) → outline
     → AllByRecursion (λ file. is_called handle file ≡ true → P (length file.bytes)) xs
     → AllByRecursion (λ file. is_called handle file ≡ true → P (length file.bytes)) ys
 same_sizes P handle [] [] same all = tt
-same_sizes P (pos h) (x ∷ xs) (y ∷ ys) same all = (
-  subst (λ (p : ℕ × ℕ). nat_eq p.0 h ≡ true → P p.1) (same_first x y xs ys same) all.0,
-  same_sizes P (pos h) xs ys (same_others x y xs ys same) all.1,
-)
-same_sizes P (negsuc n) (x ∷ xs) (y ∷ ys) same all = (λ called. absurd cc, same_sizes P (negsuc n) xs ys (same_others x y xs ys same) all.1)
+same_sizes P handle (x ∷ xs) (y ∷ ys) same all =
+    let first = same_first x y xs ys same in (
+      λ called. subst P (ap (λ (p : ℕ × ℕ). p.1) first) (all.0 (same_called handle x y first ∙ called)),
+      same_sizes P handle xs ys (same_others x y xs ys same) all.1,
+    )
 same_sizes P handle xs ys same all = absurd cc
 
 -- what is buffered for files may be buffered for files that are like them
@@ -75,14 +69,10 @@ same_gone xs ys next (Edit handle edit ∷ changes) same all = cc (same_none han
 same_gone xs ys next (other ∷ changes) same all = absurd all.0
 
 -- files that are alike have the same handles
-same_numbers : (xs ys : List File) → outlines xs ≡ outlines ys → handles_of xs ≡ handles_of ys
-same_numbers [] [] same = refl
-same_numbers (x ∷ xs) (y ∷ ys) same =
-    cc (ap (λ (p : ℕ × ℕ). p.0) (same_first x y xs ys same), same_numbers xs ys (same_others x y xs ys same))
-same_numbers xs ys same = absurd cc
-
 pub same_distinct : (xs ys : List File) → outlines xs ≡ outlines ys → AreDistinct (handles_of xs) → AreDistinct (handles_of ys)
-same_distinct xs ys same distinct = subst AreDistinct (same_numbers xs ys same) distinct
+same_distinct xs ys same distinct =
+    let numbers = λ (zs : List File). map-map (λ (p : ℕ × ℕ). p.0) outline zs in
+    subst AreDistinct (sym (numbers xs) ∙ ap (map (λ (p : ℕ × ℕ). p.0)) same ∙ numbers ys) distinct
 
 -- ---- a change of some files
 
@@ -103,41 +93,26 @@ all_files P (first ∷ files) each = (each first, all_files P files each)
 pub none_meets : (test : File → Bool) (P : File → Type 0) (files : List File) → find test files ≡ None
     → AllByRecursion (λ file. test file ≡ true → P file) files
 none_meets test P [] none = tt
-none_meets test P (first ∷ files) none = by (test first) refl none (none_meets test P files)
-  where
-    by : (b : Bool) → test first ≡ b → cond b (Some first) (find test files) ≡ None
-        → (find test files ≡ None → AllByRecursion (λ file. test file ≡ true → P file) files)
-        → (test first ≡ true → P first) × AllByRecursion (λ file. test file ≡ true → P file) files
-    by true is found rest = absurd cc
-    by false is found rest = (λ meets. absurd cc, rest found)
+none_meets test P (first ∷ files) none =
+    ⊎_elim (λ is. absurd (let some = rw is at none in cc)) (λ is. (λ meets. absurd cc, none_meets test P files (rw is at none))) (cases_Bool (test first))
 
 -- what holds of the one file that meets the test holds of each that does
 pub one_meets : (test : File → Bool) (P : File → Type 0) (files : List File) (file : File) → OnlyOne test files → find test files ≡ Some file
     → P file → AllByRecursion (λ file. test file ≡ true → P file) files
 one_meets test P [] file only found here = absurd cc
-one_meets test P (first ∷ files) file only found here = by (test first) refl found only.0 (one_meets test P files file only.1)
-  where
-    by : (b : Bool) → test first ≡ b → cond b (Some first) (find test files) ≡ Some file → (test first ≡ true → find test files ≡ None)
-        → (find test files ≡ Some file → P file → AllByRecursion (λ file. test file ≡ true → P file) files)
-        → (test first ≡ true → P first) × AllByRecursion (λ file. test file ≡ true → P file) files
-    by true is found alone rest = (λ meets. subst P (sym (same_Some first file found)) here, none_meets test P files (alone is))
-    by false is found alone rest = (λ meets. absurd cc, rest found here)
+one_meets test P (first ∷ files) file only found here = ⊎_elim
+    (λ is. (λ meets. subst P (sym (same_Some first file (rw is at found))) here, none_meets test P files (only.0 is)))
+    (λ is. (λ meets. absurd cc, one_meets test P files file only.1 (rw is at found) here)) (cases_Bool (test first))
 
 -- what holds of each file that meets the test holds of the one that is found
 pub found_has : (test : File → Bool) (P : File → Type 0) (files : List File) (file : File) → AllByRecursion (λ file. test file ≡ true → P file) files
     → find test files ≡ Some file → P file
 found_has test P [] file all found = absurd cc
-found_has test P (first ∷ files) file all found = by (test first) refl found (found_has test P files file all.1)
-  where
-    by : (b : Bool) → test first ≡ b → cond b (Some first) (find test files) ≡ Some file → (find test files ≡ Some file → P file) → P file
-    by true is found rest = subst P (same_Some first file found) (all.0 is)
-    by false is found rest = rest found
+found_has test P (first ∷ files) file all found = ⊎_elim (λ is. subst P (same_Some first file (rw is at found)) (all.0 is))
+    (λ is. found_has test P files file all.1 (rw is at found)) (cases_Bool (test first))
 
 -- what holds of all files holds of those that are left
 pub all_left : (P : File → Type 0) (test : File → Bool) (files : List File) → AllByRecursion P files → AllByRecursion P (filter test files)
 all_left P test [] all = tt
-all_left P test (first ∷ files) all = by (test first) (all_left P test files all.1)
-  where
-    by : (b : Bool) → AllByRecursion P (filter test files) → AllByRecursion P (cond b (first ∷ filter test files) (filter test files))
-    by true rest = (all.0, rest)
-    by false rest = rest
+all_left P test (first ∷ files) all =
+    ⊎_elim (λ is. rw is (all.0, all_left P test files all.1)) (λ is. rw is (all_left P test files all.1)) (cases_Bool (test first))

@@ -1,14 +1,7 @@
 -- Files and their tags in one list.
-use Rattle.std.proofs.Common.{◌≡◌, ℕ, zero, suc, ◌≤◌, List, [], ◌∷◌, length, Some, None, refl, ap, arith}
-use Rattle.std.specs.Prelude.{slice_get}
-use Rattle.std.specs.Option.{option_map}
-use Rattle.std.proofs.lemmas.List.Sums.{sum_by-cons}
-use Rattle.std.proofs.lemmas.Option.{same_Some}
-use Rattle.pos_dir.specs.declared.file.File.{File as PlainFile}
-use Rattle.pos_dir.specs.Files.{total_size}
-use Rattle.pos_totals.specs.HardTotals.{File}
-use Rattle.pos_totals.specs.Views.{plain, with_tags, handles_of, tags_of, numbers_of}
-use Rattle.pos_totals.specs.declared.handles.Tag.{Tag}
+use Rattle.pos_totals.proofs.Common.{File, List, None, PlainFile, Some, Tag, [], ap, arith, handles_of, length, length-map, map-map, numbers_of, option_map}
+use Rattle.pos_totals.proofs.Common.{plain, plain_file, refl, same_Some, slice_get, suc, sum_by-cons, sym, tag_of, tags_of, total_size, with_tags, zero, ℕ, ◌∙◌}
+use Rattle.pos_totals.proofs.Common.{◌∷◌, ◌≡◌, ◌≤◌}
 
 pub plain_of : (tags : List Tag) (files : List PlainFile) → length tags ≡ length files → plain (with_tags tags files) ≡ files
 plain_of [] [] same = refl
@@ -21,18 +14,16 @@ tags_in (tag ∷ tags) (file ∷ files) same = ap (λ rest. tag ∷ rest) (tags_
 tags_in tags files same = absurd (omega (arith, same))
 
 pub numbers_in : (tags : List Tag) (files : List PlainFile) → length tags ≡ length files → handles_of (with_tags tags files) ≡ numbers_of tags
-numbers_in [] [] same = refl
-numbers_in (tag ∷ tags) (file ∷ files) same = ap (λ rest. tag.handle ∷ rest) (numbers_in tags files (omega (arith, same)))
-numbers_in tags files same = absurd (omega (arith, same))
+numbers_in tags files same =
+    sym (map-map (λ (tag : Tag). tag.handle) tag_of (with_tags tags files)) ∙ ap numbers_of (tags_in tags files same)
 
 pub called_again : (files : List File) → with_tags (tags_of files) (plain files) ≡ files
 called_again [] = refl
 called_again (file ∷ files) = ap (λ rest. file ∷ rest) (called_again files)
 
 pub length-with_tags : (tags : List Tag) (files : List PlainFile) → length tags ≡ length files → length (with_tags tags files) ≡ length files
-length-with_tags [] [] same = refl
-length-with_tags (tag ∷ tags) (file ∷ files) same = omega (arith, length-with_tags tags files (omega (arith, same)))
-length-with_tags tags files same = absurd (omega (arith, same))
+length-with_tags tags files same =
+    sym (length-map (with_tags tags files) plain_file) ∙ ap (λ (fs : List PlainFile). length fs) (plain_of tags files same)
 
 -- a file and its tag at an index
 pub pair_at : (tags : List Tag) (files : List PlainFile) (i : ℕ) (tag : Tag) (name bytes : List ℕ) → slice_get tags i ≡ Some tag

@@ -1,23 +1,13 @@
 -- A file that a test finds: its index, and the files with it changed or without it.
-use Rattle.std.proofs.Common.{◌≡◌, ◌∙◌, ℕ, suc, ◌+◌, ◌<◌, ◌≤◌, Bool, true, false, not, cond, List, [], ◌∷◌, length, set, Option, Some, None, refl, sym}
-use Rattle.std.proofs.Common.{subst, arith}
-use Rattle.std.specs.Prelude.{slice_get, remove, ⊤}
-use Rattle.std.specs.List.{find, filter, position, position_or_len}
-use Rattle.std.proofs.lemmas.List.Folds.{find_at}
-use Rattle.std.proofs.lemmas.List.Sums.{prefix_len-le-length}
-use Rattle.std.proofs.lemmas.Option.{slice_get_within, same_Some}
-use Rattle.std.proofs.lemmas.Bool.Decides.{nat_tests}
-use Rattle.pos_totals.specs.HardTotals.{File}
-use Rattle.pos_totals.specs.TotalsFiles.{with_each}
-use Rattle.pos_totals.specs.Groups.{index_of}
+use Rattle.pos_totals.proofs.Common.{Bool, File, FindsFile, Found, IfSome, IfSome_then, LAYOUT_2, List, None, Option, Some, [], arith, cases_Bool, file_of}
+use Rattle.pos_totals.proofs.Common.{filter, find, find_at, index_of, length, nat_tests, not, one-add, option_map, position, position_or_len}
+use Rattle.pos_totals.proofs.Common.{prefix_len-le-length, refl, remove, same_Some, set, slice_get, slice_get_within, subst, sym, true, with_each, ℕ}
+use Rattle.pos_totals.proofs.Common.{⊎_elim, ⊤, ◌<◌, ◌∙◌, ◌∷◌, ◌≡◌, ◌≤◌}
 
 -- at most one file meets a test
 abbrev pub OnlyOne : (File → Bool) → List File → Type 0
 OnlyOne test [] = ⊤
 OnlyOne test (file ∷ files) = (test file ≡ true → find test files ≡ None) × OnlyOne test files
-
-one_more : (n : ℕ) → 1 + n ≡ suc n
-one_more n = omega arith
 
 -- a file that was found is at the index
 pub found_at : (test : File → Bool) (files : List File) (file : File) → find test files ≡ Some file → slice_get files (index_of test files) ≡ Some file
@@ -28,20 +18,21 @@ found_inside test files file found = slice_get_within files (index_of test files
 
 pub found_meets : (test : File → Bool) (files : List File) (file : File) → find test files ≡ Some file → test file ≡ true
 found_meets test [] file found = absurd cc
-found_meets test (first ∷ files) file found = by (test first) refl found (found_meets test files file)
-  where
-    by : (b : Bool) → test first ≡ b → cond b (Some first) (find test files) ≡ Some file → (find test files ≡ Some file → test file ≡ true) → test file ≡ true
-    by true here is rest = subst (λ (x : File). test x ≡ true) (same_Some first file is) here
-    by false here is rest = rest is
+found_meets test (first ∷ files) file found = ⊎_elim (λ is. subst (λ (x : File). test x ≡ true) (same_Some first file (rw is at found)) is)
+    (λ is. found_meets test files file (rw is at found)) (cases_Bool (test first))
 
 -- the place that a search through another list tells is the index
 pub is_at : {A : Type 0} (p : A → Bool) (test : File → Bool) (xs : List A) (files : List File) (i : ℕ) → index_of test files ≡ position_or_len p xs
     → position p xs ≡ Some i → i ≡ index_of test files
 is_at p test xs files i index found = grind (arith, nat_tests)
 
--- a look at the index gives the file
-pub at_index : (test : File → Bool) (files : List File) (i : ℕ) → i ≡ index_of test files → slice_get files i ≡ find test files
-at_index test files i index = rw index (sym (find_at test files))
+-- so the file there is found
+pub finds_at : {A : Type 0} (p : A → Bool) (test : File → Bool) (xs : List A) (files : List File) (i : ℕ) (found : Option Found)
+    → index_of test files ≡ position_or_len p xs → position p xs ≡ Some i → option_map file_of found ≡ slice_get files i
+    → IfSome found (λ f. f.index ≡ i) → IfSome found (λ f. length f.bytes.now ≤ LAYOUT_2.bytes) → FindsFile test files found
+finds_at p test xs files i found index place file place_is small =
+    let here = is_at p test xs files i index place in
+    record { file = (rw here at file) ∙ sym (find_at test files); index = IfSome_then found place_is (λ f is. is ∙ here); small = small }
 
 none_past : (test : File → Bool) (files : List File) → length files ≤ index_of test files → find test files ≡ None
 none_past test files past = by (find test files) refl
@@ -50,9 +41,10 @@ none_past test files past = by (find test files) refl
     by None is = is
     by (Some file) is = absurd (let inside = found_inside test files file is in omega (arith, past, inside))
 
-pub is_none : {A : Type 0} (p : A → Bool) (test : File → Bool) (xs : List A) (files : List File) → length files ≡ length xs
-    → index_of test files ≡ position_or_len p xs → position p xs ≡ None → find test files ≡ None
-is_none p test xs files same index none = none_past test files (grind (arith, nat_tests))
+pub finds_none : {A : Type 0} (p : A → Bool) (test : File → Bool) (xs : List A) (files : List File) → length files ≡ length xs
+    → index_of test files ≡ position_or_len p xs → position p xs ≡ None → FindsFile test files None
+finds_none p test xs files same index none =
+    record { file = sym (none_past test files (grind (arith, nat_tests))); index = tt; small = tt }
 
 -- a search through another list that finds nothing tells the end
 pub is_past : {A : Type 0} (p : A → Bool) (test : File → Bool) (xs : List A) (files : List File) → index_of test files ≡ position_or_len p xs
@@ -69,7 +61,7 @@ pub one_changed : (test : File → Bool) (change : File → File) (files : List 
     → with_each test change files ≡ set files (index_of test files) (change file)
 one_changed test change [] file only found = absurd cc
 one_changed test change (first ∷ files) file only found =
-    grind (arith, nat_tests, one_changed test change files file only.1, none_changed test change files, only.0, one_more (index_of test files))
+    grind (arith, nat_tests, one_changed test change files file only.1, none_changed test change files, only.0, one-add (index_of test files))
 
 -- no file goes where none meets the test
 none_gone : (test : File → Bool) (files : List File) → find test files ≡ None → filter (λ file. not (test file)) files ≡ files
@@ -81,4 +73,4 @@ pub one_gone : (test : File → Bool) (files : List File) (file : File) → Only
     → filter (λ file. not (test file)) files ≡ remove files (index_of test files)
 one_gone test [] file only found = absurd cc
 one_gone test (first ∷ files) file only found =
-    grind (arith, nat_tests, one_gone test files file only.1, none_gone test files, only.0, one_more (index_of test files))
+    grind (arith, nat_tests, one_gone test files file only.1, none_gone test files, only.0, one-add (index_of test files))

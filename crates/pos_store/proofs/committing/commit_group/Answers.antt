@@ -1,20 +1,13 @@
-use Rattle.std.proofs.Common.{◌≡◌, ◌+◌, ⊎_elim, Ok, Err, IsErrOf, refl, sym, ap, ◌∙◌, arith, rules}
-use Rattle.pos_disk.proofs.Moments.{weaker}
-use Rattle.pos_dir.specs.Changes.{outcome_of_all}
-use Rattle.pos_image.specs.Layout.{layout_of}
-use Rattle.pos_image.specs.declared.fault.ImageFault.{ImageFault}
-use Rattle.pos_image.specs.declared.fault.ImageFault.TheVariants as image
-use Rattle.std.proofs.lemmas.Bool.{leb-true}
-use Rattle.pos_log.specs.declared.fault.LogFault.TheVariants as log
-use Rattle.pos_store.specs.Layouts.{limits_of}
-use Rattle.pos_store.specs.StoreViews.{HasItsFiles}
-use Rattle.pos_store.specs.declared.disk_or_log.DiskOrLog.TheVariants as which
-use Rattle.pos_store.specs.declared.draft.Draft.TheVariants as draft
-use Rattle.pos_store.proofs.Committed.{IsGiven, same_layout, fits_not, stays, rises, short, appending_stands, renewing_stands, failed_commits, appended_holds}
-use Rattle.pos_store.proofs.Committed.{appended_commits, renewed_holds, renewed_commits}
+use Rattle.pos_store.proofs.Common.{Err, HasItsFiles, ImageFault, IsErrOf, Ok, ap, arith, layout_of, leb-true, limits_of, outcome_of_all, refl, rules, sym}
+use Rattle.pos_store.proofs.Common.{weaker, ⊎_elim, ◌+◌, ◌∙◌, ◌≡◌}
+use Rattle.pos_store.proofs.Committed.{IsGiven, same_layout, short, appending_stands, renewing_stands, failed_commits, appended_holds, appended_commits}
+use Rattle.pos_store.proofs.Committed.{renewed_holds, renewed_commits}
 use Rattle.pos_store.proofs.Drafted.{unmade_commits}
 use Rattle.pos_store.proofs.committing.commit_group.Given.{Over}
 use Rattle.pos_store.proofs.committing.commit_group.Goals.{After-make_draft}
+use Rattle.pos_image.specs.declared.fault.ImageFault.TheVariants as image
+use Rattle.pos_log.specs.declared.fault.LogFault.TheVariants as log
+use Rattle.pos_store.specs.declared.disk_or_log.DiskOrLog.TheVariants as which
 use Rattle.pos_store.proofs.committing.commit_group.Goals as goal
 
 module _ (g : Over) (c : After-make_draft g) where
@@ -25,22 +18,17 @@ module _ (g : Over) (c : After-make_draft g) where
       → IsGiven g.D.Disk c.in-Ready.log c.in-Ready.directory.files c.make_draft.new.directory.files c.args.call.1.now
   given outcome = record { ready = sound.0; holds = sound.1; group = c.is_group.ensures; some = search rules; outcome = rw sound.2 at outcome }
 
-pub returns-in-Ok-clause-commits : goal.returns-in-Ok-clause-commits
-returns-in-Ok-clause-commits g c =
+pub returns-in-Ok : goal.returns-in-Ok
+returns-in-Ok g c =
+    let here = (goal.at.returns-in-Ok g c).After-make_draft in
     let made = rw c.in-Ok-Record.field-0-is at c.in-Ok-Record.ensures.made in
     let did = rw (c.deref.ensures.value, made.1.1) at c.in-Ok.ensures.appends in
-    rw c.in-Ready.is (appended_commits (given g (goal.at.returns-in-Ok-clause-commits g c).After-make_draft made.0) c.append.new.self made.1.0 did)
-
-pub returns-in-Ok-clause-sound : goal.returns-in-Ok-clause-sound
-returns-in-Ok-clause-sound g c =
-    let here = (goal.at.returns-in-Ok-clause-sound g c).After-make_draft in
-    let made = rw c.in-Ok-Record.field-0-is at c.in-Ok-Record.ensures.made in
-    let did = rw (c.deref.ensures.value, made.1.1) at c.in-Ok.ensures.appends in (
-      did.ready,
-      appended_holds (given g here made.0) c.append.new.self made.1.0 did,
-      c.make_draft.ensures.limits ∙ (sound g here).2
-          ∙ ap limits_of (sym (same_layout c.in-Ready.log c.append.new.self c.append.new.self.images.disk _ did.appended)),
-    )
+    let it = given g here made.0 in
+    let kept = same_layout c.in-Ready.log c.append.new.self c.append.new.self.images.disk _ did.appended in
+    record {
+      sound = (did.ready, appended_holds it c.append.new.self made.1.0 did, c.make_draft.ensures.limits ∙ (sound g here).2 ∙ ap limits_of (sym kept));
+      commits = rw c.in-Ready.is (appended_commits it c.append.new.self made.1.0 did);
+    }
 
 pub returns-in-Err-append-clause-commits : goal.returns-in-Err-append-clause-commits
 returns-in-Err-append-clause-commits g c =
@@ -55,27 +43,25 @@ returns-in-Err-append-clause-commits g c =
     rw (c.in-Ready.is, c.turn_off.ensures)
     (failed_commits it c.append.new.self.images.disk (layout_of c.append.new.self.images.slot) c.in-Ready.log.images.sequence
     (same_layout c.in-Ready.log c.append.new.self c.append.new.self.images.disk c.in-Ready.log.tail (did.failed failed))
-    (stays it made.1.0) (fits_not _ c.in-Ready.log.tail c.args.call.1.now c.in-Ready.log.images.sequence made.1.0)
+    (rw made.1.0 refl) (λ exhausted. let fits = made.1.0 in let over = exhausted.0 in cc)
     (λ h. weaker _ _ _ _ (appending_stands it h) (did.any_moment h))
     (λ h bytes. g.met.D.Disk.counts_now c.append.new.self.images.disk (g.D.Disk.state c.in-Ready.log.images.disk).moment bytes (did.keeps.honest.0 h))
     (λ h. did.device h failed) did.keeps)
 
-pub returns-in-Ok-renew-clause-commits : goal.returns-in-Ok-renew-clause-commits
-returns-in-Ok-renew-clause-commits g c =
+pub returns-in-Ok-renew : goal.returns-in-Ok-renew
+returns-in-Ok-renew g c =
+    let here = (goal.at.returns-in-Ok-renew g c).After-make_draft in
     let made = rw c.in-Ok-Image.field-0-is at c.in-Ok-Image.ensures.made in
-    let it = given g (goal.at.returns-in-Ok-renew-clause-commits g c).After-make_draft made.0 in
-    rw c.in-Ready.is
-    (renewed_commits it c.renew.new.self made.1.0 c.in-Ok-Image.body.items made.1.2 made.1.3 c.in-Ok-renew.ensures.renews made.1.1)
-
-pub returns-in-Ok-renew-clause-sound : goal.returns-in-Ok-renew-clause-sound
-returns-in-Ok-renew-clause-sound g c =
-    let here = (goal.at.returns-in-Ok-renew-clause-sound g c).After-make_draft in
-    let made = rw c.in-Ok-Image.field-0-is at c.in-Ok-Image.ensures.made in
-    let did = c.in-Ok-renew.ensures.renews in (
-      did.ready,
-      renewed_holds (given g here made.0) c.renew.new.self made.1.0 c.in-Ok-Image.body.items made.1.2 made.1.3 did,
-      c.make_draft.ensures.limits ∙ (sound g here).2 ∙ ap limits_of (sym did.layout_is),
-    )
+    let did = c.in-Ok-renew.ensures.renews in
+    let it = given g here made.0 in
+    record {
+      sound = (
+        did.ready,
+        renewed_holds it c.renew.new.self made.1.0 c.in-Ok-Image.body.items made.1.2 made.1.3 did,
+        c.make_draft.ensures.limits ∙ (sound g here).2 ∙ ap limits_of (sym did.layout_is),
+      );
+      commits = rw c.in-Ready.is (renewed_commits it c.renew.new.self made.1.0 c.in-Ok-Image.body.items made.1.2 made.1.3 did made.1.1);
+    }
 
 pub returns-in-Err-renew-clause-commits : goal.returns-in-Err-renew-clause-commits
 returns-in-Err-renew-clause-commits g c =
@@ -90,7 +76,7 @@ returns-in-Err-renew-clause-commits g c =
     c.in-Err-renew.ensures.faults in
     rw (c.in-Ready.is, c.turn_off-in-Err-renew.ensures)
     (failed_commits it c.renew.new.self.images.disk (layout_of c.renew.new.self.images.slot) (c.in-Ready.log.images.sequence + 1)
-    (did.same_layout (rw c.in-Err-renew.is refl)) (rises it made.1.0) (λ exhausted. made.1.1 exhausted.1)
+    (did.same_layout (rw c.in-Err-renew.is refl)) (rw made.1.0 refl) (λ exhausted. made.1.1 exhausted.1)
     (λ h. weaker _ _ _ _ (renewing_stands it c.in-Ok-Image.body.items made.1.2 made.1.3 h) (did.any_moment h))
     (λ h bytes. g.met.D.Disk.counts_now c.renew.new.self.images.disk (g.D.Disk.state c.in-Ready.log.images.disk).moment bytes (did.keeps.honest.0 h))
     (λ h. did.device h (c.in-Err-renew.is ∙ ap (λ (f : ImageFault). Err f) device)) did.keeps)

@@ -1,15 +1,8 @@
-use Rattle.std.proofs.Common.{◌≡◌, ⊎_elim, refl, sym, ap, ◌∙◌, rules}
-use Rattle.pos_dir.specs.Files.{IsDirectory}
-use Rattle.pos_dir.specs.Spelling.{spelling}
-use Rattle.pos_image.specs.Layout.{layout_of}
-use Rattle.pos_image.specs.declared.layout.Layout.TheVariants.{Layout1, Layout2}
-use Rattle.pos_log.specs.Logs.{IsLogReady}
-use Rattle.pos_store.specs.Layouts.{limits_of}
-use Rattle.pos_store.specs.Standing.{HoldsFiles}
-use Rattle.pos_store.specs.declared.fault.StoreFault.TheVariants as fault
-use Rattle.pos_store.proofs.Migrated.{refused_migrates, moved_holds, moved_migrates, failed_migrates}
+use Rattle.pos_store.proofs.Common.{Layout1, Layout2, ap, layout_of, limits_of, refl, rules, sym, ⊎_elim, ◌∙◌, ◌≡◌}
+use Rattle.pos_store.proofs.Migrated.{Moves, refused_migrates, moved_holds, moved_migrates, failed_migrates}
 use Rattle.pos_store.proofs.migrating.migrate_files.Given.{Over}
 use Rattle.pos_store.proofs.migrating.migrate_files.Goals.{After-migrate}
+use Rattle.pos_store.specs.declared.fault.StoreFault.TheVariants as fault
 use Rattle.pos_store.proofs.migrating.migrate_files.Goals as goal
 
 pub returns-then-eq-clause-migrates : goal.returns-then-eq-clause-migrates
@@ -17,63 +10,44 @@ returns-then-eq-clause-migrates g c =
     let sound = rw c.in-Ready.is at c.requires.sound in
     let second : layout_of c.in-Ready.log.images.slot ≡ Layout2 = search rules in
     rw c.in-Ready.is (refused_migrates g.D.Disk c.in-Ready.log c.in-Ready.directory.files sound.0 sound.1 fault.AlreadyLayout2
-    (rw second (refl, refl)) (λ is. absurd cc) (λ h f left. g.met.D.Disk.only_now c.in-Ready.log.images.disk f h left))
+    (rw second (refl, refl)) (λ is. absurd cc) (g.met.D.Disk.only_now c.in-Ready.log.images.disk))
 
 pub returns-in_default-clause-migrates : goal.returns-in_default-clause-migrates
 returns-in_default-clause-migrates g c =
     let sound = rw c.in-Ready.is at c.requires.sound in
     let first : layout_of c.in-Ready.log.images.slot ≡ Layout1 = search rules in
     rw c.in-Ready.is (refused_migrates g.D.Disk c.in-Ready.log c.in-Ready.directory.files sound.0 sound.1 fault.NoMemory
-    (rw first refl) (λ is. absurd cc) (λ h f left. g.met.D.Disk.only_now c.in-Ready.log.images.disk f h left))
+    (rw first refl) (λ is. absurd cc) (g.met.D.Disk.only_now c.in-Ready.log.images.disk))
 
-module _ (g : Over) (c : After-migrate g) where
-  ready : IsLogReady g.D.Disk c.in-Ready.log
-  ready = let sound = rw c.in-Ready.is at c.requires.sound in sound.0
+moves : (g : Over) (c : After-migrate g) → Moves g.D.Disk c.in-Ready.log c.in-Ready.directory.files c.in-Ok.body.items
+moves g c =
+    let sound = rw c.in-Ready.is at c.requires.sound in
+    let first : layout_of c.in-Ready.log.images.slot ≡ Layout1 = search rules in
+    let limits : c.in-Ready.directory.limits ≡ limits_of Layout1 = sound.2 ∙ ap limits_of first in
+    record {
+      ready = sound.0;
+      holds = sound.1;
+      first = first;
+      sound = c.wider_directory.ensures (limits_of Layout1) (limits_of Layout2) c.in-Ready.directory.files (search rules)
+          (rw limits at c.encode.ensures.directory);
+      spelled = c.in-Ok.ensures.spelling;
+    }
 
-  holds : g.D.Disk.honest c.in-Ready.log.images.disk
-      → HoldsFiles (layout_of c.in-Ready.log.images.slot) c.in-Ready.directory.files c.in-Ready.log.images.sequence
-      (g.D.Disk.state c.in-Ready.log.images.disk).reading
-  holds = let sound = rw c.in-Ready.is at c.requires.sound in sound.1
-
-  first : layout_of c.in-Ready.log.images.slot ≡ Layout1
-  first = search rules
-
-  -- the limits before it
-  limits : c.in-Ready.directory.limits ≡ limits_of Layout1
-  limits = let sound = rw c.in-Ready.is at c.requires.sound in sound.2 ∙ ap limits_of first
-
-  wide : IsDirectory (limits_of Layout2) c.in-Ready.directory.files
-  wide = c.wider_directory.ensures (limits_of Layout1) (limits_of Layout2) c.in-Ready.directory.files (search rules)
-      (rw limits at c.encode.ensures.directory)
-
-  spelled : c.in-Ok.body.items ≡ spelling c.in-Ready.directory.files
-  spelled = c.in-Ok.ensures.spelling
-
-pub returns-in-Ok-migrate-clause-sound : goal.returns-in-Ok-migrate-clause-sound
-returns-in-Ok-migrate-clause-sound g c =
-    let here = (goal.at.returns-in-Ok-migrate-clause-sound g c).After-migrate in
+pub returns-in-Ok-migrate : goal.returns-in-Ok-migrate
+returns-in-Ok-migrate g c =
+    let it = moves g (goal.at.returns-in-Ok-migrate g c).After-migrate in
     let renews = c.in-Ok-migrate.ensures.migrates in
-    rw c.widen.ensures (
-      renews.ready,
-      moved_holds g.D.Disk c.in-Ready.log c.in-Ready.directory.files (ready g here) (holds g here) c.in-Ok.body.items (first g here) (wide g here)
-          (spelled g here) c.migrate.new.self renews,
-      c.limits_of.ensures ∙ ap limits_of (sym renews.layout_is),
-    )
-
-pub returns-in-Ok-migrate-clause-migrates : goal.returns-in-Ok-migrate-clause-migrates
-returns-in-Ok-migrate-clause-migrates g c =
-    let here = (goal.at.returns-in-Ok-migrate-clause-migrates g c).After-migrate in
-    rw (c.in-Ready.is, c.widen.ensures)
-    (moved_migrates g.D.Disk c.in-Ready.log c.in-Ready.directory.files (ready g here) (holds g here) c.in-Ok.body.items (first g here) (wide g here)
-    (spelled g here) c.migrate.new.self c.in-Ok-migrate.ensures.migrates)
+    rw (c.in-Ready.is, c.widen.ensures) (record {
+      sound = (renews.ready, moved_holds it c.migrate.new.self renews, c.limits_of.ensures ∙ ap limits_of (sym renews.layout_is));
+      migrates = moved_migrates it c.migrate.new.self renews;
+    })
 
 pub returns-in-Device-clause-migrates : goal.returns-in-Device-clause-migrates
 returns-in-Device-clause-migrates g c =
     let here = (goal.at.returns-in-Device-clause-migrates g c).After-migrate in
     let renews = rw c.in-Device.is at c.in-Err.ensures.migrates in
     rw (c.in-Ready.is, c.turn_off.ensures)
-    (failed_migrates g.D.Disk c.in-Ready.log c.in-Ready.directory.files (ready g here) (holds g here) c.in-Ok.body.items (first g here) (wide g here)
-    (spelled g here) c.migrate.new.self renews
+    (failed_migrates (moves g here) c.migrate.new.self renews
     (λ h bytes. g.met.D.Disk.counts_now c.migrate.new.self.images.disk (g.D.Disk.state c.in-Ready.log.images.disk).moment bytes (renews.keeps.honest.0 h)))
 
 pub returns-in-NoMemory : goal.returns-in-NoMemory
@@ -86,5 +60,5 @@ returns-in-NoMemory g c =
     rw (same, c.in-Ready.is) (record {
       sound = sound;
       migrates = refused_migrates g.D.Disk c.in-Ready.log c.in-Ready.directory.files sound.0 sound.1 fault.NoMemory
-          (rw (first g here) refl) (λ is. absurd cc) (λ h f left. g.met.D.Disk.only_now c.in-Ready.log.images.disk f h left);
+          (rw (moves g here).first refl) (λ is. absurd cc) (g.met.D.Disk.only_now c.in-Ready.log.images.disk);
     })

@@ -1,33 +1,20 @@
-use Rattle.std.proofs.Common.{◌≡◌, Err, ℕ, List, map, Vec, Global, inl, inr, ⊎_elim, refl, sym, ap, subst, ◌∙◌}
-use Rattle.pos_dir.specs.Calls.{IsBody, Decodes}
-use Rattle.pos_dir.specs.declared.limits.Limits.{Limits}
-use Rattle.pos_dir.specs.Files.{IsDirectory}
-use Rattle.pos_disk.specs.State.{Watches, HasNotFailed}
-use Rattle.pos_disk.specs.Keeps.{KeepsDisk}
-use Rattle.pos_dir.specs.Spelling.{spelling}
-use Rattle.pos_dir.specs.declared.file.File.{File}
-use Rattle.pos_disk.proofs.Moments.{watches_on}
-use Rattle.pos_image.specs.Images.{View}
-use Rattle.pos_image.specs.Layout.{layout_of}
-use Rattle.pos_image.specs.declared.layout.Layout.{Layout}
+use Rattle.pos_store.proofs.Common.{Applies, Decodes, DiskStandsFor, EndsAt, Err, File, Global, HasNotFailed, HoldsFiles, HoldsRecords, IsBody, IsDirectory}
+use Rattle.pos_store.proofs.Common.{KeepsDisk, Layout, Limits, List, Vec, View, Watches, ap, inl, inr, layout_of, limits_of, map, refl, spelling, subst, sym}
+use Rattle.pos_store.proofs.Common.{watches_on, ℕ, ⊎_elim, ◌∙◌, ◌≡◌}
+use Rattle.pos_store.proofs.FilesOnDisk.{leaves_files}
+use Rattle.pos_store.proofs.Recovered.{off_recovers, refused_recovers, told_finds, told_alone, told_log_finds, told_log_alone, told_text_finds, never_failed}
+use Rattle.pos_store.proofs.Recovered.{both_keep, later, not_device, damaged_stands, no_body_stands, no_log_stands, no_groups_stand, malformed_none}
+use Rattle.pos_store.proofs.recovering.recover_files.Given.{Over}
+use Rattle.pos_store.proofs.recovering.recover_files.Goals.{After-apply_texts}
 use Rattle.pos_image.specs.Standing as image
 use Rattle.pos_image.specs.declared.fault.ImageFault.TheVariants as images
 use Rattle.pos_log.specs.declared.fault.LogFault.TheVariants as logs
-use Rattle.pos_log.specs.Records.{HoldsRecords}
-use Rattle.pos_store.specs.Layouts.{limits_of}
-use Rattle.pos_store.specs.Standing.{HoldsFiles, Applies}
-use Rattle.pos_store.specs.Recoveries.{DiskStandsFor, EndsAt}
-use Rattle.pos_store.proofs.FilesOnDisk.{leaves_files}
-use Rattle.pos_store.proofs.Recovered.{off_recovers, refused_recovers, told_finds, told_device, told_counts, told_log_finds, told_log_device}
-use Rattle.pos_store.proofs.Recovered.{told_log_counts, told_text_finds, never_failed, both_keep, later, not_device, damaged_stands, no_body_stands}
-use Rattle.pos_store.proofs.Recovered.{no_log_stands, no_groups_stand, malformed_none}
-use Rattle.pos_store.proofs.recovering.recover_files.Given.{Over}
-use Rattle.pos_store.proofs.recovering.recover_files.Goals.{After-apply_texts}
 use Rattle.pos_store.proofs.recovering.recover_files.Goals as goal
 
 pub returns-in-Err-clause-recovers : goal.returns-in-Err-clause-recovers
 returns-in-Err-clause-recovers g c =
     let opened = c.in-Err.ensures in
+    let told = told_alone c.in-Err.fault c.tell_images.result c.tell_images.ensures in
     rw c.in-Off.is (off_recovers g.D.Disk c.in-Off.disk c.in-Off.layout _ _
     (told_finds (DiskStandsFor g.D.Disk c.in-Off.disk) c.in-Off.layout c.in-Err.fault c.tell_images.result c.tell_images.ensures
     (λ is h. opened.unformatted h is) (λ is h. damaged_stands _ (opened.damaged h is)) opened.faults)
@@ -35,8 +22,8 @@ returns-in-Err-clause-recovers g c =
     opened.any_moment
     (λ h. tt)
     (λ h. tt)
-    (λ h is. opened.device h (told_device c.in-Err.fault c.tell_images.result c.tell_images.ensures is))
-    (λ h. told_counts _ _ c.in-Err.fault c.tell_images.result c.tell_images.ensures (opened.counts h))
+    (λ h is. opened.device h (told.0 is))
+    (λ h. ⊎_elim (λ is. inl (told.1 (cc is))) (λ same. inr same) (opened.counts h))
     opened.keeps)
 
 pub returns-in-Err-Malformed-clause-recovers : goal.returns-in-Err-Malformed-clause-recovers
@@ -60,6 +47,7 @@ pub returns-in-Err-open-clause-recovers : goal.returns-in-Err-open-clause-recove
 returns-in-Err-open-clause-recovers g c =
     let opened = c.in-Ok.ensures in
     let logged = c.in-Err-open.ensures in
+    let told = told_log_alone c.in-Err-open.fault c.tell_log.result c.tell_log.ensures in
     rw (c.in-Off.is, c.into_disk-in-Err-open.ensures) (off_recovers g.D.Disk c.in-Off.disk c.in-Off.layout _ _
     (told_log_finds (DiskStandsFor g.D.Disk c.in-Off.disk) c.in-Off.layout c.in-Err-open.fault c.tell_log.result c.tell_log.ensures
     (λ is h. no_log_stands _ (layout_of c.in-Ok.images.slot) c.in-Ok.images.body c.in-Ok.images.sequence (opened.found h)
@@ -68,10 +56,9 @@ returns-in-Err-open-clause-recovers g c =
     (λ h. watches_on _ _ _ (opened.any_moment h) (logged.any_moment (opened.keeps.honest.0 h)))
     (λ h. tt)
     (λ h. tt)
-    (λ h is. later g.D.Disk _ _ _ opened.keeps logged.keeps h
-    (logged.device (opened.keeps.honest.0 h) (told_log_device c.in-Err-open.fault c.tell_log.result c.tell_log.ensures is)))
-    (λ h. ⊎_elim (λ is. inl is) (λ same. inr (same ∙ never_failed _ _ _ images.Device (opened.counts h)))
-    (told_log_counts _ _ c.in-Err-open.fault c.tell_log.result c.tell_log.ensures (logged.counts (opened.keeps.honest.0 h))))
+    (λ h is. later g.D.Disk _ _ _ opened.keeps logged.keeps h (logged.device (opened.keeps.honest.0 h) (told.0 is)))
+    (λ h. ⊎_elim (λ is. inl (told.1 (cc is))) (λ same. inr (same ∙ never_failed _ _ _ images.Device (opened.counts h)))
+    (logged.counts (opened.keeps.honest.0 h)))
     (both_keep g.D.Disk _ _ _ opened.keeps logged.keeps))
 
 module _ (g : Over) (c : After-apply_texts g) where
@@ -102,58 +89,48 @@ module _ (g : Over) (c : After-apply_texts g) where
   keeps : KeepsDisk g.D.Disk c.in-Off.disk c.in-Ok-open.log.images.disk
   keeps = both_keep g.D.Disk _ _ _ c.in-Ok.ensures.keeps c.in-Ok-open.ensures.keeps
 
-  sequence_is : c.in-Ok-open.log.images.sequence ≡ c.in-Ok.images.sequence
-  sequence_is = ap (λ (im : View g.row.D.Denot). im.sequence) c.in-Ok-open.ensures.same
-
   layout_is : layout_of c.in-Ok-open.log.images.slot ≡ layout
   layout_is = ap (λ (im : View g.row.D.Denot). layout_of im.slot) c.in-Ok-open.ensures.same
 
   -- the files that the disk holds
-  found : (files : List File) → Applies c.in-Ok-decode.directory.limits c.in-Ok-decode.directory.files
-      (map (λ (t : Vec ℕ Global). t.items) c.deref.result.now) files
-      → g.D.Disk.honest c.in-Off.disk
-      → HoldsFiles (layout_of c.in-Ok-open.log.images.slot) files c.in-Ok-open.log.images.sequence (g.D.Disk.state c.in-Off.disk).reading
-  found files applies h = rw (layout_is, sequence_is) record {
-    base = c.in-Ok-decode.directory.files;
-    texts = map (λ (t : Vec ℕ Global). t.items) c.in-Ok-open.texts.items;
-    directory = sound;
-    shows = c.in-Ok.ensures.found h ∙ ap (λ (b : List ℕ). image.OneImage layout b c.in-Ok.images.sequence) spelled;
-    log = records h;
-    applies = rw (limits, c.deref.ensures.value) at applies;
-  }
+  module _ (files : List File) (applies : Applies c.in-Ok-decode.directory.limits c.in-Ok-decode.directory.files
+      (map (λ (t : Vec ℕ Global). t.items) c.deref.result.now) files) where
+    found : g.D.Disk.honest c.in-Off.disk
+        → HoldsFiles (layout_of c.in-Ok-open.log.images.slot) files c.in-Ok-open.log.images.sequence (g.D.Disk.state c.in-Off.disk).reading
+    found h = rw c.in-Ok-open.ensures.same record {
+      base = c.in-Ok-decode.directory.files;
+      texts = map (λ (t : Vec ℕ Global). t.items) c.in-Ok-open.texts.items;
+      directory = sound;
+      shows = c.in-Ok.ensures.found h ∙ ap (λ (b : List ℕ). image.OneImage layout b c.in-Ok.images.sequence) spelled;
+      log = records h;
+      applies = rw (limits, c.deref.ensures.value) at applies;
+    }
 
-  found_now : (files : List File) → Applies c.in-Ok-decode.directory.limits c.in-Ok-decode.directory.files
-      (map (λ (t : Vec ℕ Global). t.items) c.deref.result.now) files
-      → g.D.Disk.honest c.in-Ok-open.log.images.disk
-      → HoldsFiles (layout_of c.in-Ok-open.log.images.slot) files c.in-Ok-open.log.images.sequence (g.D.Disk.state c.in-Ok-open.log.images.disk).reading
-  found_now files applies h =
-      let was = keeps.honest.1 h in
-      rw (watches was).reading (found files applies was)
+    found_now : g.D.Disk.honest c.in-Ok-open.log.images.disk
+        → HoldsFiles (layout_of c.in-Ok-open.log.images.slot) files c.in-Ok-open.log.images.sequence (g.D.Disk.state c.in-Ok-open.log.images.disk).reading
+    found_now h =
+        let was = keeps.honest.1 h in
+        rw (watches was).reading (found was)
 
   ends : g.D.Disk.honest c.in-Off.disk → EndsAt (layout_of c.in-Ok-open.log.images.slot) c.in-Ok-open.log.tail (g.D.Disk.state c.in-Off.disk).reading
   ends h = rw (watches h).reading at (c.in-Ok-open.ensures.ready.records (keeps.honest.0 h))
 
-pub returns-in-Ok-apply_texts-clause-sound : goal.returns-in-Ok-apply_texts-clause-sound
-returns-in-Ok-apply_texts-clause-sound g c =
-    let here = (goal.at.returns-in-Ok-apply_texts-clause-sound g c).After-apply_texts in (
-      c.in-Ok-open.ensures.ready,
-      found_now g here c.apply_texts.new.directory.files c.in-Ok-apply_texts.ensures.ok,
-      c.apply_texts.ensures.limits ∙ limits g here ∙ ap limits_of (sym (layout_is g here)),
-    )
-
-pub returns-in-Ok-apply_texts-clause-recovers : goal.returns-in-Ok-apply_texts-clause-recovers
-returns-in-Ok-apply_texts-clause-recovers g c =
-    let here = (goal.at.returns-in-Ok-apply_texts-clause-recovers g c).After-apply_texts in
-    rw c.in-Off.is (off_recovers g.D.Disk c.in-Off.disk c.in-Off.layout _ _
-    (found g here c.apply_texts.new.directory.files c.in-Ok-apply_texts.ensures.ok)
-    (λ err. absurd cc)
-    (watches g here)
-    (λ h. leaves_files g.D.Disk c.in-Ok-open.log.images c.apply_texts.new.directory.files c.in-Ok-open.ensures.ready.images
-    (found_now g here c.apply_texts.new.directory.files c.in-Ok-apply_texts.ensures.ok) ((keeps g here).honest.0 h))
-    (λ h. ends g here h)
-    (λ h is. absurd cc)
-    (λ h. inr (not_failed g here h))
-    (keeps g here))
+pub returns-in-Ok-apply_texts : goal.returns-in-Ok-apply_texts
+returns-in-Ok-apply_texts g c =
+    let here = (goal.at.returns-in-Ok-apply_texts g c).After-apply_texts in
+    let files = c.apply_texts.new.directory.files in
+    let now = found_now g here files c.in-Ok-apply_texts.ensures.ok in
+    record {
+      sound = (c.in-Ok-open.ensures.ready, now, c.apply_texts.ensures.limits ∙ limits g here ∙ ap limits_of (sym (layout_is g here)));
+      recovers = rw c.in-Off.is (off_recovers g.D.Disk c.in-Off.disk c.in-Off.layout _ _ (found g here files c.in-Ok-apply_texts.ensures.ok)
+          (λ err. absurd cc)
+          (watches g here)
+          (λ h. leaves_files g.D.Disk c.in-Ok-open.log.images files c.in-Ok-open.ensures.ready.images now ((keeps g here).honest.0 h))
+          (ends g here)
+          (λ h is. absurd cc)
+          (λ h. inr (not_failed g here h))
+          (keeps g here));
+    }
 
 pub returns-in-Err-apply_texts-clause-recovers : goal.returns-in-Err-apply_texts-clause-recovers
 returns-in-Err-apply_texts-clause-recovers g c =

@@ -1,10 +1,5 @@
-use Rattle.std.proofs.Common.{ℤ, ap, sym, ◌∙◌, rules}
-use Rattle.std.specs.Int.{w128}
-use Rattle.std.proofs.lemmas.Int.{to_z-of_z}
+use Rattle.pos_totals.proofs.Common.{Edit, ap, edit_of, file_of, files_in, rules, sym, to_z-of_z, w128, ℤ, ◌∙◌}
 use Rattle.pos_totals.proofs.Found.{called_is}
-use Rattle.pos_totals.specs.Checks.{files_in, file_of}
-use Rattle.pos_totals.specs.Edits.{edit_of}
-use Rattle.pos_totals.specs.HardTotals.{Edit}
 use Rattle.pos_totals.proofs.checking.check_edit.Goals as goal
 
 pub returns : goal.returns

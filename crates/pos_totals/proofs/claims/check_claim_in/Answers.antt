@@ -1,8 +1,5 @@
-use Rattle.std.proofs.Common.{sym, ◌∙◌, rules}
-use Rattle.std.specs.Int.{w128}
-use Rattle.std.proofs.lemmas.Int.{to_z-of_z}
+use Rattle.pos_totals.proofs.Common.{file_of, files_in, rules, sym, to_z-of_z, w128, ◌∙◌}
 use Rattle.pos_totals.proofs.Found.{called_is}
-use Rattle.pos_totals.specs.Checks.{files_in, file_of}
 use Rattle.pos_totals.proofs.claims.check_claim_in.Goals as goal
 
 pub returns : goal.returns

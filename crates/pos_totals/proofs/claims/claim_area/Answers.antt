@@ -1,4 +1,4 @@
-use Rattle.std.proofs.Common.{◌∙◌, sym}
+use Rattle.pos_totals.proofs.Common.{sym, ◌∙◌}
 use Rattle.pos_totals.proofs.Apart.{sound_claimed}
 use Rattle.pos_totals.proofs.claims.claim_area.Goals as goal
 

@@ -1,9 +1,5 @@
-use Rattle.std.proofs.Common.{Bool, ap, sym, ◌∙◌, ◌||◌}
-use Rattle.std.specs.List.{list_any}
-use Rattle.pos_totals.specs.TotalsClaims.{is_foreign_claim}
-use Rattle.pos_totals.specs.HardTotals.{files_of}
+use Rattle.pos_totals.proofs.Common.{Bool, ap, files_of, is_foreign_claim, list_any, mode_of, sym, ◌||◌, ◌∙◌}
 use Rattle.pos_totals.proofs.Claimed.{foreign_seen}
-use Rattle.pos_totals.specs.Views.{mode_of}
 use Rattle.pos_totals.proofs.claims.is_area_taken.Goals as goal
 
 pub returns-in-Some : goal.returns-in-Some

@@ -1,7 +1,4 @@
-use Rattle.std.proofs.Common.{rules}
-use Rattle.std.specs.Int.{w128}
-use mir.Val.{SFits}
-use Rattle.std.proofs.lemmas.Int.{to_z-of_z}
+use Rattle.pos_totals.proofs.Common.{SFits, rules, to_z-of_z, w128}
 use Rattle.pos_totals.proofs.Claimed.{file_released}
 use Rattle.pos_totals.proofs.claims.release_file.Goals as goal
 

@@ -1,6 +1,4 @@
-use Rattle.std.proofs.Common.{◌≡◌, take}
-use Rattle.pos_totals.specs.Checks.{files_in}
-use Rattle.pos_totals.specs.Groups.{group_of}
+use Rattle.pos_totals.proofs.Common.{files_in, group_of, take, ◌≡◌}
 use Rattle.pos_totals.proofs.committing.group_changes.Given as goal
 
 -- the changes so far

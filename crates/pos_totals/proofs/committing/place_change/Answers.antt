@@ -1,9 +1,4 @@
-use Rattle.std.proofs.Common.{◌≡◌, ℕ, pos, List, ◌∙◌}
-use Rattle.pos_totals.specs.Buffers.{IsOf, placed_change}
-use Rattle.pos_totals.specs.Checks.{files_in}
-use Rattle.pos_totals.specs.Groups.{index_of, file_change}
-use Rattle.pos_totals.specs.HardTotals.{File, Change, Edit}
-use Rattle.pos_totals.specs.TotalsFiles.{is_called}
+use Rattle.pos_totals.proofs.Common.{Change, Edit, File, IsOf, List, file_change, files_in, index_of, is_called, placed_change, pos, ℕ, ◌∙◌, ◌≡◌}
 use Rattle.pos_totals.proofs.committing.place_change.Goals as goal
 
 -- a buffered change, placed at the index of its file

@@ -1,6 +1,5 @@
-use Rattle.std.proofs.Common.{sym, ◌∙◌}
+use Rattle.pos_totals.proofs.Common.{files_in, sym, ◌∙◌}
 use Rattle.pos_totals.proofs.Committed.{gathers}
-use Rattle.pos_totals.specs.Checks.{files_in}
 use Rattle.pos_totals.proofs.committing.plan_in.Goals as goal
 
 pub returns-in-Ok : goal.returns-in-Ok

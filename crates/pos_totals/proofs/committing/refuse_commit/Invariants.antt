@@ -1,7 +1,4 @@
-use Rattle.std.proofs.Common.{◌≡◌, false, take}
-use Rattle.std.specs.List.{list_any}
-use Rattle.pos_totals.specs.TotalsCommits.{is_of_none, is_of_foreign}
-use Rattle.pos_totals.specs.Checks.{files_in}
+use Rattle.pos_totals.proofs.Common.{false, files_in, is_of_foreign, is_of_none, list_any, take, ◌≡◌}
 use Rattle.pos_totals.proofs.committing.refuse_commit.Given as goal
 
 -- the changes so far

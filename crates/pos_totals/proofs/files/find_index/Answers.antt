@@ -1,9 +1,6 @@
-use Rattle.std.proofs.Common.{pos, sym}
-use Rattle.std.specs.Prelude.{nat_eq}
-use Rattle.pos_totals.specs.TotalsFiles.{is_called}
+use Rattle.pos_totals.proofs.Common.{is_called, nat_eq, pos, sym, with_tags}
 use Rattle.pos_totals.proofs.Found.{index_by_handle}
 use Rattle.pos_totals.proofs.Places.{is_at, is_past}
-use Rattle.pos_totals.specs.Views.{with_tags}
 use Rattle.pos_totals.proofs.files.find_index.Goals as goal
 
 pub returns-in-Some : goal.returns-in-Some

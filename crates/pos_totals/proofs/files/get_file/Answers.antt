@@ -1,8 +1,6 @@
-use Rattle.std.proofs.Common.{sym, arith}
-use Rattle.std.proofs.lemmas.Option.{slice_get-get_or, slice_get_past}
+use Rattle.pos_totals.proofs.Common.{arith, slice_get-get_or, slice_get_past, sym, with_tags}
 use Rattle.pos_totals.proofs.Largest.{most_bytes}
 use Rattle.pos_totals.proofs.Pairs.{pair_at, one_of_sum, none_at, length-with_tags}
-use Rattle.pos_totals.specs.Views.{with_tags}
 use Rattle.pos_totals.proofs.files.get_file.Goals as goal
 
 pub returns-then-index-files-clause-file : goal.returns-then-index-files-clause-file

@@ -1,9 +1,6 @@
-use Rattle.std.proofs.Common.{◌∙◌, ◌-◌, sym, ap}
-use Rattle.pos_dir.specs.Files.{total_size}
+use Rattle.pos_totals.proofs.Common.{ap, sym, total_size, totals_limits, with_tags, ◌-◌, ◌∙◌}
 use Rattle.pos_totals.proofs.Grouped.{plain_size}
 use Rattle.pos_totals.proofs.Pairs.{plain_of}
-use Rattle.pos_totals.specs.HardTotals.{totals_limits}
-use Rattle.pos_totals.specs.Views.{with_tags}
 use Rattle.pos_totals.proofs.files.measure_free.Goals as goal
 
 pub returns : goal.returns

@@ -1,5 +1,4 @@
-use Rattle.std.proofs.Common.{◌≡◌, ◌++◌, map, take, drop}
-use Rattle.pos_totals.specs.Tables.{tag_claimed}
+use Rattle.pos_totals.proofs.Common.{drop, map, tag_claimed, take, ◌++◌, ◌≡◌}
 use Rattle.pos_totals.proofs.handles.claim_tags.Given as goal
 
 -- the tags before the place have the claim

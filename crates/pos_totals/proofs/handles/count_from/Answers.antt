@@ -1,7 +1,5 @@
-use Rattle.std.proofs.Common.{◌∙◌, ◌<◌, ◌+◌, List, ◌++◌, ◌∷◌, [], length, ap, arith, lit<}
+use Rattle.pos_totals.proofs.Common.{List, Tag, [], ap, arith, length, lit<, new_tag, ◌++◌, ◌+◌, ◌<◌, ◌∙◌, ◌∷◌}
 use Rattle.pos_totals.proofs.Numbered.{length-tags, tags_more}
-use Rattle.pos_totals.specs.Tables.{new_tag}
-use Rattle.pos_totals.specs.declared.handles.Tag.{Tag}
 use Rattle.pos_totals.proofs.handles.count_from.Goals as goal
 
 pub push-requires : goal.push-requires

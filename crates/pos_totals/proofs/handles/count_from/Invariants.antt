@@ -1,5 +1,4 @@
-use Rattle.std.proofs.Common.{◌≡◌}
-use Rattle.pos_totals.specs.Numbering.{tags_from}
+use Rattle.pos_totals.proofs.Common.{tags_from, ◌≡◌}
 use Rattle.pos_totals.proofs.handles.count_from.Given as goal
 
 abbrev pub invariant-loop-place : goal.invariant-loop-place

@@ -1,8 +1,4 @@
-use Rattle.std.proofs.Common.{◌∙◌, None, get_or, set, ap, arith}
-use Rattle.std.proofs.lemmas.List.{get_or_default}
-use Rattle.std.proofs.lemmas.List.Edits.{map_over_more}
-use Rattle.pos_totals.specs.Tables.{tag_released}
-use Rattle.pos_totals.specs.declared.handles.Tag.{Tag}
+use Rattle.pos_totals.proofs.Common.{None, Tag, ap, arith, get_or, get_or_default, map_over_more, set, tag_released, ◌∙◌}
 use Rattle.pos_totals.proofs.handles.release_tags.Goals as goal
 
 pub loop-tag-preserved : goal.loop-tag-preserved

@@ -1,5 +1,4 @@
-use Rattle.std.proofs.Common.{◌≡◌, ◌++◌, map, take, drop}
-use Rattle.pos_totals.specs.Tables.{tag_released}
+use Rattle.pos_totals.proofs.Common.{drop, map, tag_released, take, ◌++◌, ◌≡◌}
 use Rattle.pos_totals.proofs.handles.release_tags.Given as goal
 
 -- the tags before the place are released

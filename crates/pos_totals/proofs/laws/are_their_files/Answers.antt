@@ -1,6 +1,5 @@
-use Rattle.std.proofs.Common.{subst}
+use Rattle.pos_totals.proofs.Common.{HasItsFiles, TotalsView, subst}
 use Rattle.pos_totals.proofs.Changed.{theirs}
-use Rattle.pos_totals.specs.Views.{TotalsView, HasItsFiles}
 use Rattle.pos_totals.proofs.laws.are_their_files.Goals as goal
 
 pub returns : goal.returns

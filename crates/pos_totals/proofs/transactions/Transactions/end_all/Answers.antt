@@ -1,6 +1,4 @@
-use Rattle.std.proofs.Common.{Option, List, length, None, ap, arith}
-use Rattle.std.proofs.lemmas.List.Edits.{map_over_more}
-use Rattle.pos_totals.specs.HardTotals.{Change}
+use Rattle.pos_totals.proofs.Common.{Change, List, None, Option, ap, arith, length, map_over_more}
 use Rattle.pos_totals.proofs.transactions.Transactions.end_all.Goals as goal
 
 pub loop-place-preserved : goal.loop-place-preserved

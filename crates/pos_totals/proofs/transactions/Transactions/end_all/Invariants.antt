@@ -1,5 +1,4 @@
-use Rattle.std.proofs.Common.{◌≡◌, ◌++◌, take, drop}
-use Rattle.pos_totals.specs.HardTotals.{without_transactions}
+use Rattle.pos_totals.proofs.Common.{drop, take, without_transactions, ◌++◌, ◌≡◌}
 use Rattle.pos_totals.proofs.transactions.Transactions.end_all.Given as goal
 
 -- the transactions before the place have ended
