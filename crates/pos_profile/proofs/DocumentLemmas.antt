@@ -1,7 +1,7 @@
 -- What is faulty in a document, by its two lists.
 use Rattle.std.proofs.Common.{◌≡◌, ◌∙◌, ◌<◌, ◌+◌, ◌-◌, ℕ, zero, suc, List, [], ◌∷◌, ◌++◌, Bool, true, false, Option, Some, None, option_map, option_and_then}
 use Rattle.std.proofs.Common.{cond, map, length, take, slice_get, refl, sym, ap, subst, arith, inl, inr, add-one}
-use Rattle.std.specs.Prelude.{codes}
+use Rattle.std.specs.Prelude.{IfSome}
 use Rattle.std.proofs.lemmas.Bool.{cases_lt}
 use Rattle.std.proofs.lemmas.List.{length-map, take-append-le}
 use Rattle.std.proofs.lemmas.Option.{slice_get-map}
@@ -21,11 +21,13 @@ use Rattle.pos_profile.specs.declared.table.Keys.TheVariants.{OfEntry}
 use Rattle.pos_profile.specs.declared.variation.Variation.{Variation}
 use Rattle.pos_service.specs.Categories.{category_named}
 use Rattle.pos_profile.specs.Categories.{is_totals}
-use Rattle.pos_profile.specs.Entries.{entry_of, entry_with, numbers_of, table_entry, variation_of}
+use Rattle.pos_profile.specs.Entries.{Contents, entry_of, entry_with, numbers_of, table_entry, variation_of}
 use Rattle.pos_profile.specs.Mistakes.{IsFlawedList, IsMistake, IsSoundList, RootHas, mistake_at}
-use Rattle.pos_profile.specs.Profiles.{IsLowest, IsRead, entries_of, is_faulty, is_refused, is_refused_after, is_root, is_totals_entry}
+use Rattle.pos_profile.specs.Profiles.{is_repeated, names_of, IsLowest, IsRead, entries_of, is_faulty, is_refused, is_refused_after, is_root, is_totals_entry}
 use Rattle.pos_profile.specs.Tables.{allowed, has_only, is_key, key_of, name_for, text_at, values_at}
 use Rattle.pos_profile.proofs.ListLemmas.{before_end, none_past}
+use Rattle.pos_profile.proofs.SoundLemmas.{entry_sound, list_sound}
+use Rattle.pos_profile.specs.Soundness.{IsSoundEntry, IsSoundProfile}
 
 -- the entries of both lists
 abbrev both : Members → List (Option Entry)
@@ -54,39 +56,23 @@ get_back (x ∷ front) back n zero e = absurd (omega arith)
 get_back (x ∷ front) back n (suc k) e = get_back front back n k (omega arith)
 
 -- what is refused of the first of two lists
-pub refused_front : (front back : List (Option Entry)) (n : ℕ) → n < length front → is_refused (front ++ back) n ≡ is_refused front n
+refused_front : (front back : List (Option Entry)) (n : ℕ) → n < length front → is_refused (front ++ back) n ≡ is_refused front n
 refused_front front back n less = rw (get_front front back n less, take-append-le n front back (omega arith))
 
 -- a spare isn't Hard Totals
-plain_entry : (category : Category) → is_totals category ≡ false
-    → (name : Option (List ℕ)) (numbers : Option Numbers) (variation : Option Variation) (only : Bool)
-    → is_totals_entry (option_and_then
-    (λ text. option_and_then (λ ns. option_and_then (λ v. cond only (Some (entry_with category text ns v)) None) variation) numbers) name) ≡ false
-plain_entry category plain (Some text) (Some ns) (Some v) true = plain
-plain_entry category plain _ _ _ _ = refl
+plain_spare : (category : Category) → allowed Spare category ≡ Some category → is_totals category ≡ false
+plain_spare HardTotals is = absurd cc
+plain_spare _ is = refl
 
-plain_category : (entry : Category → Option Entry) (asked : Option Category)
-    → ((category : Category) → is_totals category ≡ false → is_totals_entry (entry category) ≡ false)
-    → is_totals_entry (option_and_then entry (option_and_then (allowed Spare) asked)) ≡ false
-plain_category entry None plain = refl
-plain_category entry (Some HardTotals) plain = refl
-plain_category entry (Some category) plain = plain category refl
-
-plain_table : (table : Option Members) → is_totals_entry (option_and_then (table_entry Spare) table) ≡ false
-plain_table None = refl
-plain_table (Some table) =
-    plain_category _ (option_and_then category_named (text_at (codes "category") table))
-    (λ c is. plain_entry c is (name_for Spare table) (numbers_of c table) (variation_of c table) (has_only (is_key (OfEntry Spare c)) table))
-
-after_plain : (earlier others : List (Option Entry)) (entry : Option Entry) → is_totals_entry entry ≡ false
-    → is_refused_after earlier (Some entry) ≡ is_refused_after others (Some entry)
-after_plain earlier others None plain = refl
-after_plain earlier others (Some entry) plain = rw plain
-
+-- whether a spare is refused doesn't hang on what stands before it
 after_spare : (earlier others : List (Option Entry)) (value : Option Data)
     → is_refused_after earlier (option_map (entry_of Spare) value) ≡ is_refused_after others (option_map (entry_of Spare) value)
 after_spare earlier others None = refl
-after_spare earlier others (Some value) = after_plain earlier others (entry_of Spare value) (plain_table (as_table value))
+after_spare earlier others (Some value) = by (entry_of Spare value) (entry_sound Spare value)
+  where
+    by : (entry : Option Entry) → IfSome entry (IsSoundEntry Spare) → is_refused_after earlier (Some entry) ≡ is_refused_after others (Some entry)
+    by None sound = refl
+    by (Some entry) sound = rw (plain_spare entry.category sound.category)
 
 refused_back : (front : List (Option Entry)) (values : List Data) (n k : ℕ) → k ≡ length front + n
     → is_refused (front ++ map (entry_of Spare) values) k ≡ is_refused (map (entry_of Spare) values) n
@@ -176,4 +162,19 @@ module _ (root : Members) (is : is_root root ≡ true) where
       sound = faultless root is (neither (entries_of Device root) (values_at (key_of Spare) root) sound.sound others.sound);
       devices = sound.entries;
       spares = others.entries;
+    }
+
+-- a document's devices and spares make a sound profile, where no name stands twice
+pub profile_sound : (root : Members) (contents : Contents) → IsRead root contents
+    → ((place : ℕ) → is_repeated (names_of contents.devices) place ≡ false) → IsSoundProfile contents
+profile_sound root contents read names =
+    let front = entries_of Device root in
+    record {
+      devices = list_sound Device (values_at (key_of Device) root) contents.devices read.devices;
+      spares = list_sound Spare (values_at (key_of Spare) root) contents.spares read.spares;
+      totals = λ place. rw (← read.devices) (elim (cases_lt place (length front)) [
+        | inl less ↦ sym (refused_front front (entries_of Spare root) place less) ∙ read.sound (suc place)
+        | inr past ↦ none_past front place past
+      ]);
+      names = names;
     }

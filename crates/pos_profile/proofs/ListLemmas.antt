@@ -2,7 +2,7 @@
 use Rattle.std.proofs.Common.{◌≡◌, ◌∙◌, ◌<◌, ◌≤◌, ◌+◌, ◌^◌, ℕ, List, [], ◌∷◌, ◌++◌, Bool, true, false, not, ◌||◌, Option, Some, None, cond, map}
 use Rattle.std.proofs.Common.{length, take, get_or, slice_get, bytes_eq, refl, sym, ap, arith, inl, inr, Bor}
 use Rattle.std.specs.List.{list_any}
-use Rattle.std.proofs.lemmas.Bool.{and_parts, cases_lt, false≢true}
+use Rattle.std.proofs.lemmas.Bool.{and_parts, cases_lt, false≢true, not-true}
 use Rattle.std.proofs.lemmas.List.{length-map, map-append, take_all, take_more}
 use Rattle.std.proofs.lemmas.Option.{slice_get-map, slice_get_read, slice_get_within, slice_get_past, get_or_from_slice_get}
 use Rattle.indexmap.specs.IndexSet.{insert_key}
@@ -17,6 +17,10 @@ use Rattle.pos_profile.specs.Categories.{is_totals}
 use Rattle.pos_profile.specs.Entries.{entry_of}
 use Rattle.pos_profile.specs.Mistakes.{IsFlawedList, IsFlawedValue, IsSoundList}
 use Rattle.pos_profile.specs.Profiles.{is_refused, is_refused_after, is_repeated, is_totals_entry, names_of}
+
+-- the front of a list with the next element
+pub take_next : {A : Type 0} (xs : List A) (place : ℕ) (x : A) → slice_get xs place ≡ Some x → take (place + 1) xs ≡ take place xs ++ x ∷ []
+take_next xs place x at = rw (take_more xs place x (slice_get_within xs place x at), get_or_from_slice_get xs place x x at)
 
 -- Hard Totals among entries that are read
 pub any_totals : (entries : List Entry) → list_any (λ entry. is_totals entry.category) entries ≡ list_any is_totals_entry (map (λ entry. Some entry) entries)
@@ -77,14 +81,15 @@ module _ (role : Role) (values : List Data) (place : ℕ) (value : Data) (at : s
     -- one more entry
     pub taken : map (λ e. Some e) (read ++ entry ∷ []) ≡ take (place + 1) (map (entry_of role) values)
     taken =
-        let found = map (entry_of role) values in
-        let here : slice_get found place ≡ Some (Some entry) = entry_at (Some entry) is in
-        rw (
-          map-append (λ e. Some e) read (entry ∷ []),
-          so_far,
-          take_more found place None (slice_get_within found place (Some entry) here),
-          get_or_from_slice_get found place (Some entry) None here,
-        )
+        rw (map-append (λ e. Some e) read (entry ∷ []), so_far, take_next (map (entry_of role) values) place (Some entry) (entry_at (Some entry) is))
+
+-- a test that nothing passes up to a place behind the last passes nowhere
+none_passes : (test : ℕ → Bool) (count place : ℕ) → ((n : ℕ) → count ≤ n → test n ≡ false) → count ≤ place
+    → ((n : ℕ) → n < place → test n ≡ false) → (n : ℕ) → test n ≡ false
+none_passes test count place past end below n = elim (cases_lt n place) [
+  | inl here ↦ below n here
+  | inr after ↦ past n (omega arith)
+]
 
 -- all entries were read
 pub all_read : (role : Role) (values : List Data) (read : List Entry) (place : ℕ) → length values ≤ place
@@ -95,10 +100,7 @@ all_read role values read place past so_far sound =
     let end : length found ≤ place = omega (arith, length-map values (entry_of role)) in
     record {
       entries = sym (so_far ∙ take_all place found end);
-      sound = λ n. elim (cases_lt n place) [
-        | inl here ↦ sound n here
-        | inr after ↦ none_past found n (omega arith)
-      ];
+      sound = none_passes (is_refused found) (length found) place (none_past found) end sound;
     }
 
 -- whether a name is among lent ones
@@ -107,42 +109,28 @@ any_lent : (name : List ℕ) (lent : List (Bor (List ℕ)))
 any_lent name [] = refl
 any_lent name (other ∷ lent) = ap (λ rest. bytes_eq name other.now || rest) (any_lent name lent)
 
-not_not : (b : Bool) → not (not b) ≡ b
-not_not true = refl
-not_not false = refl
+-- what a set of the names so far says of the next
+module _ (lent : Bor (List ℕ)) (keys : List (Bor (List ℕ))) (names : List (List ℕ)) (place : ℕ)
+    (so_far : map (λ (name : Bor (List ℕ)). name.now) keys ≡ take place names) (at : slice_get names place ≡ Some lent.now) (is_new : Bool)
+    (added : is_new ≡ not (list_any (λ (other : Bor (List ℕ)). bytes_eq lent.now other.now) keys)) where
+  pub repeated_at : is_repeated names place ≡ not is_new
+  repeated_at = rw (at, ← so_far, ← any_lent lent.now keys, added) (double (list_any (λ (other : Bor (List ℕ)). bytes_eq lent.now other.now) keys))
+    where
+      double : (b : Bool) → b ≡ not (not b)
+      double true = refl
+      double false = refl
 
--- what a set of the names so far says of one more
-pub known : (lent : Bor (List ℕ)) (keys : List (Bor (List ℕ))) (earlier : List (List ℕ)) (is_new : Bool)
-    → is_new ≡ not (list_any (λ (other : Bor (List ℕ)). bytes_eq lent.now other.now) keys) → map (λ (name : Bor (List ℕ)). name.now) keys ≡ earlier
-    → list_any (bytes_eq lent.now) earlier ≡ not is_new
-known lent keys earlier is_new added so_far = rw (← so_far, ← any_lent lent.now keys, added, not_not)
-
--- one more name
-names_more : (names : List (List ℕ)) (place : ℕ) (name : List ℕ) → slice_get names place ≡ Some name → take (place + 1) names ≡ take place names ++ name ∷ []
-names_more names place name at =
-    rw (take_more names place [] (slice_get_within names place name at), get_or_from_slice_get names place name [] at)
-
--- a set of the names so far gets one more
-pub names_taken : (lent : Bor (List ℕ)) (keys : List (Bor (List ℕ))) (names : List (List ℕ)) (place : ℕ)
-    → true ≡ not (list_any (λ (other : Bor (List ℕ)). bytes_eq lent.now other.now) keys)
-    → map (λ (name : Bor (List ℕ)). name.now) keys ≡ take place names → slice_get names place ≡ Some lent.now
-    → map (λ (name : Bor (List ℕ)). name.now) (insert_key (λ q k. bytes_eq q.now k.now) keys lent) ≡ take (place + 1) names
-names_taken lent keys names place added so_far at =
-    let fresh : list_any (λ (other : Bor (List ℕ)). bytes_eq lent.now other.now) keys ≡ false =
-    sym (ap not added ∙ not_not (list_any (λ (other : Bor (List ℕ)). bytes_eq lent.now other.now) keys)) in
-    ap (λ b. map (λ (name : Bor (List ℕ)). name.now) (cond b keys (keys ++ lent ∷ []))) fresh
-    ∙ rw (map-append (λ (name : Bor (List ℕ)). name.now) keys (lent ∷ []), so_far, names_more names place lent.now at)
+  -- it gets one more
+  pub names_taken : is_new ≡ true → map (λ (name : Bor (List ℕ)). name.now) (insert_key (λ q k. bytes_eq q.now k.now) keys lent) ≡ take (place + 1) names
+  names_taken is =
+      ap (λ b. map (λ (name : Bor (List ℕ)). name.now) (cond b keys (keys ++ lent ∷ []))) (not-true _ (sym added ∙ is))
+      ∙ rw (map-append (λ (name : Bor (List ℕ)). name.now) keys (lent ∷ []), so_far, take_next names place lent.now at)
 
 -- the name at a place of a list of entries
 pub name_at : (entries : List Entry) (place : ℕ) (entry : Entry) (name : List ℕ) → place < length entries → entry ≡ get_or entries place entry
     → name ≡ entry.name → slice_get (names_of entries) place ≡ Some name
 name_at entries place entry name within at is =
     rw (slice_get-map (λ (e : Entry). e.name) entries place, slice_get_read entries (length entries) place entry refl within at, is)
-
--- the verdict on the name at a place
-pub repeated_at : (names : List (List ℕ)) (place : ℕ) (name : List ℕ) (verdict : Bool) → slice_get names place ≡ Some name
-    → list_any (bytes_eq name) (take place names) ≡ verdict → is_repeated names place ≡ verdict
-repeated_at names place name verdict at is = rw at is
 
 -- no name past the end is repeated
 none_repeated : (names : List (List ℕ)) (place : ℕ) → length names ≤ place → is_repeated names place ≡ false
@@ -151,11 +139,7 @@ none_repeated names place past = rw (slice_get_past names place past)
 -- no name is repeated
 pub all_single : (names : List (List ℕ)) (place : ℕ) → length names ≤ place → ((n : ℕ) → n < place → is_repeated names n ≡ false) → (n : ℕ)
     → is_repeated names n ≡ false
-all_single names place past single n =
-    elim (cases_lt n place) [
-      | inl here ↦ single n here
-      | inr after ↦ none_repeated names n (omega arith)
-    ]
+all_single names place past single = none_passes (is_repeated names) (length names) place (none_repeated names) past single
 
 -- a repeated place is one of the list
 pub repeated_within : (names : List (List ℕ)) (place : ℕ) → is_repeated names place ≡ true → place < length names

@@ -52,16 +52,3 @@ keys_there (entry ∷ entries) =
     (λ key. is_some (get_member (string_bytes key) (members_view (entry ∷ entries)))) (keys_of entries)
     (λ key is. found_after (slice_cmp nat_cmp (string_bytes key) first) (get_member (string_bytes key) (members_view entries)) (view entry.1) is)
     (keys_there entries))
-
--- what is kept has passed the test
-pub kept : {A : Type 0} (test : Bool) (x y : A) → cond test (Some x) None ≡ Some y → (test ≡ true) × (x ≡ y)
-kept true x y is = (refl, same_Some x y is)
-kept false x y is = absurd (none-some y is)
-
--- a number that is found is within the range
-pub within : (least most : ℕ) (given : ℤ) (number : ℕ) → number_within least most given ≡ Some number → (least ≤ number) × (number ≤ most)
-within least most (pos given) number is =
-    let found = kept (nat_le least given && nat_le given most) given number is in
-    let parts = and_parts (nat_le least given) (nat_le given most) found.0 in
-    subst (λ (n : ℕ). (least ≤ n) × (n ≤ most)) found.1 (leb-true least given parts.0, leb-true given most parts.1)
-within least most (negsuc given) number is = absurd (none-some number is)

@@ -11,12 +11,9 @@ returns-clause-served g c =
 
 pub returns-clause-sound : goal.returns-clause-sound
 returns-clause-sound g c =
-    let slot = c.index_mut.result.now in
     let may = c.requires.may_serve in
     sound_with g.P.Peripheral c.args.self.now _ c.args.place (Some (g.P.Peripheral.state c.args.peripheral)) c.requires.sound refl
-    (rw c.replace.ensures.after (devices_set g.P.Peripheral c.args.self.now.slots.items c.args.place slot slot
-    (Some c.args.peripheral) c.index_mut.ensures.value))
-    (λ (d : Device) at. (
+    (returns-clause-served g c) (λ (d : Device) at. (
       c.requires.unparked,
       same_kind (devices g.P.Peripheral c.args.self.now) c.args.place (g.P.Peripheral.state c.args.peripheral) d may at,
     ))

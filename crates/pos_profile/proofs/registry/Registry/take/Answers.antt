@@ -26,7 +26,4 @@ returns-clause-vacated g c =
 
 pub returns-clause-sound : goal.returns-clause-sound
 returns-clause-sound g c =
-    let slot = c.index_mut.result.now in
-    sound_with g.P.Peripheral c.args.self.now _ c.args.place None c.requires.sound refl
-    (rw c.take.ensures.after (devices_set g.P.Peripheral c.args.self.now.slots.items c.args.place slot slot None c.index_mut.ensures.value))
-    (λ (d : Device) at. tt)
+    sound_with g.P.Peripheral c.args.self.now _ c.args.place None c.requires.sound refl (returns-clause-vacated g c) (λ (d : Device) at. tt)
