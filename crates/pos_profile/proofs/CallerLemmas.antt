@@ -1,8 +1,6 @@
 -- What callers of a registry need to put back what they took.
-use Rattle.std.proofs.Common.{◌≡◌, ◌∙◌, ℕ, zero, suc, List, [], ◌∷◌, Option, Some, None, false, refl, ap}
-use Rattle.std.specs.List.{AllByRecursion}
-use Rattle.pos_service.specs.Peripherals.{PeripheralState}
-use Rattle.pos_profile.specs.Registries.{Device, IsServed, MayServe, standing_at, with_peripheral}
+use Rattle.pos_profile.proofs.Common.{AllByRecursion, Device, IsServed, List, MayServe, None, Option, PeripheralState, Some, [], ap, false, refl, standing_at}
+use Rattle.pos_profile.proofs.Common.{suc, with_peripheral, zero, ℕ, ◌∙◌, ◌∷◌, ◌≡◌}
 
 -- what serves a device is in service and of its kind
 served_here : (device : Device) (state : PeripheralState) → IsServed device → Some state ≡ device.peripheral

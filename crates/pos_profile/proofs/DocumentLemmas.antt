@@ -1,33 +1,17 @@
 -- What is faulty in a document, by its two lists.
-use Rattle.std.proofs.Common.{◌≡◌, ◌∙◌, ◌<◌, ◌+◌, ◌-◌, ℕ, zero, suc, List, [], ◌∷◌, ◌++◌, Bool, true, false, Option, Some, None, option_map, option_and_then}
-use Rattle.std.proofs.Common.{cond, map, length, take, slice_get, refl, sym, ap, subst, arith, inl, inr, add-one}
-use Rattle.std.specs.Prelude.{IfSome}
-use Rattle.std.proofs.lemmas.Bool.{cases_lt}
-use Rattle.std.proofs.lemmas.List.{length-map, take-append-le}
-use Rattle.std.proofs.lemmas.Option.{slice_get-map}
-use Rattle.toml.specs.Data.{Data, Members, as_table}
-use Rattle.pos_service.specs.declared.category.Category.{Category}
-use Rattle.pos_service.specs.declared.category.Category.TheVariants.{HardTotals}
-use Rattle.pos_profile.specs.declared.entry.Entry.{Entry}
+use Rattle.pos_profile.proofs.Common.{Category, Contents, Data, Entry, HardTotals, IfSome, IsFlawedList, IsLowest, IsMistake, IsRead, IsSoundEntry}
+use Rattle.pos_profile.proofs.Common.{IsSoundList, IsSoundProfile, List, Members, Mistaken, None, Option, Reason, Role, RootHas, Some}
+use Rattle.pos_profile.proofs.Common.{Spare, [], add-one, allowed, ap, arith, cases_lt, entries_of, entry_of}
+use Rattle.pos_profile.proofs.Common.{false, inl, inr, is_faulty, is_refused, is_refused_after, is_repeated, is_root, is_totals}
+use Rattle.pos_profile.proofs.Common.{key_of, length, length-map, map, mistake_at, names_of}
+use Rattle.pos_profile.proofs.Common.{option_map, refl, slice_get, slice_get-map, subst, suc, sym, take, take-append-le, true}
+use Rattle.pos_profile.proofs.Common.{values_at, zero, ℕ, ◌++◌, ◌+◌, ◌-◌, ◌<◌, ◌∙◌, ◌∷◌, ◌≡◌}
 use Rattle.pos_profile.specs.declared.listing.Flaw.{Flaw}
 use Rattle.pos_profile.specs.declared.mistake.Place.TheVariants.{Root}
-use Rattle.pos_profile.specs.declared.mistake.Reason.{Reason}
-use Rattle.pos_profile.specs.declared.reading.Numbers.{Numbers}
+use Rattle.pos_profile.specs.declared.role.Role.TheVariants.{Device}
 use Rattle.pos_profile.specs.declared.root.DocumentFault.{DocumentFault}
-use Rattle.pos_profile.specs.declared.root.DocumentFault.TheVariants.{Mistaken}
-use Rattle.pos_profile.specs.declared.role.Role.{Role}
-use Rattle.pos_profile.specs.declared.role.Role.TheVariants.{Device, Spare}
-use Rattle.pos_profile.specs.declared.table.Keys.TheVariants.{OfEntry}
-use Rattle.pos_profile.specs.declared.variation.Variation.{Variation}
-use Rattle.pos_service.specs.Categories.{category_named}
-use Rattle.pos_profile.specs.Categories.{is_totals}
-use Rattle.pos_profile.specs.Entries.{Contents, entry_of, entry_with, numbers_of, table_entry, variation_of}
-use Rattle.pos_profile.specs.Mistakes.{IsFlawedList, IsMistake, IsSoundList, RootHas, mistake_at}
-use Rattle.pos_profile.specs.Profiles.{is_repeated, names_of, IsLowest, IsRead, entries_of, is_faulty, is_refused, is_refused_after, is_root, is_totals_entry}
-use Rattle.pos_profile.specs.Tables.{allowed, has_only, is_key, key_of, name_for, text_at, values_at}
 use Rattle.pos_profile.proofs.ListLemmas.{before_end, none_past}
 use Rattle.pos_profile.proofs.SoundLemmas.{entry_sound, list_sound}
-use Rattle.pos_profile.specs.Soundness.{IsSoundEntry, IsSoundProfile}
 
 -- the entries of both lists
 abbrev both : Members → List (Option Entry)

@@ -1,3 +1,4 @@
+pub mod Common
 pub mod TableLemmas
 pub mod ListLemmas
 pub mod DocumentLemmas

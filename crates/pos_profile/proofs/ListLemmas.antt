@@ -1,22 +1,11 @@
 -- Reading a list of a profile, entry by entry.
-use Rattle.std.proofs.Common.{◌≡◌, ◌∙◌, ◌<◌, ◌≤◌, ◌+◌, ◌^◌, ℕ, List, [], ◌∷◌, ◌++◌, Bool, true, false, not, ◌||◌, Option, Some, None, cond, map}
-use Rattle.std.proofs.Common.{length, take, get_or, slice_get, bytes_eq, refl, sym, ap, arith, inl, inr, Bor}
-use Rattle.std.specs.List.{list_any}
-use Rattle.std.proofs.lemmas.Bool.{and_parts, cases_lt, false≢true, not-true}
-use Rattle.std.proofs.lemmas.List.{length-map, map-append, take_all, take_more}
-use Rattle.std.proofs.lemmas.Option.{slice_get-map, slice_get_read, slice_get_within, slice_get_past, get_or_from_slice_get}
+use Rattle.pos_profile.proofs.Common.{Bool, Bor, Data, Entry, IsFlawedList, IsFlawedValue, IsSoundList, List, None, Option, Reason, Role, Some, Value, []}
+use Rattle.pos_profile.proofs.Common.{and_parts, ap, arith, bytes_eq, cases_lt, cond, entry_of, false, false≢true, get_or, get_or_from_slice_get, inl, inr}
+use Rattle.pos_profile.proofs.Common.{is_refused, is_refused_after, is_repeated, is_totals, is_totals_entry, length, length-map, list_any, map, map-append}
+use Rattle.pos_profile.proofs.Common.{names_of, not, not-true, refl, slice_get, slice_get-map, slice_get_past, slice_get_read, slice_get_within, sym, take}
+use Rattle.pos_profile.proofs.Common.{take_all, take_more, true, view, ℕ, ◌++◌, ◌+◌, ◌<◌, ◌^◌, ◌||◌, ◌∙◌, ◌∷◌, ◌≡◌, ◌≤◌}
 use Rattle.indexmap.specs.IndexSet.{insert_key}
-use Rattle.toml.specs.Data.{Data}
-use Rattle.toml.specs.View.{view}
-use Rattle.toml.specs.declared.value.Value.{Value}
-use Rattle.pos_profile.specs.declared.entry.Entry.{Entry}
-use Rattle.pos_profile.specs.declared.mistake.Reason.{Reason}
 use Rattle.pos_profile.specs.declared.mistake.Reason.TheVariants.{SecondHardTotals}
-use Rattle.pos_profile.specs.declared.role.Role.{Role}
-use Rattle.pos_profile.specs.Categories.{is_totals}
-use Rattle.pos_profile.specs.Entries.{entry_of}
-use Rattle.pos_profile.specs.Mistakes.{IsFlawedList, IsFlawedValue, IsSoundList}
-use Rattle.pos_profile.specs.Profiles.{is_refused, is_refused_after, is_repeated, is_totals_entry, names_of}
 
 -- the front of a list with the next element
 pub take_next : {A : Type 0} (xs : List A) (place : ℕ) (x : A) → slice_get xs place ≡ Some x → take (place + 1) xs ≡ take place xs ++ x ∷ []

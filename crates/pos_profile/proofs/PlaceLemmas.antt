@@ -1,15 +1,10 @@
 -- The index of a registry finds each name at its first place.
-use Rattle.std.proofs.Common.{◌≡◌, ◌∙◌, ◌<◌, ◌+◌, ℕ, suc, IfSome, List, [], ◌∷◌, ◌++◌, Bool, true, false, Option, Some, None, option_map, cond, map, length, take}
-use Rattle.std.proofs.Common.{get_or, slice_get, bytes_eq, refl, sym, ap, subst, arith}
-use Rattle.std.specs.Prelude.{is_some}
-use Rattle.std.specs.Map.{lookup}
-use Rattle.std.proofs.lemmas.Bool.{cond_both, false≢true}
-use Rattle.std.proofs.lemmas.List.{length-take-le}
-use Rattle.std.proofs.lemmas.Option.{IfSome_then, slice_get-map, slice_get_read, slice_get_within}
+use Rattle.pos_profile.proofs.Common.{Bool, IfSome, IfSome_then, List, None, Option, Planned, Some, [], ap, arith, bytes_eq, cond, cond_both, false}
+use Rattle.pos_profile.proofs.Common.{false≢true, first_of, get_or, is_some, length, length-take-le, lookup, map, option_map, place_from, place_of, refl}
+use Rattle.pos_profile.proofs.Common.{slice_get, slice_get-map, slice_get_read, slice_get_within, subst, suc, sym, take, true, where_same, ℕ, ◌++◌, ◌+◌, ◌<◌}
+use Rattle.pos_profile.proofs.Common.{◌∙◌, ◌∷◌, ◌≡◌}
 use Rattle.std.proofs.lemmas.Slice.Eq.{bytes_eq-Decides}
 use Rattle.pos_profile.proofs.ListLemmas.{take_next}
-use Rattle.pos_profile.specs.declared.planning.Planned.{Planned}
-use Rattle.pos_profile.specs.Places.{first_of, place_from, place_of, where_same}
 
 -- a place before the end is looked at first
 cond_first : (here : Bool) (at : ℕ) (long short later : Option ℕ) → long ≡ first_of short later

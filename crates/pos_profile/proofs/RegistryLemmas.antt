@@ -1,27 +1,20 @@
 -- The devices of a registry, where the peripheral of one changes.
-use Rattle.std.proofs.Common.{◌≡◌, ◌∙◌, ◌<◌, ◌≤◌, ◌+◌, ℕ, zero, suc, List, [], ◌∷◌, ◌++◌, true, false, Option, Some, None, map, length, take, drop, get_or, set}
-use Rattle.std.proofs.Common.{slice_get, refl, sym, ap, arith}
-use Rattle.std.specs.Prelude.{IfSome, is_some}
-use Rattle.std.specs.List.{All, AllByRecursion, cons_option}
-use Rattle.std.specs.Option.{option_map}
-use Rattle.std.proofs.lemmas.Bool.{false≢true}
-use Rattle.std.proofs.lemmas.List.{append-nil, drop_all, length-map, get_or-map, map-set, take_all, take_more}
-use Rattle.std.proofs.lemmas.List.Edits.{map_over_more}
-use Rattle.std.proofs.lemmas.List.Elements.{filter_map-append, recursion_from_All}
-use Rattle.std.proofs.lemmas.Option.{slice_get-map, slice_get_past, slice_get_read}
+use Rattle.pos_profile.proofs.Common.{AllByRecursion, Device, Entry, HasKindInRange, IfSome, IsInRange, IsInUse, IsIndexOf, IsNamed, IsOfAnotherKind}
+use Rattle.pos_profile.proofs.Common.{IsRegistrySound, IsServed, IsSoundEntry, IsVacant, List, MayServe, None, Option, PeripheralState, Planned, Some, [], ap}
+use Rattle.pos_profile.proofs.Common.{append-nil, arith, cons_option, device_of, devices, devices_of, drop, drop_all, false, false≢true, get_or, get_or-map}
+use Rattle.pos_profile.proofs.Common.{is_some, kind_of, length, length-map, map, map-set, parked, place_of, planned_for, planned_of, refl, set, slice_get}
+use Rattle.pos_profile.proofs.Common.{slice_get-map, slice_get_past, slice_get_read, standing_at, suc, sym, take, take_all, take_more, true, vacant}
+use Rattle.pos_profile.proofs.Common.{vacant_devices, with_peripheral, zero, ℕ, ◌++◌, ◌+◌, ◌<◌, ◌∙◌, ◌∷◌, ◌≡◌, ◌≤◌}
+use Rattle.pos_profile.specs.Registries.{names_of}
+use Rattle.pos_profile.specs.declared.registry.Registry.{Registry}
+use Rattle.pos_profile.specs.declared.slot.Slot.{Slot}
 use Rattle.pos_service.specs.declared.kind.Kind.{Kind}
 use Rattle.pos_service.specs.declared.peripheral.Peripheral.{Ghosts}
-use Rattle.pos_service.specs.Peripherals.{IsInRange, PeripheralState}
-use Rattle.pos_profile.specs.declared.entry.Entry.{Entry}
-use Rattle.pos_profile.specs.declared.planning.Planned.{Planned}
-use Rattle.pos_profile.specs.declared.registry.Registry.{Registry}
+use Rattle.std.proofs.lemmas.List.Edits.{map_over_more}
+use Rattle.std.proofs.lemmas.List.Elements.{filter_map-append, recursion_from_All}
+use Rattle.std.specs.List.{All}
+use Rattle.std.specs.Option.{option_map}
 use Rattle.pos_profile.specs.declared.role.Role.TheVariants as role
-use Rattle.pos_profile.specs.declared.slot.Slot.{Slot}
-use Rattle.pos_profile.specs.Kinds.{kind_of}
-use Rattle.pos_profile.specs.Places.{IsIndexOf, place_of}
-use Rattle.pos_profile.specs.Soundness.{IsSoundEntry}
-use Rattle.pos_profile.specs.Registries.{IsInUse, IsOfAnotherKind, IsVacant, Device, HasKindInRange, IsNamed, IsRegistrySound, IsServed, MayServe, device_of, devices, devices_of, names_of, parked}
-use Rattle.pos_profile.specs.Registries.{planned_for, planned_of, standing_at, vacant, vacant_devices, with_peripheral}
 use Rattle.pos_profile.proofs.PlaceLemmas.{place_within}
 
 -- what there is, where there is something

@@ -1,32 +1,20 @@
 -- What was read of a document is sound.
-use Rattle.std.proofs.Common.{◌≡◌, ◌≤◌, ℕ, ℤ, pos, negsuc, List, [], ◌∷◌, Bool, true, false, ◌&&◌, cond, Option, Some, None, IfSome, All, map, refl, arith}
-use Rattle.std.specs.Prelude.{codes, is_some, nat_le, option_and_then, option_map}
-use Rattle.std.proofs.lemmas.Bool.Decides.{nat_tests}
-use Rattle.std.proofs.lemmas.List.Elements.{All-cons, All-nil}
-use Rattle.std.proofs.lemmas.Option.{IfSome_then}
-use Rattle.toml.specs.Data.{Data, Members, as_integer, as_table, get_member}
-use Rattle.pos_service.specs.Names.{is_device_name}
-use Rattle.pos_service.specs.Categories.{category_named}
-use Rattle.pos_service.specs.Peripherals.{IsInRange}
-use Rattle.pos_service.specs.declared.category.Category.{Category}
-use Rattle.pos_service.specs.declared.category.Category.TheVariants.{HardTotals}
-use Rattle.pos_profile.specs.declared.entry.Entry.{Entry}
-use Rattle.pos_profile.specs.declared.number.NumberKey.{NumberKey}
-use Rattle.pos_profile.specs.declared.number.NumberKey.TheVariants.{Rows, Columns, Chars, Lines, Near}
-use Rattle.pos_profile.specs.declared.optional.OptionalKey.{OptionalKey}
-use Rattle.pos_profile.specs.declared.optional.OptionalKey.TheVariants.{Ring, Flaky, Record}
-use Rattle.pos_profile.specs.declared.reading.Numbers.{Numbers}
-use Rattle.pos_profile.specs.declared.role.Role.{Role}
-use Rattle.pos_profile.specs.declared.role.Role.TheVariants.{Device, Spare}
-use Rattle.pos_profile.specs.declared.table.Keys.TheVariants.{OfEntry}
-use Rattle.pos_profile.specs.declared.variation.Variation.{Variation}
-use Rattle.pos_profile.specs.Entries.{entry_of, entry_with, flaky_of, number_of, numbers_of, table_entry, truth_of, variation_of}
-use Rattle.pos_profile.specs.Kinds.{kind_with}
+use Rattle.pos_profile.proofs.Common.{All, AreOrders, Bool, Category, Data, Entry, HardTotals, IfSome, IfSome_then, IsInItsRange, IsInRange, IsNamedFor}
+use Rattle.pos_profile.proofs.Common.{IsSoundEntry, List, Members, None, Numbers, OfEntry, Option, Role, Some, Spare, Variation, [], allowed, arith, array_in}
+use Rattle.pos_profile.proofs.Common.{as_integer, as_table, category_for, category_named, codes, cond, differs_by, entry_of, entry_with, failing_in}
+use Rattle.pos_profile.proofs.Common.{failing_number, false, flaky_at, flaky_in, flaky_of, get_member, has_only, is_key, is_some, kind_with, map, name_for}
+use Rattle.pos_profile.proofs.Common.{nat_le, negsuc, number_at, number_in, number_of, number_within, numbers_of, option_and_then, option_map, pos, refl}
+use Rattle.pos_profile.proofs.Common.{table_entry, text_at, true, truth_at, truth_of, variation_of, ℕ, ℤ, ◌&&◌, ◌∷◌, ◌≡◌, ◌≤◌}
 use Rattle.pos_profile.specs.Numbers.{has_number, least_of, most_of}
 use Rattle.pos_profile.specs.OptionalKeys.{has_option, key_of_option, most_orders}
-use Rattle.pos_profile.specs.Soundness.{AreOrders, IsInItsRange, IsNamedFor, IsSoundEntry, differs_by, number_in}
-use Rattle.pos_profile.specs.Tables.{allowed, array_in, category_for, failing_in, failing_number, flaky_at, flaky_in, has_only, is_key, name_for, number_at}
-use Rattle.pos_profile.specs.Tables.{number_within, text_at, truth_at}
+use Rattle.pos_profile.specs.declared.number.NumberKey.{NumberKey}
+use Rattle.pos_profile.specs.declared.number.NumberKey.TheVariants.{Chars, Columns, Lines, Near, Rows}
+use Rattle.pos_profile.specs.declared.optional.OptionalKey.{OptionalKey}
+use Rattle.pos_profile.specs.declared.optional.OptionalKey.TheVariants.{Flaky, Record, Ring}
+use Rattle.pos_profile.specs.declared.role.Role.TheVariants.{Device}
+use Rattle.pos_service.specs.Names.{is_device_name}
+use Rattle.std.proofs.lemmas.Bool.Decides.{nat_tests}
+use Rattle.std.proofs.lemmas.List.Elements.{All-cons, All-nil}
 
 -- what holds of all values holds of the one that is there
 there : {A : Type 0} (P : A → Type 0) (o : Option A) → ((x : A) → P x) → IfSome o P

@@ -1,10 +1,6 @@
-use Rattle.std.proofs.Common.{◌≡◌, ◌∙◌, Bor, List, ℕ, false, map, not, sym, ap, arith}
-use Rattle.std.proofs.lemmas.List.{length-map}
-use Rattle.pos_profile.specs.declared.entry.Entry.{Entry}
-use Rattle.pos_profile.specs.Profiles.{is_repeated, names_of}
+use Rattle.pos_profile.proofs.Common.{Bor, Entry, List, ap, arith, below_more, false, is_repeated, length-map, map, names_of, not, ℕ, ◌∙◌, ◌≡◌}
 use Rattle.pos_profile.proofs.ListLemmas.{all_single, name_at, names_taken, repeated_at}
 use Rattle.pos_profile.proofs.listing.first_repeated.Goals as goal
-use borrow.Author.Count.{below_more}
 
 pub returns-then-not-is_new : goal.returns-then-not-is_new
 returns-then-not-is_new c =

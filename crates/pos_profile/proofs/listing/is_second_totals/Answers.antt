@@ -1,5 +1,4 @@
-use Rattle.std.proofs.Common.{◌≡◌, ◌∙◌, true}
-use Rattle.pos_profile.specs.Categories.{is_totals}
+use Rattle.pos_profile.proofs.Common.{is_totals, true, ◌∙◌, ◌≡◌}
 use Rattle.pos_profile.proofs.ListLemmas.{any_totals}
 use Rattle.pos_profile.proofs.listing.is_second_totals.Goals as goal
 

@@ -1,12 +1,7 @@
-use Rattle.std.proofs.Common.{◌≡◌, ◌∙◌, true, false, Some, map, slice_get, sym, arith}
-use Rattle.std.proofs.lemmas.List.{length-map}
-use Rattle.toml.specs.View.{view}
-use Rattle.pos_profile.specs.declared.entry.Entry.{Entry}
-use Rattle.pos_profile.specs.Entries.{entry_of}
-use Rattle.pos_profile.specs.Profiles.{is_refused, is_refused_after}
+use Rattle.pos_profile.proofs.Common.{Entry, Some, arith, below_more, entry_of, false, is_refused, is_refused_after, length-map, map, slice_get, sym, true}
+use Rattle.pos_profile.proofs.Common.{view, ◌∙◌, ◌≡◌}
 use Rattle.pos_profile.proofs.ListLemmas.{all_read, flawed_at, refused_at, second_at, taken, value_at}
 use Rattle.pos_profile.proofs.listing.read_entries.Goals as goal
-use borrow.Author.Count.{below_more}
 
 pub returns-in-Err-Flawed : goal.returns-in-Err-Flawed
 returns-in-Err-Flawed c =

@@ -1,6 +1,4 @@
-use Rattle.std.proofs.Common.{◌≡◌, ◌∙◌, None, Some, sym, arith}
-use Rattle.std.proofs.lemmas.List.{append-nil}
-use Rattle.pos_profile.specs.Kinds.{kind_of}
+use Rattle.pos_profile.proofs.Common.{None, Some, append-nil, arith, kind_of, sym, ◌∙◌, ◌≡◌}
 use Rattle.pos_profile.proofs.RegistryLemmas.{planned_more}
 use Rattle.pos_profile.proofs.planning.plan.Goals as goal
 

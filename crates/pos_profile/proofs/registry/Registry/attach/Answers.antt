@@ -1,4 +1,4 @@
-use Rattle.std.proofs.Common.{◌∙◌, sym, refl, arith}
+use Rattle.pos_profile.proofs.Common.{arith, refl, sym, ◌∙◌}
 use Rattle.pos_profile.proofs.RegistryLemmas.{named_another, named_in_use, named_serves, named_within}
 use Rattle.pos_profile.proofs.registry.Registry.attach.Goals as goal
 

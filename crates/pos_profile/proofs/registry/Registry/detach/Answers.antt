@@ -1,6 +1,4 @@
-use Rattle.std.proofs.Common.{◌≡◌, ◌∙◌, None, Some, not, option_map, ap, refl, arith}
-use Rattle.std.proofs.lemmas.Option.{none-some}
-use Rattle.pos_profile.specs.Registries.{device_of, devices}
+use Rattle.pos_profile.proofs.Common.{None, Some, ap, arith, device_of, devices, none-some, not, option_map, refl, ◌∙◌, ◌≡◌}
 use Rattle.pos_profile.proofs.RegistryLemmas.{named_at, named_in_use, named_vacant, named_within, some_of, standing_is}
 use Rattle.pos_profile.proofs.registry.Registry.detach.Goals as goal
 

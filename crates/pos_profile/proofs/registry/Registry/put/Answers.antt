@@ -1,5 +1,4 @@
-use Rattle.std.proofs.Common.{Some, refl}
-use Rattle.pos_profile.specs.Registries.{Device, devices}
+use Rattle.pos_profile.proofs.Common.{Device, Some, devices, refl}
 use Rattle.pos_profile.proofs.RegistryLemmas.{devices_set, same_kind, sound_with}
 use Rattle.pos_profile.proofs.registry.Registry.put.Goals as goal
 

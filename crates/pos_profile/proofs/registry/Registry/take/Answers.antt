@@ -1,6 +1,5 @@
-use Rattle.std.proofs.Common.{◌∙◌, ◌<◌, ◌≤◌, None, length, sym, ap, refl, arith}
+use Rattle.pos_profile.proofs.Common.{Device, None, ap, arith, device_of, devices, devices_of, length, refl, sym, ◌<◌, ◌∙◌, ◌≤◌}
 use Rattle.std.specs.Option.{option_map}
-use Rattle.pos_profile.specs.Registries.{Device, device_of, devices, devices_of}
 use Rattle.pos_profile.proofs.RegistryLemmas.{device_at, devices_count, devices_set, sound_with, standing_is, with_past}
 use Rattle.pos_profile.proofs.registry.Registry.take.Goals as goal
 
