@@ -1,17 +1,9 @@
 -- Cells in turn: what a ring shows as its rows are blanked and its first row changes.
-use Rattle.std.proofs.Common.{◌≡◌, ◌⊎◌, inl, inr, ℕ, ◌+◌, ◌-◌, ◌*◌, ◌<◌, ◌≤◌, List, Bool, true, cond, take, drop, ◌&&◌, length, get_or, ap, ◌∙◌, refl, arith}
-use Rattle.std.specs.Prelude.{nat_lt, nat_le, if◌then◌else◌}
-use Rattle.std.proofs.lemmas.Bool.{cases_lt}
-use Rattle.std.proofs.lemmas.Bool.Decides.{nat_tests}
-use Rattle.std.proofs.lemmas.List.{ext_get_or, get_or-replicate, length-append}
-use Rattle.std.proofs.lemmas.List.{length-drop, length-replicate, length-take}
-use Rattle.std.proofs.Math.Nat.{mul-le-mul_right}
-use Rattle.pos_service.specs.declared.display_text.Attribute.{Attribute}
-use Rattle.pos_service.specs.declared.display_text.DisplayCell.{DisplayCell}
+use Rattle.pos_sims.proofs.Common.{Attribute, Bool, DisplayCell, IsAbove, IsBelow, List, MovesToEnd, MovesToFront, Scrolls, ShiftsToEnd, ShiftsToFront}
+use Rattle.pos_sims.proofs.Common.{StandsAt, ap, arith, blank, blanked, cases_lt, cell_at, cond, display_of, drop, ext_get_or, get_or, get_or-replicate}
+use Rattle.pos_sims.proofs.Common.{if◌then◌else◌, inl, inr, length, length-append, length-drop, length-replicate, length-take, mul-le-mul_right, nat_le}
+use Rattle.pos_sims.proofs.Common.{nat_lt, nat_tests, refl, take, true, turned, with_run_at, ℕ, ◌&&◌, ◌*◌, ◌+◌, ◌-◌, ◌<◌, ◌∙◌, ◌≡◌, ◌≤◌, ◌⊎◌}
 use Rattle.pos_service.specs.declared.display_text.Direction.TheVariants as direction
-use Rattle.pos_service.specs.Displays.{Scrolls, blank, cell_at}
-use Rattle.pos_sims.specs.Rings.{IsAbove, IsBelow, StandsAt, blanked, turned}
-use Rattle.pos_sims.specs.Windows.{MovesToEnd, MovesToFront, ShiftsToFront, ShiftsToEnd, display_of, with_run_at}
 use Rattle.pos_sims.proofs.RunLemmas.{parts, run_at, run_count}
 use Rattle.pos_sims.proofs.ScrollLemmas.{moved_cell}
 use Rattle.pos_sims.proofs.WindowLemmas.{in_rows}
