@@ -16,10 +16,7 @@ use Rattle.pos_run.specs.Transcript.{Leads, Session, CarriesOut, LineBecomes, Li
 prints_join : (session : Session) (lines : List (List ℕ)) (steps : List (Request × Response)) (text : List ℕ) (mid : Session) (more : List (List ℕ))
     (further : List (Request × Response)) (rest : List ℕ) (after : Session) → LinesPrint session lines steps text mid
     → LinesPrint mid more further rest after → LinesPrint session (lines ++ more) (steps ++ further) (text ++ rest) after
-prints_join session [] steps text mid more further rest after (none, nothing, same) second =
-    subst (λ (s : List (Request × Response)). LinesPrint session more s (text ++ rest) after) (sym (ap (λ s. s ++ further) none))
-    (subst (λ (t : List ℕ). LinesPrint session more further t after) (sym (ap (λ t. t ++ rest) nothing))
-    (subst (λ (s : Session). LinesPrint s more further rest after) same second))
+prints_join session [] steps text mid more further rest after (none, nothing, same) second = rw (none, nothing, ← same) second
 prints_join session (line ∷ lines) steps text mid more further rest after (outcome, some, back, becomes, prints, is_steps, is_text) second = (
   outcome,
   some ++ further,
@@ -38,15 +35,6 @@ module _ {C : Type 0} (Runs : Leads C) (old : C) (session : Session) where
     transcript = record { steps = []; run = none; prints = (refl, refl, refl) };
     written = written;
   }
-
-  -- the same lines, written another way
-  pub finishes_of : (lines others : List (List ℕ)) (before after : Option (List ℕ)) (left : Session) (new : C) → others ≡ lines
-      → Finishes Runs old session lines before after left new → Finishes Runs old session others before after left new
-  finishes_of lines others before after left new same done = subst (λ (ls : List (List ℕ)). Finishes Runs old session ls before after left new) (sym same) done
-
-  pub stops_of : (lines others : List (List ℕ)) (before after : Option (List ℕ)) (left : Session) (new : C) → others ≡ lines
-      → Stops Runs old session lines before after left new → Stops Runs old session others before after left new
-  stops_of lines others before after left new same stops = subst (λ (ls : List (List ℕ)). Stops Runs old session ls before after left new) (sym same) stops
 
   -- what is known of the writer stays
   pub finishes_kept : (lines : List (List ℕ)) (before mid after : Option (List ℕ)) (left : Session) (new : C)
@@ -70,7 +58,7 @@ module _ {C : Type 0} (Runs : Leads C) (old : C) (session : Session) where
     reply = stops.reply;
     front = stops.front;
     back = stops.back;
-    split = ap (λ ls. ls ++ more) stops.split ∙ append_assoc stops.earlier (stops.line ∷ stops.later) more;
+    split = rw (stops.split, append_assoc);
     transcript = stops.transcript;
     carried = stops.carried;
     cut = stops.cut;
@@ -151,13 +139,12 @@ module _ {C : Type 0} (Runs : Leads C) (join : (a b c : C) (s t : List (Request 
     reply = second.reply;
     front = second.front;
     back = second.back;
-    split = ap (λ ls. lines ++ ls) second.split ∙ sym (append_assoc lines second.earlier (second.line ∷ second.later));
+    split = rw (second.split, append_assoc);
     transcript = transcript_join second.earlier second.text second.between second.mid second.transcript;
     carried = second.carried;
     cut = second.cut;
     unwritten = second.unwritten;
-    written = subst (Appends before after) (sym (append_assoc first.text second.text second.front))
-        (Appends-trans before between after first.text (second.text ++ second.front) first.written second.written);
+    written = rw append_assoc (Appends-trans before between after first.text (second.text ++ second.front) first.written second.written);
   }
 
   -- more lines, as far as they can be written
@@ -165,19 +152,15 @@ module _ {C : Type 0} (Runs : Leads C) (join : (a b c : C) (s t : List (Request 
       → others ≡ lines ++ more
       → MatchResult result (λ u. Finishes Runs mid mid_session more between after left new) (λ e. Stops Runs mid mid_session more between after left new)
       → MatchResult result (λ u. Finishes Runs old session others before after left new) (λ e. Stops Runs old session others before after left new)
-  lines_join others more after (Ok u) left new same done =
-      finishes_of Runs old session (lines ++ more) others before after left new same (finishes_join more after left new done)
-  lines_join others more after (Err e) left new same stops =
-      stops_of Runs old session (lines ++ more) others before after left new same (stops_join more after left new stops)
+  lines_join others more after (Ok u) left new same done = rw same (finishes_join more after left new done)
+  lines_join others more after (Err e) left new same stops = rw same (stops_join more after left new stops)
 
   -- a fault of the writer at more lines
   pub fault_join : (others more : List (List ℕ)) (after : Option (List ℕ)) (left : Session) (new : C) → others ≡ lines ++ more
       → Stops Runs mid mid_session more between after left new ⊎ Finishes Runs mid mid_session more between after left new
       → Stops Runs old session others before after left new ⊎ Finishes Runs old session others before after left new
-  fault_join others more after left new same (inl stops) =
-      inl (stops_of Runs old session (lines ++ more) others before after left new same (stops_join more after left new stops))
-  fault_join others more after left new same (inr done) =
-      inr (finishes_of Runs old session (lines ++ more) others before after left new same (finishes_join more after left new done))
+  fault_join others more after left new same (inl stops) = inl (rw same (stops_join more after left new stops))
+  fault_join others more after left new same (inr done) = inr (rw same (finishes_join more after left new done))
 
 -- what the lines that were carried out asked is one run, also where a write failed
 pub carried_run : {C : Type 0} (Runs : Leads C) → ((c : C) → Runs c [] c)
@@ -190,4 +173,4 @@ carried_run Runs none join old session lines before after (Err fault.Read) left 
 carried_run Runs none join old session lines before after (Err fault.Write) left new (inl stops) =
     join old stops.mid new stops.transcript.steps stops.carried.steps stops.transcript.run stops.carried.run
 carried_run Runs none join old session lines before after (Err fault.Write) left new (inr done) = done.transcript.run
-carried_run Runs none join old session lines before after (Err fault.NoMemory) left new same = subst (λ (c : _). Runs old [] c) (sym same.0) (none old)
+carried_run Runs none join old session lines before after (Err fault.NoMemory) left new same = rw same.0 (none old)

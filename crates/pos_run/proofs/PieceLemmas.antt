@@ -14,7 +14,7 @@ module _ (read piece seen left : List ℕ) (split : piece ≡ seen ++ left) (lin
   -- all of it, without a line more
   pub no_more : (kept : Kept) → complete_lines ((read ++ seen) ++ left) ≡ complete_lines (read ++ seen)
       → complete_lines (read ++ piece) ≡ complete_lines read ++ lines
-  no_more kept none = ap (λ p. complete_lines (read ++ p)) split ∙ ap complete_lines (sym (append_assoc read seen left)) ∙ none ∙ are
+  no_more kept none = rw (split, ← append_assoc read seen left) (none ∙ are)
 
   pub stands_then : (kept : Kept) → StandsFor kept ((read ++ seen) ++ left) → StandsFor kept (read ++ piece)
   stands_then kept stands = subst (StandsFor kept) (append_assoc read seen left ∙ ap (λ p. read ++ p) (sym split)) stands
@@ -26,8 +26,7 @@ module _ (read piece seen left : List ℕ) (split : piece ≡ seen ++ left) (lin
     split_then = split ∙ ap (λ p. seen ++ p) cut ∙ sym (append_assoc seen taken rest)
 
     pub line_more : complete_lines (read ++ (seen ++ taken)) ≡ complete_lines read ++ (lines ++ line ∷ [])
-    line_more = ap complete_lines (sym (append_assoc read seen taken)) ∙ ends ∙ ap (λ ls. ls ++ line ∷ []) are
-        ∙ append_assoc (complete_lines read) lines (line ∷ [])
+    line_more = rw (← append_assoc read seen taken, ends, are, append_assoc)
 
     pub rest_none : unfinished ((read ++ seen) ++ taken) ≡ [] → unfinished (read ++ (seen ++ taken)) ≡ []
     rest_none none = ap unfinished (sym (append_assoc read seen taken)) ∙ none

@@ -33,9 +33,7 @@ module _ (entries : List Entry) (i : ℕ) (entry : Entry) (lt : i < length entri
   pub spares_more : (front : List (Option PeripheralState)) (spare : Option PeripheralState) → front ≡ simulated_all (take i entries)
       → spare ≡ simulated_for entry → front ++ spare ∷ [] ≡ simulated_all (take (i + 1) entries)
   spares_more front spare so_far same =
-      ap (λ (f : List (Option PeripheralState)). f ++ spare ∷ []) so_far
-      ∙ ap (λ (s : Option PeripheralState). simulated_all (take i entries) ++ s ∷ []) same
-      ∙ sym (map-append simulated_for (take i entries) (entry ∷ [])) ∙ ap simulated_all (sym one_more)
+      rw (so_far, same, one_more, map-append simulated_for (take i entries) (entry ∷ []))
 
 -- what is simulated is in service, and was given no order yet
 new_serves : (kind : Option Kind) (lines : ℕ) → IsInService (option_map (λ is. new_device is lines) kind)
@@ -104,15 +102,13 @@ begins_behind : (flaky : Option (ℕ × ℕ)) (recorded : Bool) (kind : Option K
     → Some state ≡ option_map (λ is. new_device is lines) kind → behind flaky recorded state ≡ state
 begins_behind flaky recorded None lines state is = absurd cc
 begins_behind flaky recorded (Some kind) lines state is =
-    subst (λ (s : PeripheralState). behind flaky recorded s ≡ s) (sym (same_Some state (new_device kind lines) is))
-    (same_behind flaky recorded kind (new_device kind lines).plant false)
+    rw (same_Some state (new_device kind lines) is) (same_behind flaky recorded kind (new_device kind lines).plant false)
 
 -- what an entry's wrappers have in them is what is simulated for it
 pub wrapped_begins : (entry : Entry) (device : Simulation) → Some (state_of device) ≡ simulated_for entry
     → Some (wrapped_state (wrapped_by entry.flaky entry.recorded device)) ≡ simulated_for entry
 wrapped_begins entry device is =
-    ap (λ (s : PeripheralState). Some s)
-    (is_behind entry.flaky entry.recorded device ∙ begins_behind entry.flaky entry.recorded (kind_of entry) entry.lines (state_of device) is) ∙ is
+    rw (is_behind entry.flaky entry.recorded device, begins_behind entry.flaky entry.recorded (kind_of entry) entry.lines (state_of device) is) is
 
 module _ (entry : Entry) (device : Simulation) (made : Wrapped) (simulates : IsDeviceFor entry (Some device))
     (is : made ≡ wrapped_by entry.flaky entry.recorded device) where

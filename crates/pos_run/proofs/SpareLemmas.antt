@@ -2,18 +2,12 @@
 use Rattle.std.proofs.Common.{◌≡◌, ◌∙◌, ◌<◌, ◌≤◌, ℕ, zero, suc, List, [], ◌∷◌, Option, Some, None, false, All, IfSome, get_or, length, option_and_then, set}
 use Rattle.std.proofs.Common.{slice_get, refl, sym, ap, subst, arith}
 use Rattle.std.specs.Prelude.{option_map}
-use Rattle.std.proofs.lemmas.List.{get_or-map, length-map, map-set}
+use Rattle.std.proofs.lemmas.List.{get_or-map, length-map, map-set, set_past}
 use Rattle.std.proofs.lemmas.List.Elements.{All-set}
 use Rattle.std.proofs.lemmas.Option.{slice_get-map, slice_get_past, slice_get_read, slice_get_within}
 use Rattle.pos_service.specs.declared.peripheral.Peripheral.{Ghosts}
 use Rattle.pos_service.specs.Peripherals.{PeripheralState}
 use Rattle.pos_run.specs.Spares.{IsEmptyAt, IsInService, SpareStates, spare_at, states_in, with_spare}
-
--- past the end nothing is changed
-set_past : (spares : SpareStates) (place : ℕ) (spare : Option PeripheralState) → length spares ≤ place → set spares place spare ≡ spares
-set_past [] place spare past = refl
-set_past (first ∷ spares) zero spare past = absurd (omega (arith, past))
-set_past (first ∷ spares) (suc place) spare past = ap (λ (ss : SpareStates). first ∷ ss) (set_past spares place spare (omega (arith, past)))
 
 -- a number behind the last has no spare
 pub none_past : (spares : SpareStates) (number : ℕ) → length spares < number → spare_at spares number ≡ None
