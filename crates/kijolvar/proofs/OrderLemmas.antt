@@ -1,12 +1,10 @@
 -- Orders, and what is told of them.
-use Rattle.std.proofs.Common.{◌≡◌, ℕ, List, Err, ap}
+use Rattle.kijolvar.proofs.Common.{Err, Kept, List, NextOrderBy, ap, ℕ, ◌≡◌}
+use Rattle.kijolvar.specs.declared.settlement.Settlement.{Settlement}
+use Rattle.kijolvar.specs.declared.settlement.Settlement.TheVariants.{Failed, InMemory, Owed, Settled}
+use Rattle.pos_service.specs.Peripherals.{Asked, PeripheralState}
 use Rattle.pos_service.specs.declared.memory.NoMemory.{NoMemory}
 use Rattle.pos_service.specs.declared.order.Order.{Order}
-use Rattle.pos_service.specs.Peripherals.{Asked, PeripheralState}
-use Rattle.kijolvar.specs.declared.kept.Kept.{Kept}
-use Rattle.kijolvar.specs.declared.settlement.Settlement.{Settlement}
-use Rattle.kijolvar.specs.declared.settlement.Settlement.TheVariants.{InMemory, Settled, Owed, Failed}
-use Rattle.kijolvar.specs.Tills.{NextOrderBy}
 
 -- want of memory is the same, whoever tells it
 pub any_want : (old new : PeripheralState) (asked : Order) (one other : NoMemory) → Asked old asked (Err one) new → Asked old asked (Err other) new

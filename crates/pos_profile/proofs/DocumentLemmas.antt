@@ -4,7 +4,7 @@ use Rattle.pos_profile.proofs.Common.{IsSoundList, IsSoundProfile, List, Members
 use Rattle.pos_profile.proofs.Common.{Spare, [], add-one, allowed, ap, arith, cases_lt, entries_of, entry_of}
 use Rattle.pos_profile.proofs.Common.{false, inl, inr, is_faulty, is_refused, is_refused_after, is_repeated, is_root, is_totals}
 use Rattle.pos_profile.proofs.Common.{key_of, length, length-map, map, mistake_at, names_of}
-use Rattle.pos_profile.proofs.Common.{option_map, refl, slice_get, slice_get-map, subst, suc, sym, take, take-append-le, true}
+use Rattle.pos_profile.proofs.Common.{option_map, refl, slice_get, slice_get-map, suc, sym, take, take-append-le, true}
 use Rattle.pos_profile.proofs.Common.{values_at, zero, ℕ, ◌++◌, ◌+◌, ◌-◌, ◌<◌, ◌∙◌, ◌∷◌, ◌≡◌}
 use Rattle.pos_profile.specs.declared.listing.Flaw.{Flaw}
 use Rattle.pos_profile.specs.declared.mistake.Place.TheVariants.{Root}
@@ -17,17 +17,15 @@ use Rattle.pos_profile.proofs.SoundLemmas.{entry_sound, list_sound}
 abbrev both : Members → List (Option Entry)
 both root = entries_of Device root ++ entries_of Spare root
 
-below_number : (root : Members) (place : ℕ) → is_root root ≡ true → IsLowest (is_refused (both root)) place → (n : ℕ) → n < place + 1 → is_faulty root n ≡ false
-below_number root place is lowest zero less = rw is
-below_number root place is lowest (suc n) less = lowest.below n (omega arith)
+faultless : (root : Members) (limit : ℕ) → is_root root ≡ true → ((n : ℕ) → n < limit → is_refused (both root) n ≡ false) → (n : ℕ) → n < limit + 1
+    → is_faulty root n ≡ false
+faultless root limit is sound zero less = rw is
+faultless root limit is sound (suc n) less = sound n (omega arith)
 
 -- entries are numbered from 1
-numbered : (root : Members) (place : ℕ) → is_root root ≡ true → IsLowest (is_refused (both root)) place → IsLowest (is_faulty root) (place + 1)
-numbered root place is lowest = record { here = rw add-one lowest.here; below = below_number root place is lowest }
-
-faultless : (root : Members) → is_root root ≡ true → ((n : ℕ) → is_refused (both root) n ≡ false) → (n : ℕ) → is_faulty root n ≡ false
-faultless root is sound zero = rw is
-faultless root is sound (suc n) = sound n
+numbered : (root : Members) (place number : ℕ) → is_root root ≡ true → number ≡ place + 1 → IsLowest (is_refused (both root)) place
+    → IsLowest (is_faulty root) number
+numbered root place number is from lowest = rw from (record { here = rw add-one lowest.here; below = faultless root place is lowest.below })
 
 get_front : (front back : List (Option Entry)) (n : ℕ) → n < length front → slice_get (front ++ back) n ≡ slice_get front n
 get_front [] back n less = absurd (omega arith)
@@ -111,14 +109,11 @@ module _ (root : Members) (is : is_root root ≡ true) where
   -- a device is the first mistake
   pub device_mistaken : (place : ℕ) (why : Reason) → IsFlawedList Device (values_at (key_of Device) root) place why
       → IsMistake root (mistake_at 0 Device place why)
-  device_mistaken place why flawed =
-      let same : place + 1 ≡ 0 + place + 1 = omega arith in
-      let lowest = numbered root place is (lowest_front (entries_of Device root) (entries_of Spare root) place flawed.lowest) in
-      record {
-        lowest = subst (IsLowest (is_faulty root)) same lowest;
-        number = sym same;
-        has = rw add-one flawed.has;
-      }
+  device_mistaken place why flawed = record {
+    lowest = numbered root place (0 + place + 1) is (omega arith) (lowest_front (entries_of Device root) (entries_of Spare root) place flawed.lowest);
+    number = omega arith;
+    has = rw add-one flawed.has;
+  }
 
   module _ (devices : List Entry) (sound : IsSoundList Device (values_at (key_of Device) root) devices) where
     count : length (entries_of Device root) ≡ length devices
@@ -130,20 +125,18 @@ module _ (root : Members) (is : is_root root ≡ true) where
     -- a spare is the first mistake
     pub spare_mistaken : (before place : ℕ) (why : Reason) → before ≡ length devices → IsFlawedList Spare (values_at (key_of Spare) root) place why
         → IsMistake root (mistake_at before Spare place why)
-    spare_mistaken before place why are flawed =
-        let lowest = numbered root (length (entries_of Device root) + place) is
-        (lowest_back (entries_of Device root) (values_at (key_of Spare) root) place sound.sound flawed.lowest) in
-        record {
-          lowest = subst (λ n. IsLowest (is_faulty root) (n + place + 1)) (count ∙ sym are) lowest;
-          number = omega (arith, values_count);
-          has = rw add-one flawed.has;
-        }
+    spare_mistaken before place why are flawed = record {
+      lowest = numbered root (length (entries_of Device root) + place) (before + place + 1) is (omega (arith, count))
+          (lowest_back (entries_of Device root) (values_at (key_of Spare) root) place sound.sound flawed.lowest);
+      number = omega (arith, values_count);
+      has = rw add-one flawed.has;
+    }
 
     -- the document has no mistake
     pub document_read : (spares : List Entry) → IsSoundList Spare (values_at (key_of Spare) root) spares
         → IsRead root (record { devices = devices; spares = spares })
     document_read spares others = record {
-      sound = faultless root is (neither (entries_of Device root) (values_at (key_of Spare) root) sound.sound others.sound);
+      sound = λ n. faultless root n is (λ k _. neither (entries_of Device root) (values_at (key_of Spare) root) sound.sound others.sound k) n (omega arith);
       devices = sound.entries;
       spares = others.entries;
     }

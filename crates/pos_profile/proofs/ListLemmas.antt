@@ -16,11 +16,6 @@ pub any_totals : (entries : List Entry) → list_any (λ entry. is_totals entry.
 any_totals [] = refl
 any_totals (entry ∷ entries) = ap (λ rest. is_totals entry.category || rest) (any_totals entries)
 
--- the document's value at a place of a list
-pub value_at : (values : List Value) (place : ℕ) (value : Value) → place < length values → value ≡ get_or values place value
-    → slice_get (map view values) place ≡ Some (view value)
-value_at values place value within at = rw (slice_get-map view values place, slice_get_read values (length values) place value refl within at)
-
 -- a place that passes a test is before those of which none does
 pub before_end : (test : ℕ → Bool) (count place : ℕ) → ((n : ℕ) → count ≤ n → test n ≡ false) → test place ≡ true → place < count
 before_end test count place past is = elim (cases_lt place count) [
@@ -32,22 +27,28 @@ before_end test count place past is = elim (cases_lt place count) [
 pub none_past : (found : List (Option Entry)) (place : ℕ) → length found ≤ place → is_refused found place ≡ false
 none_past found place past = rw (slice_get_past found place past)
 
-module _ (role : Role) (values : List Data) (place : ℕ) (value : Data) (at : slice_get values place ≡ Some value) where
-  entry_at : (next : Option Entry) → entry_of role value ≡ next → slice_get (map (entry_of role) values) place ≡ Some next
-  entry_at next is = rw (slice_get-map (entry_of role) values place, at, is)
+module _ (role : Role) (items : List Value) (place : ℕ) (item : Value) (within : place < length items) (at : item ≡ get_or items place item) where
+  abbrev values : List Data
+  values = map view items
+
+  value_at : slice_get values place ≡ Some (view item)
+  value_at = rw (slice_get-map view items place, slice_get_read items (length items) place item refl within at)
+
+  entry_at : (next : Option Entry) → entry_of role (view item) ≡ next → slice_get (map (entry_of role) values) place ≡ Some next
+  entry_at next is = rw (slice_get-map (entry_of role) values place, value_at, is)
 
   -- the first value that isn't sound by itself
-  pub flawed_at : (why : Reason) → IsFlawedValue role value why → ((n : ℕ) → n < place → is_refused (map (entry_of role) values) n ≡ false)
+  pub flawed_at : (why : Reason) → IsFlawedValue role (view item) why → ((n : ℕ) → n < place → is_refused (map (entry_of role) values) n ≡ false)
       → place < 2 ^ 62 → IsFlawedList role values place why
   flawed_at why flawed before small =
       let here : slice_get (map (entry_of role) values) place ≡ Some None = entry_at None flawed.unsound in
       record {
         lowest = record { here = rw here; below = before };
-        has = rw at (flawed.has (take place (map (entry_of role) values)));
+        has = rw value_at (flawed.has (take place (map (entry_of role) values)));
         small = small;
       }
 
-  module _ (entry : Entry) (is : entry_of role value ≡ Some entry) (read : List Entry)
+  module _ (entry : Entry) (is : entry_of role (view item) ≡ Some entry) (read : List Entry)
       (so_far : map (λ entry. Some entry) read ≡ take place (map (entry_of role) values)) where
     -- the verdict on the next entry, which is sound by itself
     pub refused_at : (verdict : Bool) → is_refused_after (map (λ entry. Some entry) read) (Some (Some entry)) ≡ verdict
@@ -63,7 +64,7 @@ module _ (role : Role) (values : List Data) (place : ℕ) (value : Data) (at : s
         let parts = and_parts (is_totals entry.category) (list_any is_totals_entry (map (λ entry. Some entry) read)) refused in
         record {
           lowest = record { here = refused_at true refused; below = before };
-          has = rw (at, is) (parts.0, rw (← so_far) parts.1);
+          has = rw (value_at, is) (parts.0, rw (← so_far) parts.1);
           small = small;
         }
 

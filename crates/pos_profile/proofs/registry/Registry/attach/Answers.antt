@@ -10,15 +10,15 @@ index-slot-requires g c =
 pub returns-then-is_some-clause-attaches : goal.returns-then-is_some-clause-attaches
 returns-then-is_some-clause-attaches g c = (
   named_in_use g.P.Peripheral c.args.self.now.slots.items c.args.name.now c.in-Some.place c.index-slot.result.now c.in-Some.ensures
-  c.index-slot.ensures (sym c.is_some.ensures ∙ c.if-is_some.true),
+      c.index-slot.ensures (sym c.is_some.ensures ∙ c.if-is_some.true),
   refl,
 )
 
 pub returns-then-not-is_same-clause-attaches : goal.returns-then-not-is_same-clause-attaches
 returns-then-not-is_same-clause-attaches g c = (
   named_another g.P.Peripheral c.args.self.now.slots.items c.args.name.now c.in-Some.place c.index-slot.result.now c.in-Some.ensures
-  c.index-slot.ensures (sym c.is_some.ensures ∙ c.if-is_some.false) _
-  (λ same. c.is_same.ensures.differ c.if-not-is_same.true (sym (c.kind.ensures.kind ∙ same))),
+      c.index-slot.ensures (sym c.is_some.ensures ∙ c.if-is_some.false) _
+      (λ same. c.is_same.ensures.differ c.if-not-is_same.true (sym (c.kind.ensures.kind ∙ same))),
   refl,
 )
 

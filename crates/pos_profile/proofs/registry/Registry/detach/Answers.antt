@@ -10,14 +10,14 @@ index-requires g c =
 pub returns-then-is_none-clause-detaches : goal.returns-then-is_none-clause-detaches
 returns-then-is_none-clause-detaches g c = (
   named_vacant g.P.Peripheral c.args.self.now.slots.items c.args.name.now c.in-Some.place c.index.result.now c.in-Some.ensures c.index.ensures
-  (c.is_none.ensures ∙ ap not c.if-is_none.true),
+      (c.is_none.ensures ∙ ap not c.if-is_none.true),
   refl,
 )
 
 pub returns-then-is_open-clause-detaches : goal.returns-then-is_open-clause-detaches
 returns-then-is_open-clause-detaches g c = (
   named_in_use g.P.Peripheral c.args.self.now.slots.items c.args.name.now c.in-Some.place c.index.result.now c.in-Some.ensures c.index.ensures
-  (c.is_none.ensures ∙ ap not c.if-is_none.false),
+      (c.is_none.ensures ∙ ap not c.if-is_none.false),
   c.if-is_open.true,
   refl,
 )
