@@ -1,33 +1,22 @@
 -- The devices of a profile, which are served one after another by what is simulated for them.
-use Rattle.std.proofs.Common.{◌≡◌, ◌∙◌, ◌<◌, ◌≤◌, ◌+◌, ◌∷◌, ◌++◌, ◌||◌, ℕ, suc, Bool, true, false, List, Option, [], Some, None, cond, is_some, length, map}
-use Rattle.std.proofs.Common.{◌⊎◌, inl, inr, replicate, take, drop, get_or, slice_get, sym, ap, arith, refl, subst, append_assoc, append-nil}
-use Rattle.std.specs.Prelude.{bytes_eq}
-use Rattle.std.specs.List.{filter_map, list_any}
-use Rattle.std.proofs.Math.Seq.{set-append_seam}
-use Rattle.std.proofs.lemmas.List.{drop_all, drop_more, take-map, take_all}
-use Rattle.std.proofs.lemmas.Bool.{false≢true, or_parts}
-use Rattle.std.proofs.lemmas.Option.{none-some}
-use Rattle.std.proofs.lemmas.List.Elements.{filter_map-append}
-use Rattle.std.proofs.lemmas.Slice.Eq.{bytes_eq-Decides}
-use Rattle.pos_profile.specs.declared.entry.Entry.{Entry}
-use Rattle.pos_service.specs.declared.exchange_fault.AttachFault.{AttachFault}
-use Rattle.pos_service.specs.declared.exchange_fault.AttachFault.TheVariants as attach
-use Rattle.std.specs.Option.{option_map}
-use Rattle.pos_profile.specs.Kinds.{kind_of}
+use Rattle.pos_run.proofs.Common.{Answered, Attach, Attached, Bool, Delivered, Detached, Device, Entry, Full, Hardware, Kind, List, Machine, Made, NoDevice}
+use Rattle.pos_run.proofs.Common.{None, NotAttached, NotDetached, Option, OutOfMemory, PeripheralState, Response, Shown, Some, Step, TakenIn, TotalsPart}
+use Rattle.pos_run.proofs.Common.{Worked, WrongInput, [], ap, append-nil, append_assoc, arith, begun_with, bytes_eq, bytes_eq-Decides, cond, device_at}
+use Rattle.pos_run.proofs.Common.{device_for, device_with, drop, drop_all, drop_more, false, false≢true, get_or, hardware_in, hardware_named, hardware_of}
+use Rattle.pos_run.proofs.Common.{inl, inr, is_some, kind_in, kind_named, kind_of, length, machine_with, map, new_device, or_parts, place_from, place_of}
+use Rattle.pos_run.proofs.Common.{refl, replicate, simulated_devices, simulated_for, slice_get, subst, suc, sym, take, take-map, take_all, true}
+use Rattle.pos_run.proofs.Common.{with_standing, ℕ, ◌++◌, ◌+◌, ◌<◌, ◌||◌, ◌∙◌, ◌∷◌, ◌≡◌, ◌≤◌, ◌⊎◌}
+use Rattle.pos_counter.specs.KeptDevices.{device_of, profile_devices, totals_devices, totals_name}
+use Rattle.pos_profile.proofs.ListLemmas.{name_at}
 use Rattle.pos_profile.specs.Profiles.{is_repeated, names_of, stands_after}
 use Rattle.pos_profile.specs.Registries.{vacant_devices}
-use Rattle.pos_profile.proofs.ListLemmas.{name_at}
-use Rattle.pos_service.specs.declared.kind.Kind.{Kind}
-use Rattle.pos_service.specs.Peripherals.{PeripheralState}
-use Rattle.pos_service.specs.Hardware.{Hardware, hardware_of}
-use Rattle.pos_counter.specs.Machine.{Device, Machine, device_at, kind_in, kind_named, place_from, place_of, hardware_in, hardware_named, with_standing}
-use Rattle.pos_counter.specs.KeptDevices.{device_of, profile_devices, totals_devices, totals_name}
-use Rattle.pos_counter.specs.Machine.{machine_with}
-use Rattle.pos_counter.specs.Steps.{Response, Step, Attach, Attached, NotAttached, Made, Full, Answered, TakenIn, NoDevice, WrongInput, Delivered, Shown}
-use Rattle.pos_counter.specs.Steps.{Worked, Detached, NotDetached, OutOfMemory}
-use Rattle.pos_counter.specs.Totals.{TotalsPart}
-use Rattle.pos_run.specs.Running.{begun_with, device_with}
-use Rattle.pos_run.specs.Simulating.{device_for, simulated_devices, simulated_for, new_device}
+use Rattle.pos_service.specs.declared.exchange_fault.AttachFault.{AttachFault}
+use Rattle.std.proofs.Math.Seq.{set-append_seam}
+use Rattle.std.proofs.lemmas.List.Elements.{filter_map-append}
+use Rattle.std.proofs.lemmas.Option.{none-some}
+use Rattle.std.specs.List.{filter_map, list_any}
+use Rattle.std.specs.Option.{option_map}
+use Rattle.pos_service.specs.declared.exchange_fault.AttachFault.TheVariants as attach
 use Rattle.pos_run.proofs.Profiling.{one_more}
 
 -- what two options have, where they are the same

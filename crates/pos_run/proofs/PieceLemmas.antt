@@ -1,7 +1,5 @@
 -- The lines that pieces of a script end.
-use Rattle.std.proofs.Common.{◌≡◌, ◌++◌, ◌∷◌, ◌∙◌, [], ℕ, List, sym, ap, subst, append_assoc, append-nil}
-use Rattle.pos_script.specs.LineBuffers.{Kept, StandsFor}
-use Rattle.pos_script.specs.Lines.{complete_lines, unfinished}
+use Rattle.pos_run.proofs.Common.{Kept, List, StandsFor, [], ap, append-nil, append_assoc, complete_lines, subst, sym, unfinished, ℕ, ◌++◌, ◌∙◌, ◌∷◌, ◌≡◌}
 use Rattle.pos_script.proofs.LineLemmas.{go_on_lines}
 
 -- nothing of a piece yet

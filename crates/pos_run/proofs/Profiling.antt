@@ -1,28 +1,20 @@
 -- The entries of a profile, what is simulated for them in its wrappers, and the spares.
-use Rattle.std.proofs.Common.{◌≡◌, ◌∙◌, ◌<◌, ◌≤◌, ◌+◌, ◌-◌, ◌^◌, ◌∷◌, ◌++◌, [], ℕ, Bool, true, false, List, Option, Some, None, All, get_or, length}
-use Rattle.std.proofs.Common.{min, take, refl, sym, ap, subst, arith}
-use Rattle.std.proofs.lemmas.List.{map-append, take_more}
-use Rattle.std.proofs.lemmas.List.Elements.{All-map}
-use Rattle.std.proofs.lemmas.Option.{same_Some}
-use Rattle.pos_service.specs.declared.category.Category.{Category}
-use Rattle.pos_service.specs.declared.category.Category.TheVariants.{PosPrinter}
-use Rattle.pos_service.specs.declared.kind.Kind.{Kind}
-use Rattle.pos_service.specs.declared.plant.Plant.{Plant}
-use Rattle.pos_service.specs.Peripherals.{PeripheralState}
-use Rattle.pos_profile.specs.declared.entry.Entry.{Entry}
-use Rattle.pos_profile.specs.declared.number.NumberKey.TheVariants.{Lines}
-use Rattle.pos_profile.specs.declared.role.Role.{Role}
-use Rattle.pos_profile.specs.declared.optional.OptionalKey.TheVariants.{Ring}
-use Rattle.pos_profile.specs.Kinds.{kind_of}
+use Rattle.pos_run.proofs.Common.{All, Bool, Category, Entry, HoldsOnlyIf, IsDeviceFor, IsInService, IsSimulable, IsSimulatedFor, Kind, List, None, Option}
+use Rattle.pos_run.proofs.Common.{PeripheralState, Some, Wrapped, [], ap, arith, false, get_or, kind_of, length, map-append, min, new_device, refl}
+use Rattle.pos_run.proofs.Common.{simulated_all, simulated_for, state_of, subst, sym, take, take_more, true, wrapped_by, wrapped_state, ℕ, ◌++◌, ◌+◌, ◌-◌}
+use Rattle.pos_run.proofs.Common.{◌<◌, ◌^◌, ◌∙◌, ◌∷◌, ◌≡◌, ◌≤◌}
 use Rattle.pos_profile.specs.Numbers.{has_number}
-use Rattle.std.specs.Option.{option_map}
 use Rattle.pos_profile.specs.OptionalKeys.{has_option}
 use Rattle.pos_profile.specs.Soundness.{IsInItsRange, IsSoundEntry}
+use Rattle.pos_profile.specs.declared.number.NumberKey.TheVariants.{Lines}
+use Rattle.pos_profile.specs.declared.optional.OptionalKey.TheVariants.{Ring}
+use Rattle.pos_profile.specs.declared.role.Role.{Role}
 use Rattle.pos_run.specs.declared.simulation.Simulation.{Simulation}
-use Rattle.pos_run.specs.declared.wrapped.Wrapped.{Wrapped}
-use Rattle.pos_run.specs.Simulating.{HoldsOnlyIf, IsDeviceFor, IsSimulable, IsSimulatedFor, simulated_all, simulated_for, new_device, state_of, wrapped_by}
-use Rattle.pos_run.specs.Simulating.{wrapped_state}
-use Rattle.pos_run.specs.Spares.{IsInService}
+use Rattle.pos_service.specs.declared.category.Category.TheVariants.{PosPrinter}
+use Rattle.pos_service.specs.declared.plant.Plant.{Plant}
+use Rattle.std.proofs.lemmas.List.Elements.{All-map}
+use Rattle.std.proofs.lemmas.Option.{same_Some}
+use Rattle.std.specs.Option.{option_map}
 
 module _ (entries : List Entry) (i : ℕ) (entry : Entry) (lt : i < length entries) (is : entry ≡ get_or entries i entry) where
   -- the entries up to this one

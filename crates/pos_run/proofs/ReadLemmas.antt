@@ -1,17 +1,10 @@
 -- What a read of a script tells.
-use Rattle.std.proofs.Common.{◌≡◌, ◌+◌, ◌<◌, ◌++◌, [], inl, inr, ℕ, zero, suc, Bool, true, false, List, Option, take, refl, sym, ap, ◌∙◌, subst, append-nil}
-use Rattle.std.specs.Prelude.{◌⊎◌, Ok, Err}
-use Rattle.std.specs.Bool.{MatchBool}
-use Rattle.std.specs.Io.KnownBytes.{Consumes}
-use Rattle.std.proofs.KnownBytes.{Consumes-trans}
-use Rattle.std.proofs.lemmas.Bool.{cases_Bool, false≢true, ltb-true}
+use Rattle.pos_run.proofs.Common.{Bool, Consumes, Consumes-trans, Ended, Err, Failed, List, MatchBool, Ok, Open, Option, Reads, [], ap, append-nil}
+use Rattle.pos_run.proofs.Common.{cases_Bool, complete_lines, false, false≢true, found, inl, inr, lines_read, ltb-true, may_read, most_reads, refl, subst}
+use Rattle.pos_run.proofs.Common.{suc, sym, take, true, zero, ℕ, ◌++◌, ◌+◌, ◌<◌, ◌∙◌, ◌≡◌, ◌⊎◌}
 use Rattle.pos_run.specs.declared.reading.ReadFault.{ReadFault}
 use Rattle.pos_run.specs.declared.reading.ReadState.{ReadState}
-use Rattle.pos_run.specs.declared.reading.ReadState.TheVariants.{Open, Ended, Failed}
 use Rattle.pos_run.specs.declared.reading.ScriptReader.{ScriptReader}
-use Rattle.pos_script.specs.Lines.{complete_lines}
-use Rattle.pos_run.specs.Running.{lines_read}
-use Rattle.pos_run.specs.Streams.{Reads, found, may_read, most_reads}
 
 -- a script that may be read was read less often than it may be
 pub fewer : (state : ReadState) (reads : ℕ) → may_read state reads ≡ true → reads < most_reads

@@ -1,28 +1,16 @@
 -- What becomes of a line, by the steps of the machine that it asks; and scripts of such lines.
-use Rattle.std.proofs.Common.{◌≡◌, ◌∷◌, ◌++◌, [], inl, inr, ℕ, true, false, List, Option, Some, None, sym, ap, subst, refl}
-use Rattle.std.specs.Prelude.{◌⊎◌, is_some, option_map, Result, Ok, Err, MatchOption, codes, IsTrue}
-use Rattle.std.specs.Bool.{MatchBool}
-use Rattle.pos_disk.specs.declared.device.Disk.{Ghosts as DiskGhosts}
-use Rattle.pos_service.specs.declared.peripheral.Peripheral.{Ghosts}
-use Rattle.pos_counter.specs.declared.counter.Counter.{Counter}
-use Rattle.pos_counter.specs.Counters.{IsRun, IsStep, IsStepBeside}
-use Rattle.pos_counter.specs.Steps.{Attach, NewControl, Request, Response}
-use Rattle.pos_service.specs.Hardware.{hardware_of}
-use Rattle.pos_service.specs.Peripherals.{PeripheralState}
-use Rattle.pos_service.specs.declared.category.Category.{Category}
-use Rattle.pos_counter.proofs.Runs.{one_beside, one_step}
+use Rattle.pos_run.proofs.Common.{AskingBecomes, Attach, CarriesOut, Category, ControlNames, Counter, DiskGhosts, Err, Ghosts, IsRun, IsStep, IsStepBeside}
+use Rattle.pos_run.proofs.Common.{IsTrue, Leads, LineBecomes, List, MatchBool, MatchOption, NewControl, None, Ok, Option, Outcome, PeripheralState}
+use Rattle.pos_run.proofs.Common.{ReadingBecomes, Request, RequestBecomes, Response, Result, Session, Some, SpareStates, Writes, [], ap, codes, false}
+use Rattle.pos_run.proofs.Common.{gives_name, hardware_of, inl, inr, is_quiet, is_some, is_well_spelled, number_named, one_beside, one_step, option_map}
+use Rattle.pos_run.proofs.Common.{passed_over, rebuke, refl, request_of, responded, session_after, session_with, spare_at, subst, sym, true, turned_down}
+use Rattle.pos_run.proofs.Common.{words_of, ℕ, ◌++◌, ◌∷◌, ◌≡◌, ◌⊎◌}
 use Rattle.pos_counter.proofs.Serving.{OnlyNow}
-use Rattle.pos_script.specs.Lines.{is_quiet, is_well_spelled, words_of}
 use Rattle.pos_script.specs.Arguments.{Reading, Reads, become, misshapen}
 use Rattle.pos_script.specs.Commands.{LineRequest, asked_by, request_of_words}
 use Rattle.pos_script.specs.Text.{fault_text, response_text}
-use Rattle.pos_script.specs.Writing.{Writes}
 use Rattle.pos_script.specs.declared.arguments.LineFault.{LineFault}
 use Rattle.pos_script.specs.declared.arguments.LineFault.TheVariants as fault
-use Rattle.pos_run.specs.Names.{ControlNames, number_named}
-use Rattle.pos_run.specs.Spares.{SpareStates, spare_at}
-use Rattle.pos_run.specs.Transcript.{Leads, Session, Outcome, RequestBecomes, AskingBecomes, ReadingBecomes, LineBecomes, CarriesOut, request_of, session_after}
-use Rattle.pos_run.specs.Transcript.{gives_name, rebuke, session_with, passed_over, turned_down, responded}
 
 -- an unknown control, or a name in use
 pub asks_none : {C : Type 0} (Runs : Leads C) (state : C) (session : Session) (asking : LineRequest) → request_of session asking ≡ None
@@ -61,36 +49,30 @@ some_of : {A : Type 0} (o : Option A) → is_some o ≡ true → (a : A) × (o �
 some_of None e = cc
 some_of (Some a) e = (a, refl)
 
-module _ {C A : Type 0} (Runs : Leads C) (old : C) (session : Session) (make : A → LineRequest) (reading : Reading A) where
-  -- words that were read ask what is made of them
-  pub read_asked : (value : A) (reply : Option (List ℕ)) (after : Session) (new : C) → Reads reading (Ok value)
-      → CarriesOut Runs old (AskingBecomes session (make value)) reply after new
-      → CarriesOut Runs old (ReadingBecomes session (become make reading)) reply after new
-  read_asked value reply after new reads asks = record { steps = asks.steps; run = asks.run; becomes = rw reads (inr asks.becomes) }
+module _ {C A : Type 0} {Runs : Leads C} {old : C} (session : Session) (make : A → LineRequest) (reading : Reading A) where
+  -- words that were read ask what is made of them, and this was written of the reply
+  pub asks_what_was_read : {E : Type 0} (front back : Option (List ℕ)) (result : Result (Unit {0}) E) {read : Result A LineFault} {value : A}
+      {reply : List ℕ} {after : Session} {new : C} → read ≡ Ok value → Reads reading read
+      → CarriesOut Runs old (AskingBecomes session (make value)) (Some reply) after new → Writes front back (reply ++ 10 ∷ []) result
+      → (reply : List ℕ) × CarriesOut Runs old (ReadingBecomes session (become make reading)) (Some reply) after new
+      × Writes front back (reply ++ 10 ∷ []) result
+  asks_what_was_read front back result {value = value} {reply = reply} is reads asks writes =
+      let made : reading.value ≡ Some value = rw is at reads in
+      (reply, record { steps = asks.steps; run = asks.run; becomes = rw made (inr asks.becomes) }, writes)
 
   -- and those that were not ask nothing
-  pub read_fault : (why : LineFault) → Reads reading (Err why) → Runs old [] old
+  read_fault : (why : LineFault) → Reads reading (Err why) → Runs old [] old
       → CarriesOut Runs old (ReadingBecomes session (become make reading)) (Some (fault_text why)) session old
   read_fault fault.WrongShape wrong none = record { steps = []; run = none; becomes = rw wrong refl }
   read_fault fault.NoMemory lacks none =
       let (value, is) = some_of reading.value lacks.0 in
       record { steps = []; run = none; becomes = rw is (inl (lacks.1, refl)) }
 
-  -- a line whose words were read, or weren't, and what was written of the reply
-  pub asks_what_was_read : {E : Type 0} (read : Result A LineFault) (value : A) (reply : List ℕ) (after : Session) (new : C)
-      (front back : Option (List ℕ)) (result : Result (Unit {0}) E) → read ≡ Ok value → Reads reading read
-      → CarriesOut Runs old (AskingBecomes session (make value)) (Some reply) after new → Writes front back (reply ++ 10 ∷ []) result
-      → (reply : List ℕ) × CarriesOut Runs old (ReadingBecomes session (become make reading)) (Some reply) after new
-      × Writes front back (reply ++ 10 ∷ []) result
-  asks_what_was_read read value reply after new front back result is reads asks writes =
-      (reply, read_asked value (Some reply) after new (rw is at reads) asks, writes)
-
-  pub asks_nothing_unread : {E : Type 0} (read : Result A LineFault) (why : LineFault) (front back : Option (List ℕ))
-      (result : Result (Unit {0}) E) → read ≡ Err why → Reads reading read → Runs old [] old → Writes front back (fault_text why ++ 10 ∷ []) result
+  pub asks_nothing_unread : {E : Type 0} (front back : Option (List ℕ)) (result : Result (Unit {0}) E) {read : Result A LineFault} {why : LineFault}
+      → read ≡ Err why → Reads reading read → Runs old [] old → Writes front back (fault_text why ++ 10 ∷ []) result
       → (reply : List ℕ) × CarriesOut Runs old (ReadingBecomes session (become make reading)) (Some reply) session old
       × Writes front back (reply ++ 10 ∷ []) result
-  asks_nothing_unread read why front back result is reads none writes =
-      (fault_text why, read_fault why (rw is at reads) none, writes)
+  asks_nothing_unread front back result {why = why} is reads none writes = (fault_text why, read_fault why (rw is at reads) none, writes)
 
 -- a line of a wrong shape asks nothing
 pub read_misshapen : {C : Type 0} (Runs : Leads C) (state : C) (session : Session) (reading : Reading LineRequest) → reading ≡ misshapen

@@ -1,13 +1,9 @@
 -- The spares, where one is taken or put back.
-use Rattle.std.proofs.Common.{◌≡◌, ◌∙◌, ◌<◌, ◌≤◌, ℕ, zero, suc, List, [], ◌∷◌, Option, Some, None, false, All, IfSome, get_or, length, option_and_then, set}
-use Rattle.std.proofs.Common.{slice_get, refl, sym, ap, subst, arith}
-use Rattle.std.specs.Prelude.{option_map}
-use Rattle.std.proofs.lemmas.List.{get_or-map, length-map, map-set, set_past}
+use Rattle.pos_run.proofs.Common.{All, Ghosts, IfSome, IsEmptyAt, IsInService, List, None, Option, PeripheralState, Some, SpareStates, [], ap, arith, false}
+use Rattle.pos_run.proofs.Common.{get_or, get_or-map, length, length-map, map-set, option_and_then, option_map, refl, set, set_past, slice_get, spare_at}
+use Rattle.pos_run.proofs.Common.{states_in, subst, suc, sym, with_spare, zero, ℕ, ◌<◌, ◌∙◌, ◌∷◌, ◌≡◌, ◌≤◌}
 use Rattle.std.proofs.lemmas.List.Elements.{All-set}
 use Rattle.std.proofs.lemmas.Option.{slice_get-map, slice_get_past, slice_get_read, slice_get_within}
-use Rattle.pos_service.specs.declared.peripheral.Peripheral.{Ghosts}
-use Rattle.pos_service.specs.Peripherals.{PeripheralState}
-use Rattle.pos_run.specs.Spares.{IsEmptyAt, IsInService, SpareStates, spare_at, states_in, with_spare}
 
 -- a number behind the last has no spare
 pub none_past : (spares : SpareStates) (number : ℕ) → length spares < number → spare_at spares number ≡ None

@@ -1,7 +1,4 @@
-use Rattle.std.proofs.Common.{◌++◌, ◌∙◌, [], ap, refl}
-use Rattle.pos_counter.specs.Counters.{IsRun}
-use Rattle.pos_counter.proofs.Runs.{runs_join}
-use Rattle.pos_script.specs.Lines.{last_line, pieces, unfinished}
+use Rattle.pos_run.proofs.Common.{IsRun, [], ap, last_line, pieces, refl, runs_join, unfinished, ◌++◌, ◌∙◌}
 use Rattle.pos_script.proofs.LineLemmas.{two_parts}
 use Rattle.pos_run.proofs.Finishing.{lines_join, stops_more}
 use Rattle.pos_run.proofs.given.carry_out_lines.Goals as goal

@@ -1,10 +1,5 @@
-use Rattle.std.proofs.Common.{◌++◌, ◌<◌, ◌∙◌, [], inl, Ok, ap, length, refl, rules, take}
-use Rattle.std.proofs.KnownBytes.{Appends-nil, Consumes-kept, Consumes-nil, Consumes-trans}
-use Rattle.pos_counter.specs.Counters.{IsRun}
-use Rattle.pos_counter.proofs.Runs.{runs_join}
-use Rattle.pos_run.specs.Carried.{session_of}
-use Rattle.pos_run.specs.Running.{lines_read}
-use Rattle.pos_run.specs.Streams.{answers_of, found}
+use Rattle.pos_run.proofs.Common.{Appends-nil, Consumes-kept, Consumes-nil, Consumes-trans, IsRun, Ok, [], answers_of, ap, found, inl, length, lines_read}
+use Rattle.pos_run.proofs.Common.{refl, rules, runs_join, session_of, take, ◌++◌, ◌<◌, ◌∙◌}
 use Rattle.pos_run.proofs.Finishing.{fault_join, finishes_join, finishes_kept, finishes_none, stops_join}
 use Rattle.pos_run.proofs.ReadLemmas.{found_more, gave, no_more_reads, none_read, not_failed, not_failed_at_end, read_more, read_nothing, same_lines}
 use Rattle.pos_run.proofs.scripts.carry_out_script.Goals as goal

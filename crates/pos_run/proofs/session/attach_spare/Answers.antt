@@ -1,10 +1,5 @@
-use Rattle.std.proofs.Common.{◌≡◌, ◌∙◌, None, Some, ap, sym, refl}
-use Rattle.std.specs.Prelude.{option_map}
-use Rattle.pos_service.specs.Hardware.{hardware_of}
-use Rattle.pos_counter.specs.Counters.{IsRun}
-use Rattle.pos_counter.specs.Steps.{Attach, Attached, NotAttached}
-use Rattle.pos_run.specs.Spares.{spare_at, spares_in}
-use Rattle.pos_run.specs.Transcript.{session_with}
+use Rattle.pos_run.proofs.Common.{Attach, Attached, IsRun, None, NotAttached, Some, ap, hardware_of, option_map, refl, session_with, spare_at, spares_in, sym}
+use Rattle.pos_run.proofs.Common.{◌∙◌, ◌≡◌}
 use Rattle.pos_run.proofs.Sessions.{asks_attach, asks_none}
 use Rattle.pos_run.proofs.SpareLemmas.{empty_taken, none_taken, put_back}
 use Rattle.pos_run.proofs.session.attach_spare.Goals as goal

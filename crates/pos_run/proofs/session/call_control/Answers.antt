@@ -1,10 +1,4 @@
-use Rattle.std.proofs.Common.{refl, sym, ap, ◌∙◌}
-use Rattle.std.specs.Prelude.{option_map}
-use Rattle.pos_counter.specs.Steps.{CallOf, Answered, OutOfMemory}
-use Rattle.pos_counter.specs.Counters.{IsRun}
-use Rattle.pos_counter.proofs.Runs.{one_step}
-use Rattle.pos_run.specs.Names.{names_of}
-use Rattle.pos_run.specs.Transcript.{session_with}
+use Rattle.pos_run.proofs.Common.{Answered, CallOf, IsRun, OutOfMemory, ap, names_of, one_step, option_map, refl, session_with, sym, ◌∙◌}
 use Rattle.pos_run.proofs.Sessions.{asks_none, asks_request}
 use Rattle.pos_run.proofs.session.call_control.Goals as goal
 

@@ -1,10 +1,4 @@
-use Rattle.std.proofs.Common.{refl, sym, ap}
-use Rattle.std.specs.Prelude.{option_map}
-use Rattle.pos_counter.specs.Steps.{Deliver, Delivered}
-use Rattle.pos_counter.specs.Counters.{IsRun}
-use Rattle.pos_counter.proofs.Runs.{one_beside}
-use Rattle.pos_run.specs.Names.{names_of}
-use Rattle.pos_run.specs.Transcript.{session_with}
+use Rattle.pos_run.proofs.Common.{Deliver, Delivered, IsRun, ap, names_of, one_beside, option_map, refl, session_with, sym}
 use Rattle.pos_run.proofs.Sessions.{asks_none, asks_request}
 use Rattle.pos_run.proofs.session.deliver_event.Goals as goal
 

@@ -1,9 +1,5 @@
-use Rattle.std.proofs.Common.{◌≡◌, ◌∙◌, Some, None, sym, ap, cond, refl, false}
-use Rattle.std.specs.Prelude.{is_some}
-use Rattle.pos_counter.specs.Steps.{NewControl, Made, Full, OutOfMemory}
-use Rattle.pos_counter.specs.Counters.{IsRun}
-use Rattle.pos_run.specs.Names.{names_of}
-use Rattle.pos_run.specs.Transcript.{session_with}
+use Rattle.pos_run.proofs.Common.{Full, IsRun, Made, NewControl, None, OutOfMemory, Some, ap, cond, false, is_some, names_of, refl, session_with, sym, ◌∙◌}
+use Rattle.pos_run.proofs.Common.{◌≡◌}
 use Rattle.pos_run.proofs.Sessions.{asks_new, asks_none, asks_unkept}
 use Rattle.pos_run.proofs.session.new_control.Goals as goal
 
