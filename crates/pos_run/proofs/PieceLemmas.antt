@@ -35,8 +35,4 @@ module _ (read piece seen left : List ℕ) (split : piece ≡ seen ++ left) (lin
 
     pub lines_all : complete_lines (read ++ piece) ≡ complete_lines read ++ ((lines ++ line ∷ []) ++ later)
     lines_all =
-        ap (λ p. complete_lines (read ++ p)) split_then
-        ∙ ap complete_lines (sym (append_assoc read (seen ++ taken) rest))
-        ∙ go_on_lines (read ++ (seen ++ taken)) rest
-        ∙ ap (λ ls. ls ++ later) line_more
-        ∙ append_assoc (complete_lines read) (lines ++ line ∷ []) later
+        rw split_then (rw (← append_assoc read (seen ++ taken) rest) (go_on_lines (read ++ (seen ++ taken)) rest ∙ rw (line_more, append_assoc)))

@@ -59,15 +59,6 @@ pub with_is : (spares : SpareStates) (number place : ℕ) (spare : Option Periph
     → set spares place spare ≡ with_spare spares number spare
 with_is spares number place spare is = sym (ap (λ n. with_spare spares n spare) is)
 
--- a place isn't empty and taken
-not_both : (spares : SpareStates) (number place : ℕ) (state : PeripheralState) → number ≡ suc place → IsEmptyAt spares number
-    → slice_get spares place ≡ Some (Some state) → ⊥
-not_both spares number place state is (other, same, none) at =
-    let places : place ≡ other = omega (arith, is, same) in
-    let here : slice_get spares place ≡ Some None = ap (slice_get spares) places ∙ none in
-    let both : Some (Some state) ≡ Some None = sym at ∙ here in
-    cc
-
 module _ {P : Type 0} (peripherals : Ghosts P) (list : List (Option P)) (place : ℕ) where
   -- what is at the place of a box
   pub state_there : (spare : Option P) → place < length list → spare ≡ get_or list place spare
@@ -87,7 +78,7 @@ module _ {P : Type 0} (peripherals : Ghosts P) (list : List (Option P)) (place :
       let count : length (states_in peripherals list) ≡ length list = length-map list (option_map peripherals.state) in
       let there : get_or (states_in peripherals list) place (option_map peripherals.state spare) ≡ option_map peripherals.state spare =
       get_or-map (option_map peripherals.state) list place spare (option_map peripherals.state spare) within ∙ ap (option_map peripherals.state) (sym at) in
-      serving spare (subst IsInService there (all place (option_map peripherals.state spare) (omega (arith, count, within))))
+      serving spare (rw there at (all place (option_map peripherals.state spare) (omega (arith, count, within))))
 
   -- another box, or none, is put there
   pub states_set : (spare : Option P)
@@ -96,8 +87,8 @@ module _ {P : Type 0} (peripherals : Ghosts P) (list : List (Option P)) (place :
 
   pub service_set : (spare : Option P) → All IsInService (states_in peripherals list) → IsInService (option_map peripherals.state spare)
       → All IsInService (states_in peripherals (set list place spare))
-  service_set spare all one = subst (All IsInService) (sym (states_set spare))
-      (All-set IsInService (states_in peripherals list) place (option_map peripherals.state spare) one all)
+  service_set spare all one =
+      rw (states_set spare) (All-set IsInService (states_in peripherals list) place (option_map peripherals.state spare) one all)
 
   -- the place of a number that is empty has no box
   pub no_box : (number : ℕ) (spare : Option P) (other : P) → number ≡ suc place → IsEmptyAt (states_in peripherals list) number
@@ -105,5 +96,7 @@ module _ {P : Type 0} (peripherals : Ghosts P) (list : List (Option P)) (place :
   no_box number spare other is (empty, same, none) at some =
       let count : length (states_in peripherals list) ≡ length list = length-map list (option_map peripherals.state) in
       let within : place < length list = omega (arith, is, same, count, slice_get_within (states_in peripherals list) empty None none) in
-      not_both (states_in peripherals list) number place (peripherals.state other) is (empty, same, none)
-      (state_there spare within at ∙ ap (λ (o : Option P). Some (option_map peripherals.state o)) some)
+      let here : slice_get (states_in peripherals list) place ≡ Some None = rw (let e : place ≡ empty = omega (arith, is, same) in e) none in
+      let full : slice_get (states_in peripherals list) place ≡ Some (Some (peripherals.state other)) =
+      state_there spare within at ∙ ap (λ (o : Option P). Some (option_map peripherals.state o)) some in
+      cc
