@@ -15,9 +15,5 @@ pub told_keeps : (settlement : Settlement) (old : Kept) (before after : List ℕ
     → NextOrderBy settlement old before after needed_before needed code new → (new.counter ≡ old.counter) × (new.spares ≡ old.spares)
 told_keeps InMemory old before after needed_before needed code new told =
     (ap (λ (till : Kept). till.counter) told.stays, ap (λ (till : Kept). till.spares) told.stays)
-told_keeps Settled old before after needed_before needed code new told =
-    (ap (λ (till : Kept). till.counter) told.stays, ap (λ (till : Kept). till.spares) told.stays)
-told_keeps Owed old before after needed_before needed code new told =
-    (ap (λ (till : Kept). till.counter) told.stays, ap (λ (till : Kept). till.spares) told.stays)
-told_keeps Failed old before after needed_before needed code new told =
+told_keeps _ old before after needed_before needed code new told =
     (ap (λ (till : Kept). till.counter) told.stays, ap (λ (till : Kept). till.spares) told.stays)

@@ -1,7 +1,7 @@
 -- The index of a registry finds each name at its first place.
 use Rattle.pos_profile.proofs.Common.{Bool, IfSome, IfSome_then, List, None, Option, Planned, Some, [], ap, arith, bytes_eq, cond, cond_both, false}
 use Rattle.pos_profile.proofs.Common.{false≢true, first_of, get_or, is_some, length, length-take-le, lookup, map, option_map, place_from, place_of, refl}
-use Rattle.pos_profile.proofs.Common.{slice_get, slice_get-map, slice_get_read, slice_get_within, subst, suc, sym, take, true, where_same, ℕ, ◌++◌, ◌+◌, ◌<◌}
+use Rattle.pos_profile.proofs.Common.{slice_get, slice_get-map, slice_get_read, slice_get_within, suc, take, true, where_same, ℕ, ◌++◌, ◌+◌, ◌<◌}
 use Rattle.pos_profile.proofs.Common.{◌∙◌, ◌∷◌, ◌≡◌}
 use Rattle.std.proofs.lemmas.Slice.Eq.{bytes_eq-Decides}
 use Rattle.pos_profile.proofs.ListLemmas.{take_next}
@@ -50,8 +50,7 @@ found_first true place None is = absurd (false≢true (is refl))
 pub already : (found : List ℕ → Option ℕ) (noted : List ℕ) (place : ℕ) → is_some (found noted) ≡ true → (name : List ℕ)
     → found name ≡ first_of (found name) (where_same name noted place)
 already found noted place there name =
-    found_first (bytes_eq name noted) place (found name)
-    (λ same. subst (λ (other : List ℕ). is_some (found other) ≡ true) (sym ((bytes_eq-Decides name noted).0 same)) there)
+    found_first (bytes_eq name noted) place (found name) (λ same. rw ((bytes_eq-Decides name noted).0 same) there)
 
 -- a list of entries with one more
 pub lookup_more : {K : Type 0} (test : K → Bool) (entries : List (K × ℕ)) (key : K) (place : ℕ)

@@ -114,20 +114,13 @@ names_with [] place x = refl
 names_with (device ∷ list) zero x = refl
 names_with (device ∷ list) (suc place) x = rw (names_with list place x)
 
--- each device is served rightly, where the changed one is
-served_with : (list : List Device) (place : ℕ) (x : Option PeripheralState) → AllByRecursion IsServed list
-    → ((device : Device) → slice_get list place ≡ Some device → IsServed (record device { peripheral = x }))
-    → AllByRecursion IsServed (with_peripheral list place x)
-served_with [] place x all here = tt
-served_with (device ∷ list) zero x all here = (here device refl, all.1)
-served_with (device ∷ list) (suc place) x all here = (all.0, served_with list place x all.1 here)
-
--- the kinds stay
-kinds_with : (list : List Device) (place : ℕ) (x : Option PeripheralState) → AllByRecursion HasKindInRange list
-    → AllByRecursion HasKindInRange (with_peripheral list place x)
-kinds_with [] place x all = tt
-kinds_with (device ∷ list) zero x all = all
-kinds_with (device ∷ list) (suc place) x all = (all.0, kinds_with list place x all.1)
+-- what holds of each device holds where the changed one has it
+all_with : (Q : Device → Type 0) (list : List Device) (place : ℕ) (x : Option PeripheralState) → AllByRecursion Q list
+    → ((device : Device) → slice_get list place ≡ Some device → Q device → Q (record device { peripheral = x }))
+    → AllByRecursion Q (with_peripheral list place x)
+all_with Q [] place x all here = tt
+all_with Q (device ∷ list) zero x all here = (here device refl all.0, all.1)
+all_with Q (device ∷ list) (suc place) x all here = (all.0, all_with Q list place x all.1 here)
 
 -- a registry stays sound, where the peripheral of a place is changed for a right one
 pub sound_with : {P : Type 0} (peripherals : Ghosts P) (old new : Registry P) (place : ℕ) (x : Option PeripheralState)
@@ -136,8 +129,8 @@ pub sound_with : {P : Type 0} (peripherals : Ghosts P) (old new : Registry P) (p
     → IsRegistrySound peripherals new
 sound_with peripherals old new place x sound places is here = record {
   index = λ name. rw (places, is, names_with (devices peripherals old) place x) (sound.index name);
-  kinds = rw is (kinds_with (devices peripherals old) place x sound.kinds);
-  served = rw is (served_with (devices peripherals old) place x sound.served here);
+  kinds = rw is (all_with HasKindInRange (devices peripherals old) place x sound.kinds (λ device at kind. kind));
+  served = rw is (all_with IsServed (devices peripherals old) place x sound.served (λ device at was. here device at));
 }
 
 -- what may serve a place is of the kind of its device
