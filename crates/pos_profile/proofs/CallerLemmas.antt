@@ -7,13 +7,6 @@ served_here : (device : Device) (state : PeripheralState) → IsServed device �
     → (state.is_parked ≡ false) × (state.kind ≡ device.kind)
 served_here device state served is = rw (← is) at served
 
--- what is taken from a place is in service
-pub taken_in_service : (list : List Device) (place : ℕ) (state : PeripheralState) → AllByRecursion IsServed list
-    → Some state ≡ standing_at list place → state.is_parked ≡ false
-taken_in_service [] place state served is = cc
-taken_in_service (device ∷ list) zero state served is = (served_here device state served.0 is).0
-taken_in_service (device ∷ list) (suc place) state served is = taken_in_service list place state served.1 is
-
 -- what is taken from a place may serve it again, whatever it did meanwhile
 pub put_back : (list : List Device) (place : ℕ) (state now : PeripheralState) → AllByRecursion IsServed list → Some state ≡ standing_at list place
     → now.kind ≡ state.kind → MayServe (with_peripheral list place None) place now

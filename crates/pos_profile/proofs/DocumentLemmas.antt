@@ -1,13 +1,12 @@
 -- What is faulty in a document, by its two lists.
 use Rattle.pos_profile.proofs.Common.{Category, Contents, Data, Entry, HardTotals, IfSome, IsFlawedList, IsLowest, IsMistake, IsRead, IsSoundEntry}
-use Rattle.pos_profile.proofs.Common.{IsSoundList, IsSoundProfile, List, Members, Mistaken, None, Option, Reason, Role, RootHas, Some}
+use Rattle.pos_profile.proofs.Common.{IsSoundList, IsSoundProfile, List, Members, Mistaken, None, Option, Reason, Role, Some}
 use Rattle.pos_profile.proofs.Common.{Spare, [], add-one, allowed, ap, arith, cases_lt, entries_of, entry_of}
 use Rattle.pos_profile.proofs.Common.{false, inl, inr, is_faulty, is_refused, is_refused_after, is_repeated, is_root, is_totals}
 use Rattle.pos_profile.proofs.Common.{key_of, length, length-map, map, mistake_at, names_of}
 use Rattle.pos_profile.proofs.Common.{option_map, refl, slice_get, slice_get-map, suc, sym, take, take-append-le, true}
 use Rattle.pos_profile.proofs.Common.{values_at, zero, ℕ, ◌++◌, ◌+◌, ◌-◌, ◌<◌, ◌∙◌, ◌∷◌, ◌≡◌}
 use Rattle.pos_profile.specs.declared.listing.Flaw.{Flaw}
-use Rattle.pos_profile.specs.declared.mistake.Place.TheVariants.{Root}
 use Rattle.pos_profile.specs.declared.role.Role.TheVariants.{Device}
 use Rattle.pos_profile.specs.declared.root.DocumentFault.{DocumentFault}
 use Rattle.pos_profile.proofs.ListLemmas.{before_end, none_past}
@@ -95,15 +94,6 @@ neither front values first second n = both_sound front values (n + 1) first (λ 
 pub listed_at : (before : ℕ) (role : Role) {flaw other : Flaw} {fault : DocumentFault} → flaw ≡ other
     → fault ≡ Mistaken (mistake_at before role flaw.place flaw.reason) → fault ≡ Mistaken (mistake_at before role other.place other.reason)
 listed_at before role same is = is ∙ ap (λ (f : Flaw). Mistaken (mistake_at before role f.place f.reason)) same
-
--- the root is the first mistake
-pub root_mistaken : (root : Members) (why : Reason) → is_root root ≡ false → RootHas root why
-    → IsMistake root (record { number = 0; place = Root; reason = why })
-root_mistaken root why unsound has = record {
-  lowest = record { here = rw unsound; below = λ n less. absurd (omega arith) };
-  number = refl;
-  has = has;
-}
 
 module _ (root : Members) (is : is_root root ≡ true) where
   -- a device is the first mistake

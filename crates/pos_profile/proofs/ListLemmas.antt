@@ -11,10 +11,10 @@ use Rattle.pos_profile.specs.declared.mistake.Reason.TheVariants.{SecondHardTota
 pub take_next : {A : Type 0} (xs : List A) (place : ℕ) (x : A) → slice_get xs place ≡ Some x → take (place + 1) xs ≡ take place xs ++ x ∷ []
 take_next xs place x at = rw (take_more xs place x (slice_get_within xs place x at), get_or_from_slice_get xs place x x at)
 
--- Hard Totals among entries that are read
-pub any_totals : (entries : List Entry) → list_any (λ entry. is_totals entry.category) entries ≡ list_any is_totals_entry (map (λ entry. Some entry) entries)
-any_totals [] = refl
-any_totals (entry ∷ entries) = ap (λ rest. is_totals entry.category || rest) (any_totals entries)
+-- a test of what is made of some elements
+pub any_mapped : {A B : Type 0} (test : B → Bool) (f : A → B) (xs : List A) → list_any (λ x. test (f x)) xs ≡ list_any test (map f xs)
+any_mapped test f [] = refl
+any_mapped test f (x ∷ xs) = ap (λ rest. test (f x) || rest) (any_mapped test f xs)
 
 -- a place that passes a test is before those of which none does
 pub before_end : (test : ℕ → Bool) (count place : ℕ) → ((n : ℕ) → count ≤ n → test n ≡ false) → test place ≡ true → place < count
@@ -93,18 +93,14 @@ all_read role values read place past so_far sound =
       sound = none_passes (is_refused found) (length found) place (none_past found) end sound;
     }
 
--- whether a name is among lent ones
-any_lent : (name : List ℕ) (lent : List (Bor (List ℕ)))
-    → list_any (λ (other : Bor (List ℕ)). bytes_eq name other.now) lent ≡ list_any (bytes_eq name) (map (λ (other : Bor (List ℕ)). other.now) lent)
-any_lent name [] = refl
-any_lent name (other ∷ lent) = ap (λ rest. bytes_eq name other.now || rest) (any_lent name lent)
-
 -- what a set of the names so far says of the next
 module _ (lent : Bor (List ℕ)) (keys : List (Bor (List ℕ))) (names : List (List ℕ)) (place : ℕ)
     (so_far : map (λ (name : Bor (List ℕ)). name.now) keys ≡ take place names) (at : slice_get names place ≡ Some lent.now) (is_new : Bool)
     (added : is_new ≡ not (list_any (λ (other : Bor (List ℕ)). bytes_eq lent.now other.now) keys)) where
   pub repeated_at : is_repeated names place ≡ not is_new
-  repeated_at = rw (at, ← so_far, ← any_lent lent.now keys, added) (double (list_any (λ (other : Bor (List ℕ)). bytes_eq lent.now other.now) keys))
+  repeated_at =
+      rw (at, ← so_far, ← any_mapped (bytes_eq lent.now) (λ (other : Bor (List ℕ)). other.now) keys, added)
+      (double (list_any (λ (other : Bor (List ℕ)). bytes_eq lent.now other.now) keys))
     where
       double : (b : Bool) → b ≡ not (not b)
       double true = refl

@@ -3,7 +3,7 @@ use Rattle.pos_profile.proofs.Common.{AllByRecursion, Device, Entry, HasKindInRa
 use Rattle.pos_profile.proofs.Common.{IsRegistrySound, IsServed, IsSoundEntry, IsVacant, List, MayServe, None, Option, PeripheralState, Planned, Some, [], ap}
 use Rattle.pos_profile.proofs.Common.{append-nil, arith, cons_option, device_of, devices, devices_of, drop, drop_all, false, false≢true, get_or, get_or-map}
 use Rattle.pos_profile.proofs.Common.{is_some, kind_of, length, length-map, map, map-set, parked, place_of, planned_for, planned_of, refl, set, slice_get}
-use Rattle.pos_profile.proofs.Common.{slice_get-map, slice_get_past, slice_get_read, standing_at, suc, sym, take, take_all, take_more, true, vacant}
+use Rattle.pos_profile.proofs.Common.{slice_get-map, slice_get_read, standing_at, suc, sym, take, take_all, take_more, true, vacant}
 use Rattle.pos_profile.proofs.Common.{vacant_devices, with_peripheral, zero, ℕ, ◌++◌, ◌+◌, ◌<◌, ◌∙◌, ◌∷◌, ◌≡◌, ◌≤◌}
 use Rattle.pos_profile.specs.Registries.{names_of}
 use Rattle.pos_profile.specs.declared.registry.Registry.{Registry}
@@ -100,9 +100,6 @@ pub with_past : (list : List Device) (place : ℕ) (x : Option PeripheralState) 
 with_past [] place x past = refl
 with_past (device ∷ list) zero x past = absurd (omega (arith, past))
 with_past (device ∷ list) (suc place) x past = rw (with_past list place x (omega (arith, past)))
-
-pub standing_past : (list : List Device) (place : ℕ) → length list ≤ place → standing_at list place ≡ None
-standing_past list place past = rw (slice_get_past list place past)
 
 -- what stands at the place of a device
 pub standing_is : (list : List Device) (place : ℕ) (device : Device) → slice_get list place ≡ Some device → standing_at list place ≡ device.peripheral

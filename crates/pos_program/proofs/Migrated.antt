@@ -1,5 +1,5 @@
 -- What a move to layout 2 did, by what the store's recovery and migration did.
-use Rattle.std.proofs.Common.{◌≡◌, inl, inr, ⊎_elim, ℕ, List, [], ◌∷◌, map, Result, Ok, Err, IsErrOf, refl, ap, sym, subst}
+use Rattle.std.proofs.Common.{◌≡◌, inl, inr, ⊎_elim, ℕ, List, [], ◌∷◌, map, Result, Ok, Err, IsErrOf, refl, ap, subst}
 use Rattle.pos_dir.specs.declared.file.File.{File}
 use Rattle.pos_disk.specs.State.{IsAtRest, LeavesOnly, Rises}
 use Rattle.pos_disk.specs.declared.device.Disk.{Ghosts}

@@ -38,4 +38,5 @@ pub format_fits : (disk : Arg) → IsOption (codes "disk") disk → All FitsChai
 format_fits disk q = All-cons FitsChain disk [] (option_fits (codes "disk") (omega arith) (omega arith) (omega arith) disk q) (All-nil FitsChain)
 
 pub run_fits : (profile disk : Arg) → IsOption (codes "profile") profile → IsOption (codes "disk") disk → All FitsChain (profile ∷ disk ∷ [])
-run_fits profile disk p q = All-cons FitsChain profile (disk ∷ []) (option_fits (codes "profile") (omega arith) (omega arith) (omega arith) profile p) (format_fits disk q)
+run_fits profile disk p q =
+    All-cons FitsChain profile (disk ∷ []) (option_fits (codes "profile") (omega arith) (omega arith) (omega arith) profile p) (format_fits disk q)

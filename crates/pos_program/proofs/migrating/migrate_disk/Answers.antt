@@ -1,8 +1,4 @@
-use Rattle.std.proofs.Common.{Ok, subst, sym}
-use Rattle.pos_store.specs.StoreViews.{StoreView}
-use Rattle.pos_store.specs.Recoveries.{Recovers}
 use Rattle.pos_program.proofs.Migrated.{migrated_moves}
-use Rattle.pos_program.specs.Migrating.{MovesAny}
 use Rattle.pos_program.proofs.migrating.migrate_disk.Goals as goal
 
 pub returns-clause-moves : goal.returns-clause-moves
