@@ -1,7 +1,7 @@
 -- Orders, and what is told of them.
 use Rattle.kijolvar.proofs.Common.{Err, Kept, List, NextOrderBy, ap, ℕ, ◌≡◌}
 use Rattle.kijolvar.specs.declared.settlement.Settlement.{Settlement}
-use Rattle.kijolvar.specs.declared.settlement.Settlement.TheVariants.{Failed, InMemory, Owed, Settled}
+use Rattle.kijolvar.specs.declared.settlement.Settlement.TheVariants.{InMemory}
 use Rattle.pos_service.specs.Peripherals.{Asked, PeripheralState}
 use Rattle.pos_service.specs.declared.memory.NoMemory.{NoMemory}
 use Rattle.pos_service.specs.declared.order.Order.{Order}

@@ -1,14 +1,14 @@
 -- The devices of a profile, which are served one after another by what is simulated for them.
-use Rattle.pos_run.proofs.Common.{Answered, Attach, Attached, Bool, Delivered, Detached, Device, Entry, Full, Hardware, Kind, List, Machine, Made, NoDevice}
-use Rattle.pos_run.proofs.Common.{None, NotAttached, NotDetached, Option, OutOfMemory, PeripheralState, Response, Shown, Some, Step, TakenIn, TotalsPart}
-use Rattle.pos_run.proofs.Common.{Worked, WrongInput, [], ap, append-nil, append_assoc, arith, begun_with, bytes_eq, bytes_eq-Decides, cond, device_at}
+use Rattle.pos_run.proofs.Common.{Attach, Attached, Device, Entry, Hardware, Kind, List, Machine}
+use Rattle.pos_run.proofs.Common.{None, NotAttached, Option, PeripheralState, Response, Some, Step, TotalsPart}
+use Rattle.pos_run.proofs.Common.{[], ap, append-nil, append_assoc, arith, begun_with, bytes_eq, bytes_eq-Decides, cond, device_at}
 use Rattle.pos_run.proofs.Common.{device_for, device_with, drop, drop_all, drop_more, false, false≢true, get_or, hardware_in, hardware_named, hardware_of}
 use Rattle.pos_run.proofs.Common.{inl, inr, is_some, kind_in, kind_named, kind_of, length, machine_with, map, new_device, or_parts, place_from, place_of}
-use Rattle.pos_run.proofs.Common.{refl, replicate, simulated_devices, simulated_for, slice_get, subst, suc, sym, take, take-map, take_all, true}
-use Rattle.pos_run.proofs.Common.{with_standing, ℕ, ◌++◌, ◌+◌, ◌<◌, ◌||◌, ◌∙◌, ◌∷◌, ◌≡◌, ◌≤◌, ◌⊎◌}
+use Rattle.pos_run.proofs.Common.{refl, replicate, simulated_devices, simulated_for, slice_get, suc, sym, take, take-map, take_all, true}
+use Rattle.pos_run.proofs.Common.{with_standing, ℕ, ◌++◌, ◌+◌, ◌<◌, ◌∙◌, ◌∷◌, ◌≡◌, ◌≤◌, ◌⊎◌}
 use Rattle.pos_counter.specs.KeptDevices.{device_of, profile_devices, totals_devices, totals_name}
 use Rattle.pos_profile.proofs.ListLemmas.{name_at}
-use Rattle.pos_profile.specs.Profiles.{is_repeated, names_of, stands_after}
+use Rattle.pos_profile.specs.Profiles.{is_repeated, names_of}
 use Rattle.pos_profile.specs.Registries.{vacant_devices}
 use Rattle.pos_service.specs.declared.exchange_fault.AttachFault.{AttachFault}
 use Rattle.std.proofs.Math.Seq.{set-append_seam}
@@ -128,8 +128,7 @@ no_kind (Some kind) lines is = absurd cc
 unnamed_before : (entries : List Entry) (i : ℕ) (entry : Entry) → i < length entries → entry ≡ get_or entries i entry
     → is_repeated (names_of entries) i ≡ false → list_any (bytes_eq entry.name) (names_of (take i entries)) ≡ false
 unnamed_before entries i entry lt is single =
-    ap (λ (names : List (List ℕ)). stands_after names (Some entry.name)) (sym (take-map (λ (e : Entry). e.name) i entries))
-    ∙ ap (stands_after (take i (names_of entries))) (sym (name_at entries i entry entry.name lt is refl)) ∙ single
+    rw (← take-map (λ (e : Entry). e.name) i entries) (rw (name_at entries i entry entry.name lt is refl) at single)
 
 module _ (entries : List Entry) (i : ℕ) (entry : Entry) (lt : i < length entries) (is : entry ≡ get_or entries i entry) where
   abbrev totals : Option (List ℕ)
@@ -163,15 +162,12 @@ module _ (entries : List Entry) (i : ℕ) (entry : Entry) (lt : i < length entri
       let vacant = device_with entry.name state.kind None in
       let full = device_with entry.name state.kind (Some state) in
       let over = λ (ds : List Device). machine_with [] (replicate (length (profile_devices entries)) None) ds part in
-      let one : filter_map served (entry ∷ []) ≡ full ∷ [] =
-      rw kind (ap (λ (s : Option PeripheralState). device_with entry.name state.kind s ∷ []) (rw kind at simulated)) in
+      let one : filter_map served (entry ∷ []) ≡ full ∷ [] = rw (simulated, kind) in
       let before : old ≡ over (front ++ vacant ∷ back) = begun ∙ rw (one_less, kind) in
       let found : place_of (front ++ vacant ∷ back) entry.name ≡ Some (length front) =
       found_behind entry.name (take i entries) 0 vacant back (unnamed_before entries i entry lt is single)
       ((bytes_eq-Decides entry.name entry.name).1 refl) ∙ ap (λ (n : ℕ). Some n) (omega arith) in
       let stood = stands (over (front ++ vacant ∷ back)) new entry.name (hardware_of state) (length front) vacant found
-      (there_behind front vacant back) refl refl response
-      (rw before at step) in
-      let after : front ++ full ∷ back ≡ partly (take (i + 1) entries) (drop (i + 1) entries) totals =
-      rw (served_more, one, append_assoc) in
+      (there_behind front vacant back) refl refl response (rw before at step) in
+      let after : front ++ full ∷ back ≡ partly (take (i + 1) entries) (drop (i + 1) entries) totals = rw (served_more, one, append_assoc) in
       stood ∙ ap over (set-append_seam front vacant back full ∙ after)

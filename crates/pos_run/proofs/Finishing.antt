@@ -1,7 +1,7 @@
 -- Lines that are carried out one after another, and written as far as they can be.
 use Rattle.pos_run.proofs.Common.{Appends, Appends-kept, Appends-trans, CarriesOut, Err, Finishes, Keeps, Leads, LineBecomes, LinesPrint, List, MatchResult}
 use Rattle.pos_run.proofs.Common.{Ok, Option, Request, Response, Result, RunFault, ScriptLeaves, Session, Stops, Transcript, Writes, Writing, [], ap}
-use Rattle.pos_run.proofs.Common.{append-nil, append_assoc, carried_steps, inl, inr, refl, subst, sym, ℕ, ◌++◌, ◌∙◌, ◌∷◌, ◌≡◌, ◌⊎◌}
+use Rattle.pos_run.proofs.Common.{append-nil, append_assoc, carried_steps, inl, inr, refl, sym, ℕ, ◌++◌, ◌∙◌, ◌∷◌, ◌≡◌, ◌⊎◌}
 use Rattle.pos_script.specs.Text.{printed}
 use Rattle.pos_run.specs.declared.scripts.RunFault.TheVariants as fault
 

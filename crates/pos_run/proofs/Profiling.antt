@@ -42,9 +42,6 @@ state_serves entry state is = subst IsInService (sym is) (new_serves (kind_of en
 pub state_is_fresh : (entry : Entry) (state : PeripheralState) → Some state ≡ simulated_for entry → state.orders ≡ 0
 state_is_fresh entry state is = new_is_fresh (kind_of entry) entry.lines state is
 
-pub device_serves : (entry : Entry) (device : Simulation) → Some (state_of device) ≡ simulated_for entry → (state_of device).is_parked ≡ false
-device_serves entry device is = state_serves entry (state_of device) is
-
 pub all_serve : (entries : List Entry) → All IsInService (simulated_all entries)
 all_serve entries = All-map IsInService simulated_for entries (λ k entry lt. new_serves (kind_of (get_or entries k entry)) (get_or entries k entry).lines)
 

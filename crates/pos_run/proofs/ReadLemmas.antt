@@ -1,7 +1,7 @@
 -- What a read of a script tells.
-use Rattle.pos_run.proofs.Common.{Bool, Consumes, Consumes-trans, Ended, Err, Failed, List, MatchBool, Ok, Open, Option, Reads, [], ap, append-nil}
+use Rattle.pos_run.proofs.Common.{Consumes, Consumes-trans, Ended, Err, Failed, List, Ok, Open, Option, Reads, [], ap, append-nil}
 use Rattle.pos_run.proofs.Common.{cases_Bool, complete_lines, false, false≢true, found, inl, inr, lines_read, ltb-true, may_read, most_reads, refl, subst}
-use Rattle.pos_run.proofs.Common.{suc, sym, take, true, zero, ℕ, ◌++◌, ◌+◌, ◌<◌, ◌∙◌, ◌≡◌, ◌⊎◌}
+use Rattle.pos_run.proofs.Common.{suc, take, true, zero, ℕ, ◌++◌, ◌+◌, ◌<◌, ◌∙◌, ◌≡◌, ◌⊎◌}
 use Rattle.pos_run.specs.declared.reading.ReadFault.{ReadFault}
 use Rattle.pos_run.specs.declared.reading.ReadState.{ReadState}
 use Rattle.pos_run.specs.declared.reading.ScriptReader.{ScriptReader}

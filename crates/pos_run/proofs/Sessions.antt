@@ -1,10 +1,10 @@
 -- What becomes of a line, by the steps of the machine that it asks; and scripts of such lines.
 use Rattle.pos_run.proofs.Common.{AskingBecomes, Attach, CarriesOut, Category, ControlNames, Counter, DiskGhosts, Err, Ghosts, IsRun, IsStep, IsStepBeside}
-use Rattle.pos_run.proofs.Common.{IsTrue, Leads, LineBecomes, List, MatchBool, MatchOption, NewControl, None, Ok, Option, Outcome, PeripheralState}
-use Rattle.pos_run.proofs.Common.{ReadingBecomes, Request, RequestBecomes, Response, Result, Session, Some, SpareStates, Writes, [], ap, codes, false}
-use Rattle.pos_run.proofs.Common.{gives_name, hardware_of, inl, inr, is_quiet, is_some, is_well_spelled, number_named, one_beside, one_step, option_map}
-use Rattle.pos_run.proofs.Common.{passed_over, rebuke, refl, request_of, responded, session_after, session_with, spare_at, subst, sym, true, turned_down}
-use Rattle.pos_run.proofs.Common.{words_of, ℕ, ◌++◌, ◌∷◌, ◌≡◌, ◌⊎◌}
+use Rattle.pos_run.proofs.Common.{IsTrue, Leads, LineBecomes, List, NewControl, None, Ok, Option, PeripheralState}
+use Rattle.pos_run.proofs.Common.{ReadingBecomes, Request, Response, Result, Session, Some, SpareStates, Writes, [], codes, false}
+use Rattle.pos_run.proofs.Common.{gives_name, hardware_of, inl, inr, is_quiet, is_some, is_well_spelled, number_named, one_beside, one_step}
+use Rattle.pos_run.proofs.Common.{rebuke, refl, request_of, session_after, session_with, spare_at, true}
+use Rattle.pos_run.proofs.Common.{words_of, ℕ, ◌++◌, ◌∷◌, ◌≡◌}
 use Rattle.pos_counter.proofs.Serving.{OnlyNow}
 use Rattle.pos_script.specs.Arguments.{Reading, Reads, become, misshapen}
 use Rattle.pos_script.specs.Commands.{LineRequest, asked_by, request_of_words}

@@ -1,7 +1,7 @@
 -- The spares, where one is taken or put back.
 use Rattle.pos_run.proofs.Common.{All, Ghosts, IfSome, IsEmptyAt, IsInService, List, None, Option, PeripheralState, Some, SpareStates, [], ap, arith, false}
 use Rattle.pos_run.proofs.Common.{get_or, get_or-map, length, length-map, map-set, option_and_then, option_map, refl, set, set_past, slice_get, spare_at}
-use Rattle.pos_run.proofs.Common.{states_in, subst, suc, sym, with_spare, zero, ℕ, ◌<◌, ◌∙◌, ◌∷◌, ◌≡◌, ◌≤◌}
+use Rattle.pos_run.proofs.Common.{states_in, suc, sym, with_spare, zero, ℕ, ◌<◌, ◌∙◌, ◌∷◌, ◌≡◌}
 use Rattle.std.proofs.lemmas.List.Elements.{All-set}
 use Rattle.std.proofs.lemmas.Option.{slice_get-map, slice_get_past, slice_get_read, slice_get_within}
 

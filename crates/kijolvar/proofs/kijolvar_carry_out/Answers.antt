@@ -1,4 +1,4 @@
-use Rattle.kijolvar.proofs.Common.{Answers, Kept, subst, sym, ◌∙◌}
+use Rattle.kijolvar.proofs.Common.{◌∙◌}
 use Rattle.kijolvar.proofs.kijolvar_carry_out.Goals as goal
 
 pub returns : goal.returns

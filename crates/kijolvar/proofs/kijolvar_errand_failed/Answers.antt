@@ -1,4 +1,4 @@
-use Rattle.kijolvar.proofs.Common.{Fails, subst, sym, ◌∙◌}
+use Rattle.kijolvar.proofs.Common.{◌∙◌}
 use Rattle.kijolvar.proofs.kijolvar_errand_failed.Goals as goal
 
 pub returns : goal.returns

@@ -1,4 +1,4 @@
-use Rattle.kijolvar.proofs.Common.{Begins, ap, subst, sym, true≢false, ◌∙◌}
+use Rattle.kijolvar.proofs.Common.{ap, sym, true≢false, ◌∙◌}
 use Rattle.kijolvar.proofs.kijolvar_format_file.Goals as goal
 
 pub returns-clause-opened : goal.returns-clause-opened

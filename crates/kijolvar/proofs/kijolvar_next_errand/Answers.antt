@@ -1,4 +1,4 @@
-use Rattle.kijolvar.proofs.Common.{GoesOn, subst, sym, ◌∙◌}
+use Rattle.kijolvar.proofs.Common.{◌∙◌}
 use Rattle.kijolvar.proofs.kijolvar_next_errand.Goals as goal
 
 pub returns : goal.returns

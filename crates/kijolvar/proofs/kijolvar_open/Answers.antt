@@ -1,4 +1,4 @@
-use Rattle.kijolvar.proofs.Common.{Begins, ap, refl, subst, sym, ◌∙◌}
+use Rattle.kijolvar.proofs.Common.{ap, refl, ◌∙◌}
 use Rattle.kijolvar.proofs.kijolvar_open.Goals as goal
 
 pub returns-clause-opened : goal.returns-clause-opened

@@ -1,5 +1,5 @@
 -- `give` forgets what a till owns, which C has from then on.
-use Rattle.kijolvar.proofs.Common.{!, Goes-blank, List, SProp, Stays, Val, WpFn, [], alive, alloc_all, block_ptr, by, drop, emp, ent, enter, fact, fact_i}
+use Rattle.kijolvar.proofs.Common.{ !, Goes-blank, List, SProp, Stays, Val, WpFn, [], alive, alloc_all, block_ptr, by, drop, emp, ent, enter, fact, fact_i}
 use Rattle.kijolvar.proofs.Common.{feq_i, fjoin, fld, free_all, fsplit, get, get_in, id⊢, keep, leaves, look_at, move, nothing, of_opd, owns, pass_all, plain}
 use Rattle.kijolvar.proofs.Common.{proved_at, qed, raw, refl, returns, sets, split, stay_dropped, stop, sub, subst, suffices, sym, tables, types_at, use0}
 use Rattle.kijolvar.proofs.Common.{vptr, walk_of, whole, yes, ‵, ◌$◌, ◌++◌, ◌∵◌, ◌∷◌, ◌≡◌, ◌⊛◌}

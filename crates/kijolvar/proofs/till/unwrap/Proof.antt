@@ -1,5 +1,5 @@
 -- `unwrap` takes a till apart, and makes a loose box of what it had.
-use Rattle.kijolvar.proofs.Common.{!, Goes-blank, List, SProp, Stays, Val, WpFn, [], agg, alive, alloc_all, and_then, block_ptr, by, emp, ent, enter, fact}
+use Rattle.kijolvar.proofs.Common.{ !, Goes-blank, List, SProp, Stays, Val, WpFn, [], agg, alive, alloc_all, and_then, block_ptr, by, emp, ent, enter, fact}
 use Rattle.kijolvar.proofs.Common.{fact_i, fjoin, fld, free_all, fsplit, get, get_in, id⊢, keep, leaves, look_at, move, no_more, nothing, of_opd, owns}
 use Rattle.kijolvar.proofs.Common.{pass_all, plain, proved_at, qed, raw, refl, returns, sets, split, stay_dropped, stop, sub, subst, suffices, sym, tables}
 use Rattle.kijolvar.proofs.Common.{types_at, use0, vptr, walk_of, whole, yes, ‵, ◌$◌, ◌++◌, ◌∵◌, ◌∷◌, ◌≡◌, ◌⊛◌}

@@ -1,5 +1,4 @@
-use Rattle.pos_run.proofs.Common.{Full, IsRun, Made, NewControl, None, OutOfMemory, Some, ap, cond, false, is_some, names_of, refl, session_with, sym, ◌∙◌}
-use Rattle.pos_run.proofs.Common.{◌≡◌}
+use Rattle.pos_run.proofs.Common.{Full, IsRun, Made, NewControl, OutOfMemory, ap, is_some, names_of, refl, session_with, sym, ◌∙◌}
 use Rattle.pos_run.proofs.Sessions.{asks_new, asks_none, asks_unkept}
 use Rattle.pos_run.proofs.session.new_control.Goals as goal
 

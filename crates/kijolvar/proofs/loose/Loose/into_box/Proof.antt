@@ -1,5 +1,5 @@
 -- `into_box` makes the box again.
-use Rattle.kijolvar.proofs.Common.{!, Goes-blank, Good, List, RattleType, SProp, Stays, Val, WpFn, [], a_type, alloc_all, and_then, ap, at_ret, await}
+use Rattle.kijolvar.proofs.Common.{ !, Goes-blank, Good, List, RattleType, SProp, Stays, Val, WpFn, [], a_type, alloc_all, and_then, ap, at_ret, await}
 use Rattle.kijolvar.proofs.Common.{block_ptr, blocks, bounded, box_in, box_out, by, dcons, dnil, drop, ent, enter, env, exec, fact, feq_i, first, fjoin, fld}
 use Rattle.kijolvar.proofs.Common.{flft, fm, free_all, fsplit, ftrue, get, get_in, id⊢, inst_fn, join, keep, lands_last, later, layout, leaves, look_at, move}
 use Rattle.kijolvar.proofs.Common.{no, no_more, nothing, of_opd, only, owns, param, param_laws, pass_all, pick, plain, proved_at, qed, raw, refl, returns}

@@ -1,5 +1,5 @@
 -- `of` takes the box apart.
-use Rattle.kijolvar.proofs.Common.{!, Goes-blank, List, Ptr, RattleType, RawPtr, SProp, Stays, Val, WpFn, [], a_type, agg, alloc_all, and_then, ap, await}
+use Rattle.kijolvar.proofs.Common.{ !, Goes-blank, List, Ptr, RattleType, RawPtr, SProp, Stays, Val, WpFn, [], a_type, agg, alloc_all, and_then, ap, await}
 use Rattle.kijolvar.proofs.Common.{bare, block_ptr, bounded, box_in, box_out, box_owns, by, dcons, dnil, drop, emp, ent, enter, fact, fact_i, feq_l, fjoin}
 use Rattle.kijolvar.proofs.Common.{fld, flft, fm, fpick, free_all, fsep, fsplit, fst∗, ftrue, get, get_in, handle_tells, heard, id⊢, in_a_block, inst_fn}
 use Rattle.kijolvar.proofs.Common.{join, keep, lands_as, later, layout, leaves, look_at, move, never, no, no_more, nothing, null_ptr, of_list, of_opd, only}

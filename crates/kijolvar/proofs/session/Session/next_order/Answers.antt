@@ -1,6 +1,3 @@
-use Rattle.kijolvar.proofs.Common.{subst, sym}
-use Rattle.pos_counter.specs.Counters.{IsCounterSound}
-use Rattle.pos_run.specs.Spares.{AreSparesSound}
 use Rattle.kijolvar.proofs.OrderLemmas.{told_keeps}
 use Rattle.kijolvar.proofs.session.Session.next_order.Goals as goal
 
