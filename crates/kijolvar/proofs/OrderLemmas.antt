@@ -1,12 +1,10 @@
 -- Orders, and what is told of them.
-use Rattle.std.proofs.Common.{◌≡◌, ℕ, List, Err, ap}
+use Rattle.kijolvar.proofs.Common.{Err, Kept, List, NextOrderBy, ap, ℕ, ◌≡◌}
+use Rattle.kijolvar.specs.declared.settlement.Settlement.{Settlement}
+use Rattle.kijolvar.specs.declared.settlement.Settlement.TheVariants.{InMemory}
+use Rattle.pos_service.specs.Peripherals.{Asked, PeripheralState}
 use Rattle.pos_service.specs.declared.memory.NoMemory.{NoMemory}
 use Rattle.pos_service.specs.declared.order.Order.{Order}
-use Rattle.pos_service.specs.Peripherals.{Asked, PeripheralState}
-use Rattle.kijolvar.specs.declared.kept.Kept.{Kept}
-use Rattle.kijolvar.specs.declared.settlement.Settlement.{Settlement}
-use Rattle.kijolvar.specs.declared.settlement.Settlement.TheVariants.{InMemory, Settled, Owed, Failed}
-use Rattle.kijolvar.specs.Tills.{NextOrderBy}
 
 -- want of memory is the same, whoever tells it
 pub any_want : (old new : PeripheralState) (asked : Order) (one other : NoMemory) → Asked old asked (Err one) new → Asked old asked (Err other) new
@@ -17,9 +15,5 @@ pub told_keeps : (settlement : Settlement) (old : Kept) (before after : List ℕ
     → NextOrderBy settlement old before after needed_before needed code new → (new.counter ≡ old.counter) × (new.spares ≡ old.spares)
 told_keeps InMemory old before after needed_before needed code new told =
     (ap (λ (till : Kept). till.counter) told.stays, ap (λ (till : Kept). till.spares) told.stays)
-told_keeps Settled old before after needed_before needed code new told =
-    (ap (λ (till : Kept). till.counter) told.stays, ap (λ (till : Kept). till.spares) told.stays)
-told_keeps Owed old before after needed_before needed code new told =
-    (ap (λ (till : Kept). till.counter) told.stays, ap (λ (till : Kept). till.spares) told.stays)
-told_keeps Failed old before after needed_before needed code new told =
+told_keeps _ old before after needed_before needed code new told =
     (ap (λ (till : Kept). till.counter) told.stays, ap (λ (till : Kept). till.spares) told.stays)

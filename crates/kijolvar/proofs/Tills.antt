@@ -1,28 +1,11 @@
 -- The machine values of a `Till`. Assumes `Logic`.
-use Rattle.std.proofs.Common.{◌≡◌, ℕ, List, [], ◌∷◌, ◌++◌, refl, subst}
-use seplogic.Ra.Ura.{Ura}
-use mir.Raw.{raw as bare}
-use mir.Val.{Val, vptr, vstruct, of_list}
-use base.Logic.{never, fst∗}
-use types.Logic.{Logic, sem}
-use types.Kit.{Item, Goal, Seq, Step, step, ‵, ◌$◌, move, drop, fsplit, fjoin, fpick, fpack, feq_i, feq_l}
-use denote.RattleType.{RattleType, Valss}
-use denote.Builtin.{RawPtr}
-use denote.Memory.{lone}
-use denote.RawPtr.{Ptr, block_ptr, null_ptr, ptr_val, in_a_block}
-use denote.Steps.{nothing}
-use denote.Param.{layout}
-use denote.Param.Laws.{Laws}
-use denote.Struct.Struct.{within}
-use denote.Struct.Owning.{shape}
-use Rattle.core.specs.declared.alloc.Allocator.{Ghosts}
-use Rattle.core.proofs.alloc.Calls.{handle_tells}
-use Rattle.core.proofs.cell.Inside.{Good}
-use Rattle.std_alloc.specs.Box.Ownership.{box_owns}
-use Rattle.std.specs.contracts.alloc.Global.{the_row as global_row}
-use Rattle.std.proofs.alloc.Global.TheLaws.{the_row_laws as global_laws}
-use Rattle.std.specs.contracts.impls.GlobalAllocator.TheImpl.{ghosts as global_ghosts}
+use Rattle.kijolvar.proofs.Common.{Ghosts, Goal, Good, Item, Laws, List, Logic, Ptr, RattleType, RawPtr, Seq, Step, Ura, Val, Valss, [], bare, block_ptr}
+use Rattle.kijolvar.proofs.Common.{box_owns, drop, feq_i, feq_l, fjoin, fpack, fpick, fsplit, fst∗, handle_tells, in_a_block, layout, lone, move, never}
+use Rattle.kijolvar.proofs.Common.{nothing, null_ptr, of_list, ptr_val, refl, sem, shape, step, subst, vptr, vstruct, within, ‵, ℕ, ◌$◌, ◌++◌, ◌∷◌, ◌≡◌}
 use Rattle.kijolvar.specs.contracts.session.Session.{the_row as session_row}
+use Rattle.std.proofs.alloc.Global.TheLaws.{the_row_laws as global_laws}
+use Rattle.std.specs.contracts.alloc.Global.{the_row as global_row}
+use Rattle.std.specs.contracts.impls.GlobalAllocator.TheImpl.{ghosts as global_ghosts}
 use Rattle.kijolvar.specs.contracts.till.Till as till
 use Rattle.kijolvar.proofs.Values.{both, al}
 

@@ -1,28 +1,11 @@
 -- The machine values of a `Loose`. Assumes `Logic`.
-use Rattle.std.proofs.Common.{◌≡◌, ℕ, List, [], ◌∷◌, ◌++◌, refl, subst}
-use mathlib.Core.Bool.{Bool, true, false, ◌&&◌}
-use lib.Dec.{T}
-use seplogic.Ra.Ura.{Ura}
-use mir.Syntax.{impl, tnil, dnil}
-use mir.Raw.{raw as bare}
-use mir.Val.{Val, vptr, vstruct, vcons, vnil, of_list, has_ty, WT}
-use base.Logic.{never, fst∗}
-use types.Logic.{Logic, sem}
-use types.Kit.{Item, Goal, Seq, Step, step, ‵, ◌$◌, move, drop, fsplit, fjoin, fpick, fpack, feq_i, feq_l}
-use denote.RattleType.{RattleType, Valss}
-use denote.Builtin.{RawPtr}
-use denote.Memory.{lone}
-use denote.RawPtr.{Ptr, block_ptr, null_ptr, ptr_val, in_a_block}
-use denote.Steps.{nothing}
-use denote.Param.{layout}
-use denote.Param.Laws.{Laws}
-use denote.Struct.Struct.{within}
-use denote.Struct.Owning.{shape}
-use Rattle.core.specs.declared.alloc.Allocator.{Ghosts}
-use Rattle.core.proofs.alloc.Calls.{Al, handle_tells}
-use Rattle.core.proofs.cell.Inside.{Good}
-use Rattle.std_alloc.specs.Box.Ownership.{box_owns}
+use Rattle.kijolvar.proofs.Common.{Al, Ghosts, Goal, Good, Item, Laws, List, Logic, Ptr, RattleType, RawPtr, Seq, Step, Ura, Val, Valss, WT, [], bare}
+use Rattle.kijolvar.proofs.Common.{block_ptr, box_owns, dnil, drop, feq_i, feq_l, fjoin, fpack, fpick, fsplit, fst∗, handle_tells, has_ty, impl, in_a_block}
+use Rattle.kijolvar.proofs.Common.{layout, lone, move, never, nothing, null_ptr, of_list, ptr_val, refl, sem, shape, step, subst, tnil, vcons, vnil, vptr}
+use Rattle.kijolvar.proofs.Common.{vstruct, within, ‵, ℕ, ◌$◌, ◌++◌, ◌∷◌, ◌≡◌}
 use Rattle.std_alloc.proofs.ResultValues.{and_tt}
+use lib.Dec.{T}
+use mathlib.Core.Bool.{Bool, false, true, ◌&&◌}
 use Rattle.kijolvar.specs.contracts.loose.Loose as loose
 
 abbrev pub both : Val → Val → Val

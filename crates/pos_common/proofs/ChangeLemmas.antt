@@ -1,10 +1,6 @@
 -- What a change of one control does to the machine's controls.
-use Rattle.std.proofs.Common.{◌≡◌, ◌∙◌, ℕ, ◌<◌, List, get_or, set, length, arith, ap}
-use Rattle.std.specs.Prelude.{MatchOption, slice_get, slice_set}
-use Rattle.std.proofs.lemmas.List.{length-map, map-set}
-use Rattle.std.proofs.lemmas.Option.{slice_get-get_or}
-use Rattle.pos_service.specs.Controls.{Control}
-use Rattle.pos_common.specs.KeptControls.{KeptControl, controls_of}
+use Rattle.pos_common.proofs.Common.{Control, KeptControl, List, MatchOption, ap, arith, controls_of, get_or, length, length-map, map-set, set, slice_get}
+use Rattle.pos_common.proofs.Common.{slice_get-get_or, slice_set, ℕ, ◌<◌, ◌∙◌, ◌≡◌}
 use Rattle.pos_common.proofs.KeptLemmas.{control_at}
 
 -- a held control that has changed is a change of the machine's control there

@@ -1,20 +1,16 @@
 -- What the check of a control decides of a call's table.
-use Rattle.std.proofs.Common.{◌≡◌, ◌∙◌, ℕ, Bool, true, false, List, [], ◌∷◌, Ok, Err, refl, sym}
-use Rattle.std.specs.Prelude.{Option, Some, None, Result, not, ◌&&◌, is_none}
-use Rattle.pos_service.specs.declared.answer.Answer.{Answer}
-use Rattle.pos_service.specs.declared.answer.Answer.TheVariants as answer
-use Rattle.pos_service.specs.declared.code.Code.{Code}
-use Rattle.pos_service.specs.declared.code.Code.TheVariants as code
-use Rattle.pos_service.specs.declared.answer.Value.{Value}
-use Rattle.pos_service.specs.declared.memory.NoMemory.{NoMemory}
-use Rattle.pos_service.specs.declared.needs.Needs.{Needs}
-use Rattle.pos_service.specs.declared.property.Property.{Property}
-use Rattle.pos_service.specs.Controls.{Control}
+use Rattle.pos_common.proofs.Common.{Answer, Bool, Control, Decided, Err, Gets, KeptControl, List, NoMemory, None, Ok, Option, Result, Row, SetsTo, Some, []}
+use Rattle.pos_common.proofs.Common.{false, first_refusal, is_none, not, refl, sym, true, when, ℕ, ◌&&◌, ◌∙◌, ◌∷◌, ◌≡◌}
+use Rattle.pos_common.specs.Checks.{Checks}
 use Rattle.pos_service.specs.Claims.{is_foreign}
 use Rattle.pos_service.specs.Needs.{needs_holder, needs_no_other, table}
-use Rattle.pos_service.specs.Refusals.{Row, Decided, first_refusal, when}
-use Rattle.pos_common.specs.Checks.{Checks}
-use Rattle.pos_common.specs.KeptControls.{KeptControl, Gets, SetsTo}
+use Rattle.pos_service.specs.declared.answer.Value.{Value}
+use Rattle.pos_service.specs.declared.code.Code.{Code}
+use Rattle.pos_service.specs.declared.needs.Needs.{Needs}
+use Rattle.pos_service.specs.declared.property.Property.{Property}
+use Rattle.std.proofs.lemmas.Bool.{and_parts, false_from_ne_true}
+use Rattle.pos_service.specs.declared.answer.Answer.TheVariants as answer
+use Rattle.pos_service.specs.declared.code.Code.TheVariants as code
 
 -- a table that refuses
 pub refused : (rows : List Row) (refusal : Answer) (Same Done : Type 0) → first_refusal rows ≡ Some refusal → Same → Decided rows refusal Same Done
@@ -39,9 +35,8 @@ sets_by_rest rows rest tells (Err want) old new control is sets = (sets.0, is �
 
 lets_there : (closed is_there : Bool) (rows : List Row) → first_refusal (when closed code.Closed ∷ when (not is_there) code.Illegal ∷ rows) ≡ None
     → is_there ≡ true
-lets_there true is_there rows none = absurd cc
 lets_there false true rows none = refl
-lets_there false false rows none = absurd cc
+lets_there _ _ rows none = absurd cc
 
 -- what a table asks behind the category
 abbrev claim_rows : ℕ → Option ℕ → Control → Needs → List Row
@@ -50,27 +45,17 @@ claim_rows number holder control needs =
     ∷ when (needs_holder needs.claim && is_none holder) code.NotClaimed
     ∷ when (needs.is_enabled && not control.enabled) code.Disabled ∷ []
 
-second : (a b : Bool) → (a && b) ≡ true → b ≡ true
-second true b is = is
-second false b is = absurd cc
-
 -- what is asked of a category of which two things are, has the second
 pub asks_second : (number : ℕ) (holder : Option ℕ) (control : Control) (needs : Needs) (a b : Bool) → needs.is_there ≡ (a && b)
     → Checks number holder control needs (Ok tt) → b ≡ true
 asks_second number holder control needs a b is checks =
-    second a b (sym is ∙ lets_there (needs.is_open && is_none control.device) needs.is_there (claim_rows number holder control needs) (checks []))
+    (and_parts a b (sym is ∙ lets_there (needs.is_open && is_none control.device) needs.is_there (claim_rows number holder control needs) (checks []))).1
 
 -- what a control is that its check lets through: open, where it has to be
 pub lets_open : (number : ℕ) (holder : Option ℕ) (control : Control) (needs : Needs) → needs.is_open ≡ true
     → first_refusal (table number holder control needs []) ≡ None → is_none control.device ≡ false
-lets_open number holder control needs is none = by needs.is_open (is_none control.device) is none
-  where
-    by : (asked closed : Bool) → asked ≡ true
-        → first_refusal (when (asked && closed) code.Closed ∷ when (not needs.is_there) code.Illegal ∷ claim_rows number holder control needs) ≡ None
-        → closed ≡ false
-    by true true is none = absurd cc
-    by true false is none = refl
-    by false closed is none = absurd cc
+lets_open number holder control needs is none =
+    false_from_ne_true (is_none control.device) (λ closed. absurd (let refuses = rw (is, closed) at none in cc))
 
 -- one of a category that has what is asked
 pub lets_own : (number : ℕ) (holder : Option ℕ) (control : Control) (needs : Needs) → first_refusal (table number holder control needs []) ≡ None

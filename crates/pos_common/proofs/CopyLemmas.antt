@@ -1,12 +1,8 @@
 -- Copies of a scan, counted over the controls that listen.
-use Rattle.std.proofs.Common.{◌≡◌, ℕ, ◌+◌, ◌<◌, ◌≤◌, true, false, cond, List, [], ◌∷◌, ◌++◌, All, length, get_or, set, take, drop, arith, length-append}
-use Rattle.std.specs.Prelude.{count_by}
-use Rattle.std.proofs.lemmas.List.{drop_more, length-map, map-set, drop-set-lt}
-use Rattle.std.proofs.lemmas.List.Elements.{All-push}
-use Rattle.std.proofs.lemmas.List.Sums.{count_by_more_yes, count_by_more_no, sum_by-append}
-use Rattle.pos_service.specs.declared.scan.Scan.{Scan}
-use Rattle.pos_service.specs.Controls.{Control, listens}
-use Rattle.pos_common.specs.KeptControls.{KeptControl, AreCopies, controls_of}
+use Rattle.pos_common.proofs.Common.{All, All-push, AreCopies, Control, KeptControl, List, Scan, [], arith, cond, controls_of, count_by, drop, drop-set-lt}
+use Rattle.pos_common.proofs.Common.{drop_more, false, get_or, length, length-append, length-map, listens, map-set, set, take, true, ℕ, ◌++◌, ◌+◌, ◌<◌, ◌∷◌}
+use Rattle.pos_common.proofs.Common.{◌≡◌, ◌≤◌}
+use Rattle.std.proofs.lemmas.List.Sums.{count_by_more_no, count_by_more_yes, sum_by-append}
 use Rattle.pos_common.proofs.KeptLemmas.{control_at}
 
 -- one more copy is enough for one more control that listens
@@ -32,29 +28,15 @@ counted_next : (place : ℕ) (cs : List Control) (i : ℕ) (d : Control) → i <
 counted_next place cs i d lt =
     rw (drop_more cs i d lt) (sum_by-append (λ c. cond (listens place c) 1 0) (get_or cs i d ∷ []) (drop (i + 1) cs))
 
--- copies for the controls from a place on are copies for the one there
-pub copies_next : (scan : Scan) (place : ℕ) (cs : List Control) (copies : List Scan) (i : ℕ) (d : Control) → i < length cs
-    → AreCopies scan place (drop i cs) copies → AreCopies scan place (get_or cs i d ∷ []) copies
-copies_next scan place cs copies i d lt are = record {
-  enough = omega (arith, counted_next place cs i d lt, are.enough);
-  each = are.each;
-}
-
--- those that it leaves are copies for the controls behind it
-pub copies_left : (scan : Scan) (place : ℕ) (cs : List Control) (copies left : List Scan) (i : ℕ) (d : Control) → i < length cs
-    → length copies ≤ length left + count_by (listens place) (get_or cs i d ∷ []) → All (λ c. c ≡ scan) left
-    → AreCopies scan place (drop i cs) copies → AreCopies scan place (drop (i + 1) cs) left
-copies_left scan place cs copies left i d lt few all are = record {
-  enough = omega (arith, counted_next place cs i d lt, few, are.enough);
-  each = all;
-}
-
 -- copies for the held controls from a place on are copies for the one there
 pub copies_at : (scan : Scan) (place : ℕ) (hs : List KeptControl) (copies : List Scan) (i : ℕ) (d : KeptControl) → i < length hs
     → AreCopies scan place (drop i (controls_of hs)) copies → AreCopies scan place ((get_or hs i d).control ∷ []) copies
 copies_at scan place hs copies i d lt are =
     let within : i < length (controls_of hs) = omega (arith, length-map hs (λ (h : KeptControl). h.control)) in
-    rw (control_at hs i d d.control lt) (copies_next scan place (controls_of hs) copies i d.control within are)
+    rw (control_at hs i d d.control lt) (record {
+      enough = omega (arith, counted_next place (controls_of hs) i d.control within, are.enough);
+      each = are.each;
+    })
 
 -- those that it leaves are copies for the held controls behind it, once it has changed
 pub copies_behind : (scan : Scan) (place : ℕ) (hs : List KeptControl) (copies left : List Scan) (i : ℕ) (d g : KeptControl) → i < length hs
@@ -63,4 +45,7 @@ pub copies_behind : (scan : Scan) (place : ℕ) (hs : List KeptControl) (copies 
 copies_behind scan place hs copies left i d g lt few all are =
     let within : i < length (controls_of hs) = omega (arith, length-map hs (λ (h : KeptControl). h.control)) in
     rw (map-set (λ (h : KeptControl). h.control) hs i g, drop-set-lt (i + 1) (controls_of hs) i g.control (omega arith))
-    (copies_left scan place (controls_of hs) copies left i d.control within (rw (control_at hs i d d.control lt) at few) all are)
+    (let left_over = rw (control_at hs i d d.control lt) at few in record {
+      enough = omega (arith, counted_next place (controls_of hs) i d.control within, left_over, are.enough);
+      each = all;
+    })

@@ -1,16 +1,12 @@
 -- What comes of a scan that a peripheral has taken.
-use Rattle.std.proofs.Common.{◌≡◌, ◌∙◌, ℕ, Bool, true, false, List, Ok, ap, sym, subst, refl}
+use Rattle.pos_common.proofs.Common.{AreCopies, Bool, Control, Fed, HasCopies, List, Ok, PeripheralState, Receives, Scan, Takes, TakesIn, TakesWhile}
+use Rattle.pos_common.proofs.Common.{all_listening, false, hardware_of, input_fits, read, refl, signs_of, true, ℕ, ◌≡◌}
 use Rattle.pos_service.specs.declared.input.Input.{Input}
+use Rattle.pos_service.specs.declared.plant.Form.{Form}
+use Rattle.pos_service.specs.declared.plant.Plant.{Plant}
 use Rattle.pos_service.specs.declared.input.Input.TheVariants as input
 use Rattle.pos_service.specs.declared.input.Taken.TheVariants as taken
-use Rattle.pos_service.specs.declared.plant.Form.{Form}
 use Rattle.pos_service.specs.declared.plant.Form.TheVariants as form
-use Rattle.pos_service.specs.declared.plant.Plant.{Plant}
-use Rattle.pos_service.specs.declared.scan.Scan.{Scan}
-use Rattle.pos_service.specs.Controls.{Control, read, all_listening}
-use Rattle.pos_service.specs.Peripherals.{PeripheralState, Fed, Receives, Takes, TakesWhile, input_fits, signs_of}
-use Rattle.pos_service.specs.Hardware.{TakesIn, reaction, hardware_of}
-use Rattle.pos_common.specs.KeptControls.{AreCopies, HasCopies}
 
 -- something follows of an input that is a scan
 abbrev OfScan : Input → Type 0 → Type 0
@@ -46,12 +42,11 @@ scan_taken before after i place old mid new copies fits fed same has all =
         let scan : Scan = record { kind = number; bytes = bytes; label = label } in
         let was = signs_of before.kind before.plant in
         let is_now = signs_of after.kind after.plant in
-        let read_now : new ≡ all_listening place (read scan) mid = all scan (subst (λ j. HasCopies j place mid copies) is has) in
+        let read_now : new ≡ all_listening place (read scan) mid = all scan (rw is at has) in
         record {
           taken = taken.Scan;
           fits = fits;
           plant = fed.answer;
           hardware = rw (fed.kind, fed.failures) refl;
-          controls = subst (λ (j : Input). new ≡ all_listening place (reaction j taken.Scan was is_now) old) (sym is)
-              (read_now ∙ ap (all_listening place (read scan)) same);
+          controls = rw (is, ← same) read_now;
         }

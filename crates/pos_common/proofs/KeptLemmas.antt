@@ -1,10 +1,8 @@
 -- What a change of one control does to the machine's controls.
-use Rattle.std.proofs.Common.{◌≡◌, ℕ, ◌+◌, ◌<◌, List, get_or, set, map, take, drop, ◌++◌, sym, ap, ◌∙◌, All, length, arith, subst}
-use Rattle.std.proofs.lemmas.List.{map-set, set-get_or, get_or-map, drop_more, drop-drop, drop-set-lt, take_more_set}
+use Rattle.pos_common.proofs.Common.{All, All-head, All-push, All-tail, Control, KeptControl, List, ap, arith, controls_of, drop, drop-drop, drop-set-lt}
+use Rattle.pos_common.proofs.Common.{drop_more, get_or, get_or-map, length, map, map-set, set, set-get_or, subst, sym, take, take_more_set, ℕ, ◌++◌, ◌+◌, ◌<◌}
+use Rattle.pos_common.proofs.Common.{◌∙◌, ◌≡◌}
 use Rattle.std.proofs.lemmas.List.Edits.{map_over_more}
-use Rattle.std.proofs.lemmas.List.Elements.{All-head, All-tail, All-push}
-use Rattle.pos_service.specs.Controls.{Control}
-use Rattle.pos_common.specs.KeptControls.{KeptControl, controls_of}
 
 -- a held control at a place is the machine's control there
 pub control_at : (hs : List KeptControl) (i : ℕ) (d : KeptControl) (c : Control) → i < length hs → (get_or hs i d).control ≡ get_or (controls_of hs) i c
@@ -26,13 +24,13 @@ mapped_more f xs hs i d g lt s m n =
 
 -- what each element from a place on has, the element there has
 pub first_of_rest : (P : KeptControl → Type 0) (hs : List KeptControl) (i : ℕ) (d : KeptControl) → i < length hs → All P (drop i hs) → P (get_or hs i d)
-first_of_rest P hs i d lt a = All-head P (get_or hs i d) (drop (i + 1) hs) (subst (All P) (drop_more hs i d lt) a)
+first_of_rest P hs i d lt a = All-head P (get_or hs i d) (drop (i + 1) hs) (rw (drop_more hs i d lt) at a)
 
 -- what each element from a place on has, those behind it have when it is changed
 pub rest_after_set : (P : KeptControl → Type 0) (hs : List KeptControl) (i : ℕ) (g : KeptControl) → i < length hs → All P (drop i hs)
     → All P (drop (i + 1) (set hs i g))
 rest_after_set P hs i g lt a =
-    subst (All P) (sym (drop-set-lt (i + 1) hs i g (omega arith))) (All-tail P (get_or hs i g) (drop (i + 1) hs) (subst (All P) (drop_more hs i g lt) a))
+    rw (drop-set-lt (i + 1) hs i g (omega arith)) (All-tail P (get_or hs i g) (drop (i + 1) hs) (rw (drop_more hs i g lt) at a))
 
 -- of two lists that are the same from a place on, the elements behind the place stay when it is changed
 pub same_rest : (hs old : List KeptControl) (i : ℕ) (g : KeptControl) → drop i hs ≡ drop i old → drop (i + 1) (set hs i g) ≡ drop (i + 1) old

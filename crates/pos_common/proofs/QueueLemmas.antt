@@ -1,17 +1,10 @@
 -- A request that is queued, as the machine sees it.
-use Rattle.std.proofs.Common.{◌≡◌, ℕ, ◌<◌, List, get_or, set, length, arith, ap, refl, Ok, Err}
-use Rattle.std.specs.Prelude.{Option, Some, None, Result, IsTrue, MatchOption, MatchResult}
-use Rattle.std.proofs.lemmas.List.{length-map}
-use Rattle.std.proofs.lemmas.Option.{slice_get-get_or}
-use Rattle.pos_service.specs.declared.answer.Answer.{Answer}
-use Rattle.pos_service.specs.declared.memory.NoMemory.{NoMemory}
+use Rattle.pos_common.proofs.Common.{Answer, Control, Err, Hardware, IsTrue, KeptControl, List, MatchOption, MatchResult, NoMemory, None, Ok, Option, Result}
+use Rattle.pos_common.proofs.Common.{SameHardware, Some, TurnsInto, ap, arith, controls_of, first_refusal, get_or, length, length-map, queued, refl, set}
+use Rattle.pos_common.proofs.Common.{slice_get-get_or, ℕ, ◌<◌, ◌≡◌}
+use Rattle.pos_service.specs.Deeds.{Does, QueuesOrder, id_rows, may_want}
 use Rattle.pos_service.specs.declared.order.Order.{Order}
 use Rattle.pos_service.specs.declared.deed.Deed.TheVariants as deed
-use Rattle.pos_service.specs.Controls.{Control, queued}
-use Rattle.pos_service.specs.Deeds.{id_rows, may_want, Does, QueuesOrder}
-use Rattle.pos_service.specs.Refusals.{first_refusal}
-use Rattle.pos_service.specs.Hardware.{Hardware, SameHardware}
-use Rattle.pos_common.specs.KeptControls.{KeptControl, controls_of, TurnsInto}
 use Rattle.pos_common.proofs.ChangeLemmas.{changed_at}
 use Rattle.pos_common.proofs.KeptLemmas.{control_at, same_control}
 

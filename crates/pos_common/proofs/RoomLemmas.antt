@@ -1,10 +1,7 @@
 -- The room of a control that has heard, or that something less is asked of.
-use Rattle.std.proofs.Common.{◌≡◌, ◌∙◌, ℕ, ◌+◌, ◌≤◌, Bool, true, false, cond, ap, refl, subst, arith}
-use Rattle.std.specs.Prelude.{IsTrue}
+use Rattle.pos_common.proofs.Common.{Bool, Control, HasRoom, IsTrue, KeptControl, ap, arith, cond, false, heard_signs, if_listening, listens, refl}
+use Rattle.pos_common.proofs.Common.{sign_events, subst, true, ℕ, ◌+◌, ◌∙◌, ◌≡◌, ◌≤◌}
 use Rattle.pos_service.specs.declared.signs.Signs.{Signs}
-use Rattle.pos_service.specs.Controls.{Control, if_listening, listens}
-use Rattle.pos_service.specs.Statuses.{heard_signs}
-use Rattle.pos_common.specs.KeptControls.{KeptControl, HasRoom, sign_events}
 
 -- a control listens as it did, whether or not it has heard
 still_listens : (b : Bool) (place : ℕ) (was is : Signs) (c : Control) → listens place (cond b (heard_signs was is c) c) ≡ listens place c

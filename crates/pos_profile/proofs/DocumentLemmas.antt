@@ -1,47 +1,30 @@
 -- What is faulty in a document, by its two lists.
-use Rattle.std.proofs.Common.{◌≡◌, ◌∙◌, ◌<◌, ◌+◌, ◌-◌, ℕ, zero, suc, List, [], ◌∷◌, ◌++◌, Bool, true, false, Option, Some, None, option_map, option_and_then}
-use Rattle.std.proofs.Common.{cond, map, length, take, slice_get, refl, sym, ap, subst, arith, inl, inr, add-one}
-use Rattle.std.specs.Prelude.{codes}
-use Rattle.std.proofs.lemmas.Bool.{cases_lt}
-use Rattle.std.proofs.lemmas.List.{length-map, take-append-le}
-use Rattle.std.proofs.lemmas.Option.{slice_get-map}
-use Rattle.toml.specs.Data.{Data, Members, as_table}
-use Rattle.pos_service.specs.declared.category.Category.{Category}
-use Rattle.pos_service.specs.declared.category.Category.TheVariants.{HardTotals}
-use Rattle.pos_profile.specs.declared.entry.Entry.{Entry}
+use Rattle.pos_profile.proofs.Common.{Category, Contents, Data, Entry, HardTotals, IfSome, IsFlawedList, IsLowest, IsMistake, IsRead, IsSoundEntry}
+use Rattle.pos_profile.proofs.Common.{IsSoundList, IsSoundProfile, List, Members, Mistaken, None, Option, Reason, Role, Some}
+use Rattle.pos_profile.proofs.Common.{Spare, [], add-one, allowed, ap, arith, cases_lt, entries_of, entry_of}
+use Rattle.pos_profile.proofs.Common.{false, inl, inr, is_faulty, is_refused, is_refused_after, is_repeated, is_root, is_totals}
+use Rattle.pos_profile.proofs.Common.{key_of, length, length-map, map, mistake_at, names_of}
+use Rattle.pos_profile.proofs.Common.{option_map, refl, slice_get, slice_get-map, suc, sym, take, take-append-le, true}
+use Rattle.pos_profile.proofs.Common.{values_at, zero, ℕ, ◌++◌, ◌+◌, ◌-◌, ◌<◌, ◌∙◌, ◌∷◌, ◌≡◌}
 use Rattle.pos_profile.specs.declared.listing.Flaw.{Flaw}
-use Rattle.pos_profile.specs.declared.mistake.Place.TheVariants.{Root}
-use Rattle.pos_profile.specs.declared.mistake.Reason.{Reason}
-use Rattle.pos_profile.specs.declared.reading.Numbers.{Numbers}
+use Rattle.pos_profile.specs.declared.role.Role.TheVariants.{Device}
 use Rattle.pos_profile.specs.declared.root.DocumentFault.{DocumentFault}
-use Rattle.pos_profile.specs.declared.root.DocumentFault.TheVariants.{Mistaken}
-use Rattle.pos_profile.specs.declared.role.Role.{Role}
-use Rattle.pos_profile.specs.declared.role.Role.TheVariants.{Device, Spare}
-use Rattle.pos_profile.specs.declared.table.Keys.TheVariants.{OfEntry}
-use Rattle.pos_profile.specs.declared.variation.Variation.{Variation}
-use Rattle.pos_service.specs.Categories.{category_named}
-use Rattle.pos_profile.specs.Categories.{is_totals}
-use Rattle.pos_profile.specs.Entries.{entry_of, entry_with, numbers_of, table_entry, variation_of}
-use Rattle.pos_profile.specs.Mistakes.{IsFlawedList, IsMistake, IsSoundList, RootHas, mistake_at}
-use Rattle.pos_profile.specs.Profiles.{IsLowest, IsRead, entries_of, is_faulty, is_refused, is_refused_after, is_root, is_totals_entry}
-use Rattle.pos_profile.specs.Tables.{allowed, has_only, is_key, key_of, name_for, text_at, values_at}
 use Rattle.pos_profile.proofs.ListLemmas.{before_end, none_past}
+use Rattle.pos_profile.proofs.SoundLemmas.{entry_sound, list_sound}
 
 -- the entries of both lists
 abbrev both : Members → List (Option Entry)
 both root = entries_of Device root ++ entries_of Spare root
 
-below_number : (root : Members) (place : ℕ) → is_root root ≡ true → IsLowest (is_refused (both root)) place → (n : ℕ) → n < place + 1 → is_faulty root n ≡ false
-below_number root place is lowest zero less = rw is
-below_number root place is lowest (suc n) less = lowest.below n (omega arith)
+faultless : (root : Members) (limit : ℕ) → is_root root ≡ true → ((n : ℕ) → n < limit → is_refused (both root) n ≡ false) → (n : ℕ) → n < limit + 1
+    → is_faulty root n ≡ false
+faultless root limit is sound zero less = rw is
+faultless root limit is sound (suc n) less = sound n (omega arith)
 
 -- entries are numbered from 1
-numbered : (root : Members) (place : ℕ) → is_root root ≡ true → IsLowest (is_refused (both root)) place → IsLowest (is_faulty root) (place + 1)
-numbered root place is lowest = record { here = rw add-one lowest.here; below = below_number root place is lowest }
-
-faultless : (root : Members) → is_root root ≡ true → ((n : ℕ) → is_refused (both root) n ≡ false) → (n : ℕ) → is_faulty root n ≡ false
-faultless root is sound zero = rw is
-faultless root is sound (suc n) = sound n
+numbered : (root : Members) (place number : ℕ) → is_root root ≡ true → number ≡ place + 1 → IsLowest (is_refused (both root)) place
+    → IsLowest (is_faulty root) number
+numbered root place number is from lowest = rw from (record { here = rw add-one lowest.here; below = faultless root place is lowest.below })
 
 get_front : (front back : List (Option Entry)) (n : ℕ) → n < length front → slice_get (front ++ back) n ≡ slice_get front n
 get_front [] back n less = absurd (omega arith)
@@ -54,39 +37,23 @@ get_back (x ∷ front) back n zero e = absurd (omega arith)
 get_back (x ∷ front) back n (suc k) e = get_back front back n k (omega arith)
 
 -- what is refused of the first of two lists
-pub refused_front : (front back : List (Option Entry)) (n : ℕ) → n < length front → is_refused (front ++ back) n ≡ is_refused front n
+refused_front : (front back : List (Option Entry)) (n : ℕ) → n < length front → is_refused (front ++ back) n ≡ is_refused front n
 refused_front front back n less = rw (get_front front back n less, take-append-le n front back (omega arith))
 
 -- a spare isn't Hard Totals
-plain_entry : (category : Category) → is_totals category ≡ false
-    → (name : Option (List ℕ)) (numbers : Option Numbers) (variation : Option Variation) (only : Bool)
-    → is_totals_entry (option_and_then
-    (λ text. option_and_then (λ ns. option_and_then (λ v. cond only (Some (entry_with category text ns v)) None) variation) numbers) name) ≡ false
-plain_entry category plain (Some text) (Some ns) (Some v) true = plain
-plain_entry category plain _ _ _ _ = refl
+plain_spare : (category : Category) → allowed Spare category ≡ Some category → is_totals category ≡ false
+plain_spare HardTotals is = absurd cc
+plain_spare _ is = refl
 
-plain_category : (entry : Category → Option Entry) (asked : Option Category)
-    → ((category : Category) → is_totals category ≡ false → is_totals_entry (entry category) ≡ false)
-    → is_totals_entry (option_and_then entry (option_and_then (allowed Spare) asked)) ≡ false
-plain_category entry None plain = refl
-plain_category entry (Some HardTotals) plain = refl
-plain_category entry (Some category) plain = plain category refl
-
-plain_table : (table : Option Members) → is_totals_entry (option_and_then (table_entry Spare) table) ≡ false
-plain_table None = refl
-plain_table (Some table) =
-    plain_category _ (option_and_then category_named (text_at (codes "category") table))
-    (λ c is. plain_entry c is (name_for Spare table) (numbers_of c table) (variation_of c table) (has_only (is_key (OfEntry Spare c)) table))
-
-after_plain : (earlier others : List (Option Entry)) (entry : Option Entry) → is_totals_entry entry ≡ false
-    → is_refused_after earlier (Some entry) ≡ is_refused_after others (Some entry)
-after_plain earlier others None plain = refl
-after_plain earlier others (Some entry) plain = rw plain
-
+-- whether a spare is refused doesn't hang on what stands before it
 after_spare : (earlier others : List (Option Entry)) (value : Option Data)
     → is_refused_after earlier (option_map (entry_of Spare) value) ≡ is_refused_after others (option_map (entry_of Spare) value)
 after_spare earlier others None = refl
-after_spare earlier others (Some value) = after_plain earlier others (entry_of Spare value) (plain_table (as_table value))
+after_spare earlier others (Some value) = by (entry_of Spare value) (entry_sound Spare value)
+  where
+    by : (entry : Option Entry) → IfSome entry (IsSoundEntry Spare) → is_refused_after earlier (Some entry) ≡ is_refused_after others (Some entry)
+    by None sound = refl
+    by (Some entry) sound = rw (plain_spare entry.category sound.category)
 
 refused_back : (front : List (Option Entry)) (values : List Data) (n k : ℕ) → k ≡ length front + n
     → is_refused (front ++ map (entry_of Spare) values) k ≡ is_refused (map (entry_of Spare) values) n
@@ -128,27 +95,15 @@ pub listed_at : (before : ℕ) (role : Role) {flaw other : Flaw} {fault : Docume
     → fault ≡ Mistaken (mistake_at before role flaw.place flaw.reason) → fault ≡ Mistaken (mistake_at before role other.place other.reason)
 listed_at before role same is = is ∙ ap (λ (f : Flaw). Mistaken (mistake_at before role f.place f.reason)) same
 
--- the root is the first mistake
-pub root_mistaken : (root : Members) (why : Reason) → is_root root ≡ false → RootHas root why
-    → IsMistake root (record { number = 0; place = Root; reason = why })
-root_mistaken root why unsound has = record {
-  lowest = record { here = rw unsound; below = λ n less. absurd (omega arith) };
-  number = refl;
-  has = has;
-}
-
 module _ (root : Members) (is : is_root root ≡ true) where
   -- a device is the first mistake
   pub device_mistaken : (place : ℕ) (why : Reason) → IsFlawedList Device (values_at (key_of Device) root) place why
       → IsMistake root (mistake_at 0 Device place why)
-  device_mistaken place why flawed =
-      let same : place + 1 ≡ 0 + place + 1 = omega arith in
-      let lowest = numbered root place is (lowest_front (entries_of Device root) (entries_of Spare root) place flawed.lowest) in
-      record {
-        lowest = subst (IsLowest (is_faulty root)) same lowest;
-        number = sym same;
-        has = rw add-one flawed.has;
-      }
+  device_mistaken place why flawed = record {
+    lowest = numbered root place (0 + place + 1) is (omega arith) (lowest_front (entries_of Device root) (entries_of Spare root) place flawed.lowest);
+    number = omega arith;
+    has = rw add-one flawed.has;
+  }
 
   module _ (devices : List Entry) (sound : IsSoundList Device (values_at (key_of Device) root) devices) where
     count : length (entries_of Device root) ≡ length devices
@@ -160,20 +115,33 @@ module _ (root : Members) (is : is_root root ≡ true) where
     -- a spare is the first mistake
     pub spare_mistaken : (before place : ℕ) (why : Reason) → before ≡ length devices → IsFlawedList Spare (values_at (key_of Spare) root) place why
         → IsMistake root (mistake_at before Spare place why)
-    spare_mistaken before place why are flawed =
-        let lowest = numbered root (length (entries_of Device root) + place) is
-        (lowest_back (entries_of Device root) (values_at (key_of Spare) root) place sound.sound flawed.lowest) in
-        record {
-          lowest = subst (λ n. IsLowest (is_faulty root) (n + place + 1)) (count ∙ sym are) lowest;
-          number = omega (arith, values_count);
-          has = rw add-one flawed.has;
-        }
+    spare_mistaken before place why are flawed = record {
+      lowest = numbered root (length (entries_of Device root) + place) (before + place + 1) is (omega (arith, count))
+          (lowest_back (entries_of Device root) (values_at (key_of Spare) root) place sound.sound flawed.lowest);
+      number = omega (arith, values_count);
+      has = rw add-one flawed.has;
+    }
 
     -- the document has no mistake
     pub document_read : (spares : List Entry) → IsSoundList Spare (values_at (key_of Spare) root) spares
         → IsRead root (record { devices = devices; spares = spares })
     document_read spares others = record {
-      sound = faultless root is (neither (entries_of Device root) (values_at (key_of Spare) root) sound.sound others.sound);
+      sound = λ n. faultless root n is (λ k _. neither (entries_of Device root) (values_at (key_of Spare) root) sound.sound others.sound k) n (omega arith);
       devices = sound.entries;
       spares = others.entries;
+    }
+
+-- a document's devices and spares make a sound profile, where no name stands twice
+pub profile_sound : (root : Members) (contents : Contents) → IsRead root contents
+    → ((place : ℕ) → is_repeated (names_of contents.devices) place ≡ false) → IsSoundProfile contents
+profile_sound root contents read names =
+    let front = entries_of Device root in
+    record {
+      devices = list_sound Device (values_at (key_of Device) root) contents.devices read.devices;
+      spares = list_sound Spare (values_at (key_of Spare) root) contents.spares read.spares;
+      totals = λ place. rw (← read.devices) (elim (cases_lt place (length front)) [
+        | inl less ↦ sym (refused_front front (entries_of Spare root) place less) ∙ read.sound (suc place)
+        | inr past ↦ none_past front place past
+      ]);
+      names = names;
     }

@@ -1,7 +1,7 @@
+pub mod Common
 pub mod TableLemmas
 pub mod ListLemmas
 pub mod DocumentLemmas
-pub mod VariationLemmas
 pub mod SoundLemmas
 pub mod PlaceLemmas
 pub mod RegistryLemmas

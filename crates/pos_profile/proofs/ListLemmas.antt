@@ -1,32 +1,20 @@
 -- Reading a list of a profile, entry by entry.
-use Rattle.std.proofs.Common.{◌≡◌, ◌∙◌, ◌<◌, ◌≤◌, ◌+◌, ◌^◌, ℕ, List, [], ◌∷◌, ◌++◌, Bool, true, false, not, ◌||◌, Option, Some, None, cond, map}
-use Rattle.std.proofs.Common.{length, take, get_or, slice_get, bytes_eq, refl, sym, ap, arith, inl, inr, Bor}
-use Rattle.std.specs.List.{list_any}
-use Rattle.std.proofs.lemmas.Bool.{and_parts, cases_lt, false≢true}
-use Rattle.std.proofs.lemmas.List.{length-map, map-append, take_all, take_more}
-use Rattle.std.proofs.lemmas.Option.{slice_get-map, slice_get_read, slice_get_within, slice_get_past, get_or_from_slice_get}
+use Rattle.pos_profile.proofs.Common.{Bool, Bor, Data, Entry, IsFlawedList, IsFlawedValue, IsSoundList, List, None, Option, Reason, Role, Some, Value, []}
+use Rattle.pos_profile.proofs.Common.{and_parts, ap, arith, bytes_eq, cases_lt, cond, entry_of, false, false≢true, get_or, get_or_from_slice_get, inl, inr}
+use Rattle.pos_profile.proofs.Common.{is_refused, is_refused_after, is_repeated, is_totals, is_totals_entry, length, length-map, list_any, map, map-append}
+use Rattle.pos_profile.proofs.Common.{names_of, not, not-true, refl, slice_get, slice_get-map, slice_get_past, slice_get_read, slice_get_within, sym, take}
+use Rattle.pos_profile.proofs.Common.{take_all, take_more, true, view, ℕ, ◌++◌, ◌+◌, ◌<◌, ◌^◌, ◌||◌, ◌∙◌, ◌∷◌, ◌≡◌, ◌≤◌}
 use Rattle.indexmap.specs.IndexSet.{insert_key}
-use Rattle.toml.specs.Data.{Data}
-use Rattle.toml.specs.View.{view}
-use Rattle.toml.specs.declared.value.Value.{Value}
-use Rattle.pos_profile.specs.declared.entry.Entry.{Entry}
-use Rattle.pos_profile.specs.declared.mistake.Reason.{Reason}
 use Rattle.pos_profile.specs.declared.mistake.Reason.TheVariants.{SecondHardTotals}
-use Rattle.pos_profile.specs.declared.role.Role.{Role}
-use Rattle.pos_profile.specs.Categories.{is_totals}
-use Rattle.pos_profile.specs.Entries.{entry_of}
-use Rattle.pos_profile.specs.Mistakes.{IsFlawedList, IsFlawedValue, IsSoundList}
-use Rattle.pos_profile.specs.Profiles.{is_refused, is_refused_after, is_repeated, is_totals_entry, names_of}
 
--- Hard Totals among entries that are read
-pub any_totals : (entries : List Entry) → list_any (λ entry. is_totals entry.category) entries ≡ list_any is_totals_entry (map (λ entry. Some entry) entries)
-any_totals [] = refl
-any_totals (entry ∷ entries) = ap (λ rest. is_totals entry.category || rest) (any_totals entries)
+-- the front of a list with the next element
+pub take_next : {A : Type 0} (xs : List A) (place : ℕ) (x : A) → slice_get xs place ≡ Some x → take (place + 1) xs ≡ take place xs ++ x ∷ []
+take_next xs place x at = rw (take_more xs place x (slice_get_within xs place x at), get_or_from_slice_get xs place x x at)
 
--- the document's value at a place of a list
-pub value_at : (values : List Value) (place : ℕ) (value : Value) → place < length values → value ≡ get_or values place value
-    → slice_get (map view values) place ≡ Some (view value)
-value_at values place value within at = rw (slice_get-map view values place, slice_get_read values (length values) place value refl within at)
+-- a test of what is made of some elements
+pub any_mapped : {A B : Type 0} (test : B → Bool) (f : A → B) (xs : List A) → list_any (λ x. test (f x)) xs ≡ list_any test (map f xs)
+any_mapped test f [] = refl
+any_mapped test f (x ∷ xs) = ap (λ rest. test (f x) || rest) (any_mapped test f xs)
 
 -- a place that passes a test is before those of which none does
 pub before_end : (test : ℕ → Bool) (count place : ℕ) → ((n : ℕ) → count ≤ n → test n ≡ false) → test place ≡ true → place < count
@@ -39,22 +27,28 @@ before_end test count place past is = elim (cases_lt place count) [
 pub none_past : (found : List (Option Entry)) (place : ℕ) → length found ≤ place → is_refused found place ≡ false
 none_past found place past = rw (slice_get_past found place past)
 
-module _ (role : Role) (values : List Data) (place : ℕ) (value : Data) (at : slice_get values place ≡ Some value) where
-  entry_at : (next : Option Entry) → entry_of role value ≡ next → slice_get (map (entry_of role) values) place ≡ Some next
-  entry_at next is = rw (slice_get-map (entry_of role) values place, at, is)
+module _ (role : Role) (items : List Value) (place : ℕ) (item : Value) (within : place < length items) (at : item ≡ get_or items place item) where
+  abbrev values : List Data
+  values = map view items
+
+  value_at : slice_get values place ≡ Some (view item)
+  value_at = rw (slice_get-map view items place, slice_get_read items (length items) place item refl within at)
+
+  entry_at : (next : Option Entry) → entry_of role (view item) ≡ next → slice_get (map (entry_of role) values) place ≡ Some next
+  entry_at next is = rw (slice_get-map (entry_of role) values place, value_at, is)
 
   -- the first value that isn't sound by itself
-  pub flawed_at : (why : Reason) → IsFlawedValue role value why → ((n : ℕ) → n < place → is_refused (map (entry_of role) values) n ≡ false)
+  pub flawed_at : (why : Reason) → IsFlawedValue role (view item) why → ((n : ℕ) → n < place → is_refused (map (entry_of role) values) n ≡ false)
       → place < 2 ^ 62 → IsFlawedList role values place why
   flawed_at why flawed before small =
       let here : slice_get (map (entry_of role) values) place ≡ Some None = entry_at None flawed.unsound in
       record {
         lowest = record { here = rw here; below = before };
-        has = rw at (flawed.has (take place (map (entry_of role) values)));
+        has = rw value_at (flawed.has (take place (map (entry_of role) values)));
         small = small;
       }
 
-  module _ (entry : Entry) (is : entry_of role value ≡ Some entry) (read : List Entry)
+  module _ (entry : Entry) (is : entry_of role (view item) ≡ Some entry) (read : List Entry)
       (so_far : map (λ entry. Some entry) read ≡ take place (map (entry_of role) values)) where
     -- the verdict on the next entry, which is sound by itself
     pub refused_at : (verdict : Bool) → is_refused_after (map (λ entry. Some entry) read) (Some (Some entry)) ≡ verdict
@@ -70,21 +64,22 @@ module _ (role : Role) (values : List Data) (place : ℕ) (value : Data) (at : s
         let parts = and_parts (is_totals entry.category) (list_any is_totals_entry (map (λ entry. Some entry) read)) refused in
         record {
           lowest = record { here = refused_at true refused; below = before };
-          has = rw (at, is) (parts.0, rw (← so_far) parts.1);
+          has = rw (value_at, is) (parts.0, rw (← so_far) parts.1);
           small = small;
         }
 
     -- one more entry
     pub taken : map (λ e. Some e) (read ++ entry ∷ []) ≡ take (place + 1) (map (entry_of role) values)
     taken =
-        let found = map (entry_of role) values in
-        let here : slice_get found place ≡ Some (Some entry) = entry_at (Some entry) is in
-        rw (
-          map-append (λ e. Some e) read (entry ∷ []),
-          so_far,
-          take_more found place None (slice_get_within found place (Some entry) here),
-          get_or_from_slice_get found place (Some entry) None here,
-        )
+        rw (map-append (λ e. Some e) read (entry ∷ []), so_far, take_next (map (entry_of role) values) place (Some entry) (entry_at (Some entry) is))
+
+-- a test that nothing passes up to a place behind the last passes nowhere
+none_passes : (test : ℕ → Bool) (count place : ℕ) → ((n : ℕ) → count ≤ n → test n ≡ false) → count ≤ place
+    → ((n : ℕ) → n < place → test n ≡ false) → (n : ℕ) → test n ≡ false
+none_passes test count place past end below n = elim (cases_lt n place) [
+  | inl here ↦ below n here
+  | inr after ↦ past n (omega arith)
+]
 
 -- all entries were read
 pub all_read : (role : Role) (values : List Data) (read : List Entry) (place : ℕ) → length values ≤ place
@@ -95,54 +90,33 @@ all_read role values read place past so_far sound =
     let end : length found ≤ place = omega (arith, length-map values (entry_of role)) in
     record {
       entries = sym (so_far ∙ take_all place found end);
-      sound = λ n. elim (cases_lt n place) [
-        | inl here ↦ sound n here
-        | inr after ↦ none_past found n (omega arith)
-      ];
+      sound = none_passes (is_refused found) (length found) place (none_past found) end sound;
     }
 
--- whether a name is among lent ones
-any_lent : (name : List ℕ) (lent : List (Bor (List ℕ)))
-    → list_any (λ (other : Bor (List ℕ)). bytes_eq name other.now) lent ≡ list_any (bytes_eq name) (map (λ (other : Bor (List ℕ)). other.now) lent)
-any_lent name [] = refl
-any_lent name (other ∷ lent) = ap (λ rest. bytes_eq name other.now || rest) (any_lent name lent)
+-- what a set of the names so far says of the next
+module _ (lent : Bor (List ℕ)) (keys : List (Bor (List ℕ))) (names : List (List ℕ)) (place : ℕ)
+    (so_far : map (λ (name : Bor (List ℕ)). name.now) keys ≡ take place names) (at : slice_get names place ≡ Some lent.now) (is_new : Bool)
+    (added : is_new ≡ not (list_any (λ (other : Bor (List ℕ)). bytes_eq lent.now other.now) keys)) where
+  pub repeated_at : is_repeated names place ≡ not is_new
+  repeated_at =
+      rw (at, ← so_far, ← any_mapped (bytes_eq lent.now) (λ (other : Bor (List ℕ)). other.now) keys, added)
+      (double (list_any (λ (other : Bor (List ℕ)). bytes_eq lent.now other.now) keys))
+    where
+      double : (b : Bool) → b ≡ not (not b)
+      double true = refl
+      double false = refl
 
-not_not : (b : Bool) → not (not b) ≡ b
-not_not true = refl
-not_not false = refl
-
--- what a set of the names so far says of one more
-pub known : (lent : Bor (List ℕ)) (keys : List (Bor (List ℕ))) (earlier : List (List ℕ)) (is_new : Bool)
-    → is_new ≡ not (list_any (λ (other : Bor (List ℕ)). bytes_eq lent.now other.now) keys) → map (λ (name : Bor (List ℕ)). name.now) keys ≡ earlier
-    → list_any (bytes_eq lent.now) earlier ≡ not is_new
-known lent keys earlier is_new added so_far = rw (← so_far, ← any_lent lent.now keys, added, not_not)
-
--- one more name
-names_more : (names : List (List ℕ)) (place : ℕ) (name : List ℕ) → slice_get names place ≡ Some name → take (place + 1) names ≡ take place names ++ name ∷ []
-names_more names place name at =
-    rw (take_more names place [] (slice_get_within names place name at), get_or_from_slice_get names place name [] at)
-
--- a set of the names so far gets one more
-pub names_taken : (lent : Bor (List ℕ)) (keys : List (Bor (List ℕ))) (names : List (List ℕ)) (place : ℕ)
-    → true ≡ not (list_any (λ (other : Bor (List ℕ)). bytes_eq lent.now other.now) keys)
-    → map (λ (name : Bor (List ℕ)). name.now) keys ≡ take place names → slice_get names place ≡ Some lent.now
-    → map (λ (name : Bor (List ℕ)). name.now) (insert_key (λ q k. bytes_eq q.now k.now) keys lent) ≡ take (place + 1) names
-names_taken lent keys names place added so_far at =
-    let fresh : list_any (λ (other : Bor (List ℕ)). bytes_eq lent.now other.now) keys ≡ false =
-    sym (ap not added ∙ not_not (list_any (λ (other : Bor (List ℕ)). bytes_eq lent.now other.now) keys)) in
-    ap (λ b. map (λ (name : Bor (List ℕ)). name.now) (cond b keys (keys ++ lent ∷ []))) fresh
-    ∙ rw (map-append (λ (name : Bor (List ℕ)). name.now) keys (lent ∷ []), so_far, names_more names place lent.now at)
+  -- it gets one more
+  pub names_taken : is_new ≡ true → map (λ (name : Bor (List ℕ)). name.now) (insert_key (λ q k. bytes_eq q.now k.now) keys lent) ≡ take (place + 1) names
+  names_taken is =
+      ap (λ b. map (λ (name : Bor (List ℕ)). name.now) (cond b keys (keys ++ lent ∷ []))) (not-true _ (sym added ∙ is))
+      ∙ rw (map-append (λ (name : Bor (List ℕ)). name.now) keys (lent ∷ []), so_far, take_next names place lent.now at)
 
 -- the name at a place of a list of entries
 pub name_at : (entries : List Entry) (place : ℕ) (entry : Entry) (name : List ℕ) → place < length entries → entry ≡ get_or entries place entry
     → name ≡ entry.name → slice_get (names_of entries) place ≡ Some name
 name_at entries place entry name within at is =
     rw (slice_get-map (λ (e : Entry). e.name) entries place, slice_get_read entries (length entries) place entry refl within at, is)
-
--- the verdict on the name at a place
-pub repeated_at : (names : List (List ℕ)) (place : ℕ) (name : List ℕ) (verdict : Bool) → slice_get names place ≡ Some name
-    → list_any (bytes_eq name) (take place names) ≡ verdict → is_repeated names place ≡ verdict
-repeated_at names place name verdict at is = rw at is
 
 -- no name past the end is repeated
 none_repeated : (names : List (List ℕ)) (place : ℕ) → length names ≤ place → is_repeated names place ≡ false
@@ -151,11 +125,7 @@ none_repeated names place past = rw (slice_get_past names place past)
 -- no name is repeated
 pub all_single : (names : List (List ℕ)) (place : ℕ) → length names ≤ place → ((n : ℕ) → n < place → is_repeated names n ≡ false) → (n : ℕ)
     → is_repeated names n ≡ false
-all_single names place past single n =
-    elim (cases_lt n place) [
-      | inl here ↦ single n here
-      | inr after ↦ none_repeated names n (omega arith)
-    ]
+all_single names place past single = none_passes (is_repeated names) (length names) place (none_repeated names) past single
 
 -- a repeated place is one of the list
 pub repeated_within : (names : List (List ℕ)) (place : ℕ) → is_repeated names place ≡ true → place < length names

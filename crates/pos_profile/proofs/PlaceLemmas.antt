@@ -1,14 +1,10 @@
 -- The index of a registry finds each name at its first place.
-use Rattle.std.proofs.Common.{◌≡◌, ◌∙◌, ◌<◌, ◌+◌, ℕ, suc, List, [], ◌∷◌, ◌++◌, Bool, true, false, Option, Some, None, option_map, cond, map, length, take}
-use Rattle.std.proofs.Common.{get_or, slice_get, bytes_eq, refl, sym, ap, subst, arith}
-use Rattle.std.specs.Prelude.{is_some}
-use Rattle.std.specs.Map.{lookup}
-use Rattle.std.proofs.lemmas.Bool.{false≢true}
-use Rattle.std.proofs.lemmas.List.{length-take-le, take_more}
-use Rattle.std.proofs.lemmas.Option.{slice_get-map, slice_get_read, slice_get_within, get_or_from_slice_get}
+use Rattle.pos_profile.proofs.Common.{Bool, IfSome, IfSome_then, List, None, Option, Planned, Some, [], ap, arith, bytes_eq, cond, cond_both, false}
+use Rattle.pos_profile.proofs.Common.{false≢true, first_of, get_or, is_some, length, length-take-le, lookup, map, option_map, place_from, place_of, refl}
+use Rattle.pos_profile.proofs.Common.{slice_get, slice_get-map, slice_get_read, slice_get_within, suc, take, true, where_same, ℕ, ◌++◌, ◌+◌, ◌<◌}
+use Rattle.pos_profile.proofs.Common.{◌∙◌, ◌∷◌, ◌≡◌}
 use Rattle.std.proofs.lemmas.Slice.Eq.{bytes_eq-Decides}
-use Rattle.pos_profile.specs.declared.planning.Planned.{Planned}
-use Rattle.pos_profile.specs.Places.{first_of, place_from, place_of, where_same}
+use Rattle.pos_profile.proofs.ListLemmas.{take_next}
 
 -- a place before the end is looked at first
 cond_first : (here : Bool) (at : ℕ) (long short later : Option ℕ) → long ≡ first_of short later
@@ -30,24 +26,19 @@ place_longer at name (first ∷ names) noted end is =
 pub place_more : (names : List (List ℕ)) (place : ℕ) (noted : List ℕ) → slice_get names place ≡ Some noted → (name : List ℕ)
     → place_of (take (place + 1) names) name ≡ first_of (place_of (take place names) name) (where_same name noted place)
 place_more names place noted at name =
-    let within : place < length names = slice_get_within names place noted at in
-    let count : length (take place names) ≡ place = length-take-le place names (omega arith) in
-    rw (take_more names place [] within, get_or_from_slice_get names place noted [] at)
-    (place_longer 0 name (take place names) noted place (omega (arith, count)))
+    let count : length (take place names) ≡ place = length-take-le place names (omega (arith, slice_get_within names place noted at)) in
+    rw (take_next names place noted at) (place_longer 0 name (take place names) noted place (omega (arith, count)))
 
 -- a place that is found is one of the list
-bound_here : (here : Bool) (at : ℕ) (rest : Option ℕ) (place count : ℕ) → (rest ≡ Some place → place < at + 1 + count)
-    → cond here (Some at) rest ≡ Some place → place < at + suc count
-bound_here true at rest place count later found = let same : at ≡ place = cc in omega (arith, same)
-bound_here false at rest place count later found = let less = later found in omega (arith, less)
-
-place_bound : (at : ℕ) (name : List ℕ) (names : List (List ℕ)) (place : ℕ) → place_from at name names ≡ Some place → place < at + length names
-place_bound at name [] place found = absurd cc
-place_bound at name (first ∷ names) place found =
-    bound_here (bytes_eq name first) at (place_from (at + 1) name names) place (length names) (place_bound (at + 1) name names place) found
+place_bound : (at : ℕ) (name : List ℕ) (names : List (List ℕ)) → IfSome (place_from at name names) (λ place. place < at + length names)
+place_bound at name [] = tt
+place_bound at name (first ∷ names) =
+    let rest = place_from (at + 1) name names in
+    cond_both (bytes_eq name first) (Some at) rest (λ o. IfSome o (λ place. place < at + suc (length names))) (λ _. omega arith)
+    (λ _. IfSome_then rest (place_bound (at + 1) name names) (λ place less. omega arith))
 
 pub place_within : (names : List (List ℕ)) (name : List ℕ) (place : ℕ) → place_of names name ≡ Some place → place < length names
-place_within names name place found = let bound = place_bound 0 name names place found in omega (arith, bound)
+place_within names name place found = let bound = rw found at (place_bound 0 name names) in omega (arith, bound)
 
 -- what is found already is found first
 found_first : (same : Bool) (place : ℕ) (found : Option ℕ) → (same ≡ true → is_some found ≡ true) → found ≡ first_of found (cond same (Some place) None)
@@ -59,8 +50,7 @@ found_first true place None is = absurd (false≢true (is refl))
 pub already : (found : List ℕ → Option ℕ) (noted : List ℕ) (place : ℕ) → is_some (found noted) ≡ true → (name : List ℕ)
     → found name ≡ first_of (found name) (where_same name noted place)
 already found noted place there name =
-    found_first (bytes_eq name noted) place (found name)
-    (λ same. subst (λ (other : List ℕ). is_some (found other) ≡ true) (sym ((bytes_eq-Decides name noted).0 same)) there)
+    found_first (bytes_eq name noted) place (found name) (λ same. rw ((bytes_eq-Decides name noted).0 same) there)
 
 -- a list of entries with one more
 pub lookup_more : {K : Type 0} (test : K → Bool) (entries : List (K × ℕ)) (key : K) (place : ℕ)

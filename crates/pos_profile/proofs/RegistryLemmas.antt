@@ -1,27 +1,21 @@
 -- The devices of a registry, where the peripheral of one changes.
-use Rattle.std.proofs.Common.{◌≡◌, ◌∙◌, ◌<◌, ◌≤◌, ◌+◌, ℕ, zero, suc, List, [], ◌∷◌, ◌++◌, true, false, Option, Some, None, map, length, take, drop, get_or, set}
-use Rattle.std.proofs.Common.{slice_get, refl, sym, ap, inl, inr, arith}
-use Rattle.std.specs.Prelude.{IfSome, is_some}
-use Rattle.std.specs.List.{All, AllByRecursion, cons_option}
-use Rattle.std.specs.Option.{option_map}
-use Rattle.std.proofs.lemmas.Bool.{cases_lt, false≢true}
-use Rattle.std.proofs.lemmas.List.{append-nil, drop_all, length-map, get_or-map, map-set, take_all, take_more}
-use Rattle.std.proofs.lemmas.List.Edits.{map_over_more}
-use Rattle.std.proofs.lemmas.List.Elements.{filter_map-append, recursion_from_All}
-use Rattle.std.proofs.lemmas.Option.{slice_get-map, slice_get_past, slice_get_read}
+use Rattle.pos_profile.proofs.Common.{AllByRecursion, Device, Entry, HasKindInRange, IfSome, IsInRange, IsInUse, IsIndexOf, IsNamed, IsOfAnotherKind}
+use Rattle.pos_profile.proofs.Common.{IsRegistrySound, IsServed, IsSoundEntry, IsVacant, List, MayServe, None, Option, PeripheralState, Planned, Some, [], ap}
+use Rattle.pos_profile.proofs.Common.{append-nil, arith, cons_option, device_of, devices, devices_of, drop, drop_all, false, false≢true, get_or, get_or-map}
+use Rattle.pos_profile.proofs.Common.{is_some, kind_of, length, length-map, map, map-set, parked, place_of, planned_for, planned_of, refl, set, slice_get}
+use Rattle.pos_profile.proofs.Common.{slice_get-map, slice_get_read, standing_at, suc, sym, take, take_all, take_more, true, vacant}
+use Rattle.pos_profile.proofs.Common.{vacant_devices, with_peripheral, zero, ℕ, ◌++◌, ◌+◌, ◌<◌, ◌∙◌, ◌∷◌, ◌≡◌, ◌≤◌}
+use Rattle.pos_profile.specs.Registries.{names_of}
+use Rattle.pos_profile.specs.declared.registry.Registry.{Registry}
+use Rattle.pos_profile.specs.declared.slot.Slot.{Slot}
+use Rattle.pos_profile.proofs.Common.{cases_lt, inl, inr, slice_get_past}
 use Rattle.pos_service.specs.declared.kind.Kind.{Kind}
 use Rattle.pos_service.specs.declared.peripheral.Peripheral.{Ghosts}
-use Rattle.pos_service.specs.Peripherals.{IsInRange, PeripheralState}
-use Rattle.pos_profile.specs.declared.entry.Entry.{Entry}
-use Rattle.pos_profile.specs.declared.planning.Planned.{Planned}
-use Rattle.pos_profile.specs.declared.registry.Registry.{Registry}
+use Rattle.std.proofs.lemmas.List.Edits.{map_over_more}
+use Rattle.std.proofs.lemmas.List.Elements.{filter_map-append, recursion_from_All}
+use Rattle.std.specs.List.{All}
+use Rattle.std.specs.Option.{option_map}
 use Rattle.pos_profile.specs.declared.role.Role.TheVariants as role
-use Rattle.pos_profile.specs.declared.slot.Slot.{Slot}
-use Rattle.pos_profile.specs.Kinds.{kind_of}
-use Rattle.pos_profile.specs.Places.{IsIndexOf, place_of}
-use Rattle.pos_profile.specs.Soundness.{IsSoundEntry}
-use Rattle.pos_profile.specs.Registries.{Device, HasKindInRange, IsNamed, IsRegistrySound, IsServed, MayServe, device_of, devices, devices_of, names_of, parked}
-use Rattle.pos_profile.specs.Registries.{planned_for, planned_of, standing_at, vacant, vacant_devices, with_peripheral}
 use Rattle.pos_profile.proofs.PlaceLemmas.{place_within}
 
 -- what there is, where there is something
@@ -34,29 +28,11 @@ pub none_of : {A : Type 0} (o : Option A) → is_some o ≡ false → o ≡ None
 none_of None is = refl
 none_of (Some x) is = absurd (false≢true (sym is))
 
--- something isn't nothing
-pub never : {A : Type 0} {x : A} → None ≡ Some x → ⊥
-never is = false≢true (ap is_some is)
-
 -- what one more entry plans
-planned_more : (entries : List Entry) (place : ℕ) (entry : Entry) → place < length entries → entry ≡ get_or entries place entry
+pub planned_more : (entries : List Entry) (place : ℕ) (entry : Entry) → place < length entries → entry ≡ get_or entries place entry
     → planned_of (take (place + 1) entries) ≡ planned_of (take place entries) ++ planned_of (entry ∷ [])
 planned_more entries place entry within at =
     rw (take_more entries place entry within, ← at) (filter_map-append planned_for (take place entries) (entry ∷ []))
-
--- an entry without a peripheral plans nothing
-pub planned_skips : (entries : List Entry) (place : ℕ) (entry : Entry) → place < length entries → entry ≡ get_or entries place entry
-    → kind_of entry ≡ None → planned_of (take (place + 1) entries) ≡ planned_of (take place entries)
-planned_skips entries place entry within at none =
-    let plans : planned_of (entry ∷ []) ≡ [] = rw none in
-    rw (planned_more entries place entry within at, plans, append-nil)
-
--- an entry with a peripheral plans its device
-pub planned_takes : (entries : List Entry) (place : ℕ) (entry : Entry) (kind : Kind) → place < length entries → entry ≡ get_or entries place entry
-    → kind_of entry ≡ Some kind → planned_of (take (place + 1) entries) ≡ planned_of (take place entries) ++ record { name = entry.name; kind = kind } ∷ []
-planned_takes entries place entry kind within at some =
-    let plans : planned_of (entry ∷ []) ≡ record { name = entry.name; kind = kind } ∷ [] = rw some in
-    rw (planned_more entries place entry within at, plans)
 
 -- the device at the place of a slot
 pub device_at : {P : Type 0} (peripherals : Ghosts P) (slots : List (Slot P)) (place : ℕ) (slot : Slot P) → place < length slots
@@ -70,32 +46,46 @@ devices_count peripherals slots = length-map slots (λ s. device_of peripherals 
 pub names_count : (list : List Device) → length (names_of list) ≡ length list
 names_count list = length-map list (λ (d : Device). d.name)
 
--- a name that is found is that of a slot, whose device it names
+-- a name that is found is that of a slot
 pub named_within : {P : Type 0} (peripherals : Ghosts P) (slots : List (Slot P)) (name : List ℕ) (place : ℕ)
-    → place_of (names_of (devices_of peripherals slots)) name ≡ Some place → place < length slots
+    → Some place ≡ place_of (names_of (devices_of peripherals slots)) name → place < length slots
 named_within peripherals slots name place found =
     let list = devices_of peripherals slots in
-    omega (arith, place_within (names_of list) name place found, names_count list, devices_count peripherals slots)
+    omega (arith, place_within (names_of list) name place (sym found), names_count list, devices_count peripherals slots)
 
-pub named_device : {P : Type 0} (peripherals : Ghosts P) (slots : List (Slot P)) (name : List ℕ) (place : ℕ) (slot : Slot P)
-    → place_of (names_of (devices_of peripherals slots)) name ≡ Some place → slot ≡ get_or slots place slot
-    → IsNamed (devices_of peripherals slots) name (device_of peripherals slot)
-named_device peripherals slots name place slot found at = record {
-  place = place;
-  found = found;
-  at = device_at peripherals slots place slot (named_within peripherals slots name place found) at;
-}
+-- whose device it names
+module _ {P : Type 0} (peripherals : Ghosts P) (slots : List (Slot P)) (name : List ℕ) (place : ℕ) (slot : Slot P)
+    (found : Some place ≡ place_of (names_of (devices_of peripherals slots)) name) (at : slot ≡ get_or slots place slot) where
+  pub named_at : slice_get (devices_of peripherals slots) place ≡ Some (device_of peripherals slot)
+  named_at = device_at peripherals slots place slot (named_within peripherals slots name place found) at
 
--- what may serve a device that is named, while nothing serves it
-pub named_serves : {P : Type 0} (peripherals : Ghosts P) (slots : List (Slot P)) (name : List ℕ) (place : ℕ) (slot : Slot P) (state : PeripheralState)
-    → place_of (names_of (devices_of peripherals slots)) name ≡ Some place → slot ≡ get_or slots place slot → is_some slot.peripheral ≡ false
-    → state.kind ≡ slot.kind → MayServe (devices_of peripherals slots) place state
-named_serves peripherals slots name place slot state found at vacant same = record {
-  device = device_of peripherals slot;
-  at = device_at peripherals slots place slot (named_within peripherals slots name place found) at;
-  vacant = ap (option_map peripherals.state) (none_of slot.peripheral vacant);
-  kind = same;
-}
+  named_device : IsNamed (devices_of peripherals slots) name (device_of peripherals slot)
+  named_device = record { place = place; found = sym found; at = named_at }
+
+  -- its device has its peripheral
+  pub named_in_use : is_some slot.peripheral ≡ true → IsInUse (devices_of peripherals slots) name
+  named_in_use is =
+      let some = some_of slot.peripheral is in record {
+        device = device_of peripherals slot;
+        named = named_device;
+        state = peripherals.state some.0;
+        served = ap (option_map peripherals.state) some.1;
+      }
+
+  module _ (empty : is_some slot.peripheral ≡ false) where
+    nothing : option_map peripherals.state slot.peripheral ≡ None
+    nothing = ap (option_map peripherals.state) (none_of slot.peripheral empty)
+
+    -- its device is vacant
+    pub named_vacant : IsVacant (devices_of peripherals slots) name
+    named_vacant = record { device = device_of peripherals slot; named = named_device; vacant = nothing }
+
+    -- a peripheral of another kind doesn't serve it, and one of its kind may
+    pub named_another : (state : PeripheralState) → ¬ (state.kind ≡ slot.kind) → IsOfAnotherKind (devices_of peripherals slots) name state
+    named_another state differ = record { device = device_of peripherals slot; named = named_device; vacant = nothing; kind = differ }
+
+    pub named_serves : (state : PeripheralState) → state.kind ≡ slot.kind → MayServe (devices_of peripherals slots) place state
+    named_serves state same = record { device = device_of peripherals slot; at = named_at; vacant = nothing; kind = same }
 
 -- another peripheral, or none, is put into a slot
 pub devices_set : {P : Type 0} (peripherals : Ghosts P) (slots : List (Slot P)) (place : ℕ) (slot other : Slot P) (x : Option P)
@@ -131,20 +121,13 @@ names_with [] place x = refl
 names_with (device ∷ list) zero x = refl
 names_with (device ∷ list) (suc place) x = rw (names_with list place x)
 
--- each device is served rightly, where the changed one is
-served_with : (list : List Device) (place : ℕ) (x : Option PeripheralState) → AllByRecursion IsServed list
-    → ((device : Device) → slice_get list place ≡ Some device → IsServed (record device { peripheral = x }))
-    → AllByRecursion IsServed (with_peripheral list place x)
-served_with [] place x all here = tt
-served_with (device ∷ list) zero x all here = (here device refl, all.1)
-served_with (device ∷ list) (suc place) x all here = (all.0, served_with list place x all.1 here)
-
--- the kinds stay
-kinds_with : (list : List Device) (place : ℕ) (x : Option PeripheralState) → AllByRecursion HasKindInRange list
-    → AllByRecursion HasKindInRange (with_peripheral list place x)
-kinds_with [] place x all = tt
-kinds_with (device ∷ list) zero x all = all
-kinds_with (device ∷ list) (suc place) x all = (all.0, kinds_with list place x all.1)
+-- what holds of each device holds where the changed one has it
+all_with : (Q : Device → Type 0) (list : List Device) (place : ℕ) (x : Option PeripheralState) → AllByRecursion Q list
+    → ((device : Device) → slice_get list place ≡ Some device → Q device → Q (record device { peripheral = x }))
+    → AllByRecursion Q (with_peripheral list place x)
+all_with Q [] place x all here = tt
+all_with Q (device ∷ list) zero x all here = (here device refl all.0, all.1)
+all_with Q (device ∷ list) (suc place) x all here = (all.0, all_with Q list place x all.1 here)
 
 -- a registry stays sound, where the peripheral of a place is changed for a right one
 pub sound_with : {P : Type 0} (peripherals : Ghosts P) (old new : Registry P) (place : ℕ) (x : Option PeripheralState)
@@ -153,8 +136,8 @@ pub sound_with : {P : Type 0} (peripherals : Ghosts P) (old new : Registry P) (p
     → IsRegistrySound peripherals new
 sound_with peripherals old new place x sound places is here = record {
   index = λ name. rw (places, is, names_with (devices peripherals old) place x) (sound.index name);
-  kinds = rw is (kinds_with (devices peripherals old) place x sound.kinds);
-  served = rw is (served_with (devices peripherals old) place x sound.served here);
+  kinds = rw is (all_with HasKindInRange (devices peripherals old) place x sound.kinds (λ device at kind. kind));
+  served = rw is (all_with IsServed (devices peripherals old) place x sound.served (λ device at was. here device at));
 }
 
 -- what may serve a place is of the kind of its device

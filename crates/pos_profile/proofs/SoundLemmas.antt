@@ -1,151 +1,170 @@
 -- What was read of a document is sound.
-use Rattle.std.proofs.Common.{◌≡◌, ◌∙◌, ◌≤◌, ◌++◌, ℕ, suc, List, [], ◌∷◌, Bool, true, false, cond, Option, Some, None, IfSome, All, map, length, sym, subst, inl, inr}
-use Rattle.std.specs.Prelude.{codes, option_and_then, if◌then◌else◌}
-use Rattle.std.proofs.lemmas.Bool.{cases_lt}
-use Rattle.std.proofs.lemmas.List.Elements.{All-cons, All-nil}
-use Rattle.std.proofs.lemmas.Option.{none-some, option_and_then_some, same_Some}
-use Rattle.toml.specs.Data.{Data, Members, as_table}
-use Rattle.pos_service.specs.Peripherals.{IsInRange}
-use Rattle.pos_service.specs.declared.category.Category.{Category}
-use Rattle.pos_service.specs.declared.category.Category.TheVariants.{HardTotals}
-use Rattle.pos_profile.specs.declared.entry.Entry.{Entry}
-use Rattle.pos_profile.specs.declared.number.NumberKey.{NumberKey}
-use Rattle.pos_profile.specs.declared.number.NumberKey.TheVariants.{Rows, Columns, Chars, Lines, Near}
-use Rattle.pos_profile.specs.declared.reading.Numbers.{Numbers}
-use Rattle.pos_profile.specs.declared.role.Role.{Role}
-use Rattle.pos_profile.specs.declared.role.Role.TheVariants.{Device, Spare}
-use Rattle.pos_profile.specs.declared.variation.Variation.{Variation}
-use Rattle.pos_profile.specs.declared.table.Keys.TheVariants.{OfEntry}
-use Rattle.pos_service.specs.Names.{is_device_name}
-use Rattle.pos_service.specs.Categories.{category_named}
-use Rattle.pos_profile.specs.Entries.{Contents, entry_of, entry_with, number_of, numbers_of, table_entry, variation_of}
-use Rattle.pos_profile.specs.Kinds.{kind_with}
+use Rattle.pos_profile.proofs.Common.{All, AreOrders, Bool, Category, Data, Entry, HardTotals, IfSome, IfSome_then, IsInItsRange, IsInRange, IsNamedFor}
+use Rattle.pos_profile.proofs.Common.{IsSoundEntry, List, Members, None, Numbers, OfEntry, Option, Role, Some, Spare, Variation, [], allowed, arith, array_in}
+use Rattle.pos_profile.proofs.Common.{as_integer, as_table, category_for, category_named, codes, cond, differs_by, entry_of, entry_with, failing_in}
+use Rattle.pos_profile.proofs.Common.{failing_number, false, flaky_at, flaky_in, flaky_of, get_member, has_only, is_key, is_some, kind_with, map, name_for}
+use Rattle.pos_profile.proofs.Common.{nat_le, negsuc, number_at, number_in, number_of, number_within, numbers_of, option_and_then, option_map, pos, refl}
+use Rattle.pos_profile.proofs.Common.{table_entry, text_at, true, truth_at, truth_of, variation_of, ℕ, ℤ, ◌&&◌, ◌∷◌, ◌≡◌, ◌≤◌}
 use Rattle.pos_profile.specs.Numbers.{has_number, least_of, most_of}
-use Rattle.pos_profile.specs.Profiles.{IsRead, entries_of, is_refused, is_repeated, names_of}
-use Rattle.pos_profile.specs.Soundness.{IsInItsRange, IsNamedFor, IsSoundEntry, IsSoundProfile, number_in}
-use Rattle.pos_profile.specs.Tables.{allowed, category_for, has_only, is_key, key_of, name_for, number_at, text_at, values_at}
-use Rattle.pos_profile.proofs.DocumentLemmas.{refused_front}
-use Rattle.pos_profile.proofs.ListLemmas.{none_past}
-use Rattle.pos_profile.proofs.TableLemmas.{kept, within}
-use Rattle.pos_profile.proofs.VariationLemmas.{orders_sound, options_sound, variation_in}
+use Rattle.pos_profile.specs.OptionalKeys.{has_option, key_of_option, most_orders}
+use Rattle.pos_profile.specs.declared.number.NumberKey.{NumberKey}
+use Rattle.pos_profile.specs.declared.number.NumberKey.TheVariants.{Chars, Columns, Lines, Near, Rows}
+use Rattle.pos_profile.specs.declared.optional.OptionalKey.{OptionalKey}
+use Rattle.pos_profile.specs.declared.optional.OptionalKey.TheVariants.{Flaky, Record, Ring}
+use Rattle.pos_profile.specs.declared.role.Role.TheVariants.{Device}
+use Rattle.pos_service.specs.Names.{is_device_name}
+use Rattle.std.proofs.lemmas.Bool.Decides.{nat_tests}
+use Rattle.std.proofs.lemmas.List.Elements.{All-cons, All-nil}
 
-in_range : (key : NumberKey) (table : Members) (number : ℕ) → number_at key table ≡ Some number → (least_of key ≤ number) × (number ≤ most_of key)
-in_range key table number is =
-    option_and_then_some _ _ number is (λ given there found. within (least_of key) (most_of key) given number found)
+-- what holds of all values holds of the one that is there
+there : {A : Type 0} (P : A → Type 0) (o : Option A) → ((x : A) → P x) → IfSome o P
+there P None holds = tt
+there P (Some x) holds = holds x
+
+-- what holds of a value makes what is read of it hold
+then_read : {A B : Type 0} (P : B → Type 0) (Q : A → Type 0) (f : A → Option B) (o : Option A) → IfSome o Q → ((x : A) → Q x → IfSome (f x) P)
+    → IfSome (option_and_then f o) P
+then_read P Q f None read then = tt
+then_read P Q f (Some x) read then = then x read
+
+each_read : {A B : Type 0} (P : B → Type 0) (f : A → Option B) (o : Option A) → ((x : A) → IfSome (f x) P) → IfSome (option_and_then f o) P
+each_read P f None each = tt
+each_read P f (Some x) each = each x
+
+-- what is kept has passed the test
+kept : {A : Type 0} (P : A → Type 0) (test : Bool) (x : A) → (test ≡ true → P x) → IfSome (cond test (Some x) None) P
+kept P true x passes = passes refl
+kept P false x passes = tt
+
+-- a number that is found is within the range
+within : (least most : ℕ) (given : ℤ) → IfSome (number_within least most given) (λ number. (least ≤ number) × (number ≤ most))
+within least most (pos given) =
+    kept (λ number. (least ≤ number) × (number ≤ most)) (nat_le least given && nat_le given most) given (λ both. grind (arith, nat_tests))
+within least most (negsuc given) = tt
 
 -- a number that a category doesn't have is 0
-number_sound : (category : Category) (table : Members) (key : NumberKey) (number : ℕ) → number_of category table key ≡ Some number
-    → IsInItsRange key (has_number category key) number
-number_sound category table key number is = by (has_number category key) is
-  where
-    by : (has : Bool) → cond has (number_at key table) (Some 0) ≡ Some number → IsInItsRange key has number
-    by true read = in_range key table number read
-    by false none = sym (same_Some 0 number none)
+number_sound : (category : Category) (table : Members) (key : NumberKey) → IfSome (number_of category table key) (IsInItsRange key (has_number category key))
+number_sound category table key = elim (has_number category key) as (λ has. IfSome (cond has (number_at key table) (Some 0)) (IsInItsRange key has)) [
+  | true ↦ each_read (IsInItsRange key true) _ _ (within (least_of key) (most_of key))
+  | false ↦ refl
+]
 
--- numbers that are there are those of the whole
-numbers_read : (rows columns chars lines near : Option ℕ) (numbers : Numbers)
-    → option_and_then (λ r. option_and_then (λ c. option_and_then (λ a. option_and_then (λ l. option_and_then (λ n.
-    Some (record { rows = r; columns = c; chars = a; lines = l; near = n })) near) lines) chars) columns) rows ≡ Some numbers
-    → (rows ≡ Some numbers.rows) × (columns ≡ Some numbers.columns) × (chars ≡ Some numbers.chars) × (lines ≡ Some numbers.lines) × (near ≡ Some numbers.near)
-numbers_read (Some r) (Some c) (Some a) (Some l) (Some n) numbers is = (cc, cc, cc, cc, cc)
-numbers_read _ _ _ _ _ numbers is = absurd cc
+-- each number of an entry is sound for its category
+abbrev AreSound : Category → Numbers → Type 0
+AreSound category numbers =
+    (name : List ℕ) (variation : Variation) (key : NumberKey)
+    → IsInItsRange key (has_number category key) (number_in (entry_with category name numbers variation) key)
 
--- the numbers of an entry
-abbrev numbers_in : Entry → Numbers
-numbers_in entry = record { rows = entry.rows; columns = entry.columns; chars = entry.chars; lines = entry.lines; near = entry.near }
-
--- each is sound for a category
-abbrev AreSound : Category → Entry → Type 0
-AreSound category entry = (key : NumberKey) → IsInItsRange key (has_number category key) (number_in entry key)
-
-numbers_sound : (category : Category) (table : Members) (entry : Entry) → numbers_of category table ≡ Some (numbers_in entry) → AreSound category entry
-numbers_sound category table entry is key =
-    let read = numbers_read (number_of category table Rows) (number_of category table Columns) (number_of category table Chars)
-    (number_of category table Lines) (number_of category table Near) (numbers_in entry) is in
-    number_sound category table key (number_in entry key)
-    (elim key as (λ k. number_of category table k ≡ Some (number_in entry k)) [
-      | Rows ↦ read.0
-      | Columns ↦ read.1
-      | Chars ↦ read.2
-      | Lines ↦ read.3
-      | Near ↦ read.4
-    ])
+numbers_sound : (category : Category) (table : Members) → IfSome (numbers_of category table) (AreSound category)
+numbers_sound category table =
+    let sound = number_sound category table in
+    then_read (AreSound category) _ _ (number_of category table Rows) (sound Rows) (λ rows has_rows.
+    then_read (AreSound category) _ _ (number_of category table Columns) (sound Columns) (λ columns has_columns.
+    then_read (AreSound category) _ _ (number_of category table Chars) (sound Chars) (λ chars has_chars.
+    then_read (AreSound category) _ _ (number_of category table Lines) (sound Lines) (λ lines has_lines.
+    then_read (AreSound category) _ _ (number_of category table Near) (sound Near) (λ near has_near name variation key.
+    elim key as (λ k. IsInItsRange k (has_number category k) (number_in (entry_with category name _ variation) k)) [
+      | Rows ↦ has_rows
+      | Columns ↦ has_columns
+      | Chars ↦ has_chars
+      | Lines ↦ has_lines
+      | Near ↦ has_near
+    ])))))
 
 -- what sound numbers make of a peripheral is in range
-kind_sound : (category : Category) (entry : Entry) → AreSound category entry → IfSome (kind_with category entry) IsInRange
+kind_sound : (category : Category) (entry : Entry) → ((key : NumberKey) → IsInItsRange key (has_number category key) (number_in entry key))
+    → IfSome (kind_with category entry) IsInRange
 kind_sound HardTotals entry numbers = tt
 kind_sound _ entry numbers = assumption (numbers Rows, numbers Columns, numbers Chars, numbers Near)
 
+-- a truth value that isn't the plain one is of a category that has its key
+truth_sound : (category : Category) (key : OptionalKey) (table : Members)
+    → IfSome (truth_of category key table) (λ truth. truth ≡ true → has_option category key ≡ true)
+truth_sound category key table = elim (has_option category key) as (λ has. IfSome (cond has (truth_at key table) (Some false)) (λ t. t ≡ true → has ≡ true)) [
+  | true ↦ there _ (truth_at key table) (λ _ _. refl)
+  | false ↦ λ is. is
+]
+
+failing_sound : (values : List Data) → IfSome (failing_in values) AreOrders
+failing_sound (first ∷ times ∷ []) =
+    let number : (value : Data) → IfSome (failing_number value) (λ n. (0 ≤ n) × (n ≤ most_orders)) =
+    λ value. each_read _ _ (as_integer value) (within 0 most_orders) in
+    then_read AreOrders _ _ (failing_number first) (number first) (λ a has_first.
+    then_read AreOrders _ _ (failing_number times) (number times) (λ b has_times. (has_first.1, has_times.1)))
+failing_sound _ = tt
+
+flaky_within : (value : Option Data) → IfSome (flaky_in value) (λ flaky. IfSome flaky AreOrders)
+flaky_within None = tt
+flaky_within (Some value) = some (option_and_then failing_in (array_in value)) (each_read AreOrders failing_in (array_in value) failing_sound)
+  where
+    some : (found : Option (ℕ × ℕ)) → IfSome found AreOrders → IfSome (option_map (λ orders. Some orders) found) (λ flaky. IfSome flaky AreOrders)
+    some None sound = tt
+    some (Some orders) sound = sound
+
+-- failing orders are of a category that has their key, and in their range
+abbrev IsFlaky : Bool → Option (ℕ × ℕ) → Type 0
+IsFlaky has flaky = (is_some flaky ≡ true → has ≡ true) × IfSome flaky AreOrders
+
+flaky_sound : (category : Category) (table : Members) → IfSome (flaky_of category table) (IsFlaky (has_option category Flaky))
+flaky_sound category table = elim (has_option category Flaky) as (λ has. IfSome (cond has (flaky_at table) (Some None)) (IsFlaky has)) [
+  | true ↦ IfSome_then (flaky_at table) (flaky_within (get_member (key_of_option Flaky) table)) (λ flaky orders. (λ _. refl, orders))
+  | false ↦ (λ is. is, tt)
+]
+
+-- a device differs from a plain one by keys of its category alone, and its failing orders are in their range
+abbrev IsVaried : Category → Variation → Type 0
+IsVaried category variation =
+    ((name : List ℕ) (numbers : Numbers) (key : OptionalKey)
+    → differs_by (entry_with category name numbers variation) key ≡ true → has_option category key ≡ true) × IfSome variation.flaky AreOrders
+
+variation_sound : (category : Category) (table : Members) → IfSome (variation_of category table) (IsVaried category)
+variation_sound category table =
+    then_read (IsVaried category) _ _ (truth_of category Ring table) (truth_sound category Ring table) (λ ring has_ring.
+    then_read (IsVaried category) _ _ (flaky_of category table) (flaky_sound category table) (λ flaky has_flaky.
+    then_read (IsVaried category) _ _ (truth_of category Record table) (truth_sound category Record table) (λ recorded has_recorded. (
+      λ name numbers key. elim key as (λ k. differs_by (entry_with category name numbers _) k ≡ true → has_option category k ≡ true) [
+        | Ring ↦ has_ring
+        | Flaky ↦ has_flaky.0
+        | Record ↦ has_recorded
+      ],
+      has_flaky.1,
+    ))))
+
 -- a category that is allowed is the one that was asked for
-allowed_is : (role : Role) (asked category : Category) → allowed role asked ≡ Some category → asked ≡ category
-allowed_is Spare HardTotals category is = absurd (none-some category is)
-allowed_is role asked category is = same_Some asked category is
+allowed_sound : (role : Role) (asked : Category) → IfSome (allowed role asked) (λ category. allowed role category ≡ Some category)
+allowed_sound Spare HardTotals = tt
+allowed_sound _ _ = refl
 
-category_sound : (role : Role) (table : Members) (category : Category) → category_for role table ≡ Some category → allowed role category ≡ Some category
-category_sound role table category is =
-    option_and_then_some (allowed role) (option_and_then category_named (text_at (codes "category") table)) category is (λ asked there found.
-    subst (λ (c : Category). allowed role c ≡ Some category) (allowed_is role asked category found) found)
+name_sound : (role : Role) (table : Members) → IfSome (name_for role table) (IsNamedFor role)
+name_sound Device table =
+    each_read _ _ (text_at (codes "name") table) (λ text. kept (λ name. is_device_name name ≡ true) (is_device_name text) text (λ is. is))
+name_sound Spare table = refl
 
-name_sound : (role : Role) (table : Members) (name : List ℕ) → name_for role table ≡ Some name → IsNamedFor role name
-name_sound Device table name is =
-    option_and_then_some (λ text. if is_device_name text then Some text else None) (text_at (codes "name") table) name is (λ text there found.
-    let same = kept (is_device_name text) text name found in
-    subst (λ (n : List ℕ). is_device_name n ≡ true) same.1 same.0)
-name_sound Spare table name is = sym (same_Some [] name is)
+table_sound : (role : Role) (table : Members) → IfSome (table_entry role table) (IsSoundEntry role)
+table_sound role table =
+    let P = IsSoundEntry role in
+    let allowed_category = each_read _ (allowed role) (option_and_then category_named (text_at (codes "category") table)) (allowed_sound role) in
+    then_read P (λ category. allowed role category ≡ Some category) _ (category_for role table) allowed_category (λ category has_category.
+    then_read P (IsNamedFor role) _ (name_for role table) (name_sound role table) (λ name has_name.
+    then_read P (AreSound category) _ (numbers_of category table) (numbers_sound category table) (λ numbers has_numbers.
+    then_read P (IsVaried category) _ (variation_of category table) (variation_sound category table) (λ variation has_variation.
+    kept P (has_only (is_key (OfEntry role category)) table) (entry_with category name numbers variation) (λ only. record {
+      category = has_category;
+      name = has_name;
+      numbers = has_numbers name variation;
+      kind = kind_sound category (entry_with category name numbers variation) (has_numbers name variation);
+      options = has_variation.0 name numbers;
+      failing = has_variation.1;
+    })))))
 
--- what an entry was made of
-parts_read : (category : Category) (name : Option (List ℕ)) (numbers : Option Numbers) (variation : Option Variation) (only : Bool) (entry : Entry)
-    → option_and_then (λ n. option_and_then (λ ns. option_and_then (λ v. cond only (Some (entry_with category n ns v)) None) variation) numbers) name
-    ≡ Some entry
-    → (category ≡ entry.category) × (name ≡ Some entry.name) × (numbers ≡ Some (numbers_in entry)) × (variation ≡ Some (variation_in entry))
-parts_read category (Some n) (Some ns) (Some v) true entry is = (cc, cc, cc, cc)
-parts_read _ _ _ _ _ entry is = absurd cc
+-- an entry that is read is sound
+pub entry_sound : (role : Role) (value : Data) → IfSome (entry_of role value) (IsSoundEntry role)
+entry_sound role value = each_read (IsSoundEntry role) (table_entry role) (as_table value) (table_sound role)
 
-table_sound : (role : Role) (table : Members) (entry : Entry) → table_entry role table ≡ Some entry → IsSoundEntry role entry
-table_sound role table entry is =
-    option_and_then_some _ (category_for role table) entry is (λ category has made.
-    let parts = parts_read category (name_for role table) (numbers_of category table) (variation_of category table)
-    (has_only (is_key (OfEntry role category)) table) entry made in
-    let there : category_for role table ≡ Some entry.category = cc in
-    let sound : AreSound entry.category entry =
-    numbers_sound entry.category table entry (subst (λ c. numbers_of c table ≡ Some (numbers_in entry)) parts.0 parts.2) in
-    let varied = subst (λ c. variation_of c table ≡ Some (variation_in entry)) parts.0 parts.3 in
-    record {
-      category = category_sound role table entry.category there;
-      name = name_sound role table entry.name parts.1;
-      numbers = sound;
-      kind = kind_sound entry.category entry sound;
-      options = options_sound table entry varied;
-      failing = orders_sound entry.category table (variation_in entry) varied;
-    })
-
-entry_sound : (role : Role) (value : Data) (entry : Entry) → entry_of role value ≡ Some entry → IsSoundEntry role entry
-entry_sound role value entry is = option_and_then_some (table_entry role) (as_table value) entry is (λ table there found. table_sound role table entry found)
-
-list_sound : (role : Role) (values : List Data) (entries : List Entry) → map (entry_of role) values ≡ map (λ entry. Some entry) entries
+pub list_sound : (role : Role) (values : List Data) (entries : List Entry) → map (entry_of role) values ≡ map (λ entry. Some entry) entries
     → All (IsSoundEntry role) entries
 list_sound role values [] is = All-nil (IsSoundEntry role)
 list_sound role [] (entry ∷ entries) is = absurd cc
 list_sound role (value ∷ values) (entry ∷ entries) is =
     let first : entry_of role value ≡ Some entry = cc in
-    let rest : map (entry_of role) values ≡ map (λ entry. Some entry) entries = cc in
-    All-cons (IsSoundEntry role) entry entries (entry_sound role value entry first) (list_sound role values entries rest)
-
--- of two lists of which nothing is refused, nothing of the first is
-front_sound : (front back : List (Option Entry)) → ((n : ℕ) → is_refused (front ++ back) n ≡ false) → (n : ℕ) → is_refused front n ≡ false
-front_sound front back sound n =
-    elim (cases_lt n (length front)) [
-      | inl less ↦ sym (refused_front front back n less) ∙ sound n
-      | inr past ↦ none_past front n past
-    ]
-
--- a document's devices and spares make a sound profile, where no name stands twice
-pub profile_sound : (root : Members) (contents : Contents) → IsRead root contents
-    → ((place : ℕ) → is_repeated (names_of contents.devices) place ≡ false) → IsSoundProfile contents
-profile_sound root contents read names = record {
-  devices = list_sound Device (values_at (key_of Device) root) contents.devices read.devices;
-  spares = list_sound Spare (values_at (key_of Spare) root) contents.spares read.spares;
-  totals = λ place. subst (λ (list : List (Option Entry)). is_refused list place ≡ false) read.devices
-      (front_sound (entries_of Device root) (entries_of Spare root) (λ n. read.sound (suc n)) place);
-  names = names;
-}
+    All-cons (IsSoundEntry role) entry entries (rw first at (entry_sound role value)) (list_sound role values entries cc)

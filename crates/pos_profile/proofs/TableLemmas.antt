@@ -1,19 +1,11 @@
 -- A table's keys and values, as the map has them and as the document's members.
-use Rattle.std.proofs.Common.{◌≡◌, ◌≤◌, ℕ, ℤ, pos, negsuc, List, [], ◌∷◌, Bool, true, false, ◌&&◌, Option, Some, None, String, Global, Ordering, Less, Equal}
-use Rattle.std.proofs.Common.{Greater, string_bytes, nat_cmp, map, cond, refl, ap, subst}
-use Rattle.std.specs.Prelude.{is_some, nat_le}
-use Rattle.std.specs.List.{list_all}
-use Rattle.std.specs.Map.{keys_of}
-use Rattle.std.specs.Ordering.{match_ordering}
-use Rattle.std.specs.Cmp.Lexicographic.{slice_cmp}
-use Rattle.std.specs.Cmp.{tied_itself}
-use Rattle.std.proofs.lemmas.Bool.{and_parts, leb-true}
+use Rattle.pos_profile.proofs.Common.{Bool, Data, Equal, Global, Greater, Less, List, Option, Ordering, Some, String, Value, [], and_parts, ap}
+use Rattle.pos_profile.proofs.Common.{data_of, get_member, has_only, is_some, items_view, keys_of, list_all, map, members_view, nat_cmp}
+use Rattle.pos_profile.proofs.Common.{refl, string_bytes, true, view, ℕ, ◌&&◌, ◌∷◌, ◌≡◌}
 use Rattle.std.proofs.lemmas.Cmp.{nat_list_cmp_total}
-use Rattle.std.proofs.lemmas.Option.{none-some, same_Some}
-use Rattle.toml.specs.Data.{Data, get_member}
-use Rattle.toml.specs.View.{view, items_view, members_view}
-use Rattle.toml.specs.declared.value.Value.{Value}
-use Rattle.pos_profile.specs.Tables.{data_of, has_only, number_within}
+use Rattle.std.specs.Cmp.{tied_itself}
+use Rattle.std.specs.Cmp.Lexicographic.{slice_cmp}
+use Rattle.std.specs.Ordering.{match_ordering}
 
 -- each key passes a test, in the map and in the document
 pub has_only_keys : (test : List ℕ → Bool) (entries : List (String Global × Value))
@@ -52,16 +44,3 @@ keys_there (entry ∷ entries) =
     (λ key. is_some (get_member (string_bytes key) (members_view (entry ∷ entries)))) (keys_of entries)
     (λ key is. found_after (slice_cmp nat_cmp (string_bytes key) first) (get_member (string_bytes key) (members_view entries)) (view entry.1) is)
     (keys_there entries))
-
--- what is kept has passed the test
-pub kept : {A : Type 0} (test : Bool) (x y : A) → cond test (Some x) None ≡ Some y → (test ≡ true) × (x ≡ y)
-kept true x y is = (refl, same_Some x y is)
-kept false x y is = absurd (none-some y is)
-
--- a number that is found is within the range
-pub within : (least most : ℕ) (given : ℤ) (number : ℕ) → number_within least most given ≡ Some number → (least ≤ number) × (number ≤ most)
-within least most (pos given) number is =
-    let found = kept (nat_le least given && nat_le given most) given number is in
-    let parts = and_parts (nat_le least given) (nat_le given most) found.0 in
-    subst (λ (n : ℕ). (least ≤ n) × (n ≤ most)) found.1 (leb-true least given parts.0, leb-true given most parts.1)
-within least most (negsuc given) number is = absurd (none-some number is)

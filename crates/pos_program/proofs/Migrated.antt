@@ -1,5 +1,5 @@
 -- What a move to layout 2 did, by what the store's recovery and migration did.
-use Rattle.std.proofs.Common.{◌≡◌, inl, inr, ⊎_elim, ℕ, List, [], ◌∷◌, map, Result, Ok, Err, IsErrOf, refl, ap, sym, subst}
+use Rattle.std.proofs.Common.{◌≡◌, inl, inr, ⊎_elim, ℕ, List, [], ◌∷◌, map, Result, Ok, Err, IsErrOf, refl, ap, subst}
 use Rattle.pos_dir.specs.declared.file.File.{File}
 use Rattle.pos_disk.specs.State.{IsAtRest, LeavesOnly, Rises}
 use Rattle.pos_disk.specs.declared.device.Disk.{Ghosts}
@@ -24,7 +24,7 @@ among : (candidates : List Standing) (standing : Standing) (bytes : List ℕ) �
     → StandsForOneOf candidates bytes
 among [] standing bytes is stands = absurd is
 among (candidate ∷ candidates) standing bytes is stands =
-    ⊎_elim (λ this. inl (subst (λ (s : Standing). StandsFor s bytes) this stands)) (λ rest. inr (among candidates standing bytes rest stands)) is
+    ⊎_elim (λ this. inl (rw this at stands)) (λ rest. inr (among candidates standing bytes rest stands)) is
 
 -- and with its files moved it is among the candidates that were moved
 one_moved : (candidates : List Standing) (standing : Standing) → IsOneOf candidates standing → IsOneOf (map moved candidates) (moved standing)
@@ -47,15 +47,19 @@ module _ {D : Type 0} (bound : Ghosts D) (disk : D) where
         (Stands layout files sequence) one.found) is))
         (λ no. absurd no) rest) stands
 
+    -- a crash of the recovery
+    moments : LeavesOnly (bound.state disk) (bound.state mid) (StandsForEither candidates (map moved candidates))
+    moments =
+        weaker (bound.state disk) (bound.state mid) (StandsForEither candidates candidates) (StandsForEither candidates (map moved candidates))
+        (λ bytes stands. inl (⊎_elim (λ was. was) (λ is. is) stands)) one.passes.any_moment
+
     -- a crash at any moment of both calls, where one of the migration leaves these
     at_any_moment : (new : D) (after : List Standing)
         → ((bytes : List ℕ) → StandsForOneOf after bytes → StandsForOneOf (Stands layout files sequence ∷ Stands Layout2 files 1 ∷ []) bytes)
         → Passes (bound.state mid) (bound.state new) (Stands layout files sequence ∷ []) after
         → LeavesOnly (bound.state disk) (bound.state new) (StandsForEither candidates (map moved candidates))
     at_any_moment new after are passes =
-        followed_by (bound.state disk) (bound.state mid) (bound.state new) (StandsForEither candidates (map moved candidates))
-        (weaker (bound.state disk) (bound.state mid) (StandsForEither candidates candidates) (StandsForEither candidates (map moved candidates))
-        (λ bytes stands. inl (⊎_elim (λ was. was) (λ is. is) stands)) one.passes.any_moment)
+        followed_by (bound.state disk) (bound.state mid) (bound.state new) (StandsForEither candidates (map moved candidates)) moments
         (weaker (bound.state mid) (bound.state new) (StandsForEither (Stands layout files sequence ∷ []) after)
         (StandsForEither candidates (map moved candidates))
         (λ bytes stands. found_or_moved bytes (⊎_elim (λ was. ⊎_elim (λ this. inl this) (λ no. absurd no) was) (λ is. are bytes is) stands))
@@ -66,12 +70,7 @@ module _ {D : Type 0} (bound : Ghosts D) (disk : D) where
         → AnswersMove candidates (bound.state disk) (Err why) (bound.state mid)
         → MovesOneOf candidates (bound.state disk) (bound.state new.disk) (Err why)
     stays why new same answer =
-        subst (λ (v : StoreView D). MovesOneOf candidates (bound.state disk) (bound.state v.disk) (Err why)) (sym same) (record {
-          answer = answer;
-          any_moment = weaker (bound.state disk) (bound.state mid) (StandsForEither candidates candidates) (StandsForEither candidates (map moved candidates))
-              (λ bytes stands. inl (⊎_elim (λ was. was) (λ is. is) stands)) one.passes.any_moment;
-          now = λ bytes may. inl (one.passes.now bytes may);
-        })
+        rw same (record { answer = answer; any_moment = moments; now = λ bytes may. inl (one.passes.now bytes may) })
 
     -- the files were moved
     goes : (new : StoreView D) → layout ≡ Layout1
@@ -87,7 +86,7 @@ module _ {D : Type 0} (bound : Ghosts D) (disk : D) where
           answer = record {
             files = files;
             sequence = sequence;
-            found = subst (λ (l : Layout). IsOneOf candidates (Stands l files sequence)) first one.found;
+            found = rw first at one.found;
             at_rest = subst (λ (s : StoreState). WhenReady s (IsAtRest (bound.state new.disk))) (ap (λ (v : StoreView D). v.state) same) at_rest;
             now = now.now;
           };
@@ -104,8 +103,7 @@ module _ {D : Type 0} (bound : Ghosts D) (disk : D) where
     fails new off passes rises =
         let both = Stands layout files sequence ∷ Stands Layout2 files 1 ∷ [] in
         let now : Passes (bound.state mid) (bound.state new.disk) (Stands layout files sequence ∷ []) both =
-        subst (λ (s : StoreState). Passes (bound.state mid) (bound.state new.disk) (Stands layout files sequence ∷ [])
-        (settled new.layout s both)) off passes in
+        rw off at passes in
         record {
           answer = subst (λ n. Rises n (bound.state new.disk).failures) (⊎_elim (λ no. absurd cc) (λ same. same) (recovers.counts honest)) rises;
           any_moment = at_any_moment new.disk both (λ bytes is. is) now;
@@ -124,19 +122,10 @@ module _ {D : Type 0} (bound : Ghosts D) (disk : D) where
     found_moves Layout1 is (Err fault.NoMemory) new answer passes at_rest device =
         stays fault.NoMemory new answer (recovers.reading honest, one.passes.now)
     found_moves Layout1 is (Err fault.Device) new answer passes at_rest device = fails new answer.0 passes (device refl)
-    found_moves Layout1 is (Err fault.Off) new answer passes at_rest device = absurd answer
-    found_moves Layout1 is (Err fault.Exhausted) new answer passes at_rest device = absurd answer
-    found_moves Layout1 is (Err fault.Unformatted) new answer passes at_rest device = absurd answer
-    found_moves Layout1 is (Err fault.Damaged) new answer passes at_rest device = absurd answer
-    found_moves Layout1 is (Err fault.AlreadyLayout2) new answer passes at_rest device = absurd answer
+    found_moves Layout1 is (Err _) new answer passes at_rest device = absurd answer
     found_moves Layout2 is result new answer passes at_rest device =
-        subst (λ r. MovesOneOf candidates (bound.state disk) (bound.state new.disk) r) (sym answer.0)
-        (stays fault.AlreadyLayout2 new answer.1 (
-          record {
-            files = files;
-            sequence = sequence;
-            found = subst (λ (l : Layout). IsOneOf candidates (Stands l files sequence)) is one.found;
-          },
+        rw answer.0 (stays fault.AlreadyLayout2 new answer.1 (
+          record { files = files; sequence = sequence; found = rw is at one.found },
           (recovers.reading honest, one.passes.now),
         ))
 

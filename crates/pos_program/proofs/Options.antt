@@ -1,5 +1,5 @@
 -- Each option of the program's command lines has a value where `clap` takes the words.
-use Rattle.std.proofs.Common.{◌≡◌, zero, suc, [], ◌∷◌, slice_index, codes, inl, inr, arith, refl}
+use Rattle.std.proofs.Common.{◌≡◌, ◌≢◌, ⊎_elim, zero, suc, [], ◌∷◌, slice_index, codes, arith, refl}
 use Rattle.std.specs.List.{All}
 use Rattle.std.proofs.lemmas.Bool.{false≢true}
 use Rattle.std.proofs.lemmas.List.Elements.{All-cons, All-nil}
@@ -14,29 +14,12 @@ pub record IsOption (name : Text) (option : Arg) : Type 0 where
   pub alone : FitsAlone option
   pub value : TakesValue option
 
-disk_fits : (option : Arg) → IsOption (codes "disk") option → FitsChain option
-disk_fits option is =
-    let begins : (t : Text) → option.id.now ≡ t → slice_index t 0 ≡ 100 = λ t e. rw (← e, is.id) refl in (
-      is.alone.0,
-      is.alone.1,
-      (λ e. let bad : 0 ≡ 100 = begins _ e in absurd (omega arith)),
-      (λ auto. elim auto [
-        | inl h ↦ let bad : 104 ≡ 100 = begins _ h in absurd (omega arith)
-        | inr h ↦ let bad : 118 ≡ 100 = begins _ h in absurd (omega arith)
-      ]),
-    )
-
-profile_fits : (option : Arg) → IsOption (codes "profile") option → FitsChain option
-profile_fits option is =
-    let begins : (t : Text) → option.id.now ≡ t → slice_index t 0 ≡ 112 = λ t e. rw (← e, is.id) refl in (
-      is.alone.0,
-      is.alone.1,
-      (λ e. let bad : 0 ≡ 112 = begins _ e in absurd (omega arith)),
-      (λ auto. elim auto [
-        | inl h ↦ let bad : 104 ≡ 112 = begins _ h in absurd (omega arith)
-        | inr h ↦ let bad : 118 ≡ 112 = begins _ h in absurd (omega arith)
-      ]),
-    )
+-- an option whose name begins with another letter than those that `clap` has
+option_fits : (name : Text) → slice_index name 0 ≢ 0 → slice_index name 0 ≢ 104 → slice_index name 0 ≢ 118 → (option : Arg) → IsOption name option
+    → FitsChain option
+option_fits name some not_help not_version option is =
+    let begins : (t : Text) → option.id.now ≡ t → slice_index name 0 ≡ slice_index t 0 = λ t e. rw (← is.id, e) refl in
+    (is.alone.0, is.alone.1, (λ e. some (begins _ e)), (λ auto. ⊎_elim (λ h. not_help (begins _ h)) (λ h. not_version (begins _ h)) auto))
 
 pub one_distinct : (option : Arg) → HasDistinctIds (option ∷ [])
 one_distinct option j k d e low high same = omega (arith, low, high)
@@ -52,7 +35,8 @@ two_distinct profile disk p q (suc zero) (suc (suc k)) d e low high same = absur
 
 -- what `clap` asks of the options in a command line
 pub format_fits : (disk : Arg) → IsOption (codes "disk") disk → All FitsChain (disk ∷ [])
-format_fits disk q = All-cons FitsChain disk [] (disk_fits disk q) (All-nil FitsChain)
+format_fits disk q = All-cons FitsChain disk [] (option_fits (codes "disk") (omega arith) (omega arith) (omega arith) disk q) (All-nil FitsChain)
 
 pub run_fits : (profile disk : Arg) → IsOption (codes "profile") profile → IsOption (codes "disk") disk → All FitsChain (profile ∷ disk ∷ [])
-run_fits profile disk p q = All-cons FitsChain profile (disk ∷ []) (profile_fits profile p) (format_fits disk q)
+run_fits profile disk p q =
+    All-cons FitsChain profile (disk ∷ []) (option_fits (codes "profile") (omega arith) (omega arith) (omega arith) profile p) (format_fits disk q)

@@ -1,6 +1,7 @@
 -- What a parse of a command's words tells of them.
 use Rattle.std.proofs.Common.{◌≡◌, ◌∙◌, [], List, Some, Err, true, map, codes, refl, sym, ap, subst, inl, inr}
-use Rattle.std.specs.Prelude.{◌≢◌, ◌⊎◌, slice_get, option_map}
+use Rattle.std.proofs.lemmas.Slice.Eq.{bytes_eq-Decides}
+use Rattle.std.specs.Prelude.{bytes_eq, ◌≢◌, ◌⊎◌, slice_get, option_map}
 use Rattle.std.proofs.lemmas.Option.{slice_get-map}
 use Rattle.clap.specs.Words.{App, HasKind, IsAmong, Kinds, Row, Text, fault_of, first_of, is_simple, is_simple_and_free, kind_of, matches_of}
 use Rattle.clap.specs.declared.error.Error.{Error}
@@ -18,22 +19,11 @@ pub run_known : IsKnown run_line
 unfolding clap_on_literals
 run_known = (refl, refl)
 
-format_known : IsKnown (disk_line (codes "format"))
-unfolding clap_on_literals
-format_known = (refl, refl)
-
-migrate_known : IsKnown (disk_line (codes "migrate"))
-unfolding clap_on_literals
-migrate_known = (refl, refl)
-
-files_known : IsKnown (disk_line (codes "files"))
-unfolding clap_on_literals
-files_known = (refl, refl)
-
 pub disk_known : (command : Text) → NamesDisk command → IsKnown (disk_line command)
-disk_known command (inl format) = subst (λ (name : Text). IsKnown (disk_line name)) (sym format) format_known
-disk_known command (inr (inl migrate)) = subst (λ (name : Text). IsKnown (disk_line name)) (sym migrate) migrate_known
-disk_known command (inr (inr files)) = subst (λ (name : Text). IsKnown (disk_line name)) (sym files) files_known
+unfolding clap_on_literals
+disk_known command (inl format) = subst (λ (name : Text). IsKnown (disk_line name)) (sym format) (refl, refl)
+disk_known command (inr (inl migrate)) = subst (λ (name : Text). IsKnown (disk_line name)) (sym migrate) (refl, refl)
+disk_known command (inr (inr files)) = subst (λ (name : Text). IsKnown (disk_line name)) (sym files) (refl, refl)
 
 kind_among : (kinds : Kinds) (error : Error) → HasKind kinds error → kind_of error ≢ OutOfMemory → IsAmong (kind_of error) kinds
 kind_among kinds error (inl memory) other = absurd (other memory)
@@ -44,35 +34,34 @@ pub refused : (app line : App) (words : List Text) (error : Error) → app ≡ l
     → (is_simple_and_free app ≡ true → HasKind (fault_of app words) error) → kind_of error ≢ OutOfMemory
     → IsAmong (kind_of error) (fault_of line words)
 refused app line words error same known kinds other =
-    subst (λ (a : App). IsAmong (kind_of error) (fault_of a words)) same
-    (kind_among (fault_of app words) error (kinds (ap is_simple_and_free same ∙ known.0)) other)
+    rw same at (kind_among (fault_of app words) error (kinds (ap is_simple_and_free same ∙ known.0)) other)
 
 -- matches come of words without a fault
 pub accepted : (app line : App) (words : List Text) → app ≡ line → IsKnown line → (is_simple_and_free app ≡ true → fault_of app words ≡ []) → Accepts line words
-accepted app line words same known kinds = subst (λ (a : App). fault_of a words ≡ []) same (kinds (ap is_simple_and_free same ∙ known.0))
+accepted app line words same known kinds = rw same at (kinds (ap is_simple_and_free same ∙ known.0))
 
 -- and hold the path of an option
 pub held : (app line : App) (words : List Text) (rows : List Row) (option path : Text) → app ≡ line → IsKnown line
     → (is_simple app ≡ true → rows ≡ matches_of app words) → first_of option rows ≡ Some path → path_of line option words ≡ Some path
 held app line words rows option path same known found value =
-    let all : rows ≡ matches_of line words = found (ap is_simple same ∙ known.1) ∙ ap (λ (a : App). matches_of a words) same in
-    ap (first_of option) (sym all) ∙ value
+    rw (← same, ← found (ap is_simple same ∙ known.1)) value
 
 -- the text of the first word
-pub first_named : {X : Type 0} (text : X → Text) (words : List X) (word : X) (name : Text) → slice_get words 0 ≡ Some word → text word ≡ name
-    → Names name (map text words)
-first_named text words word name first same = slice_get-map text words 0 ∙ ap (option_map text) first ∙ ap Some same
+pub first_named : {X : Type 0} (text : X → Text) (words : List X) (word : X) (told name : Text) → slice_get words 0 ≡ Some word → told ≡ text word
+    → bytes_eq told name ≡ true → Names name (map text words)
+first_named text words word told name first same is =
+    slice_get-map text words 0 ∙ ap (option_map text) first ∙ ap Some (sym same ∙ (bytes_eq-Decides told name).0 is)
 
 help_not_memory : (error : Error) → kind_of error ≡ DisplayHelp → kind_of error ≢ OutOfMemory
-help_not_memory error help = λ memory. let bad : DisplayHelp ≡ OutOfMemory = sym help ∙ memory in cc
+help_not_memory error help = λ memory. cc
 
 -- why the words of a command ask for nothing, where `clap` finds a fault in them
 failed : (words : List Text) (error : Error) (fault : ChoiceFault)
     → Names (codes "run") words ⊎ ((command : Text) × NamesDisk command × Names command words) → TellsWhy error fault → (kind_of error ≢ OutOfMemory
     → HasFault words (kind_of error)) → Chooses words (Err fault)
-failed words error Help names why has = inr (subst (HasFault words) why (has (help_not_memory error why)))
+failed words error Help names why has = inr (rw why at (has (help_not_memory error why)))
 failed words error (Unknown first) names why has = absurd why
-failed words error (Refused told) names why has = subst (λ (e : Error). HasFault words (kind_of e)) (sym why.0) (has why.1)
+failed words error (Refused told) names why has = rw why.0 (has why.1)
 failed words error NotUtf8 names why has = absurd why
 failed words error NoMemory names why has = names
 

@@ -1,48 +1,39 @@
 -- The devices of a profile, which are served one after another by what is simulated for them.
-use Rattle.std.proofs.Common.{◌≡◌, ◌∙◌, ◌<◌, ◌≤◌, ◌+◌, ◌∷◌, ◌++◌, ◌||◌, ℕ, suc, Bool, true, false, List, Option, [], Some, None, cond, is_some, length, map}
-use Rattle.std.proofs.Common.{replicate, take, drop, get_or, slice_get, sym, ap, arith, refl, subst, append_assoc, append-nil}
-use Rattle.std.specs.Prelude.{bytes_eq}
-use Rattle.std.specs.List.{filter_map, list_any}
-use Rattle.std.proofs.Math.Seq.{set-append_seam}
-use Rattle.std.proofs.lemmas.List.{drop_all, drop_more, take-map, take_all}
-use Rattle.std.proofs.lemmas.List.Elements.{filter_map-append}
-use Rattle.std.proofs.lemmas.Slice.Eq.{bytes_eq-Decides}
-use Rattle.pos_profile.specs.declared.entry.Entry.{Entry}
-use Rattle.pos_service.specs.declared.exchange_fault.AttachFault.{AttachFault}
-use Rattle.pos_service.specs.declared.exchange_fault.AttachFault.TheVariants as attach
-use Rattle.std.specs.Option.{option_map}
-use Rattle.pos_profile.specs.Kinds.{kind_of}
-use Rattle.pos_profile.specs.Profiles.{is_repeated, names_of, stands_after}
-use Rattle.pos_profile.specs.Registries.{vacant_devices}
-use Rattle.pos_profile.proofs.ListLemmas.{name_at}
-use Rattle.pos_service.specs.declared.kind.Kind.{Kind}
-use Rattle.pos_service.specs.Peripherals.{PeripheralState}
-use Rattle.pos_service.specs.Hardware.{Hardware, hardware_of}
-use Rattle.pos_counter.specs.Machine.{Device, Machine, device_at, kind_in, kind_named, place_from, place_of, hardware_in, hardware_named, with_standing}
+use Rattle.pos_run.proofs.Common.{Attach, Attached, Device, Entry, Hardware, Kind, List, Machine}
+use Rattle.pos_run.proofs.Common.{None, NotAttached, Option, PeripheralState, Response, Some, Step, TotalsPart}
+use Rattle.pos_run.proofs.Common.{[], ap, append-nil, append_assoc, arith, begun_with, bytes_eq, bytes_eq-Decides, cond, device_at}
+use Rattle.pos_run.proofs.Common.{device_for, device_with, drop, drop_all, drop_more, false, false≢true, get_or, hardware_in, hardware_named, hardware_of}
+use Rattle.pos_run.proofs.Common.{inl, inr, is_some, kind_in, kind_named, kind_of, length, machine_with, map, new_device, or_parts, place_from, place_of}
+use Rattle.pos_run.proofs.Common.{refl, replicate, simulated_devices, simulated_for, slice_get, suc, sym, take, take-map, take_all, true}
+use Rattle.pos_run.proofs.Common.{with_standing, ℕ, ◌++◌, ◌+◌, ◌<◌, ◌∙◌, ◌∷◌, ◌≡◌, ◌≤◌, ◌⊎◌}
 use Rattle.pos_counter.specs.KeptDevices.{device_of, profile_devices, totals_devices, totals_name}
-use Rattle.pos_counter.specs.Machine.{machine_with}
-use Rattle.pos_counter.specs.Steps.{Response, Step, Attach, Attached, NotAttached, Made, Full, Answered, TakenIn, NoDevice, WrongInput, Delivered, Shown}
-use Rattle.pos_counter.specs.Steps.{Worked, Detached, NotDetached, OutOfMemory}
-use Rattle.pos_counter.specs.Totals.{TotalsPart}
-use Rattle.pos_run.specs.Running.{begun_with, device_with}
-use Rattle.pos_run.specs.Simulating.{device_for, simulated_devices, simulated_for, new_device}
+use Rattle.pos_profile.proofs.ListLemmas.{name_at}
+use Rattle.pos_profile.specs.Profiles.{is_repeated, names_of}
+use Rattle.pos_profile.specs.Registries.{vacant_devices}
+use Rattle.pos_service.specs.declared.exchange_fault.AttachFault.{AttachFault}
+use Rattle.std.proofs.Math.Seq.{set-append_seam}
+use Rattle.std.proofs.lemmas.List.Elements.{filter_map-append}
+use Rattle.std.proofs.lemmas.Option.{none-some}
+use Rattle.std.specs.List.{filter_map, list_any}
+use Rattle.std.specs.Option.{option_map}
+use Rattle.pos_service.specs.declared.exchange_fault.AttachFault.TheVariants as attach
 use Rattle.pos_run.proofs.Profiling.{one_more}
 
 -- what two options have, where they are the same
 the_same : {A : Type 0} {a b : A} → Some a ≡ Some b → a ≡ b
 the_same same = cc
 
+-- an option has something or nothing
+some_or_none : {A : Type 0} (o : Option A) → (o ≡ None) ⊎ ((x : A) × (o ≡ Some x))
+some_or_none None = inl refl
+some_or_none (Some x) = inr (x, refl)
+
 -- a peripheral of its kind isn't refused at a vacant device
 no_refusal : (old new : Machine) (name : List ℕ) (hardware : Hardware) (fault : AttachFault) (given : Hardware)
     → kind_named old name ≡ Some hardware.kind → hardware_named old name ≡ None → Step old (Attach name hardware) (NotAttached fault given) new → ⊥
-no_refusal old new name hardware attach.Unknown given is vacant (none, gave, same) =
-    let both : Some hardware.kind ≡ None = sym is ∙ none in
-    cc
+no_refusal old new name hardware attach.Unknown given is vacant (none, gave, same) = none-some hardware.kind (sym none ∙ is)
 no_refusal old new name hardware attach.KindDiffers given is vacant (other, gave, same) = other.differs (the_same (sym is ∙ other.named))
-no_refusal old new name hardware attach.InUse given is vacant (there, gave, same) =
-    let none : is_some (hardware_named old name) ≡ false = ap is_some vacant in
-    let both : true ≡ false = sym there ∙ none in
-    cc
+no_refusal old new name hardware attach.InUse given is vacant (there, gave, same) = false≢true (ap is_some (sym vacant) ∙ there)
 
 module _ (old new : Machine) (name : List ℕ) (hardware : Hardware) (place : ℕ) (device : Device) (found : place_of old.devices name ≡ Some place)
     (there : slice_get old.devices place ≡ Some device) (is : device.kind ≡ Some hardware.kind) (vacant : device.hardware ≡ None) where
@@ -54,22 +45,9 @@ module _ (old new : Machine) (name : List ℕ) (hardware : Hardware) (place : �
   stands Attached done =
       let at : done.place ≡ place = the_same (sym done.is_at ∙ found) in
       let of : done.device ≡ device = the_same (sym done.is_device ∙ ap (slice_get old.devices) at ∙ there) in
-      done.machine
-      ∙ ap (λ (p : ℕ). with_standing old p done.device (Some hardware)) at
-      ∙ ap (λ (d : Device). with_standing old place d (Some hardware)) of
+      done.machine ∙ rw (at, of)
   stands (NotAttached fault given) step = absurd (no_refusal old new name hardware fault given (ap kind_in named ∙ is) (ap hardware_in named ∙ vacant) step)
-  stands (Made number) step = absurd step
-  stands Full step = absurd step
-  stands (Answered answer) step = absurd step
-  stands TakenIn step = absurd step
-  stands NoDevice step = absurd step
-  stands WrongInput step = absurd step
-  stands (Delivered event) step = absurd step
-  stands (Shown shown) step = absurd step
-  stands (Worked result) step = absurd step
-  stands (Detached gone) step = absurd step
-  stands (NotDetached fault) step = absurd step
-  stands OutOfMemory step = absurd step
+  stands _ step = absurd step
 
 -- the device of an entry, served
 abbrev served : Entry → Option Device
@@ -91,12 +69,10 @@ begun_partly entries i part = machine_with [] (replicate (length (profile_device
 -- at first all are vacant
 all_vacant : (entries : List Entry) → map device_of (vacant_devices entries) ≡ filter_map unserved entries
 all_vacant [] = refl
-all_vacant (entry ∷ entries) = by (kind_of entry) refl (all_vacant entries)
-  where
-    by : (kind : Option Kind) → kind_of entry ≡ kind → map device_of (vacant_devices entries) ≡ filter_map unserved entries
-        → map device_of (vacant_devices (entry ∷ entries)) ≡ filter_map unserved (entry ∷ entries)
-    by None is rest = rw is rest
-    by (Some kind) is rest = rw is (ap (λ (ds : List Device). device_with entry.name kind None ∷ ds) rest)
+all_vacant (entry ∷ entries) = elim (some_or_none (kind_of entry)) [
+  | inl none ↦ rw none (all_vacant entries)
+  | inr some ↦ rw some.1 (ap (λ (ds : List Device). device_with entry.name some.0 None ∷ ds) (all_vacant entries))
+]
 
 vacant_profile : (entries : List Entry) → profile_devices entries ≡ partly [] entries (totals_name entries)
 vacant_profile entries = ap (λ (ds : List Device). ds ++ totals_devices (totals_name entries)) (all_vacant entries)
@@ -108,12 +84,10 @@ begins_partly entries part = ap (λ (ds : List Device). machine_with [] (replica
 -- as many are served in the end as were vacant at first
 as_many : (entries : List Entry) (rest : List Device) → length (filter_map unserved entries ++ rest) ≡ length (filter_map served entries ++ rest)
 as_many [] rest = refl
-as_many (entry ∷ entries) rest = by (kind_of entry) refl (as_many entries rest)
-  where
-    by : (kind : Option Kind) → kind_of entry ≡ kind → length (filter_map unserved entries ++ rest) ≡ length (filter_map served entries ++ rest)
-        → length (filter_map unserved (entry ∷ entries) ++ rest) ≡ length (filter_map served (entry ∷ entries) ++ rest)
-    by None is more = rw is more
-    by (Some kind) is more = rw is (ap (λ (n : ℕ). suc n) more)
+as_many (entry ∷ entries) rest = elim (some_or_none (kind_of entry)) [
+  | inl none ↦ rw none (as_many entries rest)
+  | inr some ↦ rw some.1 (ap (λ (n : ℕ). suc n) (as_many entries rest))
+]
 
 -- in the end all are served
 pub ends_whole : (entries : List Entry) (i : ℕ) (part : TotalsPart) → length entries ≤ i
@@ -122,22 +96,7 @@ ends_whole entries i part all =
     let totals = totals_name entries in
     let count : length (profile_devices entries) ≡ length (simulated_devices entries) =
     ap length (vacant_profile entries) ∙ as_many entries (totals_devices totals) in
-    ap (λ (front : List Entry). machine_with [] (replicate (length (profile_devices entries)) None) (partly front (drop i entries) totals) part)
-    (take_all i entries all)
-    ∙ ap (λ (back : List Entry). machine_with [] (replicate (length (profile_devices entries)) None) (partly entries back totals) part) (drop_all i entries all)
-    ∙ ap (λ (n : ℕ). machine_with [] (replicate n None) (simulated_devices entries) part) count
-
--- neither of two is true
-first_false : (a b : Bool) → a || b ≡ false → a ≡ false
-first_false true b is = is
-first_false false b is = refl
-
-then_false : (a b : Bool) → a || b ≡ false → b ≡ false
-then_false true b is = absurd (by is)
-  where
-    by : true ≡ false → ⊥
-    by same = cc
-then_false false b is = is
+    rw (take_all i entries all, drop_all i entries all, count)
 
 -- a device whose name no entry before it has is found behind them
 found_behind : (name : List ℕ) (front : List Entry) (at : ℕ) (device : Device) (back : List Device)
@@ -145,18 +104,11 @@ found_behind : (name : List ℕ) (front : List Entry) (at : ℕ) (device : Devic
     → place_from at name (filter_map served front ++ device ∷ back) ≡ Some (at + length (filter_map served front))
 found_behind name [] at device back none same = ap (λ b. cond b (Some at) (place_from (at + 1) name back)) same ∙ ap (λ (n : ℕ). Some n) (omega arith)
 found_behind name (entry ∷ front) at device back none same =
-    let others = then_false (bytes_eq name entry.name) _ none in
-    by (kind_of entry) refl (first_false (bytes_eq name entry.name) _ none) (found_behind name front at device back others same)
-    (found_behind name front (at + 1) device back others same)
-  where
-    by : (kind : Option Kind) → kind_of entry ≡ kind → bytes_eq name entry.name ≡ false
-        → place_from at name (filter_map served front ++ device ∷ back) ≡ Some (at + length (filter_map served front))
-        → place_from (at + 1) name (filter_map served front ++ device ∷ back) ≡ Some ((at + 1) + length (filter_map served front))
-        → place_from at name (filter_map served (entry ∷ front) ++ device ∷ back) ≡ Some (at + length (filter_map served (entry ∷ front)))
-    by None is differs here next = rw is here
-    by (Some kind) is differs here next =
-        rw is (ap (λ b. cond b (Some at) (place_from (at + 1) name (filter_map served front ++ device ∷ back))) differs ∙ next
-        ∙ ap (λ (n : ℕ). Some n) (omega arith))
+    let parts = or_parts (bytes_eq name entry.name) _ none in
+    elim (some_or_none (kind_of entry)) [
+      | inl nothing ↦ rw nothing (found_behind name front at device back parts.1 same)
+      | inr some ↦ rw (some.1, parts.0) (found_behind name front (at + 1) device back parts.1 same ∙ ap (λ (n : ℕ). Some n) (omega arith))
+    ]
 
 -- what stands behind some devices
 there_behind : (front : List Device) (device : Device) (back : List Device) → slice_get (front ++ device ∷ back) (length front) ≡ Some device
@@ -176,8 +128,7 @@ no_kind (Some kind) lines is = absurd cc
 unnamed_before : (entries : List Entry) (i : ℕ) (entry : Entry) → i < length entries → entry ≡ get_or entries i entry
     → is_repeated (names_of entries) i ≡ false → list_any (bytes_eq entry.name) (names_of (take i entries)) ≡ false
 unnamed_before entries i entry lt is single =
-    ap (λ (names : List (List ℕ)). stands_after names (Some entry.name)) (sym (take-map (λ (e : Entry). e.name) i entries))
-    ∙ ap (stands_after (take i (names_of entries))) (sym (name_at entries i entry entry.name lt is refl)) ∙ single
+    rw (← take-map (λ (e : Entry). e.name) i entries) (rw (name_at entries i entry entry.name lt is refl) at single)
 
 module _ (entries : List Entry) (i : ℕ) (entry : Entry) (lt : i < length entries) (is : entry ≡ get_or entries i entry) where
   abbrev totals : Option (List ℕ)
@@ -200,12 +151,7 @@ module _ (entries : List Entry) (i : ℕ) (entry : Entry) (lt : i < length entri
   pub skips : (part : TotalsPart) → simulated_for entry ≡ None → begun_partly entries i part ≡ begun_partly entries (i + 1) part
   skips part simulated =
       let none : kind_of entry ≡ None = no_kind (kind_of entry) entry.lines simulated in
-      let nothing : filter_map served (entry ∷ []) ≡ [] = rw none refl in
-      let same : filter_map unserved (entry ∷ drop (i + 1) entries) ≡ filter_map unserved (drop (i + 1) entries) = rw none refl in
-      let more : front ≡ filter_map served (take (i + 1) entries) = sym (served_more ∙ ap (λ (ds : List Device). front ++ ds) nothing ∙ append-nil front) in
-      ap (λ (ds : List Device). machine_with [] (replicate (length (profile_devices entries)) None) (front ++ (ds ++ totals_devices totals)) part)
-      (ap (filter_map unserved) one_less ∙ same)
-      ∙ ap (λ (ds : List Device). machine_with [] (replicate (length (profile_devices entries)) None) (ds ++ back) part) more
+      rw (one_less, served_more, none, append-nil)
 
   -- one more device is served
   pub serves_more : (part : TotalsPart) (old new : Machine) (state : PeripheralState) (response : Response) → simulated_for entry ≡ Some state
@@ -216,18 +162,12 @@ module _ (entries : List Entry) (i : ℕ) (entry : Entry) (lt : i < length entri
       let vacant = device_with entry.name state.kind None in
       let full = device_with entry.name state.kind (Some state) in
       let over = λ (ds : List Device). machine_with [] (replicate (length (profile_devices entries)) None) ds part in
-      let taken : filter_map unserved (entry ∷ drop (i + 1) entries) ≡ vacant ∷ filter_map unserved (drop (i + 1) entries) = rw kind refl in
-      let one : filter_map served (entry ∷ []) ≡ full ∷ [] =
-      rw kind (ap (λ (s : Option PeripheralState). device_with entry.name state.kind s ∷ []) (rw kind at simulated)) in
-      let whole : partly (take i entries) (drop i entries) totals ≡ front ++ vacant ∷ back =
-      ap (λ (ds : List Device). front ++ (ds ++ totals_devices totals)) (ap (filter_map unserved) one_less ∙ taken) in
-      let before : old ≡ over (front ++ vacant ∷ back) = begun ∙ ap over whole in
+      let one : filter_map served (entry ∷ []) ≡ full ∷ [] = rw (simulated, kind) in
+      let before : old ≡ over (front ++ vacant ∷ back) = begun ∙ rw (one_less, kind) in
       let found : place_of (front ++ vacant ∷ back) entry.name ≡ Some (length front) =
       found_behind entry.name (take i entries) 0 vacant back (unnamed_before entries i entry lt is single)
       ((bytes_eq-Decides entry.name entry.name).1 refl) ∙ ap (λ (n : ℕ). Some n) (omega arith) in
       let stood = stands (over (front ++ vacant ∷ back)) new entry.name (hardware_of state) (length front) vacant found
-      (there_behind front vacant back) refl refl response
-      (subst (λ (m : Machine). Step m (Attach entry.name (hardware_of state)) response new) before step) in
-      let after : front ++ full ∷ back ≡ partly (take (i + 1) entries) (drop (i + 1) entries) totals =
-      sym (append_assoc front (full ∷ []) back) ∙ ap (λ (ds : List Device). ds ++ back) (sym (served_more ∙ ap (λ (ds : List Device). front ++ ds) one)) in
+      (there_behind front vacant back) refl refl response (rw before at step) in
+      let after : front ++ full ∷ back ≡ partly (take (i + 1) entries) (drop (i + 1) entries) totals = rw (served_more, one, append_assoc) in
       stood ∙ ap over (set-append_seam front vacant back full ∙ after)

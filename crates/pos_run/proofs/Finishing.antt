@@ -1,25 +1,15 @@
 -- Lines that are carried out one after another, and written as far as they can be.
-use Rattle.std.proofs.Common.{◌≡◌, ◌++◌, ◌∷◌, ◌∙◌, [], inl, inr, ℕ, List, Option, sym, ap, subst, refl, append_assoc, append-nil}
-use Rattle.std.specs.Prelude.{◌⊎◌, Result, Ok, Err, MatchResult}
-use Rattle.std.specs.Io.KnownBytes.{Appends, Keeps}
-use Rattle.std.proofs.KnownBytes.{Appends-trans, Appends-kept}
-use Rattle.pos_counter.specs.Steps.{Request, Response}
+use Rattle.pos_run.proofs.Common.{Appends, Appends-kept, Appends-trans, CarriesOut, Err, Finishes, Keeps, Leads, LineBecomes, LinesPrint, List, MatchResult}
+use Rattle.pos_run.proofs.Common.{Ok, Option, Request, Response, Result, RunFault, ScriptLeaves, Session, Stops, Transcript, Writes, Writing, [], ap}
+use Rattle.pos_run.proofs.Common.{append-nil, append_assoc, carried_steps, inl, inr, refl, sym, ℕ, ◌++◌, ◌∙◌, ◌∷◌, ◌≡◌, ◌⊎◌}
 use Rattle.pos_script.specs.Text.{printed}
-use Rattle.pos_script.specs.Writing.{Writes}
-use Rattle.pos_run.specs.declared.scripts.RunFault.{RunFault}
 use Rattle.pos_run.specs.declared.scripts.RunFault.TheVariants as fault
-use Rattle.pos_run.specs.Running.{Finishes, ScriptLeaves, Stops, carried_steps}
-use Rattle.pos_run.specs.Streams.{Writing}
-use Rattle.pos_run.specs.Transcript.{Leads, Session, CarriesOut, LineBecomes, LinesPrint, Transcript}
 
 -- lines and then more
 prints_join : (session : Session) (lines : List (List ℕ)) (steps : List (Request × Response)) (text : List ℕ) (mid : Session) (more : List (List ℕ))
     (further : List (Request × Response)) (rest : List ℕ) (after : Session) → LinesPrint session lines steps text mid
     → LinesPrint mid more further rest after → LinesPrint session (lines ++ more) (steps ++ further) (text ++ rest) after
-prints_join session [] steps text mid more further rest after (none, nothing, same) second =
-    subst (λ (s : List (Request × Response)). LinesPrint session more s (text ++ rest) after) (sym (ap (λ s. s ++ further) none))
-    (subst (λ (t : List ℕ). LinesPrint session more further t after) (sym (ap (λ t. t ++ rest) nothing))
-    (subst (λ (s : Session). LinesPrint s more further rest after) same second))
+prints_join session [] steps text mid more further rest after (none, nothing, same) second = rw (none, nothing, ← same) second
 prints_join session (line ∷ lines) steps text mid more further rest after (outcome, some, back, becomes, prints, is_steps, is_text) second = (
   outcome,
   some ++ further,
@@ -30,6 +20,30 @@ prints_join session (line ∷ lines) steps text mid more further rest after (out
   ap (λ t. t ++ rest) is_text ∙ append_assoc (printed outcome.reply) back rest,
 )
 
+-- a write that failed at the same line, behind other lines or from another state
+pub stops_at : {C M : Type 0} {Runs : Leads C} {old : C} {session : Session} {lines : List (List ℕ)} {before after : Option (List ℕ)} {left : Session} {new : C}
+    (h : Stops Runs old session lines before after left new) (Over : Leads M) (first : M) (begun : Session) (all earlier later : List (List ℕ)) (text : List ℕ)
+    (contents : Option (List ℕ)) (mid end : M) → all ≡ earlier ++ h.line ∷ later → Transcript Over first begun earlier text h.between mid
+    → CarriesOut Over mid (LineBecomes h.between h.line) h.reply left end → Appends contents after (text ++ h.front)
+    → Stops Over first begun all contents after left end
+stops_at h Over first begun all earlier later text contents mid end split transcript carried written = record {
+  earlier = earlier;
+  line = h.line;
+  later = later;
+  text = text;
+  between = h.between;
+  mid = mid;
+  reply = h.reply;
+  front = h.front;
+  back = h.back;
+  split = split;
+  transcript = transcript;
+  carried = carried;
+  cut = h.cut;
+  unwritten = h.unwritten;
+  written = written;
+}
+
 module _ {C : Type 0} (Runs : Leads C) (old : C) (session : Session) where
   -- no line yet
   pub finishes_none : Runs old [] old → (contents : Option (List ℕ)) → Appends contents contents [] → Finishes Runs old session [] contents contents session old
@@ -38,15 +52,6 @@ module _ {C : Type 0} (Runs : Leads C) (old : C) (session : Session) where
     transcript = record { steps = []; run = none; prints = (refl, refl, refl) };
     written = written;
   }
-
-  -- the same lines, written another way
-  pub finishes_of : (lines others : List (List ℕ)) (before after : Option (List ℕ)) (left : Session) (new : C) → others ≡ lines
-      → Finishes Runs old session lines before after left new → Finishes Runs old session others before after left new
-  finishes_of lines others before after left new same done = subst (λ (ls : List (List ℕ)). Finishes Runs old session ls before after left new) (sym same) done
-
-  pub stops_of : (lines others : List (List ℕ)) (before after : Option (List ℕ)) (left : Session) (new : C) → others ≡ lines
-      → Stops Runs old session lines before after left new → Stops Runs old session others before after left new
-  stops_of lines others before after left new same stops = subst (λ (ls : List (List ℕ)). Stops Runs old session ls before after left new) (sym same) stops
 
   -- what is known of the writer stays
   pub finishes_kept : (lines : List (List ℕ)) (before mid after : Option (List ℕ)) (left : Session) (new : C)
@@ -60,23 +65,9 @@ module _ {C : Type 0} (Runs : Leads C) (old : C) (session : Session) where
   -- lines that follow one at which a write failed
   pub stops_more : (lines more : List (List ℕ)) (before after : Option (List ℕ)) (left : Session) (new : C)
       → Stops Runs old session lines before after left new → Stops Runs old session (lines ++ more) before after left new
-  stops_more lines more before after left new stops = record {
-    earlier = stops.earlier;
-    line = stops.line;
-    later = stops.later ++ more;
-    text = stops.text;
-    between = stops.between;
-    mid = stops.mid;
-    reply = stops.reply;
-    front = stops.front;
-    back = stops.back;
-    split = ap (λ ls. ls ++ more) stops.split ∙ append_assoc stops.earlier (stops.line ∷ stops.later) more;
-    transcript = stops.transcript;
-    carried = stops.carried;
-    cut = stops.cut;
-    unwritten = stops.unwritten;
-    written = stops.written;
-  }
+  stops_more lines more before after left new stops =
+      stops_at stops Runs old session (lines ++ more) stops.earlier (stops.later ++ more) stops.text before stops.mid new
+      (ap (λ ls. ls ++ more) stops.split ∙ append_assoc stops.earlier (stops.line ∷ stops.later) more) stops.transcript stops.carried stops.written
 
   -- one line, and what it prints is written as far as it can be
   pub one_line : {E : Type 0} → Runs old [] old
@@ -141,43 +132,26 @@ module _ {C : Type 0} (Runs : Leads C) (join : (a b c : C) (s t : List (Request 
   -- a write that failed at one of more lines
   pub stops_join : (more : List (List ℕ)) (after : Option (List ℕ)) (left : Session) (new : C)
       → Stops Runs mid mid_session more between after left new → Stops Runs old session (lines ++ more) before after left new
-  stops_join more after left new second = record {
-    earlier = lines ++ second.earlier;
-    line = second.line;
-    later = second.later;
-    text = first.text ++ second.text;
-    between = second.between;
-    mid = second.mid;
-    reply = second.reply;
-    front = second.front;
-    back = second.back;
-    split = ap (λ ls. lines ++ ls) second.split ∙ sym (append_assoc lines second.earlier (second.line ∷ second.later));
-    transcript = transcript_join second.earlier second.text second.between second.mid second.transcript;
-    carried = second.carried;
-    cut = second.cut;
-    unwritten = second.unwritten;
-    written = subst (Appends before after) (sym (append_assoc first.text second.text second.front))
-        (Appends-trans before between after first.text (second.text ++ second.front) first.written second.written);
-  }
+  stops_join more after left new second =
+      stops_at second Runs old session (lines ++ more) (lines ++ second.earlier) second.later (first.text ++ second.text) before second.mid new
+      (ap (λ ls. lines ++ ls) second.split ∙ sym (append_assoc lines second.earlier (second.line ∷ second.later)))
+      (transcript_join second.earlier second.text second.between second.mid second.transcript) second.carried
+      (rw append_assoc (Appends-trans before between after first.text (second.text ++ second.front) first.written second.written))
 
   -- more lines, as far as they can be written
   pub lines_join : {E : Type 0} (others more : List (List ℕ)) (after : Option (List ℕ)) (result : Result (Unit {0}) E) (left : Session) (new : C)
       → others ≡ lines ++ more
       → MatchResult result (λ u. Finishes Runs mid mid_session more between after left new) (λ e. Stops Runs mid mid_session more between after left new)
       → MatchResult result (λ u. Finishes Runs old session others before after left new) (λ e. Stops Runs old session others before after left new)
-  lines_join others more after (Ok u) left new same done =
-      finishes_of Runs old session (lines ++ more) others before after left new same (finishes_join more after left new done)
-  lines_join others more after (Err e) left new same stops =
-      stops_of Runs old session (lines ++ more) others before after left new same (stops_join more after left new stops)
+  lines_join others more after (Ok u) left new same done = rw same (finishes_join more after left new done)
+  lines_join others more after (Err e) left new same stops = rw same (stops_join more after left new stops)
 
   -- a fault of the writer at more lines
   pub fault_join : (others more : List (List ℕ)) (after : Option (List ℕ)) (left : Session) (new : C) → others ≡ lines ++ more
       → Stops Runs mid mid_session more between after left new ⊎ Finishes Runs mid mid_session more between after left new
       → Stops Runs old session others before after left new ⊎ Finishes Runs old session others before after left new
-  fault_join others more after left new same (inl stops) =
-      inl (stops_of Runs old session (lines ++ more) others before after left new same (stops_join more after left new stops))
-  fault_join others more after left new same (inr done) =
-      inr (finishes_of Runs old session (lines ++ more) others before after left new same (finishes_join more after left new done))
+  fault_join others more after left new same (inl stops) = inl (rw same (stops_join more after left new stops))
+  fault_join others more after left new same (inr done) = inr (rw same (finishes_join more after left new done))
 
 -- what the lines that were carried out asked is one run, also where a write failed
 pub carried_run : {C : Type 0} (Runs : Leads C) → ((c : C) → Runs c [] c)
@@ -190,4 +164,4 @@ carried_run Runs none join old session lines before after (Err fault.Read) left 
 carried_run Runs none join old session lines before after (Err fault.Write) left new (inl stops) =
     join old stops.mid new stops.transcript.steps stops.carried.steps stops.transcript.run stops.carried.run
 carried_run Runs none join old session lines before after (Err fault.Write) left new (inr done) = done.transcript.run
-carried_run Runs none join old session lines before after (Err fault.NoMemory) left new same = subst (λ (c : _). Runs old [] c) (sym same.0) (none old)
+carried_run Runs none join old session lines before after (Err fault.NoMemory) left new same = rw same.0 (none old)

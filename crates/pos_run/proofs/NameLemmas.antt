@@ -1,8 +1,6 @@
 -- What a map keyed by names finds.
-use Rattle.std.proofs.Common.{◌≡◌, ◌∷◌, [], ℕ, List, Some, cond, map, ap, refl}
-use Rattle.std.specs.Prelude.{bytes_eq}
+use Rattle.pos_run.proofs.Common.{List, Some, [], ap, bytes_eq, cond, map, number_named, refl, ℕ, ◌∷◌, ◌≡◌}
 use Rattle.std.specs.Map.{lookup}
-use Rattle.pos_run.specs.Names.{number_named}
 
 pub lookup_named : {K : Type 0} (items : K → List ℕ) (entries : List (K × ℕ)) (name : List ℕ)
     → lookup (λ k. bytes_eq name (items k)) entries ≡ number_named (map (λ entry. (items entry.0, entry.1)) entries) name

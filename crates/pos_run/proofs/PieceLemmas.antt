@@ -1,7 +1,5 @@
 -- The lines that pieces of a script end.
-use Rattle.std.proofs.Common.{◌≡◌, ◌++◌, ◌∷◌, ◌∙◌, [], ℕ, List, sym, ap, subst, append_assoc, append-nil}
-use Rattle.pos_script.specs.LineBuffers.{Kept, StandsFor}
-use Rattle.pos_script.specs.Lines.{complete_lines, unfinished}
+use Rattle.pos_run.proofs.Common.{Kept, List, StandsFor, [], ap, append-nil, append_assoc, complete_lines, subst, sym, unfinished, ℕ, ◌++◌, ◌∙◌, ◌∷◌, ◌≡◌}
 use Rattle.pos_script.proofs.LineLemmas.{go_on_lines}
 
 -- nothing of a piece yet
@@ -14,7 +12,7 @@ module _ (read piece seen left : List ℕ) (split : piece ≡ seen ++ left) (lin
   -- all of it, without a line more
   pub no_more : (kept : Kept) → complete_lines ((read ++ seen) ++ left) ≡ complete_lines (read ++ seen)
       → complete_lines (read ++ piece) ≡ complete_lines read ++ lines
-  no_more kept none = ap (λ p. complete_lines (read ++ p)) split ∙ ap complete_lines (sym (append_assoc read seen left)) ∙ none ∙ are
+  no_more kept none = rw (split, ← append_assoc read seen left) (none ∙ are)
 
   pub stands_then : (kept : Kept) → StandsFor kept ((read ++ seen) ++ left) → StandsFor kept (read ++ piece)
   stands_then kept stands = subst (StandsFor kept) (append_assoc read seen left ∙ ap (λ p. read ++ p) (sym split)) stands
@@ -26,8 +24,7 @@ module _ (read piece seen left : List ℕ) (split : piece ≡ seen ++ left) (lin
     split_then = split ∙ ap (λ p. seen ++ p) cut ∙ sym (append_assoc seen taken rest)
 
     pub line_more : complete_lines (read ++ (seen ++ taken)) ≡ complete_lines read ++ (lines ++ line ∷ [])
-    line_more = ap complete_lines (sym (append_assoc read seen taken)) ∙ ends ∙ ap (λ ls. ls ++ line ∷ []) are
-        ∙ append_assoc (complete_lines read) lines (line ∷ [])
+    line_more = rw (← append_assoc read seen taken, ends, are, append_assoc)
 
     pub rest_none : unfinished ((read ++ seen) ++ taken) ≡ [] → unfinished (read ++ (seen ++ taken)) ≡ []
     rest_none none = ap unfinished (sym (append_assoc read seen taken)) ∙ none
@@ -38,8 +35,4 @@ module _ (read piece seen left : List ℕ) (split : piece ≡ seen ++ left) (lin
 
     pub lines_all : complete_lines (read ++ piece) ≡ complete_lines read ++ ((lines ++ line ∷ []) ++ later)
     lines_all =
-        ap (λ p. complete_lines (read ++ p)) split_then
-        ∙ ap complete_lines (sym (append_assoc read (seen ++ taken) rest))
-        ∙ go_on_lines (read ++ (seen ++ taken)) rest
-        ∙ ap (λ ls. ls ++ later) line_more
-        ∙ append_assoc (complete_lines read) (lines ++ line ∷ []) later
+        rw split_then (rw (← append_assoc read (seen ++ taken) rest) (go_on_lines (read ++ (seen ++ taken)) rest ∙ rw (line_more, append_assoc)))

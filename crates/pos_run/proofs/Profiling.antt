@@ -1,28 +1,20 @@
 -- The entries of a profile, what is simulated for them in its wrappers, and the spares.
-use Rattle.std.proofs.Common.{◌≡◌, ◌∙◌, ◌<◌, ◌≤◌, ◌+◌, ◌-◌, ◌^◌, ◌∷◌, ◌++◌, [], ℕ, Bool, true, false, List, Option, Some, None, All, get_or, length}
-use Rattle.std.proofs.Common.{min, take, refl, sym, ap, subst, arith}
-use Rattle.std.proofs.lemmas.List.{map-append, take_more}
-use Rattle.std.proofs.lemmas.List.Elements.{All-map}
-use Rattle.std.proofs.lemmas.Option.{same_Some}
-use Rattle.pos_service.specs.declared.category.Category.{Category}
-use Rattle.pos_service.specs.declared.category.Category.TheVariants.{PosPrinter}
-use Rattle.pos_service.specs.declared.kind.Kind.{Kind}
-use Rattle.pos_service.specs.declared.plant.Plant.{Plant}
-use Rattle.pos_service.specs.Peripherals.{PeripheralState}
-use Rattle.pos_profile.specs.declared.entry.Entry.{Entry}
-use Rattle.pos_profile.specs.declared.number.NumberKey.TheVariants.{Lines}
-use Rattle.pos_profile.specs.declared.role.Role.{Role}
-use Rattle.pos_profile.specs.declared.optional.OptionalKey.TheVariants.{Ring}
-use Rattle.pos_profile.specs.Kinds.{kind_of}
+use Rattle.pos_run.proofs.Common.{All, Bool, Category, Entry, HoldsOnlyIf, IsDeviceFor, IsInService, IsSimulable, IsSimulatedFor, Kind, List, None, Option}
+use Rattle.pos_run.proofs.Common.{PeripheralState, Some, Wrapped, [], ap, arith, false, get_or, kind_of, length, map-append, min, new_device, refl}
+use Rattle.pos_run.proofs.Common.{simulated_all, simulated_for, state_of, subst, sym, take, take_more, true, wrapped_by, wrapped_state, ℕ, ◌++◌, ◌+◌, ◌-◌}
+use Rattle.pos_run.proofs.Common.{◌<◌, ◌^◌, ◌∙◌, ◌∷◌, ◌≡◌, ◌≤◌}
 use Rattle.pos_profile.specs.Numbers.{has_number}
-use Rattle.std.specs.Option.{option_map}
 use Rattle.pos_profile.specs.OptionalKeys.{has_option}
 use Rattle.pos_profile.specs.Soundness.{IsInItsRange, IsSoundEntry}
+use Rattle.pos_profile.specs.declared.number.NumberKey.TheVariants.{Lines}
+use Rattle.pos_profile.specs.declared.optional.OptionalKey.TheVariants.{Ring}
+use Rattle.pos_profile.specs.declared.role.Role.{Role}
 use Rattle.pos_run.specs.declared.simulation.Simulation.{Simulation}
-use Rattle.pos_run.specs.declared.wrapped.Wrapped.{Wrapped}
-use Rattle.pos_run.specs.Simulating.{HoldsOnlyIf, IsDeviceFor, IsSimulable, IsSimulatedFor, simulated_all, simulated_for, new_device, state_of, wrapped_by}
-use Rattle.pos_run.specs.Simulating.{wrapped_state}
-use Rattle.pos_run.specs.Spares.{IsInService}
+use Rattle.pos_service.specs.declared.category.Category.TheVariants.{PosPrinter}
+use Rattle.pos_service.specs.declared.plant.Plant.{Plant}
+use Rattle.std.proofs.lemmas.List.Elements.{All-map}
+use Rattle.std.proofs.lemmas.Option.{same_Some}
+use Rattle.std.specs.Option.{option_map}
 
 module _ (entries : List Entry) (i : ℕ) (entry : Entry) (lt : i < length entries) (is : entry ≡ get_or entries i entry) where
   -- the entries up to this one
@@ -33,9 +25,7 @@ module _ (entries : List Entry) (i : ℕ) (entry : Entry) (lt : i < length entri
   pub spares_more : (front : List (Option PeripheralState)) (spare : Option PeripheralState) → front ≡ simulated_all (take i entries)
       → spare ≡ simulated_for entry → front ++ spare ∷ [] ≡ simulated_all (take (i + 1) entries)
   spares_more front spare so_far same =
-      ap (λ (f : List (Option PeripheralState)). f ++ spare ∷ []) so_far
-      ∙ ap (λ (s : Option PeripheralState). simulated_all (take i entries) ++ s ∷ []) same
-      ∙ sym (map-append simulated_for (take i entries) (entry ∷ [])) ∙ ap simulated_all (sym one_more)
+      rw (so_far, same, one_more, map-append simulated_for (take i entries) (entry ∷ []))
 
 -- what is simulated is in service, and was given no order yet
 new_serves : (kind : Option Kind) (lines : ℕ) → IsInService (option_map (λ is. new_device is lines) kind)
@@ -51,9 +41,6 @@ state_serves entry state is = subst IsInService (sym is) (new_serves (kind_of en
 
 pub state_is_fresh : (entry : Entry) (state : PeripheralState) → Some state ≡ simulated_for entry → state.orders ≡ 0
 state_is_fresh entry state is = new_is_fresh (kind_of entry) entry.lines state is
-
-pub device_serves : (entry : Entry) (device : Simulation) → Some (state_of device) ≡ simulated_for entry → (state_of device).is_parked ≡ false
-device_serves entry device is = state_serves entry (state_of device) is
 
 pub all_serve : (entries : List Entry) → All IsInService (simulated_all entries)
 all_serve entries = All-map IsInService simulated_for entries (λ k entry lt. new_serves (kind_of (get_or entries k entry)) (get_or entries k entry).lines)
@@ -104,15 +91,13 @@ begins_behind : (flaky : Option (ℕ × ℕ)) (recorded : Bool) (kind : Option K
     → Some state ≡ option_map (λ is. new_device is lines) kind → behind flaky recorded state ≡ state
 begins_behind flaky recorded None lines state is = absurd cc
 begins_behind flaky recorded (Some kind) lines state is =
-    subst (λ (s : PeripheralState). behind flaky recorded s ≡ s) (sym (same_Some state (new_device kind lines) is))
-    (same_behind flaky recorded kind (new_device kind lines).plant false)
+    rw (same_Some state (new_device kind lines) is) (same_behind flaky recorded kind (new_device kind lines).plant false)
 
 -- what an entry's wrappers have in them is what is simulated for it
 pub wrapped_begins : (entry : Entry) (device : Simulation) → Some (state_of device) ≡ simulated_for entry
     → Some (wrapped_state (wrapped_by entry.flaky entry.recorded device)) ≡ simulated_for entry
 wrapped_begins entry device is =
-    ap (λ (s : PeripheralState). Some s)
-    (is_behind entry.flaky entry.recorded device ∙ begins_behind entry.flaky entry.recorded (kind_of entry) entry.lines (state_of device) is) ∙ is
+    rw (is_behind entry.flaky entry.recorded device, begins_behind entry.flaky entry.recorded (kind_of entry) entry.lines (state_of device) is) is
 
 module _ (entry : Entry) (device : Simulation) (made : Wrapped) (simulates : IsDeviceFor entry (Some device))
     (is : made ≡ wrapped_by entry.flaky entry.recorded device) where

@@ -1,22 +1,10 @@
 -- What a read of a script tells.
-use Rattle.std.proofs.Common.{◌≡◌, ◌+◌, ◌<◌, ◌++◌, [], inl, inr, ℕ, zero, suc, Bool, true, false, List, Option, take, refl, sym, ap, ◌∙◌, subst, append-nil}
-use Rattle.std.specs.Prelude.{◌⊎◌, Ok, Err}
-use Rattle.std.specs.Bool.{MatchBool}
-use Rattle.std.specs.Io.KnownBytes.{Consumes}
-use Rattle.std.proofs.KnownBytes.{Consumes-trans}
-use Rattle.std.proofs.lemmas.Bool.{ltb-true}
+use Rattle.pos_run.proofs.Common.{Consumes, Consumes-trans, Ended, Err, Failed, List, Ok, Open, Option, Reads, [], ap, append-nil}
+use Rattle.pos_run.proofs.Common.{cases_Bool, complete_lines, false, false≢true, found, inl, inr, lines_read, ltb-true, may_read, most_reads, refl, subst}
+use Rattle.pos_run.proofs.Common.{suc, take, true, zero, ℕ, ◌++◌, ◌+◌, ◌<◌, ◌∙◌, ◌≡◌, ◌⊎◌}
 use Rattle.pos_run.specs.declared.reading.ReadFault.{ReadFault}
 use Rattle.pos_run.specs.declared.reading.ReadState.{ReadState}
-use Rattle.pos_run.specs.declared.reading.ReadState.TheVariants.{Open, Ended, Failed}
 use Rattle.pos_run.specs.declared.reading.ScriptReader.{ScriptReader}
-use Rattle.pos_script.specs.Lines.{complete_lines}
-use Rattle.pos_run.specs.Running.{lines_read}
-use Rattle.pos_run.specs.Streams.{Reads, found, may_read, most_reads}
-
--- by which case it is
-which : (b : Bool) (P Q : Type 0) → MatchBool b P Q → ((b ≡ true) × P) ⊎ ((b ≡ false) × Q)
-which true P Q h = inl (refl, h)
-which false P Q h = inr (refl, h)
 
 -- a script that may be read was read less often than it may be
 pub fewer : (state : ReadState) (reads : ℕ) → may_read state reads ≡ true → reads < most_reads
@@ -27,42 +15,32 @@ fewer Failed reads h = cc
 module _ {R : Type 0} (old new : ScriptReader R) where
   -- one that gave bytes, or found the end, was made
   pub gave : (count : ℕ) → Reads old (Ok count) new → (old.reads < most_reads) × (new.reads ≡ old.reads + 1) × (new.state ≡ found (Ok count))
-  gave count h = by (which (may_read old.state old.reads) _ _ h)
-    where
-      by : ((may_read old.state old.reads ≡ true) × ((new.reads ≡ old.reads + 1) × (new.state ≡ found (Ok count)))) ⊎
-          ((may_read old.state old.reads ≡ false) × ((false ≡ true) × (new ≡ old)))
-          → (old.reads < most_reads) × (new.reads ≡ old.reads + 1) × (new.state ≡ found (Ok count))
-      by (inl (may, made)) = (fewer old.state old.reads may, made.0, made.1)
-      by (inr (not, refused)) =
-          let wrong = refused.0 in
-          cc
+  gave count h = elim (cases_Bool (may_read old.state old.reads)) [
+    | inl may ↦ let made = rw may at h in (fewer old.state old.reads may, made.0, made.1)
+    | inr not ↦ let unmade = rw not at h in absurd (false≢true unmade.0)
+  ]
 
   -- one that failed was made and failed, or wasn't made
   refused : (fault : ReadFault) → Reads old (Err fault) new → (new.state ≡ Failed) ⊎ ((may_read old.state old.reads ≡ false) × (new ≡ old))
-  refused fault h = by (which (may_read old.state old.reads) _ _ h)
-    where
-      by : ((may_read old.state old.reads ≡ true) × ((new.reads ≡ old.reads + 1) × (new.state ≡ Failed))) ⊎
-          ((may_read old.state old.reads ≡ false) × ((true ≡ true) × (new ≡ old)))
-          → (new.state ≡ Failed) ⊎ ((may_read old.state old.reads ≡ false) × (new ≡ old))
-      by (inl (may, made)) = inl made.1
-      by (inr (not, unread)) = inr (not, unread.1)
+  refused fault h = elim (cases_Bool (may_read old.state old.reads)) [
+    | inl may ↦ let made = rw may at h in inl made.1
+    | inr not ↦ let unmade = rw not at h in inr (not, unmade.1)
+  ]
 
   -- then it may be read no more
   pub no_more_reads : (fault : ReadFault) → Reads old (Err fault) new → may_read new.state new.reads ≡ false
-  no_more_reads fault h = by (refused fault h)
-    where
-      by : (new.state ≡ Failed) ⊎ ((may_read old.state old.reads ≡ false) × (new ≡ old)) → may_read new.state new.reads ≡ false
-      by (inl failed) = ap (λ (s : ReadState). may_read s new.reads) failed
-      by (inr (not, same)) = subst (λ (r : ScriptReader R). may_read r.state r.reads ≡ false) (sym same) not
+  no_more_reads fault h = elim (refused fault h) [
+    | inl failed ↦ rw failed refl
+    | inr stays ↦ rw stays.1 stays.0
+  ]
 
   -- the lines that were read are the same
   pub same_lines : (fault : ReadFault) → Reads old (Err fault) new → (input : List ℕ) → lines_read old.state input ≡ complete_lines input
       → lines_read new.state input ≡ complete_lines input
-  same_lines fault h input are = by (refused fault h)
-    where
-      by : (new.state ≡ Failed) ⊎ ((may_read old.state old.reads ≡ false) × (new ≡ old)) → lines_read new.state input ≡ complete_lines input
-      by (inl failed) = ap (λ (s : ReadState). lines_read s input) failed
-      by (inr (not, same)) = ap (λ (r : ScriptReader R). lines_read r.state input) same ∙ are
+  same_lines fault h input are = elim (refused fault h) [
+    | inl failed ↦ rw failed refl
+    | inr stays ↦ rw stays.1 are
+  ]
 
 -- of nothing there are no lines, whatever the last read found
 pub none_read : (state : ReadState) → lines_read state [] ≡ complete_lines []
@@ -81,14 +59,10 @@ read_more reader input is = ap (λ (s : ReadState). lines_read s input) is
 
 -- neither found a fault
 pub not_failed : (state : ReadState) → state ≡ Open → state ≡ Failed → ⊥
-not_failed state is failed =
-    let both : Open ≡ Failed = sym is ∙ failed in
-    cc
+not_failed state is failed = cc
 
 pub not_failed_at_end : (state : ReadState) → state ≡ Ended → state ≡ Failed → ⊥
-not_failed_at_end state is failed =
-    let both : Ended ≡ Failed = sym is ∙ failed in
-    cc
+not_failed_at_end state is failed = cc
 
 -- a read of nothing
 pub read_nothing : (old mid new : Option (List ℕ)) (input buffer : List ℕ) (count : ℕ) → count ≡ 0 → Consumes old mid input

@@ -1,19 +1,9 @@
 -- The spares, where one is taken or put back.
-use Rattle.std.proofs.Common.{◌≡◌, ◌∙◌, ◌<◌, ◌≤◌, ℕ, zero, suc, List, [], ◌∷◌, Option, Some, None, false, All, IfSome, get_or, length, option_and_then, set}
-use Rattle.std.proofs.Common.{slice_get, refl, sym, ap, subst, arith}
-use Rattle.std.specs.Prelude.{option_map}
-use Rattle.std.proofs.lemmas.List.{get_or-map, length-map, map-set}
+use Rattle.pos_run.proofs.Common.{All, Ghosts, IfSome, IsEmptyAt, IsInService, List, None, Option, PeripheralState, Some, SpareStates, [], ap, arith, false}
+use Rattle.pos_run.proofs.Common.{get_or, get_or-map, length, length-map, map-set, option_and_then, option_map, refl, set, set_past, slice_get, spare_at}
+use Rattle.pos_run.proofs.Common.{states_in, suc, sym, with_spare, zero, ℕ, ◌<◌, ◌∙◌, ◌∷◌, ◌≡◌}
 use Rattle.std.proofs.lemmas.List.Elements.{All-set}
 use Rattle.std.proofs.lemmas.Option.{slice_get-map, slice_get_past, slice_get_read, slice_get_within}
-use Rattle.pos_service.specs.declared.peripheral.Peripheral.{Ghosts}
-use Rattle.pos_service.specs.Peripherals.{PeripheralState}
-use Rattle.pos_run.specs.Spares.{IsEmptyAt, IsInService, SpareStates, spare_at, states_in, with_spare}
-
--- past the end nothing is changed
-set_past : (spares : SpareStates) (place : ℕ) (spare : Option PeripheralState) → length spares ≤ place → set spares place spare ≡ spares
-set_past [] place spare past = refl
-set_past (first ∷ spares) zero spare past = absurd (omega (arith, past))
-set_past (first ∷ spares) (suc place) spare past = ap (λ (ss : SpareStates). first ∷ ss) (set_past spares place spare (omega (arith, past)))
 
 -- a number behind the last has no spare
 pub none_past : (spares : SpareStates) (number : ℕ) → length spares < number → spare_at spares number ≡ None
@@ -69,15 +59,6 @@ pub with_is : (spares : SpareStates) (number place : ℕ) (spare : Option Periph
     → set spares place spare ≡ with_spare spares number spare
 with_is spares number place spare is = sym (ap (λ n. with_spare spares n spare) is)
 
--- a place isn't empty and taken
-not_both : (spares : SpareStates) (number place : ℕ) (state : PeripheralState) → number ≡ suc place → IsEmptyAt spares number
-    → slice_get spares place ≡ Some (Some state) → ⊥
-not_both spares number place state is (other, same, none) at =
-    let places : place ≡ other = omega (arith, is, same) in
-    let here : slice_get spares place ≡ Some None = ap (slice_get spares) places ∙ none in
-    let both : Some (Some state) ≡ Some None = sym at ∙ here in
-    cc
-
 module _ {P : Type 0} (peripherals : Ghosts P) (list : List (Option P)) (place : ℕ) where
   -- what is at the place of a box
   pub state_there : (spare : Option P) → place < length list → spare ≡ get_or list place spare
@@ -97,7 +78,7 @@ module _ {P : Type 0} (peripherals : Ghosts P) (list : List (Option P)) (place :
       let count : length (states_in peripherals list) ≡ length list = length-map list (option_map peripherals.state) in
       let there : get_or (states_in peripherals list) place (option_map peripherals.state spare) ≡ option_map peripherals.state spare =
       get_or-map (option_map peripherals.state) list place spare (option_map peripherals.state spare) within ∙ ap (option_map peripherals.state) (sym at) in
-      serving spare (subst IsInService there (all place (option_map peripherals.state spare) (omega (arith, count, within))))
+      serving spare (rw there at (all place (option_map peripherals.state spare) (omega (arith, count, within))))
 
   -- another box, or none, is put there
   pub states_set : (spare : Option P)
@@ -106,8 +87,8 @@ module _ {P : Type 0} (peripherals : Ghosts P) (list : List (Option P)) (place :
 
   pub service_set : (spare : Option P) → All IsInService (states_in peripherals list) → IsInService (option_map peripherals.state spare)
       → All IsInService (states_in peripherals (set list place spare))
-  service_set spare all one = subst (All IsInService) (sym (states_set spare))
-      (All-set IsInService (states_in peripherals list) place (option_map peripherals.state spare) one all)
+  service_set spare all one =
+      rw (states_set spare) (All-set IsInService (states_in peripherals list) place (option_map peripherals.state spare) one all)
 
   -- the place of a number that is empty has no box
   pub no_box : (number : ℕ) (spare : Option P) (other : P) → number ≡ suc place → IsEmptyAt (states_in peripherals list) number
@@ -115,5 +96,7 @@ module _ {P : Type 0} (peripherals : Ghosts P) (list : List (Option P)) (place :
   no_box number spare other is (empty, same, none) at some =
       let count : length (states_in peripherals list) ≡ length list = length-map list (option_map peripherals.state) in
       let within : place < length list = omega (arith, is, same, count, slice_get_within (states_in peripherals list) empty None none) in
-      not_both (states_in peripherals list) number place (peripherals.state other) is (empty, same, none)
-      (state_there spare within at ∙ ap (λ (o : Option P). Some (option_map peripherals.state o)) some)
+      let here : slice_get (states_in peripherals list) place ≡ Some None = rw (let e : place ≡ empty = omega (arith, is, same) in e) none in
+      let full : slice_get (states_in peripherals list) place ≡ Some (Some (peripherals.state other)) =
+      state_there spare within at ∙ ap (λ (o : Option P). Some (option_map peripherals.state o)) some in
+      cc

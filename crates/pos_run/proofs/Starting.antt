@@ -1,29 +1,17 @@
 -- A run over a counter, as a run of the machine from where the counter begins.
-use Rattle.std.proofs.Common.{◌≡◌, ◌∙◌, inl, inr, ℕ, List, Option, refl, subst, sym, ap}
-use Rattle.std.specs.Prelude.{Result, Ok, Err}
-use Rattle.pos_disk.specs.declared.device.Disk.{Ghosts as DiskGhosts}
-use Rattle.pos_service.specs.declared.peripheral.Peripheral.{Ghosts}
-use Rattle.pos_profile.specs.Entries.{Contents}
-use Rattle.pos_store.specs.Standing.{Standing, LeavesOneOf}
-use Rattle.pos_counter.specs.declared.counter.Counter.{Counter}
-use Rattle.pos_disk.specs.State.{MayLeave}
-use Rattle.pos_counter.specs.Counters.{machine, IsRun}
-use Rattle.pos_run.specs.Carried.{RunsThrough}
-use Rattle.pos_counter.specs.Machine.{Machine}
-use Rattle.pos_counter.specs.Leaving.{part_of, part_with, IsSettled, Leaves}
-use Rattle.pos_counter.specs.Totals.{TotalsPart}
-use Rattle.pos_counter.specs.Steps.{Request, Response, Run}
-use Rattle.pos_counter.specs.Sparing.{RunSparing}
-use Rattle.pos_counter.proofs.Runs.{machine_runs, runs_from}
+use Rattle.pos_run.proofs.Common.{Counter, DiskGhosts, Err, Finishes, Ghosts, IsRun, Leads, List, Machine, Ok, Option, Request, Response, Result, Run}
+use Rattle.pos_run.proofs.Common.{RunFault, RunsOverProfile, RunsScript, RunsThrough, ScriptLeaves, Session, SpareStates, Stops, Streams, TotalsPart, Writing}
+use Rattle.pos_run.proofs.Common.{ap, begun_session, begun_with, inl, inr, lines_read, machine, machine_runs, new_totals, off_over, refl, runs_from}
+use Rattle.pos_run.proofs.Common.{simulated_all, simulated_devices, subst, sym, ℕ, ◌∙◌, ◌≡◌}
 use Rattle.pos_counter.proofs.Sparing.{runs_anyhow}
+use Rattle.pos_counter.specs.Leaving.{IsSettled, Leaves, part_of, part_with}
+use Rattle.pos_counter.specs.Sparing.{RunSparing}
+use Rattle.pos_disk.specs.State.{MayLeave}
+use Rattle.pos_profile.specs.Entries.{Contents}
+use Rattle.pos_store.specs.Standing.{LeavesOneOf, Standing}
 use Rattle.pos_totals.specs.Views.{TotalsView}
-use Rattle.pos_run.specs.declared.scripts.RunFault.{RunFault}
 use Rattle.pos_run.specs.declared.scripts.RunFault.TheVariants as fault
-use Rattle.pos_run.specs.Running.{Finishes, RunsScript, ScriptLeaves, Stops, begun_with, lines_read, new_totals, off_over}
-use Rattle.pos_run.specs.Simulating.{RunsOverProfile, simulated_all, simulated_devices}
-use Rattle.pos_run.specs.Spares.{SpareStates}
-use Rattle.pos_run.specs.Streams.{Streams, Writing}
-use Rattle.pos_run.specs.Transcript.{Leads, Session, begun_session}
+use Rattle.pos_run.proofs.Finishing.{stops_at}
 
 -- each moment of a run is one of a step, over a disk whose crash now leaves what it says; and over any disk its requests
 -- that spare it are steps
@@ -60,23 +48,9 @@ module _ {C M : Type 0} (Runs : Leads C) (Over : Leads M) (StandsFor : C → M �
         let r = along a h.mid m h.transcript.steps stands h.transcript.run in
         let s = along h.mid b r.0 h.carried.steps r.1 h.carried.run in (
           s.0,
-          record {
-            earlier = h.earlier;
-            line = h.line;
-            later = h.later;
-            text = h.text;
-            between = h.between;
-            mid = r.0;
-            reply = h.reply;
-            front = h.front;
-            back = h.back;
-            split = h.split;
-            transcript = record { steps = h.transcript.steps; run = r.2; prints = h.transcript.prints };
-            carried = record { steps = h.carried.steps; run = s.2; becomes = h.carried.becomes };
-            cut = h.cut;
-            unwritten = h.unwritten;
-            written = h.written;
-          },
+          stops_at h Over m session lines h.earlier h.later h.text before r.0 s.0 h.split
+              (record { steps = h.transcript.steps; run = r.2; prints = h.transcript.prints })
+              (record { steps = h.carried.steps; run = s.2; becomes = h.carried.becomes }) h.written,
         )
 
   -- what a run leaves

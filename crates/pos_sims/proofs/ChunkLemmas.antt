@@ -1,12 +1,10 @@
 -- Laying character by character makes what the chunks of whole segments make.
-use Rattle.std.proofs.Common.{◌≡◌, ◌++◌, ◌∷◌, inl, inr, ℕ, suc, zero, ◌-◌, ◌<◌, ◌≤◌, List, [], drop, length, sym, ◌∙◌, refl, arith, append_assoc, length-drop}
-use Rattle.std.proofs.lemmas.Bool.{cases_lt, cases_order, le-leb, lt-leb}
-use Rattle.std.proofs.lemmas.Bool.Decides.{nat_tests}
-use Rattle.std.proofs.lemmas.List.{length-map, take_at, drop_at, take-append-le, drop-append-le, length_push, map_push}
+use Rattle.pos_sims.proofs.Common.{Item, List, PrintedCharacter, Printout, SegmentCharacter, [], after_items, append_assoc, arith, cases_lt, cases_order}
+use Rattle.pos_sims.proofs.Common.{characters_of, drop, drop-append-le, drop_at, first_alignment, in_chunks, inl, inr, le-leb, length, length-map}
+use Rattle.pos_sims.proofs.Common.{length_push, lt-leb, map_push, nat_tests, overflowed, put, refl, suc, sym, take-append-le, take_at, zero, ℕ, ◌++◌, ◌-◌}
+use Rattle.pos_sims.proofs.Common.{◌<◌, ◌∙◌, ◌∷◌, ◌≡◌, ◌≤◌}
 use Rattle.pos_service.specs.declared.receipt_text.Alignment.{Alignment}
-use Rattle.pos_service.specs.declared.receipt_text.PrintedCharacter.{PrintedCharacter}
-use Rattle.pos_service.specs.Receipts.{Item, SegmentCharacter, Printout, after_items, characters_of, first_alignment, in_chunks, overflowed}
-use Rattle.pos_sims.specs.Tapes.{put}
+use Rattle.std.proofs.Common.{length-drop}
 
 -- all fits into one chunk
 pub fitting : (most chars : ℕ) (segment : List SegmentCharacter) → length segment ≤ chars

@@ -1,3 +1,4 @@
+pub mod Common
 pub mod WindowLemmas
 pub mod ScrollLemmas
 pub mod RunLemmas

@@ -1,14 +1,10 @@
 -- A run over the pieces makes what the definition by segments says.
-use Rattle.std.proofs.Common.{◌≡◌, ◌++◌, ◌∷◌, ℕ, suc, ◌+◌, ◌-◌, ◌<◌, ◌≤◌, List, [], replicate, length, ap, sym, ◌∙◌, refl, arith, append_assoc}
-use Rattle.std.proofs.lemmas.List.{append-nil, length-map, length_push}
+use Rattle.pos_sims.proofs.Common.{CutAt, Item, Line, List, Piece, PrintedCharacter, Printout, SegmentCharacter, Style, Work, [], add_cut, after_items, ap}
+use Rattle.pos_sims.proofs.Common.{append-nil, append_assoc, arith, begun_segment, characters_of, chunks_of, end_begun, end_full, end_line, ended, in_style}
+use Rattle.pos_sims.proofs.Common.{length, length-map, length_push, lines_if_begun, lines_needed, lines_of, plain, printed_by, printed_from, put, refl}
+use Rattle.pos_sims.proofs.Common.{replicate, step, steps, suc, sym, ℕ, ◌++◌, ◌+◌, ◌-◌, ◌<◌, ◌∙◌, ◌∷◌, ◌≡◌, ◌≤◌}
 use Rattle.std.proofs.lemmas.List.Sums.{fold-append}
-use Rattle.pos_service.specs.declared.receipt_text.PrintedCharacter.{PrintedCharacter}
-use Rattle.pos_service.specs.declared.receipt_text.Piece.{Piece}
 use Rattle.pos_service.specs.declared.receipt_text.Piece.TheVariants as piece
-use Rattle.pos_service.specs.Receipts.{Item, Line, CutAt, Style, plain, SegmentCharacter, in_style, Printout, after_items, begun_segment}
-use Rattle.pos_service.specs.Receipts.{characters_of, chunks_of}
-use Rattle.pos_service.specs.Receipts.{lines_if_begun, lines_of, printed_from, lines_needed, printed_by}
-use Rattle.pos_sims.specs.Tapes.{put, ended, Work, end_line, end_begun, end_full, add_cut, step, steps}
 use Rattle.pos_sims.proofs.ChunkLemmas.{chunked_more, put_behind, chunked_some, fitting}
 
 -- a piece that is no change of style keeps the style

@@ -1,17 +1,10 @@
 -- Cells in turn: what a ring shows as its rows are blanked and its first row changes.
-use Rattle.std.proofs.Common.{◌≡◌, ◌⊎◌, inl, inr, ℕ, ◌+◌, ◌-◌, ◌*◌, ◌<◌, ◌≤◌, List, Bool, true, cond, take, drop, ◌&&◌, length, get_or, ap, ◌∙◌, refl, arith}
-use Rattle.std.specs.Prelude.{nat_lt, nat_le, if◌then◌else◌}
-use Rattle.std.proofs.lemmas.Bool.{cases_lt}
-use Rattle.std.proofs.lemmas.Bool.Decides.{nat_tests}
-use Rattle.std.proofs.lemmas.List.{ext_get_or, get_or-replicate, length-append}
-use Rattle.std.proofs.lemmas.List.{length-drop, length-replicate, length-take}
-use Rattle.std.proofs.Math.Nat.{mul-le-mul_right}
-use Rattle.pos_service.specs.declared.display_text.Attribute.{Attribute}
-use Rattle.pos_service.specs.declared.display_text.DisplayCell.{DisplayCell}
+use Rattle.pos_service.specs.declared.display_text.Direction.{Direction}
+use Rattle.pos_sims.proofs.Common.{Attribute, Bool, DisplayCell, IsAbove, IsBelow, List, MovesToEnd, MovesToFront, Scrolls, ShiftsToEnd, ShiftsToFront}
+use Rattle.pos_sims.proofs.Common.{StandsAt, ap, arith, blank, blanked, cases_lt, cell_at, cond, display_of, drop, ext_get_or, get_or, get_or-replicate}
+use Rattle.pos_sims.proofs.Common.{if◌then◌else◌, inl, inr, length, length-append, length-drop, length-replicate, length-take, mul-le-mul_right, nat_le}
+use Rattle.pos_sims.proofs.Common.{nat_lt, nat_tests, refl, take, true, turned, with_run_at, ℕ, ◌&&◌, ◌*◌, ◌+◌, ◌-◌, ◌<◌, ◌∙◌, ◌≡◌, ◌≤◌, ◌⊎◌}
 use Rattle.pos_service.specs.declared.display_text.Direction.TheVariants as direction
-use Rattle.pos_service.specs.Displays.{Scrolls, blank, cell_at}
-use Rattle.pos_sims.specs.Rings.{IsAbove, IsBelow, StandsAt, blanked, turned}
-use Rattle.pos_sims.specs.Windows.{MovesToEnd, MovesToFront, ShiftsToFront, ShiftsToEnd, display_of, with_run_at}
 use Rattle.pos_sims.proofs.RunLemmas.{parts, run_at, run_count}
 use Rattle.pos_sims.proofs.ScrollLemmas.{moved_cell}
 use Rattle.pos_sims.proofs.WindowLemmas.{in_rows}
@@ -101,38 +94,38 @@ row_of rows columns first row lt r =
       )
     ]
 
--- within the rows the cells move in turn as they move in the ring
-across : (rows columns first row column to : ℕ) (t : Bool) (old new : List DisplayCell) → first < rows → length old ≡ rows * columns
-    → length new ≡ rows * columns → row < rows → column < columns → (t ≡ true → to < columns)
-    → ((r : ℕ) → r < rows → cell_at columns new r column ≡ cond t (cell_at columns old r to) blank)
-    → cell_at columns (turned (first * columns) new) row column ≡ cond t (cell_at columns (turned (first * columns) old) row to) blank
-across rows columns first row column to t old new lt count count' r c inside each =
-    let at = row_of rows columns first row lt r in
-    at.2 new column count' c ∙ each at.0 at.1 ∙ grind (arith, at.2 old to count)
+module _ (rows columns first units : ℕ) (old new : List DisplayCell) (lt : first < rows) (count : length old ≡ rows * columns)
+    (count' : length new ≡ rows * columns) where
+  -- within the rows the cells move in turn as they move in the ring
+  across : (row column to : ℕ) (t : Bool) → row < rows → column < columns → (t ≡ true → to < columns)
+      → ((r : ℕ) → r < rows → cell_at columns new r column ≡ cond t (cell_at columns old r to) blank)
+      → cell_at columns (turned (first * columns) new) row column ≡ cond t (cell_at columns (turned (first * columns) old) row to) blank
+  across row column to t r c inside each =
+      let at = row_of rows columns first row lt r in
+      at.2 new column count' c ∙ each at.0 at.1 ∙ grind (arith, at.2 old to count)
 
--- to the left, within the rows
-pub turned_left : (rows columns first units : ℕ) (old new : List DisplayCell) → first < rows → length old ≡ rows * columns → length new ≡ rows * columns →
-    MovesToFront columns units old new →
-    Scrolls (display_of rows columns (turned (first * columns) old)) direction.Left units (display_of rows columns (turned (first * columns) new))
-turned_left rows columns first units old new lt count count' moved = record {
-  rows = refl;
-  columns = refl;
-  count = turned_count (first * columns) new ∙ count';
-  cells = λ row column r c. across rows columns first row column (column + units) (nat_lt (column + units) columns) old new lt count count' r c
-      (λ t. grind (arith, nat_tests)) (λ at in_range. moved_cell direction.Left rows columns units at column old new count moved in_range c);
-}
+  abbrev pub Turns : Direction → Type 0
+  Turns way = Scrolls (display_of rows columns (turned (first * columns) old)) way units (display_of rows columns (turned (first * columns) new))
 
--- to the right, within the rows
-pub turned_right : (rows columns first units : ℕ) (old new : List DisplayCell) → first < rows → length old ≡ rows * columns → length new ≡ rows * columns →
-    MovesToEnd columns units old new →
-    Scrolls (display_of rows columns (turned (first * columns) old)) direction.Right units (display_of rows columns (turned (first * columns) new))
-turned_right rows columns first units old new lt count count' moved = record {
-  rows = refl;
-  columns = refl;
-  count = turned_count (first * columns) new ∙ count';
-  cells = λ row column r c. across rows columns first row column (column - units) (nat_le units column) old new lt count count' r c
-      (λ t. omega arith) (λ at in_range. moved_cell direction.Right rows columns units at column old new count moved in_range c);
-}
+  -- to the left, within the rows
+  pub turned_left : MovesToFront columns units old new → Turns direction.Left
+  turned_left moved = record {
+    rows = refl;
+    columns = refl;
+    count = turned_count (first * columns) new ∙ count';
+    cells = λ row column r c. across row column (column + units) (nat_lt (column + units) columns) r c (λ t. grind (arith, nat_tests))
+        (λ at in_range. moved_cell direction.Left rows columns units at column old new count moved in_range c);
+  }
+
+  -- to the right, within the rows
+  pub turned_right : MovesToEnd columns units old new → Turns direction.Right
+  turned_right moved = record {
+    rows = refl;
+    columns = refl;
+    count = turned_count (first * columns) new ∙ count';
+    cells = λ row column r c. across row column (column - units) (nat_le units column) r c (λ t. omega arith)
+        (λ at in_range. moved_cell direction.Right rows columns units at column old new count moved in_range c);
+  }
 
 -- a run that has room in its row has it in the ring
 ring_room : (rows columns first row column start count place long : ℕ) → start ≡ first * columns → count ≡ rows * columns → first < rows → row < rows →

@@ -1,21 +1,10 @@
 -- A run of characters on a window, and the strip that it follows.
-use Rattle.std.proofs.Common.{◌≡◌, ◌≢◌, ◌∷◌, ◌∙◌, inl, inr, ℕ, suc, ◌+◌, ◌-◌, ◌*◌, ◌<◌, ◌≤◌, List, [], true, false, ◌&&◌, length, get_or, set, take, drop}
-use Rattle.std.proofs.Common.{sym, arith}
-use Rattle.std.specs.List.{list_all}
-use Rattle.std.specs.Prelude.{nat_lt, nat_le, if◌then◌else◌}
-use Rattle.std.proofs.lemmas.Bool.{and_parts, cases_eq}
-use Rattle.std.proofs.lemmas.Bool.Decides.{nat_tests}
+use Rattle.pos_sims.proofs.Common.{Attribute, DisplayCell, Follows, IsWithin, List, Manner, Place, Strip, [], and_parts, arith, blank, cases_eq, cell_with}
+use Rattle.pos_sims.proofs.Common.{drop, ext_get_or, false, get_or, get_or-append_right, get_or-drop, get_or-map, get_or-set_other, get_or-take}
+use Rattle.pos_sims.proofs.Common.{get_or_append_left, if◌then◌else◌, inl, inr, is_character, length, length-append, length-drop, length-map, length-set}
+use Rattle.pos_sims.proofs.Common.{length-take, list_all, nat_le, nat_lt, nat_tests, place_at, set, strip_at, suc, sym, take, take-add, take-append-drop}
+use Rattle.pos_sims.proofs.Common.{text_from, true, with_run_at, with_text, with_text_append, ℕ, ◌&&◌, ◌*◌, ◌+◌, ◌-◌, ◌<◌, ◌∙◌, ◌∷◌, ◌≡◌, ◌≢◌, ◌≤◌}
 use Rattle.std.proofs.lemmas.Grind.{get_or-set_at}
-use Rattle.std.proofs.lemmas.List.{ext_get_or, get_or-append_right, get_or-drop, get_or-map, get_or-set_other, get_or-take, get_or_append_left, length-append}
-use Rattle.std.proofs.lemmas.List.{length-drop, length-map, length-set, length-take, take-append-drop}
-use Rattle.std.proofs.Math.Seq.{take-add}
-use Rattle.pos_service.specs.declared.display_text.Attribute.{Attribute}
-use Rattle.pos_service.specs.declared.display_text.DisplayCell.{DisplayCell}
-use Rattle.pos_service.specs.declared.display_text.Place.{Place}
-use Rattle.pos_service.specs.Displays.{Strip, blank, cell_with, text_from, with_text}
-use Rattle.pos_service.proofs.StripLemmas.{place_at, strip_at, with_text_append}
-use Rattle.pos_sims.specs.declared.laying.Manner.{Manner}
-use Rattle.pos_sims.specs.Windows.{Follows, IsWithin, is_character, with_run_at}
 use Rattle.pos_sims.proofs.WindowLemmas.{in_rows, placed_here}
 
 -- an element, and the length, of a list that is made of parts

@@ -1,13 +1,9 @@
 -- Cells that move within parts of the list are rows and columns that move.
-use Rattle.std.proofs.Common.{◌≡◌, ℕ, ◌+◌, ◌-◌, ◌*◌, ◌<◌, List, length, ◌∙◌, arith}
-use Rattle.std.specs.Prelude.{nat_le, if◌then◌else◌}
-use Rattle.std.proofs.lemmas.Bool.Decides.{nat_tests}
-use Rattle.std.proofs.lemmas.Nat.{mod-mul-add}
-use Rattle.pos_service.specs.declared.display_text.DisplayCell.{DisplayCell}
+use Rattle.pos_sims.proofs.Common.{Display, DisplayCell, List, MovesToEnd, MovesToFront, SameSize, Scrolls, ShiftsToEnd, ShiftsToFront, arith, blank, cell_at}
+use Rattle.pos_sims.proofs.Common.{display_of, if◌then◌else◌, length, nat_le, nat_tests, scrolled_at, ℕ, ◌*◌, ◌+◌, ◌-◌, ◌<◌, ◌∙◌, ◌≡◌}
 use Rattle.pos_service.specs.declared.display_text.Direction.{Direction}
+use Rattle.std.proofs.lemmas.Nat.{mod-mul-add}
 use Rattle.pos_service.specs.declared.display_text.Direction.TheVariants as direction
-use Rattle.pos_service.specs.Displays.{Display, Scrolls, blank, cell_at, scrolled_at}
-use Rattle.pos_sims.specs.Windows.{MovesToEnd, MovesToFront, SameSize, ShiftsToEnd, ShiftsToFront, display_of}
 use Rattle.pos_sims.proofs.WindowLemmas.{in_rows}
 
 -- how the cells move as so many units are scrolled

@@ -1,13 +1,11 @@
 -- Items by marks, and what is added at the end.
-use Rattle.std.proofs.Common.{◌≡◌, ◌++◌, ◌∷◌, ℕ, ◌+◌, ◌≤◌, List, [], drop, length, ◌∙◌, refl, arith, append_assoc, length-drop}
-use Rattle.std.proofs.lemmas.List.{take-append-le, drop-append-le, drop-drop}
-use Rattle.pos_service.specs.declared.receipt_text.PrintedCharacter.{PrintedCharacter}
+use Rattle.pos_sims.proofs.Common.{Adds, Extends, List, Piece, PrintedCharacter, Work, [], after_items, append_assoc, arith, characters_in, drop}
+use Rattle.pos_sims.proofs.Common.{drop-append-le, drop-drop, items_from, length, lines_needed, plain, printed_on, refl, request_on, steps, take-append-le, ℕ}
+use Rattle.pos_sims.proofs.Common.{◌++◌, ◌+◌, ◌∙◌, ◌∷◌, ◌≡◌, ◌≤◌}
 use Rattle.pos_service.specs.declared.receipt_text.Mark.{Mark}
-use Rattle.pos_service.specs.declared.receipt_text.Mark.TheVariants as mark
-use Rattle.pos_service.specs.declared.receipt_text.Piece.{Piece}
-use Rattle.pos_service.specs.Receipts.{after_items, characters_in, items_from, lines_needed, plain}
 use Rattle.pos_sims.specs.declared.tape.Tape.{Tape}
-use Rattle.pos_sims.specs.Tapes.{Adds, Extends, Work, printed_on, request_on, steps}
+use Rattle.std.proofs.Common.{length-drop}
+use Rattle.pos_service.specs.declared.receipt_text.Mark.TheVariants as mark
 use Rattle.pos_sims.proofs.RequestLemmas.{request_run}
 
 -- characters behind the lines make no item

@@ -1,18 +1,10 @@
 -- The window of a strip: a row further, and a character more.
-use Rattle.std.proofs.Common.{◌≡◌, ◌≢◌, ◌++◌, ◌∷◌, ◌⊎◌, inl, inr, ℕ, ◌+◌, ◌*◌, ◌<◌, ◌≤◌, List, [], ◌&&◌, length, get_or, set, ◌∙◌, refl, arith}
-use Rattle.std.specs.Prelude.{Some, ◌==◌, if◌then◌else◌}
-use Rattle.std.proofs.lemmas.Bool.{cases_eq, cases_lt}
-use Rattle.std.proofs.lemmas.Bool.Decides.{nat_tests}
-use Rattle.std.proofs.lemmas.List.{get_or-set_same, get_or-set_other, get_or_past}
+use Rattle.pos_sims.proofs.Common.{Attribute, Display, DisplayCell, Follows, IsWithin, List, Manner, Place, Placed, SameSize, ShiftsToFront, Some, Strip, []}
+use Rattle.pos_sims.proofs.Common.{arith, blank, cases_eq, cases_lt, cell_at, cell_with, character_text, fed, first_free, first_full, get_or}
+use Rattle.pos_sims.proofs.Common.{get_or-set_other, get_or-set_same, get_or_past, if◌then◌else◌, inl, inr, last_at, length, mul-le-mul_right, nat_tests}
+use Rattle.pos_sims.proofs.Common.{place_at, refl, right_of, rows_above, set, shown_at, strip_at, with_text, ℕ, ◌&&◌, ◌*◌, ◌++◌, ◌+◌, ◌<◌, ◌==◌, ◌∙◌, ◌∷◌}
+use Rattle.pos_sims.proofs.Common.{◌≡◌, ◌≢◌, ◌≤◌, ◌⊎◌}
 use Rattle.std.proofs.lemmas.Nat.{same_from_place}
-use Rattle.std.proofs.Math.Nat.{mul-le-mul_right}
-use Rattle.pos_service.specs.declared.display_text.Attribute.{Attribute}
-use Rattle.pos_service.specs.declared.display_text.DisplayCell.{DisplayCell}
-use Rattle.pos_service.specs.declared.display_text.Place.{Place}
-use Rattle.pos_service.specs.Displays.{Display, Placed, Strip, right_of, fed, with_text, blank, cell_at, cell_with, last_at, shown_at, rows_above}
-use Rattle.pos_service.proofs.StripLemmas.{character_text, first_free, first_full, place_at, strip_at}
-use Rattle.pos_sims.specs.declared.laying.Manner.{Manner}
-use Rattle.pos_sims.specs.Windows.{Follows, IsWithin, SameSize, ShiftsToFront}
 
 abbrev placed_at : Place → ℕ → Placed
 placed_at at character = record { at = at; character = character }

@@ -1,4 +1,4 @@
-use Rattle.std.proofs.Common.{◌∙◌}
+use Rattle.kijolvar.proofs.Common.{◌∙◌}
 use Rattle.kijolvar.proofs.kijolvar_answer.Goals as goal
 
 pub returns-clause-till : goal.returns-clause-till

@@ -1,5 +1,4 @@
-use Rattle.std.proofs.Common.{◌∙◌, ap, subst, sym, true≢false}
-use Rattle.kijolvar.specs.Tills.{Begins}
+use Rattle.kijolvar.proofs.Common.{ap, sym, true≢false, ◌∙◌}
 use Rattle.kijolvar.proofs.kijolvar_format_file.Goals as goal
 
 pub returns-clause-opened : goal.returns-clause-opened
@@ -11,6 +10,6 @@ returns-clause-opened c = λ fine.
       c.in-Ok.ensures,
       c.in-Ok-format_disk.ensures.formatted,
       at,
-      subst (Begins _ _ _) (sym same) c.in-Ok-begin.ensures.begins,
+      rw same c.in-Ok-begin.ensures.begins,
       λ in_memory. true≢false (c.in-Ok-begin.ensures.settlement.1 (ap (λ till. till.settlement) (sym same) ∙ in_memory)),
     )

@@ -1,5 +1,4 @@
-use Rattle.std.proofs.Common.{◌∙◌, ap, refl, subst, sym}
-use Rattle.kijolvar.specs.Tills.{Begins}
+use Rattle.kijolvar.proofs.Common.{ap, refl, ◌∙◌}
 use Rattle.kijolvar.proofs.kijolvar_open.Goals as goal
 
 pub returns-clause-opened : goal.returns-clause-opened
@@ -11,6 +10,6 @@ returns-clause-opened c = λ fine.
       c.in-Ok.ensures,
       c.in-Ok-new_disk.ensures.made,
       at,
-      subst (Begins _ _ _) (sym same) c.in-Ok-begin.ensures.begins,
+      rw same c.in-Ok-begin.ensures.begins,
       ap (λ till. till.settlement) same ∙ c.in-Ok-begin.ensures.settlement.0 refl,
     )

@@ -1,4 +1,4 @@
-use Rattle.std.proofs.Common.{inl}
+use Rattle.kijolvar.proofs.Common.{inl}
 use Rattle.std.proofs.lemmas.Result.{err_from_is_err_and}
 use Rattle.kijolvar.proofs.OrderLemmas.{any_want}
 use Rattle.kijolvar.proofs.orders.ask_keeping.Goals as goal

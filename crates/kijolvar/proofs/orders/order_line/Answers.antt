@@ -1,9 +1,6 @@
-use Rattle.std.proofs.Common.{◌∙◌, ◌++◌, List, ℕ, Option, codes, ap, sym, arith}
-use Rattle.std.specs.List.{filter_map}
-use Rattle.std.proofs.lemmas.List.{at_drop_more, drop_all}
-use Rattle.pos_service.specs.declared.order.Argument.{Argument}
+use Rattle.kijolvar.proofs.Common.{Argument, List, Option, ap, arith, codes, filter_map, sym, with_arguments, ℕ, ◌++◌, ◌∙◌}
 use Rattle.pos_service.specs.Peripherals.{order_word}
-use Rattle.kijolvar.specs.Orders.{with_arguments}
+use Rattle.std.proofs.lemmas.List.{at_drop_more, drop_all}
 use Rattle.kijolvar.proofs.orders.order_line.Goals.{in-Some+in_ok-add_argument, in_default}
 use Rattle.kijolvar.proofs.orders.order_line.Goals as goal
 

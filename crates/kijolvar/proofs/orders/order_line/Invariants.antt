@@ -1,7 +1,5 @@
-use Rattle.std.proofs.Common.{◌≡◌, Option, drop}
-use Rattle.std.specs.List.{filter_map}
-use Rattle.pos_service.specs.declared.order.Argument.{Argument}
-use Rattle.kijolvar.specs.Orders.{order_text, with_arguments}
+use Rattle.kijolvar.proofs.Common.{Argument, Option, filter_map, order_text, with_arguments, ◌≡◌}
+use Rattle.std.proofs.Common.{drop}
 use Rattle.kijolvar.proofs.orders.order_line.Given as goal
 
 -- the line with the arguments that are left is the whole

@@ -1,27 +1,12 @@
 -- `give` forgets what a till owns, which C has from then on.
-use Rattle.std.proofs.Common.{◌≡◌, List, [], ◌∷◌, ◌++◌, refl, sym, subst}
-use mir.Val.{Val, vptr}
-use base.Logic.{SProp, ent, emp, id⊢}
-use prog.Wp.{WpFn}
-use types.Kit.{‵, raw, ◌⊛◌, ◌$◌, ◌∵◌, !, qed, by, move, keep, drop, feq_i, split, fsplit, fjoin, suffices, use0}
-use types.Run.{stop, fld, of_opd, returns, enter}
-use types.ByLocal.{alloc_all, pass_all, free_all, look_at, get, get_in, sets}
-use types.Part.{sub, whole}
-use contract.Monad.{fact, fact_i}
-use contract.Running.{tables}
-use denote.Exit.{yes}
-use denote.RattleType.{owns}
-use denote.Signature.{types_at, plain}
-use denote.RawPtr.{block_ptr}
-use denote.Steps.{nothing}
-use denote.Triple.Entry.{alive}
-use denote.Triple.Walked.{Stays, stay_dropped, walk_of}
-use Rattle.core.proofs.alloc.Calls.{Goes-blank}
-use Rattle.std.proofs.raw_atomic.Walks.{proved_at, leaves}
+use Rattle.kijolvar.proofs.Common.{ !, Goes-blank, List, SProp, Stays, Val, WpFn, [], alive, alloc_all, block_ptr, by, drop, emp, ent, enter, fact, fact_i}
+use Rattle.kijolvar.proofs.Common.{feq_i, fjoin, fld, free_all, fsplit, get, get_in, id⊢, keep, leaves, look_at, move, nothing, of_opd, owns, pass_all, plain}
+use Rattle.kijolvar.proofs.Common.{proved_at, qed, raw, refl, returns, sets, split, stay_dropped, stop, sub, subst, suffices, sym, tables, types_at, use0}
+use Rattle.kijolvar.proofs.Common.{vptr, walk_of, whole, yes, ‵, ◌$◌, ◌++◌, ◌∵◌, ◌∷◌, ◌≡◌, ◌⊛◌}
+use Rattle.kijolvar.specs.contracts.till.give.{clauses, ended}
+use Rattle.kijolvar.specs.contracts.till.give.Key.{name as #self}
 use Rattle.kijolvar.proofs.Values.{both, loose_good}
 use Rattle.kijolvar.proofs.Tills.{R, Z, LZ, g, Till, till_out}
-use Rattle.kijolvar.specs.contracts.till.give.{ended, clauses}
-use Rattle.kijolvar.specs.contracts.till.give.Key.{name as #self}
 use Rattle.kijolvar.proofs.till.give.Statement.{statement}
 use Rattle.kijolvar.proofs.till.give.Code as code
 

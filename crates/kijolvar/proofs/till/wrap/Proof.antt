@@ -1,27 +1,12 @@
 -- `wrap` takes a loose box apart, and makes a till of what it had.
-use Rattle.std.proofs.Common.{◌≡◌, List, [], ◌∷◌, ◌++◌, refl, sym, subst}
-use mir.Val.{Val, vptr}
-use base.Logic.{SProp, ent, emp, id⊢}
-use prog.Wp.{WpFn}
-use types.Kit.{‵, raw, ◌⊛◌, ◌$◌, ◌∵◌, !, qed, by, move, keep, split, fsplit, fjoin, suffices, use0}
-use types.Run.{stop, fld, of_opd, no_more, and_then, returns, enter}
-use types.ByLocal.{alloc_all, pass_all, free_all, look_at, get, get_in, sets}
-use types.Part.{agg, sub, whole}
-use contract.Monad.{fact, fact_i}
-use contract.Running.{tables}
-use denote.Exit.{yes}
-use denote.RattleType.{owns}
-use denote.Signature.{types_at, plain}
-use denote.RawPtr.{block_ptr}
-use denote.Steps.{nothing}
-use denote.Triple.Entry.{alive}
-use denote.Triple.Walked.{Stays, stay_dropped, walk_of}
-use Rattle.core.proofs.alloc.Calls.{Goes-blank}
-use Rattle.std.proofs.raw_atomic.Walks.{proved_at, leaves}
+use Rattle.kijolvar.proofs.Common.{ !, Goes-blank, List, SProp, Stays, Val, WpFn, [], agg, alive, alloc_all, and_then, block_ptr, by, emp, ent, enter, fact}
+use Rattle.kijolvar.proofs.Common.{fact_i, fjoin, fld, free_all, fsplit, get, get_in, id⊢, keep, leaves, look_at, move, no_more, nothing, of_opd, owns}
+use Rattle.kijolvar.proofs.Common.{pass_all, plain, proved_at, qed, raw, refl, returns, sets, split, stay_dropped, stop, sub, subst, suffices, sym, tables}
+use Rattle.kijolvar.proofs.Common.{types_at, use0, vptr, walk_of, whole, yes, ‵, ◌$◌, ◌++◌, ◌∵◌, ◌∷◌, ◌≡◌, ◌⊛◌}
+use Rattle.kijolvar.specs.contracts.till.wrap.{clauses, ended}
+use Rattle.kijolvar.specs.contracts.till.wrap.Key.{name as #self}
 use Rattle.kijolvar.proofs.Values.{both, Loose, loose_good, loose_out}
 use Rattle.kijolvar.proofs.Tills.{R, Z, LZ, g, till_in}
-use Rattle.kijolvar.specs.contracts.till.wrap.{ended, clauses}
-use Rattle.kijolvar.specs.contracts.till.wrap.Key.{name as #self}
 use Rattle.kijolvar.proofs.till.wrap.Statement.{statement}
 use Rattle.kijolvar.proofs.till.wrap.Code as code
 

@@ -1,7 +1,4 @@
-use Rattle.std.proofs.Common.{◌≡◌, ◌∙◌, ◌<◌, length, arith, ap, sym, get_or}
-use Rattle.std.proofs.lemmas.List.{length-map}
-use Rattle.pos_service.specs.Controls.{listens}
-use Rattle.pos_common.specs.KeptControls.{KeptControl, controls_of}
+use Rattle.pos_common.proofs.Common.{KeptControl, ap, arith, controls_of, get_or, length, length-map, listens, sym, ◌<◌, ◌∙◌, ◌≡◌}
 use Rattle.pos_common.proofs.KeptLemmas.{control_at}
 use Rattle.pos_common.proofs.CopyLemmas.{copies_more, copies_same}
 use Rattle.pos_common.proofs.controls.copy_for_all.Goals as goal

@@ -1,5 +1,4 @@
-use Rattle.std.proofs.Common.{take}
-use Rattle.pos_common.specs.KeptControls.{AreCopies, controls_of}
+use Rattle.pos_common.proofs.Common.{AreCopies, controls_of, take}
 use Rattle.pos_common.proofs.controls.copy_for_all.Given as goal
 
 -- there is a copy for each control before the place that listens

@@ -1,7 +1,4 @@
-use Rattle.std.proofs.Common.{◌<◌, ◌≡◌, length, arith, ◌∙◌}
-use Rattle.std.proofs.lemmas.List.{length-map}
-use Rattle.pos_service.specs.Controls.{failed, if_listening}
-use Rattle.pos_common.specs.KeptControls.{HasRoom, controls_of, fault_events}
+use Rattle.pos_common.proofs.Common.{HasRoom, arith, controls_of, failed, fault_events, if_listening, length, length-map, ◌<◌, ◌∙◌, ◌≡◌}
 use Rattle.pos_common.proofs.KeptLemmas.{mapped_more, rest_after_set}
 use Rattle.pos_common.proofs.controls.fail_all.Goals as goal
 

@@ -1,6 +1,4 @@
-use Rattle.std.proofs.Common.{◌≡◌, ◌++◌, All, map, take, drop}
-use Rattle.pos_service.specs.Controls.{failed, if_listening}
-use Rattle.pos_common.specs.KeptControls.{HasRoom, controls_of, fault_events}
+use Rattle.pos_common.proofs.Common.{All, HasRoom, controls_of, drop, failed, fault_events, if_listening, map, take, ◌++◌, ◌≡◌}
 use Rattle.pos_common.proofs.controls.fail_all.Given as goal
 
 -- the input of the controls before the place has failed, and the others have room

@@ -1,9 +1,5 @@
-use Rattle.std.proofs.Common.{◌<◌, ◌≤◌, ◌≡◌, All, length, arith, subst, ◌∙◌}
-use Rattle.std.proofs.lemmas.List.{length-map, take_all}
-use Rattle.std.specs.Prelude.{◌+◌}
-use Rattle.pos_service.specs.Controls.{if_listening}
-use Rattle.pos_service.specs.Statuses.{heard_signs}
-use Rattle.pos_common.specs.KeptControls.{HasRoom, controls_of, sign_events}
+use Rattle.pos_common.proofs.Common.{All, HasRoom, arith, controls_of, heard_signs, if_listening, length, length-map, sign_events, subst, take_all, ◌+◌, ◌<◌}
+use Rattle.pos_common.proofs.Common.{◌∙◌, ◌≡◌, ◌≤◌}
 use Rattle.pos_common.proofs.KeptLemmas.{mapped_more, first_of_rest, rest_after_set, front_after_set}
 use Rattle.pos_common.proofs.RoomLemmas.{room_left}
 use Rattle.pos_common.proofs.controls.hear_all.Goals as goal

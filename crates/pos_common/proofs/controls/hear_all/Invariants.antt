@@ -1,7 +1,4 @@
-use Rattle.std.proofs.Common.{◌≡◌, ◌++◌, ℕ, ◌+◌, All, map, take, drop}
-use Rattle.pos_service.specs.Controls.{if_listening}
-use Rattle.pos_service.specs.Statuses.{heard_signs}
-use Rattle.pos_common.specs.KeptControls.{HasRoom, controls_of, sign_events}
+use Rattle.pos_common.proofs.Common.{All, HasRoom, controls_of, drop, heard_signs, if_listening, map, sign_events, take, ℕ, ◌++◌, ◌+◌, ◌≡◌}
 use Rattle.pos_common.proofs.controls.hear_all.Given as goal
 
 -- the controls before the place have heard, and the others have room; what was more than that is left

@@ -1,7 +1,4 @@
-use Rattle.std.proofs.Common.{◌<◌, ◌≡◌, length, arith, ◌∙◌}
-use Rattle.std.proofs.lemmas.List.{length-map}
-use Rattle.pos_service.specs.Controls.{read, if_listening}
-use Rattle.pos_common.specs.KeptControls.{HasRoom, controls_of, scan_events}
+use Rattle.pos_common.proofs.Common.{HasRoom, arith, controls_of, if_listening, length, length-map, read, scan_events, ◌<◌, ◌∙◌, ◌≡◌}
 use Rattle.pos_common.proofs.KeptLemmas.{mapped_more, first_of_rest, rest_after_set}
 use Rattle.pos_common.proofs.CopyLemmas.{copies_at, copies_behind}
 use Rattle.pos_common.proofs.controls.read_all.Goals as goal

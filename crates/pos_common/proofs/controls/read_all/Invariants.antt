@@ -1,7 +1,4 @@
-use Rattle.std.proofs.Common.{◌≡◌, ◌++◌, All, map, take, drop}
-use Rattle.pos_service.specs.declared.scan.Scan.{Scan}
-use Rattle.pos_service.specs.Controls.{read, if_listening}
-use Rattle.pos_common.specs.KeptControls.{HasRoom, AreCopies, controls_of, scan_events}
+use Rattle.pos_common.proofs.Common.{All, AreCopies, HasRoom, Scan, controls_of, drop, if_listening, map, read, scan_events, take, ◌++◌, ◌≡◌}
 use Rattle.pos_common.proofs.controls.read_all.Given as goal
 
 -- the controls before the place have read, and for the others there are room and copies

@@ -1,8 +1,5 @@
-use Rattle.std.proofs.Common.{◌<◌, ◌≤◌, length, arith, All, subst, sym, ◌∙◌}
-use Rattle.std.proofs.lemmas.List.{take_all}
-use Rattle.std.proofs.lemmas.List.Elements.{All-drop}
+use Rattle.pos_common.proofs.Common.{All, All-drop, HasRoom, arith, length, subst, sym, take_all, ◌<◌, ◌∙◌, ◌≤◌}
 use Rattle.std.proofs.lemmas.Result.{err_from_is_err_and}
-use Rattle.pos_common.specs.KeptControls.{HasRoom}
 use Rattle.pos_common.proofs.KeptLemmas.{same_control, front_after_set, first_of_rest, same_rest}
 use Rattle.pos_common.proofs.controls.room_all.Goals as goal
 

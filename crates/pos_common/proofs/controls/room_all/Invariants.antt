@@ -1,5 +1,4 @@
-use Rattle.std.proofs.Common.{◌≡◌, All, take, drop}
-use Rattle.pos_common.specs.KeptControls.{HasRoom, controls_of}
+use Rattle.pos_common.proofs.Common.{All, HasRoom, controls_of, drop, take, ◌≡◌}
 use Rattle.pos_common.proofs.controls.room_all.Given as goal
 
 -- the controls before the place have room, the others are as they were, and to the machine all are

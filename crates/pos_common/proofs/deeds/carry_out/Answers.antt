@@ -1,5 +1,4 @@
-use Rattle.pos_service.specs.Hardware.{hardware_of}
-use Rattle.pos_common.specs.KeptControls.{controls_of}
+use Rattle.pos_common.proofs.Common.{controls_of, hardware_of}
 use Rattle.pos_common.proofs.QueueLemmas.{queued_of}
 use Rattle.pos_common.proofs.deeds.carry_out.Goals as goal
 

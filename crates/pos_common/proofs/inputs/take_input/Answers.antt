@@ -1,5 +1,4 @@
-use Rattle.std.proofs.Common.{◌∙◌, Ok, ap, subst}
-use Rattle.pos_service.specs.Peripherals.{Fed}
+use Rattle.pos_common.proofs.Common.{Fed, Ok, ap, subst, ◌∙◌}
 use Rattle.pos_common.proofs.InputLemmas.{scan_taken}
 use Rattle.pos_common.proofs.inputs.take_input.Goals as goal
 

@@ -1,5 +1,4 @@
-use Rattle.std.proofs.Common.{◌≡◌, ◌≤◌, length, map, take, vec_len, vec_capacity}
-use Rattle.pos_profile.specs.Kinds.{built_entry}
+use Rattle.pos_profile.proofs.Common.{built_entry, length, map, take, vec_capacity, vec_len, ◌≡◌, ◌≤◌}
 use Rattle.pos_profile.proofs.built.make_devices.Given as goal
 
 -- a device of each category so far, and there is room for the others

@@ -1,5 +1,4 @@
-use Rattle.std.proofs.Common.{◌≡◌, ◌<◌, ℕ, List, Bor, false, map, take}
-use Rattle.pos_profile.specs.Profiles.{is_repeated, names_of}
+use Rattle.pos_profile.proofs.Common.{Bor, List, false, is_repeated, map, names_of, take, ℕ, ◌<◌, ◌≡◌}
 use Rattle.pos_profile.proofs.listing.first_repeated.Given as goal
 
 -- the set has the names so far, and none of them stands at an earlier place

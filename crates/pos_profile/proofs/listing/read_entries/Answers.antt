@@ -1,50 +1,33 @@
-use Rattle.std.proofs.Common.{◌≡◌, ◌∙◌, true, false, Some, map, slice_get, sym, arith}
-use Rattle.std.proofs.lemmas.List.{length-map}
-use Rattle.toml.specs.View.{view}
-use Rattle.pos_profile.specs.declared.entry.Entry.{Entry}
-use Rattle.pos_profile.specs.Entries.{entry_of}
-use Rattle.pos_profile.specs.Profiles.{is_refused, is_refused_after}
-use Rattle.pos_profile.proofs.ListLemmas.{all_read, flawed_at, refused_at, second_at, taken, value_at}
+use Rattle.pos_profile.proofs.Common.{arith, below_more, entry_of, false, is_refused, length-map, map, sym, view, ◌∙◌, ◌≡◌}
+use Rattle.pos_profile.proofs.ListLemmas.{all_read, flawed_at, refused_at, second_at, taken}
 use Rattle.pos_profile.proofs.listing.read_entries.Goals as goal
-use borrow.Author.Count.{below_more}
 
 pub returns-in-Err-Flawed : goal.returns-in-Err-Flawed
 returns-in-Err-Flawed c =
-    let data_values = map view c.args.values.now in
-    let place = c.loop-place.place in
-    let value = c.index-values-place.result in
-    let at : slice_get data_values place ≡ Some (view value) = value_at c.args.values.now place value (omega arith) c.index-values-place.is in
     let flawed = rw c.in-Err-Flawed.field-0-is at c.in-Err-Flawed.ensures in
-    rw c.in-Err-Flawed.reason-is
-    (flawed_at c.args.role data_values place (view value) at c.in-Err-Flawed.reason flawed c.loop-place.invariant.sound (omega arith))
+    rw c.in-Err-Flawed.reason-is (flawed_at c.args.role c.args.values.now c.loop-place.place c.index-values-place.result (omega arith)
+    c.index-values-place.is c.in-Err-Flawed.reason flawed c.loop-place.invariant.sound (omega arith))
 
 pub returns-then-is_second_totals : goal.returns-then-is_second_totals
 returns-then-is_second_totals c =
-    let data_values = map view c.args.values.now in
-    let place = c.loop-place.place in
-    let value = c.index-values-place.result in
-    let read = c.loop-place.entries.items in
-    let at : slice_get data_values place ≡ Some (view value) = value_at c.args.values.now place value (omega arith) c.index-values-place.is in
-    let second : is_refused_after (map (λ (e : Entry). Some e) read) (Some (Some c.in-Ok-read_value.entry)) ≡ true =
-    rw (← c.deref.ensures.value) (sym c.is_second_totals.ensures ∙ c.if-is_second_totals.true) in
-    second_at c.args.role data_values place
-    (view value) at c.in-Ok-read_value.entry c.in-Ok-read_value.ensures read c.loop-place.invariant.so_far second c.loop-place.invariant.sound (omega arith)
+    second_at c.args.role c.args.values.now c.loop-place.place c.index-values-place.result (omega arith) c.index-values-place.is c.in-Ok-read_value.entry
+    c.in-Ok-read_value.ensures c.loop-place.entries.items c.loop-place.invariant.so_far
+    (rw (← c.deref.ensures.value) (sym c.is_second_totals.ensures ∙ c.if-is_second_totals.true)) c.loop-place.invariant.sound (omega arith)
 
 pub loop-place-preserved : goal.loop-place-preserved
 loop-place-preserved c =
-    let data_values = map view c.args.values.now in
+    let role = c.args.role in
+    let values = c.args.values.now in
     let place = c.loop-place.place in
     let value = c.index-values-place.result in
-    let read = c.loop-place.entries.items in
     let entry = c.in-Ok-read_value.entry in
-    let at : slice_get data_values place ≡ Some (view value) = value_at c.args.values.now place value (omega arith) c.index-values-place.is in
-    let single : is_refused_after (map (λ (e : Entry). Some e) read) (Some (Some entry)) ≡ false =
-    rw (← c.deref.ensures.value) (sym c.is_second_totals.ensures ∙ c.if-is_second_totals.false) in
+    let read = c.loop-place.entries.items in
     record {
-      so_far = rw c.push_reserved.ensures.items
-          (taken c.args.role data_values place (view value) at entry c.in-Ok-read_value.ensures read c.loop-place.invariant.so_far);
-      sound = below_more (λ n. is_refused (map (entry_of c.args.role) data_values) n ≡ false) place c.loop-place.invariant.sound
-          (refused_at c.args.role data_values place (view value) at entry c.in-Ok-read_value.ensures read c.loop-place.invariant.so_far false single);
+      so_far = rw c.push_reserved.ensures.items (taken role values place value (omega arith) c.index-values-place.is entry c.in-Ok-read_value.ensures read
+          c.loop-place.invariant.so_far);
+      sound = below_more (λ n. is_refused (map (entry_of role) (map view values)) n ≡ false) place c.loop-place.invariant.sound (refused_at role values place
+          value (omega arith) c.index-values-place.is entry c.in-Ok-read_value.ensures read c.loop-place.invariant.so_far false
+          (rw (← c.deref.ensures.value) (sym c.is_second_totals.ensures ∙ c.if-is_second_totals.false)));
       count = omega arith;
       room = omega arith;
     }

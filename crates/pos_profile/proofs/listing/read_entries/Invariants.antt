@@ -1,7 +1,4 @@
-use Rattle.std.proofs.Common.{◌≡◌, ◌<◌, ◌≤◌, ℕ, false, Some, map, take, length, vec_len, vec_capacity}
-use Rattle.toml.specs.View.{view}
-use Rattle.pos_profile.specs.Entries.{entry_of}
-use Rattle.pos_profile.specs.Profiles.{is_refused}
+use Rattle.pos_profile.proofs.Common.{Some, entry_of, false, is_refused, length, map, take, vec_capacity, vec_len, view, ℕ, ◌<◌, ◌≡◌, ◌≤◌}
 use Rattle.pos_profile.proofs.listing.read_entries.Given as goal
 
 -- the entries so far are those that the values so far are, and none of them is refused

@@ -1,8 +1,5 @@
-use Rattle.std.proofs.Common.{◌≡◌, ◌∙◌, ℕ, None, ap, sym, false, Vec, Global}
-use Rattle.std.specs.Prelude.{bytes_eq, is_some}
-use Rattle.std.specs.Map.{lookup}
+use Rattle.pos_profile.proofs.Common.{Global, None, Vec, ap, bytes_eq, false, first_of, is_some, looked_up, lookup, sym, where_same, ℕ, ◌∙◌, ◌≡◌}
 use Rattle.indexmap.proofs.CallerLemmas.{insert_entry-new}
-use Rattle.pos_profile.specs.Places.{first_of, looked_up, where_same}
 use Rattle.pos_profile.proofs.PlaceLemmas.{lookup_more}
 use Rattle.pos_profile.proofs.RegistryLemmas.{none_of}
 use Rattle.pos_profile.proofs.places.note.Goals as goal

@@ -1,5 +1,4 @@
-use Rattle.std.proofs.Common.{◌≡◌, ◌≤◌, length, take, vec_len, vec_capacity}
-use Rattle.pos_profile.specs.Registries.{planned_of}
+use Rattle.pos_profile.proofs.Common.{length, planned_of, take, vec_capacity, vec_len, ◌≡◌, ◌≤◌}
 use Rattle.pos_profile.proofs.planning.plan.Given as goal
 
 -- the entries so far are planned

@@ -1,11 +1,6 @@
-use Rattle.std.proofs.Common.{◌<◌, length, refl, arith}
-use Rattle.std.proofs.lemmas.List.{length-map}
-use Rattle.toml.specs.View.{table_view}
-use Rattle.pos_profile.specs.declared.entry.Entry.{Entry}
-use Rattle.pos_profile.specs.Mistakes.{contents_of}
-use Rattle.pos_profile.specs.Profiles.{names_of}
+use Rattle.pos_profile.proofs.Common.{Entry, arith, contents_of, length, length-map, names_of, refl, table_view, ◌<◌}
 use Rattle.pos_profile.proofs.ListLemmas.{name_at, repeated_within}
-use Rattle.pos_profile.proofs.SoundLemmas.{profile_sound}
+use Rattle.pos_profile.proofs.DocumentLemmas.{profile_sound}
 use Rattle.pos_profile.proofs.profile.from_table.Goals as goal
 
 pub invariant_of-result : goal.invariant_of-result

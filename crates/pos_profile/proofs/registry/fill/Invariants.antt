@@ -1,6 +1,5 @@
-use Rattle.std.proofs.Common.{◌≡◌, ◌+◌, ◌≤◌, ◌++◌, map, length, vec_len, vec_capacity}
+use Rattle.pos_profile.proofs.Common.{devices_of, length, map, vacant, vec_capacity, vec_len, ◌++◌, ◌+◌, ◌≡◌, ◌≤◌}
 use Rattle.std.specs.Vec.Iter.{into_iter_items}
-use Rattle.pos_profile.specs.Registries.{devices_of, vacant}
 use Rattle.pos_profile.proofs.registry.fill.Given as goal
 
 -- the devices so far, and those that are left, are the plan, and there is room for those that are left

@@ -1,8 +1,5 @@
-use Rattle.std.proofs.Common.{◌≡◌, arith}
-use Rattle.toml.specs.View.{table_view}
-use Rattle.pos_profile.specs.declared.root.DocumentFault.TheVariants.{Mistaken}
-use Rattle.pos_profile.specs.declared.role.Role.TheVariants.{Device, Spare}
-use Rattle.pos_profile.specs.Mistakes.{mistake_at}
+use Rattle.pos_profile.proofs.Common.{Mistaken, Spare, arith, mistake_at, table_view, ◌≡◌}
+use Rattle.pos_profile.specs.declared.role.Role.TheVariants.{Device}
 use Rattle.pos_profile.proofs.DocumentLemmas.{device_mistaken, document_read, listed_at, spare_mistaken}
 use Rattle.pos_profile.proofs.root.read_document.Goals as goal
 

@@ -1,6 +1,4 @@
-use Rattle.std.proofs.Common.{◌≡◌, ◌∙◌, Some, ap, map}
-use Rattle.toml.specs.Data.{as_array}
-use Rattle.toml.specs.View.{view, array_view}
+use Rattle.pos_profile.proofs.Common.{Some, ap, array_view, as_array, map, view, ◌∙◌, ◌≡◌}
 use Rattle.pos_profile.proofs.TableLemmas.{data_of_values}
 use Rattle.pos_profile.proofs.table.array_in.Goals as goal
 

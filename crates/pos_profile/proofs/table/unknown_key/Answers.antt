@@ -1,9 +1,4 @@
-use Rattle.std.proofs.Common.{◌∙◌, ap, string_bytes}
-use Rattle.std.specs.Prelude.{is_some}
-use Rattle.std.specs.List.{list_all}
-use Rattle.toml.specs.Data.{get_member}
-use Rattle.toml.specs.View.{table_view}
-use Rattle.pos_profile.specs.Tables.{is_key}
+use Rattle.pos_profile.proofs.Common.{ap, get_member, is_key, is_some, list_all, string_bytes, table_view, ◌∙◌}
 use Rattle.pos_profile.proofs.TableLemmas.{has_only_keys, keys_there}
 use Rattle.pos_profile.proofs.table.unknown_key.Goals as goal
 

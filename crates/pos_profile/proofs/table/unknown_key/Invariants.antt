@@ -1,9 +1,4 @@
-use Rattle.std.proofs.Common.{◌≡◌, true, string_bytes}
-use Rattle.std.specs.Prelude.{is_some}
-use Rattle.std.specs.List.{list_all}
-use Rattle.toml.specs.Data.{get_member}
-use Rattle.toml.specs.View.{table_view}
-use Rattle.pos_profile.specs.Tables.{has_only, is_key}
+use Rattle.pos_profile.proofs.Common.{get_member, has_only, is_key, is_some, list_all, string_bytes, table_view, true, ◌≡◌}
 use Rattle.pos_profile.proofs.table.unknown_key.Given as goal
 
 -- the keys that are left decide, and each is one of the table

@@ -1,8 +1,4 @@
-use Rattle.std.proofs.Common.{Ok, subst, sym}
-use Rattle.pos_store.specs.StoreViews.{StoreView}
-use Rattle.pos_store.specs.Recoveries.{Recovers}
 use Rattle.pos_program.proofs.Migrated.{migrated_moves}
-use Rattle.pos_program.specs.Migrating.{MovesAny}
 use Rattle.pos_program.proofs.migrating.migrate_disk.Goals as goal
 
 pub returns-clause-moves : goal.returns-clause-moves
@@ -10,7 +6,5 @@ returns-clause-moves g c = λ honest.
     let bound = g.D.Disk in
     let mid = c.recover.new.self in
     let end = c.migrate-outcome.new.self in
-    subst (λ (disk : g.row.D.Denot). MovesAny (bound.state c.args.disk) (bound.state disk) c.migrate-outcome.result) (sym c.into_disk-2.ensures.disk)
-    (migrated_moves bound c.args.disk mid.disk mid.layout mid.state mid.tail
-    (subst (λ (v : StoreView g.row.D.Denot). Recovers bound v (Ok tt) mid) c.new-store.ensures c.in_default.ensures)
+    rw c.into_disk-2.ensures.disk (migrated_moves bound c.args.disk mid.disk mid.layout mid.state mid.tail (rw c.new-store.ensures at c.in_default.ensures)
     c.migrate-outcome.result end c.migrate-outcome.ensures c.into_disk-2.ensures.at_rest honest)

@@ -1,7 +1,5 @@
-use Rattle.std.proofs.Common.{◌-◌, ◌++◌, length, take, drop, sym, ap, subst, ◌∙◌, arith, length-take}
+use Rattle.pos_run.proofs.Common.{Appends, Appends-trans, ap, arith, drop, length, length-take, subst, sym, take, ◌++◌, ◌-◌, ◌∙◌}
 use lib.Seq.{take-add, take-take}
-use Rattle.std.specs.Io.KnownBytes.{Appends}
-use Rattle.std.proofs.KnownBytes.{Appends-trans}
 use Rattle.pos_run.proofs.answers.write_front.Goals as goal
 
 pub loop-done-preserved : goal.loop-done-preserved

@@ -1,5 +1,4 @@
-use Rattle.std.proofs.Common.{◌≤◌, ◌-◌, length, take}
-use Rattle.std.specs.Io.KnownBytes.{Appends}
+use Rattle.pos_run.proofs.Common.{Appends, length, take, ◌-◌, ◌≤◌}
 use Rattle.pos_run.proofs.answers.write_front.Given as goal
 
 abbrev pub invariant-loop-done : goal.invariant-loop-done

@@ -1,9 +1,6 @@
-use Rattle.std.proofs.Common.{◌++◌, ◌∙◌, [], ap, refl}
-use Rattle.pos_counter.specs.Counters.{IsRun}
-use Rattle.pos_counter.proofs.Runs.{runs_join}
-use Rattle.pos_script.specs.Lines.{last_line, pieces, unfinished}
+use Rattle.pos_run.proofs.Common.{IsRun, [], ap, last_line, pieces, refl, runs_join, unfinished, ◌++◌, ◌∙◌}
 use Rattle.pos_script.proofs.LineLemmas.{two_parts}
-use Rattle.pos_run.proofs.Finishing.{lines_join, stops_more, stops_of}
+use Rattle.pos_run.proofs.Finishing.{lines_join, stops_more}
 use Rattle.pos_run.proofs.given.carry_out_lines.Goals as goal
 
 pub returns-in_default-clause-lines : goal.returns-in_default-clause-lines
@@ -11,7 +8,7 @@ returns-in_default-clause-lines g c =
     let Runs = IsRun g.D.Disk g.P.Peripheral in
     let last = last_line (unfinished c.args.lines.now) in
     let (lines, are, stops, none) = c.in_default.ensures.piece [] (c.clear.ensures [] refl) in
-    stops_of Runs _ _ (lines ++ last) _ _ _ _ _ (two_parts (pieces 10 c.args.lines.now) ∙ ap (λ ls. ls ++ last) are)
+    rw (two_parts (pieces 10 c.args.lines.now) ∙ ap (λ ls. ls ++ last) are)
     (stops_more Runs _ _ lines last _ _ _ _ stops)
 
 pub returns-clause-lines : goal.returns-clause-lines

@@ -1,6 +1,4 @@
-use Rattle.pos_run.specs.Carried.{session_of}
-use Rattle.pos_run.specs.Names.{names_of}
-use Rattle.pos_run.specs.Spares.{spares_in}
+use Rattle.pos_run.proofs.Common.{names_of, session_of, spares_in}
 use Rattle.pos_run.proofs.lines.carry_out_command.Goals as goal
 
 pub returns-in-New-clause-line : goal.returns-in-New-clause-line

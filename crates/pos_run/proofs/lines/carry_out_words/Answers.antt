@@ -1,6 +1,4 @@
-use Rattle.std.proofs.Common.{refl}
-use Rattle.std.specs.Prelude.{codes}
-use Rattle.pos_run.specs.Carried.{session_of}
+use Rattle.pos_run.proofs.Common.{codes, refl, session_of}
 use Rattle.pos_run.proofs.Sessions.{read_misshapen}
 use Rattle.pos_run.proofs.lines.carry_out_words.Goals as goal
 

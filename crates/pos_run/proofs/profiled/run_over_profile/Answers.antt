@@ -1,8 +1,4 @@
-use Rattle.std.proofs.Common.{inr}
-use Rattle.pos_service.specs.declared.peripheral.Peripheral.{Ghosts}
-use Rattle.pos_run.specs.declared.wrapped.Wrapped.{Wrapped}
-use Rattle.pos_run.specs.Simulating.{wrapped_state}
-use Rattle.pos_run.specs.Spares.{spares_in}
+use Rattle.pos_run.proofs.Common.{Ghosts, Wrapped, inr, spares_in, wrapped_state}
 use Rattle.pos_run.proofs.Starting.{runs_honestly, runs_over_any}
 use Rattle.pos_run.proofs.profiled.run_over_profile.Goals as goal
 

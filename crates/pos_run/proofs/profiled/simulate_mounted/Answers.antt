@@ -1,5 +1,4 @@
-use Rattle.std.proofs.Common.{◌∙◌, ap, option_map, sym}
-use Rattle.pos_run.specs.Simulating.{wrapped_state}
+use Rattle.pos_run.proofs.Common.{ap, option_map, sym, wrapped_state, ◌∙◌}
 use Rattle.pos_run.proofs.Profiling.{state_is_fresh}
 use Rattle.pos_run.proofs.profiled.simulate_mounted.Goals as goal
 

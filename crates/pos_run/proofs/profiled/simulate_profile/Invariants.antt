@@ -1,9 +1,4 @@
-use Rattle.std.proofs.Common.{◌≡◌, ◌≤◌, length, take, vec_len, vec_capacity}
-use Rattle.pos_counter.specs.Counters.{IsCounterSound, machine}
-use Rattle.pos_counter.specs.Totals.{TotalsPart}
-use Rattle.pos_run.specs.Running.{off_over}
-use Rattle.pos_run.specs.Simulating.{simulated_all}
-use Rattle.pos_run.specs.Spares.{states_in}
+use Rattle.pos_run.proofs.Common.{IsCounterSound, TotalsPart, length, machine, off_over, simulated_all, states_in, take, vec_capacity, vec_len, ◌≡◌, ◌≤◌}
 use Rattle.pos_run.proofs.Filling.{begun_partly}
 use Rattle.pos_run.proofs.profiled.simulate_profile.Given as goal
 

@@ -1,10 +1,5 @@
-use Rattle.std.proofs.Common.{None, Some, refl, subst}
-use Rattle.std.specs.Prelude.{Result, Ok, codes}
-use Rattle.std.proofs.KnownBytes.{Appends-nil}
-use Rattle.pos_counter.specs.Counters.{IsRun}
-use Rattle.pos_script.specs.LineBuffers.{IsLine}
+use Rattle.pos_run.proofs.Common.{Appends-nil, IsLine, IsRun, None, Ok, Result, Some, codes, refl, session_of, subst}
 use Rattle.pos_script.specs.declared.write.WriteFault.{WriteFault}
-use Rattle.pos_run.specs.Carried.{session_of}
 use Rattle.pos_run.proofs.Finishing.{one_line}
 use Rattle.pos_run.proofs.Sessions.{asked_words, becomes_quiet, becomes_read, misspelled, read_misshapen}
 use Rattle.pos_run.proofs.scripts.carry_out_and_print.Goals as goal

@@ -1,9 +1,4 @@
-use Rattle.std.proofs.Common.{◌∙◌, ◌∷◌, [], refl, sym, subst, append-nil}
-use Rattle.std.proofs.KnownBytes.{Appends-nil}
-use Rattle.pos_counter.specs.Counters.{IsRun}
-use Rattle.pos_script.specs.LineBuffers.{EndsInput}
-use Rattle.pos_script.specs.Lines.{complete_lines, unfinished}
-use Rattle.pos_run.specs.Carried.{session_of}
+use Rattle.pos_run.proofs.Common.{Appends-nil, EndsInput, IsRun, [], append-nil, complete_lines, refl, session_of, subst, sym, unfinished, ◌∙◌, ◌∷◌}
 use Rattle.pos_run.proofs.Finishing.{finishes_none}
 use Rattle.pos_run.proofs.scripts.carry_out_last.Goals as goal
 

@@ -1,9 +1,4 @@
-use Rattle.std.proofs.Common.{◌++◌, ◌∷◌, [], refl, sym, subst, append-nil}
-use Rattle.std.proofs.KnownBytes.{Appends-nil}
-use Rattle.pos_counter.specs.Counters.{IsRun}
-use Rattle.pos_counter.proofs.Runs.{runs_join}
-use Rattle.pos_script.specs.LineBuffers.{StandsFor}
-use Rattle.pos_run.specs.Carried.{session_of}
+use Rattle.pos_run.proofs.Common.{Appends-nil, IsRun, StandsFor, [], append-nil, refl, runs_join, session_of, subst, sym, ◌++◌, ◌∷◌}
 use Rattle.pos_run.proofs.Finishing.{finishes_join, finishes_none, stops_join, stops_more}
 use Rattle.pos_run.proofs.PieceLemmas.{later, line_more, lines_all, no_more, none_yet, rest_none, split_then, stands_then}
 use Rattle.pos_run.proofs.scripts.carry_out_piece.Goals as goal

@@ -1,10 +1,4 @@
-use Rattle.std.proofs.Common.{◌≡◌, ◌++◌, ℕ, List, length}
-use Rattle.pos_counter.specs.Counters.{IsCounterSound, IsRun}
-use Rattle.pos_script.specs.LineBuffers.{StandsFor}
-use Rattle.pos_script.specs.Lines.{complete_lines}
-use Rattle.pos_run.specs.Carried.{session_of}
-use Rattle.pos_run.specs.Running.{Finishes}
-use Rattle.pos_run.specs.Spares.{AreSparesSound}
+use Rattle.pos_run.proofs.Common.{AreSparesSound, Finishes, IsCounterSound, IsRun, List, StandsFor, complete_lines, length, session_of, ℕ, ◌++◌, ◌≡◌}
 use Rattle.pos_run.proofs.scripts.carry_out_piece.Given as goal
 
 -- the lines so far are carried out

@@ -1,11 +1,6 @@
-use Rattle.std.proofs.Common.{◌++◌, ◌<◌, ◌∙◌, [], inl, Ok, ap, length, refl, rules, take}
-use Rattle.std.proofs.KnownBytes.{Appends-nil, Consumes-kept, Consumes-nil, Consumes-trans}
-use Rattle.pos_counter.specs.Counters.{IsRun}
-use Rattle.pos_counter.proofs.Runs.{runs_join}
-use Rattle.pos_run.specs.Carried.{session_of}
-use Rattle.pos_run.specs.Running.{lines_read}
-use Rattle.pos_run.specs.Streams.{answers_of, found}
-use Rattle.pos_run.proofs.Finishing.{fault_join, finishes_join, finishes_kept, finishes_none, finishes_of, stops_join, stops_of}
+use Rattle.pos_run.proofs.Common.{Appends-nil, Consumes-kept, Consumes-nil, Consumes-trans, IsRun, Ok, [], answers_of, ap, found, inl, length, lines_read}
+use Rattle.pos_run.proofs.Common.{refl, rules, runs_join, session_of, take, ◌++◌, ◌<◌, ◌∙◌}
+use Rattle.pos_run.proofs.Finishing.{fault_join, finishes_join, finishes_kept, finishes_none, stops_join}
 use Rattle.pos_run.proofs.ReadLemmas.{found_more, gave, no_more_reads, none_read, not_failed, not_failed_at_end, read_more, read_nothing, same_lines}
 use Rattle.pos_run.proofs.scripts.carry_out_script.Goals as goal
 
@@ -34,7 +29,7 @@ returns-in_default-read-clause-script g c =
       input = input;
       read = Consumes-kept _ _ _ input consumed c.in_default-read.ensures.bytes;
       reader = no_more_reads c.loop-reader.reader c.read.new.self fault reads;
-      run = (finishes_of Runs _ _ _ _ _ _ _ _ (same_lines c.loop-reader.reader c.read.new.self fault reads input same) first, c.in-Ok.ensures.flushed);
+      run = (rw (same_lines c.loop-reader.reader c.read.new.self fault reads input same) first, c.in-Ok.ensures.flushed);
     }
 
 pub returns-in-Ok-carry_out_end-clause-script : goal.returns-in-Ok-carry_out_end-clause-script
@@ -53,7 +48,7 @@ returns-in-Ok-carry_out_end-clause-script g c =
       read = read_nothing _ _ _ input c.read.new.buffer c.in-Ok-read.count none consumed bytes;
       reader = (ended, end none room);
       run = (
-        finishes_of Runs _ _ _ _ _ _ _ _ (ap (λ s. lines_read s input) ended ∙ are)
+        rw (ap (λ s. lines_read s input) ended ∙ are)
             (finishes_join Runs (runs_join g.D.Disk g.P.Peripheral) _ _ _ _ _ _ _ first lines _ _ _ rest.0),
         rest.1,
       );
@@ -90,7 +85,7 @@ returns-in_default-carry_out_piece-clause-script g c =
       input = input ++ piece;
       read = Consumes-trans _ _ _ input piece consumed bytes;
       reader = λ fault. absurd (not_failed c.read.new.self.state some fault);
-      run = inl (stops_of Runs _ _ _ _ _ _ _ _ (read_more c.read.new.self (input ++ piece) some ∙ are)
+      run = inl (rw (read_more c.read.new.self (input ++ piece) some ∙ are)
           (stops_join Runs (runs_join g.D.Disk g.P.Peripheral) _ _ _ _ _ _ _ first lines _ _ _ stops));
     }
 
@@ -111,5 +106,5 @@ loop-reader-preserved g c =
       then,
       read_more c.read.new.self (input ++ piece) some,
       λ fault. absurd (not_failed c.read.new.self.state some fault),
-      finishes_of Runs _ _ _ _ _ _ _ _ are (finishes_join Runs (runs_join g.D.Disk g.P.Peripheral) _ _ _ _ _ _ _ first lines _ _ _ rest),
+      rw are (finishes_join Runs (runs_join g.D.Disk g.P.Peripheral) _ _ _ _ _ _ _ first lines _ _ _ rest),
     )

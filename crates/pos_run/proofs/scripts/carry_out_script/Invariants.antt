@@ -1,13 +1,5 @@
-use Rattle.std.proofs.Common.{◌≡◌, ◌-◌, ℕ, List}
-use Rattle.std.specs.Io.KnownBytes.{Consumes}
-use Rattle.pos_counter.specs.Counters.{IsCounterSound, IsRun}
-use Rattle.pos_script.specs.LineBuffers.{StandsFor}
-use Rattle.pos_script.specs.Lines.{complete_lines}
-use Rattle.pos_run.specs.declared.reading.ReadState.TheVariants.{Failed}
-use Rattle.pos_run.specs.Carried.{session_of}
-use Rattle.pos_run.specs.Running.{Finishes, lines_read}
-use Rattle.pos_run.specs.Spares.{AreSparesSound}
-use Rattle.pos_run.specs.Streams.{answers_of, most_reads, reading_of}
+use Rattle.pos_run.proofs.Common.{AreSparesSound, Consumes, Failed, Finishes, IsCounterSound, IsRun, List, StandsFor, answers_of, complete_lines, lines_read}
+use Rattle.pos_run.proofs.Common.{most_reads, reading_of, session_of, ℕ, ◌-◌, ◌≡◌}
 use Rattle.pos_run.proofs.scripts.carry_out_script.Given as goal
 
 -- the lines of the bytes that were read so far are carried out, and no read failed

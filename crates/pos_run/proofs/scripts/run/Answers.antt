@@ -1,12 +1,5 @@
-use Rattle.std.proofs.Common.{[], refl, subst}
-use Rattle.std.proofs.KnownBytes.{Consumes-nil}
-use Rattle.pos_counter.specs.Counters.{IsRun}
-use Rattle.pos_counter.proofs.Runs.{runs_join}
-use Rattle.pos_run.specs.Names.{names_of}
-use Rattle.pos_run.specs.Running.{RunsScript, lines_read, script_steps}
-use Rattle.pos_run.specs.Spares.{spares_in}
-use Rattle.pos_run.specs.Streams.{streams_of}
-use Rattle.pos_run.specs.Transcript.{begun_session, session_with}
+use Rattle.pos_run.proofs.Common.{Consumes-nil, IsRun, RunsScript, [], begun_session, lines_read, names_of, refl, runs_join, script_steps, session_with}
+use Rattle.pos_run.proofs.Common.{spares_in, streams_of, subst}
 use Rattle.pos_run.proofs.Finishing.{carried_run}
 use Rattle.pos_run.proofs.Starting.{runs_through}
 use Rattle.pos_run.proofs.scripts.run.Goals as goal

@@ -1,6 +1,4 @@
-use Rattle.std.proofs.Common.{refl}
-use Rattle.pos_service.specs.Hardware.{hardware_of}
-use Rattle.pos_counter.specs.Steps.{Detach, Detached, NotDetached}
+use Rattle.pos_run.proofs.Common.{Detach, Detached, NotDetached, hardware_of, refl}
 use Rattle.pos_run.proofs.Sessions.{at_device}
 use Rattle.pos_run.proofs.session.detach_device.Goals as goal
 

@@ -1,5 +1,4 @@
-use Rattle.std.proofs.Common.{refl}
-use Rattle.pos_counter.specs.Steps.{InputTo, TakenIn, NoDevice, WrongInput, OutOfMemory}
+use Rattle.pos_run.proofs.Common.{InputTo, NoDevice, OutOfMemory, TakenIn, WrongInput, refl}
 use Rattle.pos_run.proofs.Sessions.{at_device}
 use Rattle.pos_run.proofs.session.input_device.Goals as goal
 

@@ -1,5 +1,4 @@
-use Rattle.std.proofs.Common.{refl}
-use Rattle.pos_counter.specs.Steps.{Snapshot, Shown, NoDevice, OutOfMemory}
+use Rattle.pos_run.proofs.Common.{NoDevice, OutOfMemory, Shown, Snapshot, refl}
 use Rattle.pos_run.proofs.Sessions.{at_device}
 use Rattle.pos_run.proofs.session.show_device.Goals as goal
 

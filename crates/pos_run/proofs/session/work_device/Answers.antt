@@ -1,5 +1,4 @@
-use Rattle.std.proofs.Common.{refl}
-use Rattle.pos_counter.specs.Steps.{WorkOn, Worked, NoDevice, OutOfMemory}
+use Rattle.pos_run.proofs.Common.{NoDevice, OutOfMemory, WorkOn, Worked, refl}
 use Rattle.pos_run.proofs.Sessions.{at_device}
 use Rattle.pos_run.proofs.session.work_device.Goals as goal
 

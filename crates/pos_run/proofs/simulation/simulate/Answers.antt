@@ -1,6 +1,5 @@
 -- What is simulated for an entry, in its wrappers, begins as what is simulated without them.
-use Rattle.std.proofs.Common.{Some, subst}
-use Rattle.pos_run.specs.Simulating.{IsDeviceFor}
+use Rattle.pos_run.proofs.Common.{IsDeviceFor, Some, subst}
 use Rattle.pos_run.proofs.Profiling.{simulated_begins}
 use Rattle.pos_run.proofs.simulation.simulate.Goals as goal
 

@@ -1,6 +1,4 @@
-use Rattle.std.proofs.Common.{◌≡◌, take}
-use Rattle.std.specs.List.{list_all}
-use Rattle.pos_sims.specs.Windows.{is_character}
+use Rattle.pos_sims.proofs.Common.{is_character, list_all, take, ◌≡◌}
 use Rattle.pos_sims.proofs.laying.are_characters.Given as goal
 
 abbrev pub invariant-loop-byte : goal.invariant-loop-byte

@@ -1,6 +1,4 @@
-use Rattle.std.proofs.Common.{◌∙◌, sym}
-use Rattle.pos_service.specs.Displays.{fed}
-use Rattle.pos_service.proofs.StripLemmas.{line_feed_text}
+use Rattle.pos_sims.proofs.Common.{fed, line_feed_text, sym, ◌∙◌}
 use Rattle.pos_sims.proofs.RunLemmas.{row_full}
 use Rattle.pos_sims.proofs.WindowLemmas.{wrapped}
 use Rattle.pos_sims.proofs.laying.lay_byte.Goals as goal

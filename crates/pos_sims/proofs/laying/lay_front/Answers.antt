@@ -1,5 +1,4 @@
-use Rattle.std.proofs.Common.{arith}
-use Rattle.std.proofs.lemmas.List.{take_more}
+use Rattle.pos_sims.proofs.Common.{arith, take_more}
 use Rattle.pos_sims.proofs.laying.lay_front.Goals as goal
 
 pub returns-then-count-eq0-clause-follows : goal.returns-then-count-eq0-clause-follows

@@ -1,6 +1,4 @@
-use Rattle.std.proofs.Common.{arith, take}
-use Rattle.std.proofs.lemmas.List.{length-drop, take_rest}
-use Rattle.pos_service.specs.Displays.{text_from}
+use Rattle.pos_sims.proofs.Common.{arith, length-drop, take, take_rest, text_from}
 use Rattle.pos_sims.proofs.RunLemmas.{text_further}
 use Rattle.pos_sims.proofs.WindowLemmas.{size_twice}
 use Rattle.pos_sims.proofs.laying.lay_text.Goals as goal

@@ -1,6 +1,4 @@
-use Rattle.std.proofs.Common.{◌-◌, ◌≤◌, length, take}
-use Rattle.pos_service.specs.Displays.{text_from}
-use Rattle.pos_sims.specs.Windows.{Follows, IsWithin, SameSize}
+use Rattle.pos_sims.proofs.Common.{Follows, IsWithin, SameSize, length, take, text_from, ◌-◌, ◌≤◌}
 use Rattle.pos_sims.proofs.laying.lay_text.Given as goal
 
 abbrev pub invariant-loop-done : goal.invariant-loop-done

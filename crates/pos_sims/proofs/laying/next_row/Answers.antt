@@ -1,4 +1,4 @@
-use Rattle.std.proofs.Common.{arith}
+use Rattle.pos_sims.proofs.Common.{arith}
 use Rattle.pos_sims.proofs.WindowLemmas.{scrolled}
 use Rattle.pos_sims.proofs.laying.next_row.Goals as goal
 

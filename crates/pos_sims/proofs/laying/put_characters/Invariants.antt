@@ -1,5 +1,4 @@
-use Rattle.std.proofs.Common.{◌≡◌, take}
-use Rattle.pos_sims.specs.Windows.{with_run_at}
+use Rattle.pos_sims.proofs.Common.{take, with_run_at, ◌≡◌}
 use Rattle.pos_sims.proofs.laying.put_characters.Given as goal
 
 -- the characters so far are put

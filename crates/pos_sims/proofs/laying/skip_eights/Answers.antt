@@ -1,7 +1,5 @@
-use Rattle.std.proofs.Common.{◌≡◌, ◌∙◌, ◌+◌, ◌-◌, sym, arith}
-use Rattle.std.proofs.Math.Seq.{take-add}
+use Rattle.pos_sims.proofs.Common.{arith, nat_tests, sym, take-add, ◌+◌, ◌-◌, ◌∙◌, ◌≡◌}
 use Rattle.std.proofs.lemmas.List.Folds.{list_all-append}
-use Rattle.std.proofs.lemmas.Bool.Decides.{nat_tests}
 use Rattle.pos_sims.proofs.laying.skip_eights.Goals as goal
 
 pub loop-place-preserved : goal.loop-place-preserved

@@ -1,6 +1,4 @@
-use Rattle.std.proofs.Common.{◌≡◌, ◌-◌, ◌≤◌, true, length, take}
-use Rattle.std.specs.List.{list_all}
-use Rattle.pos_sims.specs.Windows.{is_character}
+use Rattle.pos_sims.proofs.Common.{is_character, length, list_all, take, true, ◌-◌, ◌≡◌, ◌≤◌}
 use Rattle.pos_sims.proofs.laying.skip_eights.Given as goal
 
 abbrev pub invariant-loop-place : goal.invariant-loop-place

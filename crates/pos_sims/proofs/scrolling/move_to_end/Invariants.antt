@@ -1,6 +1,4 @@
-use Rattle.std.proofs.Common.{◌≡◌, ℕ, ◌-◌, ◌%◌, ◌<◌, ◌≤◌, get_or, length}
-use Rattle.std.specs.Prelude.{nat_le, if◌then◌else◌}
-use Rattle.pos_service.specs.Displays.{blank}
+use Rattle.pos_sims.proofs.Common.{blank, get_or, if◌then◌else◌, length, nat_le, ℕ, ◌%◌, ◌-◌, ◌<◌, ◌≡◌, ◌≤◌}
 use Rattle.pos_sims.proofs.scrolling.move_to_end.Given as goal
 
 abbrev pub invariant-loop-left : goal.invariant-loop-left

@@ -1,6 +1,4 @@
-use Rattle.std.proofs.Common.{◌≡◌, ℕ, ◌+◌, ◌%◌, ◌<◌, ◌≤◌, get_or}
-use Rattle.std.specs.Prelude.{nat_lt, if◌then◌else◌}
-use Rattle.pos_service.specs.Displays.{blank}
+use Rattle.pos_sims.proofs.Common.{blank, get_or, if◌then◌else◌, nat_lt, ℕ, ◌%◌, ◌+◌, ◌<◌, ◌≡◌, ◌≤◌}
 use Rattle.pos_sims.proofs.scrolling.move_to_front.Given as goal
 
 abbrev pub invariant-loop-i : goal.invariant-loop-i

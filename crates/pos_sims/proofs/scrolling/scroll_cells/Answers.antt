@@ -1,6 +1,5 @@
-use Rattle.std.proofs.Common.{refl}
+use Rattle.pos_sims.proofs.Common.{display_of, refl}
 use Rattle.pos_service.specs.declared.display_text.Direction.TheVariants as direction
-use Rattle.pos_sims.specs.Windows.{display_of}
 use Rattle.pos_sims.proofs.ScrollLemmas.{scrolls}
 use Rattle.pos_sims.proofs.scrolling.scroll_cells.Goals as goal
 

@@ -1,6 +1,4 @@
-use Rattle.std.proofs.Common.{◌∙◌, length}
-use Rattle.std.proofs.lemmas.List.{take-replicate}
-use Rattle.pos_service.specs.Displays.{blank}
+use Rattle.pos_sims.proofs.Common.{blank, length, take-replicate, ◌∙◌}
 use Rattle.pos_sims.proofs.turning.blank_row.Goals as goal
 
 pub returns : goal.returns

@@ -1,42 +1,20 @@
 -- `into_box` makes the box again.
-use Rattle.std.proofs.Common.{◌≡◌, List, [], ◌∷◌, ◌++◌, refl, sym, ap, subst}
-use mir.Syntax.{a_type, dcons, dnil}
-use mir.Val.{Val, vptr}
-use mir.MapTy.{inst_fn}
-use base.Logic.{SProp, ent, id⊢}
-use base.Fml.{ftrue, flft}
-use prog.Wp.{WpFn}
-use types.Kit.{‵, raw, ◌⊛◌, some, later, at_ret, ◌$◌, ◌∵◌, !, qed, by, move, keep, drop, split, split3, join, fsplit, fjoin, pick, suffices, use1, await}
-use types.Kit.{rewrite, feq_i}
-use types.Run.{stop, fld, of_opd, no_more, and_then, first, blocks, exec, returns, enter}
-use types.ByLocal.{alloc_all, pass_all, free_all, look_at, get, get_in, sets, lands_last, env}
-use types.Part.{sub, whole}
-use contract.Monad.{fact}
-use contract.BorrowLft.{◌⊑◌}
-use contract.Running.{tables}
-use denote.Exit.{no}
-use denote.RattleType.{RattleType, owns}
-use denote.Signature.{types_at, plain}
-use denote.RawPtr.{block_ptr}
-use denote.Steps.{nothing, only}
-use denote.Param.{param, layout, bounded}
-use denote.Param.Laws.{param_laws}
-use denote.Triple.Clauses.{Lasts, lasts}
-use denote.Triple.Spec.{triple_of}
-use denote.Triple.Call.{calls_at_last}
-use denote.Triple.Walked.{Stays, stay_dropped, walk_of}
-use Rattle.core.proofs.alloc.Calls.{Goes-blank}
+use Rattle.kijolvar.proofs.Common.{ !, Goes-blank, Good, List, RattleType, SProp, Stays, Val, WpFn, [], a_type, alloc_all, and_then, ap, at_ret, await}
+use Rattle.kijolvar.proofs.Common.{block_ptr, blocks, bounded, box_in, box_out, by, dcons, dnil, drop, ent, enter, env, exec, fact, feq_i, first, fjoin, fld}
+use Rattle.kijolvar.proofs.Common.{flft, fm, free_all, fsplit, ftrue, get, get_in, id⊢, inst_fn, join, keep, lands_last, later, layout, leaves, look_at, move}
+use Rattle.kijolvar.proofs.Common.{no, no_more, nothing, of_opd, only, owns, param, param_laws, pass_all, pick, plain, proved_at, qed, raw, refl, returns}
+use Rattle.kijolvar.proofs.Common.{rewrite, sets, some, split, split3, stay_dropped, stop, sub, subst, suffices, sym, tables, triple_of, types_at, use1, vptr}
+use Rattle.kijolvar.proofs.Common.{walk_of, whole, ‵, ◌$◌, ◌++◌, ◌∵◌, ◌∷◌, ◌≡◌, ◌⊛◌}
 use Rattle.core.proofs.alloc.Shapes.{after}
-use Rattle.core.proofs.atomic.Steps.{fm}
-use Rattle.core.proofs.cell.Inside.{Good}
+use Rattle.kijolvar.specs.contracts.loose.Loose.into_box.{clauses, ended}
+use Rattle.kijolvar.specs.contracts.loose.Loose.into_box.Key.{name as #self}
+use Rattle.std_alloc.proofs.boxed.Box.from_raw.Met.{met}
+use contract.BorrowLft.{◌⊑◌}
+use denote.Triple.Call.{calls_at_last}
+use denote.Triple.Clauses.{Lasts, lasts}
 use Rattle.std_alloc.proofs.BoxSteps.Form as box
-use Rattle.std_alloc.proofs.BoxSteps.Steps.{box_out, box_in}
-use Rattle.std.proofs.raw_atomic.Walks.{proved_at, leaves}
 use Rattle.kijolvar.proofs.Values.{both, Loose, loose_good, loose_out}
 use Rattle.std_alloc.specs.contracts.boxed.Box.from_raw as callee
-use Rattle.std_alloc.proofs.boxed.Box.from_raw.Met.{met}
-use Rattle.kijolvar.specs.contracts.loose.Loose.into_box.{ended, clauses}
-use Rattle.kijolvar.specs.contracts.loose.Loose.into_box.Key.{name as #self}
 use Rattle.kijolvar.proofs.loose.Loose.into_box.Statement.{statement}
 use Rattle.kijolvar.proofs.loose.Loose.into_box.Code as code
 

@@ -1,13 +1,8 @@
-use Rattle.std.proofs.Common.{subst, sym}
-use Rattle.pos_counter.specs.Counters.{IsCounterSound}
-use Rattle.pos_run.specs.Spares.{AreSparesSound}
 use Rattle.kijolvar.proofs.OrderLemmas.{told_keeps}
 use Rattle.kijolvar.proofs.session.Session.next_order.Goals as goal
 
 pub invariant_of-self : goal.invariant_of-self
 invariant_of-self c =
     let old = c.self.inside.kept in
-    let same = told_keeps old.settlement old _ _ _ _ _ c.next_order.new.kept c.next_order.ensures in (
-      subst (IsCounterSound _) (sym same.0) c.self.invariant.0,
-      subst (AreSparesSound _) (sym same.1) c.self.invariant.1,
-    )
+    let same = told_keeps old.settlement old _ _ _ _ _ c.next_order.new.kept c.next_order.ensures in
+    (rw same.0 c.self.invariant.0, rw same.1 c.self.invariant.1)

@@ -1,9 +1,5 @@
-use Rattle.std.proofs.Common.{◌∙◌, ap, refl}
-use Rattle.std.specs.Prelude.{[], ◌∷◌, ◌&&◌, is_none}
+use Rattle.pos_common.proofs.Common.{KeptControl, [], ap, is_none, needs_of, refl, row_of, when, ◌&&◌, ◌∙◌, ◌∷◌}
 use Rattle.pos_service.specs.declared.code.Code.TheVariants as code
-use Rattle.pos_service.specs.Properties.{needs_of, row_of}
-use Rattle.pos_service.specs.Refusals.{when}
-use Rattle.pos_common.specs.KeptControls.{KeptControl}
 use Rattle.pos_common.proofs.CheckLemmas.{gets_by_rest, kept_out, let_through, refused}
 use Rattle.pos_common.proofs.control.Control.get.Goals as goal
 

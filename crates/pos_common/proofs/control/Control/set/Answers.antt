@@ -1,6 +1,4 @@
-use Rattle.std.proofs.Common.{◌∙◌, ap, refl}
-use Rattle.pos_service.specs.Properties.{needs_to_set, row_of, is_in, value_rows}
-use Rattle.pos_common.specs.KeptControls.{KeptControl}
+use Rattle.pos_common.proofs.Common.{KeptControl, ap, is_in, needs_to_set, refl, row_of, value_rows, ◌∙◌}
 use Rattle.pos_common.proofs.CheckLemmas.{asks_second, kept_out, let_through, refused, sets_by_rest}
 use Rattle.pos_common.proofs.control.Control.set.Goals as goal
 

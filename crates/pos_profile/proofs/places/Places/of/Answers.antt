@@ -1,7 +1,4 @@
-use Rattle.std.proofs.Common.{◌≡◌, ◌∙◌, List, ℕ, Some, map, slice_get, ap, sym, arith}
-use Rattle.std.proofs.lemmas.List.{length-map, take_all}
-use Rattle.pos_profile.specs.declared.planning.Planned.{Planned}
-use Rattle.pos_profile.specs.Places.{first_of, place_of, where_same}
+use Rattle.pos_profile.proofs.Common.{List, Planned, Some, ap, arith, first_of, length-map, map, place_of, slice_get, sym, take_all, where_same, ℕ, ◌∙◌, ◌≡◌}
 use Rattle.pos_profile.proofs.PlaceLemmas.{place_more, planned_name}
 use Rattle.pos_profile.proofs.places.Places.of.Goals as goal
 

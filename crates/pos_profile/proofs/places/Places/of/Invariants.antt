@@ -1,5 +1,4 @@
-use Rattle.std.proofs.Common.{◌≡◌, ℕ, List, map, take}
-use Rattle.pos_profile.specs.Places.{looked_up, place_of}
+use Rattle.pos_profile.proofs.Common.{List, looked_up, map, place_of, take, ℕ, ◌≡◌}
 use Rattle.pos_profile.proofs.places.Places.of.Given as goal
 
 -- the map finds the names so far, each at its first place

@@ -1,6 +1,4 @@
-use Rattle.std.proofs.Common.{◌≡◌, ◌<◌, ◌≤◌, ◌∙◌, length, sym, arith}
-use Rattle.std.proofs.lemmas.List.{length-set}
-use Rattle.pos_profile.specs.Registries.{devices, devices_of}
+use Rattle.pos_profile.proofs.Common.{arith, devices, devices_of, length, length-set, sym, ◌<◌, ◌∙◌, ◌≡◌, ◌≤◌}
 use Rattle.pos_profile.proofs.RegistryLemmas.{devices_count, parked_more, parked_whole}
 use Rattle.pos_profile.proofs.registry.Registry.into_entries.Goals as goal
 

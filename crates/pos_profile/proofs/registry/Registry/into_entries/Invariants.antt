@@ -1,5 +1,4 @@
-use Rattle.std.proofs.Common.{◌≡◌, ◌++◌, map, take, drop, length}
-use Rattle.pos_profile.specs.Registries.{devices, devices_of, parked}
+use Rattle.pos_profile.proofs.Common.{devices, devices_of, drop, length, map, parked, take, ◌++◌, ◌≡◌}
 use Rattle.pos_profile.proofs.registry.Registry.into_entries.Given as goal
 
 -- the devices before the place are out of service, and the others as they were

@@ -1,6 +1,5 @@
-use Rattle.std.proofs.Common.{◌∙◌, ◌<◌, ◌≤◌, None, length, sym, ap, refl, arith}
+use Rattle.pos_profile.proofs.Common.{Device, None, ap, arith, device_of, devices, devices_of, length, refl, sym, ◌<◌, ◌∙◌, ◌≤◌}
 use Rattle.std.specs.Option.{option_map}
-use Rattle.pos_profile.specs.Registries.{Device, device_of, devices, devices_of}
 use Rattle.pos_profile.proofs.RegistryLemmas.{device_at, devices_count, devices_set, sound_with, standing_is, with_past}
 use Rattle.pos_profile.proofs.registry.Registry.take.Goals as goal
 
@@ -26,7 +25,4 @@ returns-clause-vacated g c =
 
 pub returns-clause-sound : goal.returns-clause-sound
 returns-clause-sound g c =
-    let slot = c.index_mut.result.now in
-    sound_with g.P.Peripheral c.args.self.now _ c.args.place None c.requires.sound refl
-    (rw c.take.ensures.after (devices_set g.P.Peripheral c.args.self.now.slots.items c.args.place slot slot None c.index_mut.ensures.value))
-    (λ (d : Device) at. tt)
+    sound_with g.P.Peripheral c.args.self.now _ c.args.place None c.requires.sound refl (returns-clause-vacated g c) (λ (d : Device) at. tt)

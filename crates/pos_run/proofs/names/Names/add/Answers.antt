@@ -1,6 +1,4 @@
-use Rattle.std.proofs.Common.{◌∙◌, ◌∷◌, [], ap, map}
-use Rattle.std.specs.Prelude.{bytes_eq}
-use Rattle.std.proofs.lemmas.List.{map-append}
+use Rattle.pos_run.proofs.Common.{[], ap, bytes_eq, map, map-append, ◌∙◌, ◌∷◌}
 use Rattle.indexmap.proofs.CallerLemmas.{insert_entry-new}
 use Rattle.pos_run.proofs.NameLemmas.{lookup_named}
 use Rattle.pos_run.proofs.names.Names.add.Goals as goal

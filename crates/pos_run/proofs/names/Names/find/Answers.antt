@@ -1,6 +1,4 @@
-use Rattle.std.proofs.Common.{◌∙◌, ap, sym}
-use Rattle.std.proofs.lemmas.Slice.Eq.{bytes_eq-Decides}
-use Rattle.pos_run.specs.Names.{names_of, number_named}
+use Rattle.pos_run.proofs.Common.{ap, bytes_eq-Decides, names_of, number_named, sym, ◌∙◌}
 use Rattle.pos_run.proofs.NameLemmas.{lookup_named}
 use Rattle.pos_run.proofs.names.Names.find.Goals as goal
 

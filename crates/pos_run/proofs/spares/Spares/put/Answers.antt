@@ -1,5 +1,4 @@
-use Rattle.std.proofs.Common.{◌≡◌, ◌∙◌, ◌-◌, suc, Some, sym, arith}
-use Rattle.pos_run.specs.Spares.{states_in}
+use Rattle.pos_run.proofs.Common.{Some, arith, states_in, suc, sym, ◌-◌, ◌∙◌, ◌≡◌}
 use Rattle.pos_run.proofs.SpareLemmas.{no_box, service_set, states_set, with_is}
 use Rattle.pos_run.proofs.spares.Spares.put.Goals as goal
 

@@ -1,6 +1,4 @@
-use Rattle.std.proofs.Common.{◌≡◌, ◌∙◌, ◌-◌, ◌<◌, suc, None, length, ap, sym, arith}
-use Rattle.std.specs.Prelude.{option_map}
-use Rattle.pos_run.specs.Spares.{states_in}
+use Rattle.pos_run.proofs.Common.{None, ap, arith, length, option_map, states_in, suc, sym, ◌-◌, ◌<◌, ◌∙◌, ◌≡◌}
 use Rattle.pos_run.proofs.SpareLemmas.{service_set, serves_there, spare_is, state_there, states_set, with_is}
 use Rattle.pos_run.proofs.spares.Spares.take.Goals as goal
 

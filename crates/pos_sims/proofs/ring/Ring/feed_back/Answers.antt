@@ -1,4 +1,4 @@
-use Rattle.std.proofs.Common.{arith}
+use Rattle.pos_sims.proofs.Common.{arith}
 use Rattle.pos_sims.proofs.RingLemmas.{feeds_back}
 use Rattle.pos_sims.proofs.ring.Ring.feed_back.Goals as goal
 

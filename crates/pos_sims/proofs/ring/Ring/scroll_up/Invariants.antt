@@ -1,6 +1,4 @@
-use Rattle.std.proofs.Common.{◌*◌}
-use Rattle.pos_sims.specs.Rings.{shown_on}
-use Rattle.pos_sims.specs.Windows.{SameSize, ShiftsToFront}
+use Rattle.pos_sims.proofs.Common.{SameSize, ShiftsToFront, shown_on, ◌*◌}
 use Rattle.pos_sims.proofs.ring.Ring.scroll_up.Given as goal
 
 abbrev pub invariant-loop : goal.invariant-loop

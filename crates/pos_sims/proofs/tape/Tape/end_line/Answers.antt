@@ -1,5 +1,4 @@
-use Rattle.std.proofs.Common.{◌≡◌, length, arith}
-use Rattle.std.proofs.lemmas.List.{drop_all, take_rest}
+use Rattle.pos_sims.proofs.Common.{arith, drop_all, length, take_rest, ◌≡◌}
 use Rattle.pos_sims.proofs.TapeLemmas.{items_append}
 use Rattle.pos_sims.proofs.tape.Tape.end_line.Goals as goal
 

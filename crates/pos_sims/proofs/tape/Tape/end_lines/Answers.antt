@@ -1,6 +1,5 @@
-use Rattle.std.proofs.Common.{◌∷◌, [], arith}
+use Rattle.pos_sims.proofs.Common.{[], arith, work_of, ◌∷◌}
 use Rattle.pos_service.specs.declared.receipt_text.Piece.TheVariants as piece
-use Rattle.pos_sims.specs.Tapes.{work_of}
 use Rattle.pos_sims.proofs.RequestLemmas.{next_line, past_front}
 use Rattle.pos_sims.proofs.TapeLemmas.{adds_more}
 use Rattle.pos_sims.proofs.tape.Tape.end_lines.Goals as goal

@@ -1,8 +1,5 @@
-use Rattle.std.proofs.Common.{◌≡◌, ◌-◌}
-use Rattle.std.specs.Prelude.{replicate}
+use Rattle.pos_sims.proofs.Common.{Adds, replicate, steps, work_of, ◌-◌, ◌≡◌}
 use Rattle.pos_service.specs.declared.receipt_text.Piece.TheVariants as piece
-use Rattle.pos_sims.specs.Tapes.{work_of, Adds}
-use Rattle.pos_sims.specs.Tapes.{steps}
 use Rattle.pos_sims.proofs.tape.Tape.end_lines.Given as goal
 
 abbrev pub invariant-loop : goal.invariant-loop

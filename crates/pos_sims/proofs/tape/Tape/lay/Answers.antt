@@ -1,7 +1,5 @@
-use Rattle.std.proofs.Common.{ap, arith, ◌∷◌, []}
+use Rattle.pos_sims.proofs.Common.{[], ap, arith, pieces_in, steps, work_of, ◌∷◌}
 use Rattle.pos_service.specs.declared.receipt_text.Piece.TheVariants as piece
-use Rattle.pos_service.specs.Receipts.{pieces_in}
-use Rattle.pos_sims.specs.Tapes.{steps, work_of}
 use Rattle.pos_sims.proofs.RequestLemmas.{past_front}
 use Rattle.pos_sims.proofs.tape.Tape.lay.Goals as goal
 

@@ -1,7 +1,4 @@
-use Rattle.std.proofs.Common.{◌≡◌, length}
-use Rattle.pos_service.specs.Receipts.{pieces}
-use Rattle.pos_sims.specs.Tapes.{work_of, Adds}
-use Rattle.pos_sims.specs.Tapes.{steps}
+use Rattle.pos_sims.proofs.Common.{Adds, length, pieces, steps, work_of, ◌≡◌}
 use Rattle.pos_sims.proofs.tape.Tape.lay.Given as goal
 
 abbrev pub invariant-loop-rest : goal.invariant-loop-rest

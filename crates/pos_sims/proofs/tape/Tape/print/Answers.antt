@@ -1,7 +1,5 @@
-use Rattle.std.proofs.Common.{◌≡◌, ap, refl, arith}
-use Rattle.std.specs.Prelude.{Err}
+use Rattle.pos_sims.proofs.Common.{Err, ap, arith, pieces_asked, refl, work_of, ◌≡◌}
 use Rattle.pos_sims.specs.declared.tape.Stop.TheVariants as stop
-use Rattle.pos_sims.specs.Tapes.{pieces_asked, work_of}
 use Rattle.pos_sims.proofs.TapeLemmas.{asked}
 use Rattle.pos_sims.proofs.tape.Tape.print.Goals as goal
 

@@ -1,5 +1,4 @@
-use Rattle.std.proofs.Common.{arith}
-use Rattle.std.proofs.lemmas.List.{drop-append-le}
+use Rattle.pos_sims.proofs.Common.{arith, drop-append-le}
 use Rattle.pos_sims.proofs.TapeLemmas.{items_of_more}
 use Rattle.pos_sims.proofs.tape.Tape.push.Goals as goal
 

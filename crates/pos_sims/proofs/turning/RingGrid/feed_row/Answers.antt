@@ -1,4 +1,4 @@
-use Rattle.std.proofs.Common.{arith}
+use Rattle.pos_sims.proofs.Common.{arith}
 use Rattle.pos_sims.proofs.RingLemmas.{feeds}
 use Rattle.pos_sims.proofs.turning.RingGrid.feed_row.Goals as goal
 

@@ -1,6 +1,4 @@
-use Rattle.std.proofs.Common.{◌≡◌, ◌∙◌, length, ap, arith}
-use Rattle.std.proofs.lemmas.List.{with_items_is}
-use Rattle.pos_sims.specs.Windows.{display_of, with_run_at}
+use Rattle.pos_sims.proofs.Common.{ap, arith, display_of, length, with_items_is, with_run_at, ◌∙◌, ◌≡◌}
 use Rattle.pos_sims.proofs.RingLemmas.{run_turned}
 use Rattle.pos_sims.proofs.RunLemmas.{run_count}
 use Rattle.pos_sims.proofs.turning.RingGrid.put_run.Goals as goal

@@ -1,8 +1,6 @@
-use Rattle.std.proofs.Common.{◌≡◌, ◌∙◌, ◌*◌, length, arith}
-use Rattle.std.proofs.lemmas.List.{with_items_is}
-use Rattle.pos_service.specs.declared.display_text.Direction.TheVariants as direction
+use Rattle.pos_sims.proofs.Common.{arith, length, shown_on, with_items_is, ◌*◌, ◌∙◌, ◌≡◌}
 use Rattle.pos_sims.specs.declared.ring.Ring.{Ring}
-use Rattle.pos_sims.specs.Rings.{shown_on}
+use Rattle.pos_service.specs.declared.display_text.Direction.TheVariants as direction
 use Rattle.pos_sims.proofs.RingLemmas.{turned_count, turned_left, turned_right}
 use Rattle.pos_sims.proofs.ScrollLemmas.{scrolls}
 use Rattle.pos_sims.proofs.turning.RingScreen.scroll.Goals as goal
