@@ -1,17 +1,14 @@
 -- The devices of a profile, as a counter begins over them.
-use Rattle.pos_counter.proofs.Common.{◌&&◌, ◌++◌, All, All-cons, All-nil, AllByRecursion, Bool, Category, Device, Entry, Hardware, HasItsDevice, HasItsKind}
-use Rattle.pos_counter.proofs.Common.{IfSome, IsServed, IsSound, List, None, Option, PeripheralState, Registered, Some, TotalsPart, [], ap, append-nil}
-use Rattle.pos_counter.proofs.Common.{append_assoc, arith, cond, device_of, devices_of, false, false≢true, hardware_of, length, length-map, length_push}
-use Rattle.pos_counter.proofs.Common.{machine_with, map, option_map, profile_devices, refl, slice_get, suc, sym, totals_devices, true, ◌||◌, ℕ, ◌∙◌, ◌∷◌, ◌≡◌}
+use Rattle.pos_counter.proofs.Common.{◌++◌, All, All-cons, All-nil, AllByRecursion, Bool, Category, Device, Entry, HardTotals, Hardware, HasItsDevice}
+use Rattle.pos_counter.proofs.Common.{HasItsKind, HasKindInRange, IfSome, IsServed, IsSound, List, None, Option, PeripheralState, Registered, Some, TotalsPart}
+use Rattle.pos_counter.proofs.Common.{[], ap, append-nil, append_assoc, arith, cond, cons_option, device_of, devices_of, false, false≢true, find, hardware_of}
+use Rattle.pos_counter.proofs.Common.{length, length-map, length_push, list_any, machine_with, map, option_map, planned_of, profile_devices, refl, slice_get}
+use Rattle.pos_counter.proofs.Common.{suc, sym, take, totals_devices, true, vacant, vacant_devices, ◌||◌, ℕ, ◌∙◌, ◌∷◌, ◌≡◌}
+use Rattle.std.proofs.Math.Bool.{and-true}
 use Rattle.std.proofs.lemmas.List.Folds.{list_any-append}
-use Rattle.std.specs.List.{cons_option, list_any}
-use Rattle.std.specs.Prelude.{find, take}
 use Rattle.pos_profile.specs.Categories.{is_totals}
 use Rattle.pos_profile.specs.Kinds.{kind_with}
 use Rattle.pos_profile.specs.Profiles.{is_refused_after, is_totals_entry}
-use Rattle.pos_profile.specs.Registries.{HasKindInRange, planned_of, vacant, vacant_devices}
-use Rattle.pos_service.specs.declared.category.Category.TheVariants as category
-use Rattle.pos_service.specs.declared.kind.Kind.TheVariants as kind
 
 -- no entry behind earlier ones is refused
 abbrev pub AreKept : List (Option Entry) → List Entry → Type 0
@@ -27,11 +24,7 @@ kept_later earlier e es kept place =
 -- behind an entry of Hard Totals none is another
 kept_after : (earlier : List (Option Entry)) (e : Entry) (es : List Entry) → list_any is_totals_entry earlier ≡ true → AreKept earlier (e ∷ es)
     → is_totals e.category ≡ false
-kept_after earlier e es has kept = by (is_totals e.category) (kept 0)
-  where
-    by : (b : Bool) → (b && list_any is_totals_entry (earlier ++ [])) ≡ false → b ≡ false
-    by true h = absurd (false≢true (sym h ∙ ap (list_any is_totals_entry) (append-nil earlier) ∙ has))
-    by false h = refl
+kept_after earlier e es has kept = simp (append-nil, has, and-true) at (kept 0)
 
 -- whether one of them is, with one more
 any_later : (earlier : List (Option Entry)) (e : Entry) (one : Bool) → is_totals e.category ≡ one
@@ -49,7 +42,7 @@ count_after earlier (e ∷ es) has kept =
   where
     by : (k : Category) → is_totals k ≡ false → length (vacant_devices es) ≡ length es
         → length (map vacant (cons_option (option_map (λ kind. record { name = e.name; kind = kind }) (kind_with k e)) (planned_of es))) ≡ suc (length es)
-    by category.HardTotals is rest = absurd (false≢true (sym is))
+    by HardTotals is rest = absurd (false≢true (sym is))
     by k is rest = ap suc rest
 
 -- each entry of a profile has a device
@@ -65,7 +58,7 @@ count_devices earlier (e ∷ es) none kept =
         → length (map device_of (map vacant
         (cons_option (option_map (λ kind. record { name = e.name; kind = kind }) (kind_with k e)) (planned_of es))) ++ totals_devices
         (option_map (λ entry. entry.name) (cond (is_totals k) (Some e) (find (λ entry. is_totals entry.category) es)))) ≡ suc (length es)
-    by category.HardTotals last more =
+    by HardTotals last more =
         let t : Device = record { name = e.name; kind = None; hardware = None } in
         omega (arith, length_push (map device_of (vacant_devices es)) t, length-map (vacant_devices es) device_of, last refl)
     by k last more = ap suc (more refl)

@@ -1,16 +1,10 @@
 -- Claims, releases and closes as steps of the machine.
-use Rattle.pos_counter.proofs.Common.{◌<◌, Answer, Answered, Bool, CallOf, Category, Control, Decided, Device, IfSome, IsSound, KeptControl, List, Machine}
-use Rattle.pos_counter.proofs.Common.{None, Option, Some, Standing, Step, Totals, TotalsPart, after_release, ap, arith, claim_rows, claimed, claimed_by, closed}
-use Rattle.pos_counter.proofs.Common.{controls_of, dropped, false, first_refusal, get_or, holder_at, holder_in, inl, inr, is_area_taken, is_foreign, is_none}
-use Rattle.pos_counter.proofs.Common.{is_own, is_some, is_taken, is_totals, length, machine_with, not, refl, release_rows, released, released_by, set, settled}
-use Rattle.pos_counter.proofs.Common.{slice_get, slice_get_within, subst, sym, table, takes, true, with_control, without_control, ℕ, ℤ, ◌∙◌, ◌≡◌, ◌⊎◌}
-use Rattle.pos_common.specs.KeptControls.{TurnsInto}
-use Rattle.pos_service.specs.Calls.{close_rows}
-use Rattle.pos_service.specs.declared.answer.Answer.TheVariants as answer
-use Rattle.pos_service.specs.declared.answer.Value.TheVariants as value
-use Rattle.pos_service.specs.declared.call.Call.TheVariants as call
-use Rattle.pos_service.specs.declared.category.Category.TheVariants as category
-use Rattle.pos_service.specs.declared.code.Code.TheVariants as code
+use Rattle.pos_counter.proofs.Common.{◌<◌, Answer, Answered, Bool, CallOf, Category, Claim, Close, Closed, Control, Decided, Device, Done, Empty, HardTotals}
+use Rattle.pos_counter.proofs.Common.{IfSome, IsSound, KeptControl, List, Machine, None, Option, Refused, Release, Some, Standing, Step, Totals, TotalsPart}
+use Rattle.pos_counter.proofs.Common.{TurnsInto, after_release, ap, arith, claim_rows, claimed, claimed_by, close_rows, closed, controls_of, dropped, false}
+use Rattle.pos_counter.proofs.Common.{first_refusal, get_or, holder_at, holder_in, inl, inr, is_area_taken, is_foreign, is_none, is_own, is_some, is_taken}
+use Rattle.pos_counter.proofs.Common.{is_totals, length, machine_with, not, refl, release_rows, released, released_by, set, settled, slice_get}
+use Rattle.pos_counter.proofs.Common.{slice_get_within, subst, sym, table, takes, true, with_control, without_control, ℕ, ℤ, ◌∙◌, ◌≡◌, ◌⊎◌}
 use Rattle.pos_counter.proofs.Lifts.{decided_none, decided_some, decided_step, decided_weaker, kept_at, kept_machine, match_cases, set_machine}
 use Rattle.pos_counter.proofs.Sound.{Served, seated}
 
@@ -33,8 +27,8 @@ area_settled old new area (inl same) left = ap (λ (t : Totals). settled t.layou
 area_settled old new area (inr other) left = ap (λ (t : Totals). settled t.layout t.mode left) other
 
 -- what is no device with a peripheral is Hard Totals
-pub are_totals : (k : Category) → is_totals k ≡ true → k ≡ category.HardTotals
-are_totals category.HardTotals is = refl
+pub are_totals : (k : Category) → is_totals k ≡ true → k ≡ HardTotals
+are_totals HardTotals is = refl
 are_totals k is = cc
 
 -- there is none where the test of one fails
@@ -53,7 +47,7 @@ record IsInTable (k : Category) (m : Machine) (n : ℕ) (c : Control) : Type 0 w
 
 -- so is that of each device with a peripheral
 in_table : (k : Category) (m : Machine) (n : ℕ) (c : Control) → is_totals k ≡ false → IsInTable k m n c
-in_table category.HardTotals m n c is = absurd cc
+in_table HardTotals m n c is = absurd cc
 in_table k m n c is = record { drops = refl; releases = refl; claims = refl; takes = refl; holds = refl }
 
 module _ (hs : List KeptControl) (cl : List (Option ℕ)) (ds : List Device) (part : TotalsPart) (n : ℕ) (h : KeptControl) (in_range : n < length hs)
@@ -74,13 +68,13 @@ module _ (hs : List KeptControl) (cl : List (Option ℕ)) (ds : List Device) (pa
   -- ---- close
 
   -- a close of a closed control is refused
-  pub close_refused : is_none c.device ≡ true → Step m (CallOf n call.Close) (Answered (answer.Refused code.Closed 0)) m
+  pub close_refused : is_none c.device ≡ true → Step m (CallOf n Close) (Answered (Refused Closed 0)) m
   close_refused closed = rw found (decided_some (rw closed) refl refl)
 
   -- a close of a control of a device with a peripheral frees what it holds
   pub close_device : (g : KeptControl) (dl : List (Option ℕ)) (r : Answer) → is_totals c.category ≡ false → is_none c.device ≡ false
       → TurnsInto (close_rows c) r h g (closed c) → dl ≡ released_by cl c.device n
-      → Step m (CallOf n call.Close) (Answered r) (machine_with (set hs n g) dl ds part)
+      → Step m (CallOf n Close) (Answered r) (machine_with (set hs n g) dl ds part)
   close_device g dl r is there turns free =
       let done = rw there at turns.outcome in
       rw found (decided_none (rw there) (
@@ -89,8 +83,8 @@ module _ (hs : List KeptControl) (cl : List (Option ℕ)) (ds : List Device) (pa
       ))
 
   -- a close of a control of Hard Totals frees what it holds, and drops its transaction
-  pub close_area : (g : KeptControl) (r : Answer) → c.category ≡ category.HardTotals → is_none c.device ≡ false
-      → TurnsInto (close_rows c) r h g (closed c) → Step m (CallOf n call.Close) (Answered r)
+  pub close_area : (g : KeptControl) (r : Answer) → c.category ≡ HardTotals → is_none c.device ≡ false
+      → TurnsInto (close_rows c) r h g (closed c) → Step m (CallOf n Close) (Answered r)
       (machine_with (set hs n g) cl ds (record part { totals = without_control part.totals n }))
   close_area g r is there turns =
       let done = rw there at turns.outcome in
@@ -105,8 +99,8 @@ module _ (hs : List KeptControl) (cl : List (Option ℕ)) (ds : List Device) (pa
 
   -- a claim of a device with a peripheral
   pub claim_device : (dl : List (Option ℕ)) (timeout : ℤ) (r : Answer) → is_totals c.category ≡ false
-      → Decided (claim_rows c (is_foreign n (holder_at cl c.device)) timeout) r (dl ≡ cl) ((r ≡ answer.Done value.Empty) × (dl ≡ claimed_by cl c.device n))
-      → Step m (CallOf n (call.Claim timeout)) (Answered r) (machine_with hs dl ds part)
+      → Decided (claim_rows c (is_foreign n (holder_at cl c.device)) timeout) r (dl ≡ cl) ((r ≡ Done Empty) × (dl ≡ claimed_by cl c.device n))
+      → Step m (CallOf n (Claim timeout)) (Answered r) (machine_with hs dl ds part)
   claim_device dl timeout r is d =
       let table = in_table c.category m n c is in
       let same = λ (claims : List (Option ℕ)). machine_with hs claims ds part in
@@ -115,8 +109,8 @@ module _ (hs : List KeptControl) (cl : List (Option ℕ)) (ds : List Device) (pa
   -- a release of a device with a peripheral
   pub release_device : (g : KeptControl) (dl : List (Option ℕ)) (r : Answer) → is_totals c.category ≡ false
       → Decided (release_rows c (is_own n (holder_at cl c.device))) r ((g ≡ h) × (dl ≡ cl))
-      ((r ≡ answer.Done value.Empty) × (g.control ≡ after_release c.category c) × (dl ≡ released_by cl c.device n))
-      → Step m (CallOf n call.Release) (Answered r) (machine_with (set hs n g) dl ds part)
+      ((r ≡ Done Empty) × (g.control ≡ after_release c.category c) × (dl ≡ released_by cl c.device n))
+      → Step m (CallOf n Release) (Answered r) (machine_with (set hs n g) dl ds part)
   release_device g dl r is d =
       let after = after_release c.category c in
       rw (found, (in_table c.category m n c is).holds) (decided_weaker
@@ -127,23 +121,23 @@ module _ (hs : List KeptControl) (cl : List (Option ℕ)) (ds : List Device) (pa
       (λ same. rw same.1 (kept_machine hs cl ds part n g h same.0 here)) d)
 
   -- a claim of the area
-  pub claim_area : (totals : Totals) (timeout : ℤ) (r : Answer) → c.category ≡ category.HardTotals
+  pub claim_area : (totals : Totals) (timeout : ℤ) (r : Answer) → c.category ≡ HardTotals
       → Decided (claim_rows c (is_area_taken part.totals n) timeout) r (totals ≡ part.totals)
-      ((r ≡ answer.Done value.Empty) × (totals ≡ record part.totals { area = Some n }))
-      → Step m (CallOf n (call.Claim timeout)) (Answered r) (over totals)
+      ((r ≡ Done Empty) × (totals ≡ record part.totals { area = Some n }))
+      → Step m (CallOf n (Claim timeout)) (Answered r) (over totals)
   claim_area totals timeout r is d =
-      decided_step m (over totals) n c (call.Claim timeout) r _ _ _ found (ap (λ k. first_refusal (claim_rows c (is_taken k m n c.device) timeout)) is)
+      decided_step m (over totals) n c (Claim timeout) r _ _ _ found (ap (λ k. first_refusal (claim_rows c (is_taken k m n c.device) timeout)) is)
       (ap over) (λ done. (done.0, subst (λ k. over totals ≡ claimed k m n c) (sym is) (ap over done.1))) d
 
   -- a release of the area
-  pub release_area : (g : KeptControl) (totals : Totals) (r : Answer) → c.category ≡ category.HardTotals
+  pub release_area : (g : KeptControl) (totals : Totals) (r : Answer) → c.category ≡ HardTotals
       → Decided (release_rows c (is_own n part.totals.area)) r ((g ≡ h) × (totals ≡ part.totals))
-      ((r ≡ answer.Done value.Empty) × (g.control ≡ after_release c.category c) × (totals ≡ record part.totals { area = None }))
-      → Step m (CallOf n call.Release) (Answered r) (machine_with (set hs n g) cl ds (record part { totals = totals }))
+      ((r ≡ Done Empty) × (g.control ≡ after_release c.category c) × (totals ≡ record part.totals { area = None }))
+      → Step m (CallOf n Release) (Answered r) (machine_with (set hs n g) cl ds (record part { totals = totals }))
   release_area g totals r is d =
       let now : TotalsPart = record part { totals = totals } in
       let after = after_release c.category c in
-      decided_step m (machine_with (set hs n g) cl ds now) n c call.Release r _ _ _ found
+      decided_step m (machine_with (set hs n g) cl ds now) n c Release r _ _ _ found
       (ap (λ k. first_refusal (release_rows c (is_own n (holder_in k cl part.totals.area c.device)))) is)
       (λ same. kept_machine hs cl ds now n g h same.0 here ∙ ap over same.1)
       (λ done. (

@@ -1,19 +1,14 @@
 -- What the registry of a counter tells of an exchange, as steps of the machine.
-use Rattle.pos_counter.specs.Responses.{attached}
-use Rattle.pos_counter.proofs.Common.{◌+◌, ◌<◌, Attach, Bool, Detach, Err, IsSome, KeptControl, List, None, Ok, Option, PeripheralState, Registered, Result}
-use Rattle.pos_counter.proofs.Common.{Some, Step, TotalsPart, ap, changed, controls_of, detached, device_at, device_of, devices_of, drop, false, get_or}
-use Rattle.pos_counter.proofs.Common.{hardware_in, hardware_of, has_open, is_open_at, kind_in, length, machine_with, names_of, option_map, place_of, refl}
-use Rattle.pos_counter.proofs.Common.{registered_place, slice_get, standing_at, subst, sym, told, ◌||◌, ℕ, ◌∙◌, ◌≡◌, ◌≤◌}
-use Rattle.std.proofs.lemmas.List.{drop_all, drop_more}
-use Rattle.std.specs.Prelude.{IfErr, option_and_then}
-use Rattle.pos_profile.specs.Registries.{Attaches, Detaches, IsNamed}
+use Rattle.pos_counter.proofs.Common.{◌+◌, ◌<◌, Attach, Attaches, Bool, Detach, Detaches, Err, IfErr, IsNamed, KeptControl, List, None, Ok, Option}
+use Rattle.pos_counter.proofs.Common.{PeripheralState, Registered, Result, Some, Step, TotalsPart, ap, attached, controls_of, detached, device_at, device_of}
+use Rattle.pos_counter.proofs.Common.{devices_of, drop, drop_all, drop_more, false, get_or, hardware_of, has_open, is_open_at, length, machine_with, names_of}
+use Rattle.pos_counter.proofs.Common.{option_and_then_some, option_map, place_of, registered_place, slice_get, standing_at, sym, told, ◌||◌, ℕ, ◌∙◌, ◌≡◌, ◌≤◌}
 use Rattle.pos_service.specs.declared.exchange_fault.AttachFault.TheVariants as attach
 use Rattle.pos_service.specs.declared.exchange_fault.AttachFault.{AttachFault}
 use Rattle.pos_service.specs.declared.exchange_fault.DetachFault.TheVariants as detach
 use Rattle.pos_service.specs.declared.exchange_fault.DetachFault.{DetachFault}
-use Rattle.pos_counter.proofs.DeviceLists.{devices_with, registered_there}
+use Rattle.pos_counter.proofs.DeviceLists.{devices_with, found_first, kind_last, registered_there}
 use Rattle.pos_counter.proofs.Hardware.{named}
-use Rattle.pos_counter.proofs.Places.{found_first, kind_last}
 
 -- the device of a name that the registry has
 named_device : (list : List Registered) (totals : Option (List ℕ)) (name : List ℕ) (d : Registered) → IsNamed list name d
@@ -24,39 +19,27 @@ named_device list totals name d is =
 -- whether a control has a device open: the next one has it, or not
 pub open_next : (place : ℕ) (hs : List KeptControl) (i : ℕ) (h : KeptControl) (b : Bool) → i < length hs → h ≡ get_or hs i h → has_open place h.control ≡ b
     → is_open_at place (controls_of (drop i hs)) ≡ (b || is_open_at place (controls_of (drop (i + 1) hs)))
-open_next place hs i h b lt is has =
-    ap (λ xs. is_open_at place (controls_of xs)) (drop_more hs i h lt)
-    ∙ ap (λ (x : KeptControl). has_open place x.control || is_open_at place (controls_of (drop (i + 1) hs))) (sym is)
-    ∙ ap (λ a. a || is_open_at place (controls_of (drop (i + 1) hs))) has
+open_next place hs i h b lt is has = rw (drop_more hs i h lt, ← is, has)
 
 -- and behind the last none has
 pub open_end : (place : ℕ) (hs : List KeptControl) (i : ℕ) → length hs ≤ i → is_open_at place (controls_of (drop i hs)) ≡ false
-open_end place hs i le = ap (λ xs. is_open_at place (controls_of xs)) (drop_all i hs le)
+open_end place hs i le = rw (drop_all i hs le)
 
 module _ (hs : List KeptControl) (list new : List Registered) (totals : Option (List ℕ)) (name : List ℕ) (cl : List (Option ℕ)) (part : TotalsPart) where
   -- nothing has changed
-  same_devices : new ≡ list → devices_of new totals ≡ devices_of list totals
-  same_devices is = ap (λ xs. devices_of xs totals) is
-
   same_machine : new ≡ list → machine_with hs cl (devices_of new totals) part ≡ machine_with hs cl (devices_of list totals) part
-  same_machine is = ap (λ xs. machine_with hs cl xs part) (same_devices is)
+  same_machine is = ap (λ xs. machine_with hs cl (devices_of xs totals) part) is
 
   -- what stands at a place of the registry
   registered_at : (place : ℕ) (was : PeripheralState) → standing_at list place ≡ Some was
       → (d : Registered) × (slice_get list place ≡ Some d) × (d.peripheral ≡ Some was)
-  registered_at place was stood = by (slice_get list place) refl stood
-    where
-      by : (o : Option Registered) → slice_get list place ≡ o → option_and_then (λ d. d.peripheral) o ≡ Some was
-          → (d : Registered) × (slice_get list place ≡ Some d) × (d.peripheral ≡ Some was)
-      by None at stood = cc
-      by (Some d) at stood = (d, at, stood)
+  registered_at place was stood = option_and_then_some (λ d. d.peripheral) (slice_get list place) was stood (λ d at is. (d, at, is))
 
   pub attach_step : {B : Type 0} (state : B → PeripheralState) (peripheral : B) (result : Result (Unit {0}) (AttachFault × B))
       → IfErr result (λ refusal. refusal.1 ≡ peripheral) → Attaches list name (state peripheral) result new
       → Step (machine_with hs cl (devices_of list totals) part) (Attach name (hardware_of (state peripheral))) (attached state result)
       (machine_with hs cl (devices_of new totals) part)
   attach_step state peripheral (Ok u) back h =
-      let changed = ap (λ xs. devices_of xs totals) h.served ∙ devices_with list totals h.place h.may.device (Some (state peripheral)) h.may.at in
       record {
         place = h.place;
         device = device_of h.may.device;
@@ -64,23 +47,15 @@ module _ (hs : List KeptControl) (list new : List Registered) (totals : Option (
         is_device = registered_there list totals h.place h.may.device h.may.at;
         is_vacant = ap (option_map hardware_of) h.may.vacant;
         kind = ap Some (sym h.may.kind);
-        machine = ap (λ xs. machine_with hs cl xs part) changed;
+        machine = rw (h.served, devices_with list totals h.place h.may.device (Some (state peripheral)) h.may.at);
       }
   attach_step state peripheral (Err (attach.Unknown, given)) back h =
       (kind_last name list totals h.0, ap (λ b. hardware_of (state b)) back, same_machine h.1)
-  attach_step state peripheral (Err (attach.InUse, given)) back h = (
-    subst IsSome (sym (ap hardware_in (named_device list totals name h.0.device h.0.named) ∙ ap (option_map hardware_of) h.0.served)) refl,
-    ap (λ b. hardware_of (state b)) back,
-    same_machine h.1,
-  )
+  attach_step state peripheral (Err (attach.InUse, given)) back h =
+      (rw (named_device list totals name h.0.device h.0.named, h.0.served), ap (λ b. hardware_of (state b)) back, same_machine h.1)
   attach_step state peripheral (Err (attach.KindDiffers, given)) back h =
       let there = named_device list totals name h.0.device h.0.named in (
-        record {
-          kind = h.0.device.kind;
-          named = ap kind_in there;
-          is_vacant = ap hardware_in there ∙ ap (option_map hardware_of) h.0.vacant;
-          differs = h.0.kind;
-        },
+        record { kind = h.0.device.kind; named = rw there; is_vacant = rw (there, h.0.vacant); differs = h.0.kind },
         ap (λ b. hardware_of (state b)) back,
         same_machine h.1,
       )
@@ -91,7 +66,6 @@ module _ (hs : List KeptControl) (list new : List Registered) (totals : Option (
       → Step (machine_with hs cl (devices_of list totals) part) (Detach name) (detached state result) (machine_with hs cl (devices_of new totals) part)
   detach_step state is_open (Ok peripheral) told h =
       let d = registered_at h.0.place h.0.was h.0.stood in
-      let changed = ap (λ xs. devices_of xs totals) h.0.vacated ∙ devices_with list totals h.0.place d.0 None d.1 in
       record {
         place = h.0.place;
         device = device_of d.0;
@@ -99,21 +73,19 @@ module _ (hs : List KeptControl) (list new : List Registered) (totals : Option (
         is_device = registered_there list totals h.0.place d.0 d.1;
         is_attached = ap (option_map hardware_of) d.2 ∙ ap (λ s. Some (hardware_of s)) (sym h.0.parked);
         is_closed = sym (told h.0.place h.0.found) ∙ h.1;
-        machine = ap (λ xs. machine_with hs cl xs part) changed;
+        machine = ap (λ xs. machine_with hs cl xs part) (ap (λ xs. devices_of xs totals) h.0.vacated ∙ devices_with list totals h.0.place d.0 None d.1);
       }
   detach_step state is_open (Err detach.Unknown) told h =
       (kind_last name list totals h.0, same_machine h.1)
   detach_step state is_open (Err detach.Vacant) told h =
-      let there = named_device list totals name h.0.device h.0.named in (
-        (subst IsSome (sym (ap kind_in there)) refl, ap hardware_in there ∙ ap (option_map hardware_of) h.0.vacant),
-        same_machine h.1,
-      )
+      let there = named_device list totals name h.0.device h.0.named in
+      ((rw there, rw (there, h.0.vacant)), same_machine h.1)
   detach_step state is_open (Err detach.InUse) told h =
       let named : IsNamed list name h.0.device = h.0.named in (
         record {
           place = named.place;
           is_at = found_first name list totals named.place named.found;
-          is_attached = subst IsSome (sym (ap hardware_in (named_device list totals name h.0.device named) ∙ ap (option_map hardware_of) h.0.served)) refl;
+          is_attached = rw (named_device list totals name h.0.device named, h.0.served);
           is_open = sym (told named.place named.found) ∙ h.1;
         },
         same_machine h.2,

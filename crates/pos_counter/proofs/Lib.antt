@@ -1,14 +1,11 @@
 pub mod Lifts
 pub mod Common
-pub mod Places
-pub mod Deeds
-pub mod DeviceLists
 pub mod Cursors
 pub mod Sound
 pub mod Leaving
 pub mod Hardware
 pub mod Runs
-pub mod Parking
+pub mod DeviceLists
 pub mod Serving
 pub mod Exchanging
 pub mod Beginning
@@ -17,10 +14,8 @@ pub mod FileCalls
 pub mod TotalsSteps
 pub mod Sparing
 pub mod Recovering
-pub mod Prefixes
 pub mod Steps
 pub mod PrefixRuns
-pub mod PrefixCounters
 pub mod PrefixExamples
-pub mod Moves
+pub mod Prefixes
 pub mod Reopening

@@ -1,8 +1,8 @@
 -- What a counter serves by a step of its machine.
 use Rattle.pos_store.proofs.Passing.{stays}
 use Rattle.pos_counter.proofs.Common.{AreDevicesSound, Counter, DiskGhosts, Ghosts, IsCounterSound, IsSettled, IsSound, IsStep, IsStepBeside, Leaves, List}
-use Rattle.pos_counter.proofs.Common.{Machine, MayLeave, Request, Response, Serves, Spared, SparesDisk, Standing, Step, Stepped, Totals, TotalsPart, TotalsView}
-use Rattle.pos_counter.proofs.Common.{[], ap, arith, inl, machine, part_of, part_with, refl, settled, subst, sym, ℕ, ◌∙◌, ◌≡◌}
+use Rattle.pos_counter.proofs.Common.{Machine, MayLeave, Request, Response, Serves, Spared, Standing, Step, Stepped, Totals, TotalsPart, TotalsView, [], ap}
+use Rattle.pos_counter.proofs.Common.{ap₂, arith, inl, machine, part_of, part_with, refl, settled, subst, sym, ℕ, ◌∙◌, ◌≡◌}
 use Rattle.pos_disk.specs.Keeps.{KeepsDisk}
 use Rattle.pos_counter.proofs.Leaving.{settled_twice}
 use Rattle.pos_counter.proofs.Steps.{step_sound}
@@ -18,9 +18,7 @@ OnlyNow bound disk = (bytes : List ℕ) → bound.honest disk → (bound.state d
 -- totals on the same disk
 pub same_view : {D : Type 0} (old new : TotalsView D) (totals : Totals) → new.disk ≡ old.disk → new.totals ≡ totals
     → new ≡ record { disk = old.disk; totals = totals }
-same_view {D = D} old new totals d t =
-    ap (λ (x : D). let v : TotalsView D = record { disk = x; totals = new.totals } in v) d
-    ∙ ap (λ (x : Totals). let v : TotalsView D = record { disk = old.disk; totals = x } in v) t
+same_view {D = D} old new totals d t = ap₂ (λ x y. let v : TotalsView D = record { disk = x; totals = y } in v) d t
 
 -- a step in which the disk has no part, over totals that know the same files
 arranges_stepped : {D : Type 0} (bound : DiskGhosts D) (view : TotalsView D) (totals : Totals) (old new : TotalsPart → Machine) (q : Request)
@@ -58,6 +56,15 @@ pub beside_sound : {D P : Type 0} (peripherals : Ghosts P) (old new : Counter D 
 beside_sound peripherals old new q r beside sound devices =
     let part = part_with old.totals.totals [] 0 in
     still_sound peripherals old new q r part part sound devices (beside.step part)
+
+-- a step in which the totals have no part, and what a sound counter is behind it
+pub steps_beside : {D P : Type 0} (peripherals : Ghosts P) (old new : Counter D P) (q : Request) (r : Response) → IsCounterSound peripherals old
+    → AreDevicesSound peripherals new.devices → new.totals ≡ old.totals
+    → ((part : TotalsPart) → Step (machine peripherals old part) q r (machine peripherals new part))
+    → record { step : IsStepBeside peripherals old q r new; sound : IsCounterSound peripherals new }
+steps_beside peripherals old new q r sound devices totals step =
+    let beside : IsStepBeside peripherals old q r new = record { step = step; totals = totals } in
+    record { step = beside; sound = beside_sound peripherals old new q r beside sound devices }
 
 module _ {D P : Type 0} (bound : DiskGhosts D) (peripherals : Ghosts P) where
   -- a step in which the disk has no part, over totals that know the same files, is one for all that the disk may leave
@@ -112,14 +119,5 @@ module _ {D P : Type 0} (bound : DiskGhosts D) (peripherals : Ghosts P) where
       → new.totals ≡ old.totals → AreDevicesSound peripherals new.devices
       → ((part : TotalsPart) → Step (machine peripherals old part) q r (machine peripherals new part)) → Serves bound peripherals old q r new
   stays_serves old only sound new q r totals devices step =
-      let beside : IsStepBeside peripherals old q r new = record { step = step; totals = totals } in
-      record { step = beside_is_step old new q r only beside; sound = beside_sound peripherals old new q r beside sound devices }
-
-  -- a counter is sound behind a request that spares the disk
-  pub spared_sound : (old new : Counter D P) (q : Request) (r : Response) → IsStep bound peripherals old q r new → ((m : Machine) → SparesDisk m q)
-      → IsCounterSound peripherals old → AreDevicesSound peripherals new.devices → IsCounterSound peripherals new
-  spared_sound old new q r step spares sound devices =
-      let was = old.totals.totals in
-      let left = settled was.layout was.mode [] in
-      still_sound peripherals old new q r (part_with was left 0) (part_with new.totals.totals left 0) sound devices
-      ((step.spared left 0 (spares _)).step (settled_twice was.layout [] was.mode))
+      let both = steps_beside peripherals old new q r sound devices totals step in
+      record { step = beside_is_step old new q r only both.step; sound = both.sound }

@@ -1,5 +1,5 @@
 use Rattle.pos_counter.proofs.Common.{controls_of, get_or, hardware_of}
-use Rattle.pos_counter.proofs.Deeds.{called_done, called_refused}
+use Rattle.pos_counter.proofs.Cursors.{called_done, called_refused}
 use Rattle.pos_counter.proofs.Lifts.{control_at}
 use Rattle.pos_counter.proofs.calls.call_device.Goals as goal
 

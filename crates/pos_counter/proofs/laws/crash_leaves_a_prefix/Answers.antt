@@ -1,7 +1,5 @@
 -- A crash of a counter's disk leaves a prefix of the history.
-use Rattle.pos_service.specs.declared.request.Request.TheVariants as request
-use Rattle.pos_service.specs.declared.request.Response.TheVariants as response
-use Rattle.pos_counter.proofs.PrefixCounters.{has_begun, keeps_prefix, keeps_prefixes}
+use Rattle.pos_counter.proofs.PrefixRuns.{has_begun, keeps_prefix, keeps_prefixes}
 use Rattle.pos_counter.proofs.Runs.{runs_from}
 use Rattle.pos_counter.proofs.Serving.{beside_is_step}
 use Rattle.pos_counter.proofs.laws.crash_leaves_a_prefix.Goals as goal

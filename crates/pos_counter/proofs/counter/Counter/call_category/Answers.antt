@@ -1,8 +1,6 @@
-use Rattle.pos_counter.proofs.Common.{Category, None, [], ap, arith, category_rows, closed, false, false≢true, is_none, is_totals, length, machine, needs_of}
-use Rattle.pos_counter.proofs.Common.{part_with, refl, serves, sym, with_items_is, ◌∙◌, ◌≡◌}
+use Rattle.pos_counter.proofs.Common.{Category, HardTotals, None, Refused, [], ap, arith, category_rows, closed, false, false≢true, is_none, is_totals, length}
+use Rattle.pos_counter.proofs.Common.{machine, needs_of, part_with, refl, serves, sym, with_items_is, ◌∙◌, ◌≡◌}
 use Rattle.pos_common.proofs.CheckLemmas.{lets_open, lets_own}
-use Rattle.pos_service.specs.declared.answer.Answer.TheVariants as answer
-use Rattle.pos_service.specs.declared.category.Category.TheVariants as category
 use Rattle.pos_counter.proofs.Claiming.{are_totals}
 use Rattle.pos_counter.proofs.Hardware.{device_step, own_call, refused_step, served_there}
 use Rattle.pos_counter.proofs.Lifts.{kept_at}
@@ -12,7 +10,7 @@ use Rattle.pos_counter.proofs.counter.Counter.call_category.Goals as goal
 
 -- a device without a kind is Hard Totals
 has_kind : (k : Category) → is_totals k ≡ false → serves k None ≡ false
-has_kind category.HardTotals is = cc
+has_kind HardTotals is = cc
 has_kind k is = refl
 
 pub returns-in-Err : goal.returns-in-Err
@@ -26,7 +24,7 @@ returns-in-Err g c =
     c.requires.sound.devices
     (λ left failures so.
     let m = machine g.P.Peripheral old (part_with old.totals.totals left failures) in
-    refused_step m n h.control q (answer.Refused c.in-Err.code 0) (kept_at old.controls.items n h c.requires.in_range c.index-control.ensures)
+    refused_step m n h.control q (Refused c.in-Err.code 0) (kept_at old.controls.items n h c.requires.in_range c.index-control.ensures)
     (rw (own_call m n h.control q c.requires.own).rows (out (category_rows h.control.category m n h.control q))))
 
 pub call_files-requires : goal.call_files-requires
@@ -78,7 +76,7 @@ returns g c =
     let done = rw (← kept) at (rw c.deref_mut.ensures.value at c.call_there.ensures.done) in
     quiet_serves g.D.Disk g.P.Peripheral old _ _ _ old.totals.totals (g.met.D.Disk.only_now _) refl refl (λ left. refl) c.requires.sound
     c.call_there.ensures.sound
-    (λ left failures so. device_step _ _ _ _ _ (part_with old.totals.totals left failures) n c.in-Some.place h.control c.args.call.now
+    (λ left failures so. device_step _ _ _ _ _ (part_with old.totals.totals left failures) c.in-Some.place n h.control c.args.call.now
     c.call_there.result c.requires.own (kept_at old.controls.items n h c.requires.in_range c.index-control.ensures) (sym c.is_totals.ensures ∙
     c.if-is_totals.false)
     (sym c.in-Some.ensures) lets done)

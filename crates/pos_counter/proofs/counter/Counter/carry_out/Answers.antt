@@ -7,25 +7,21 @@ returns-in-NewControl-clause-step g c = rw (c.in-NewControl.is, c.of_control.ens
 
 pub returns-in-InputTo-clause-step : goal.returns-in-InputTo-clause-step
 returns-in-InputTo-clause-step g c =
-    let old = c.args.self.now in
-    beside_is_step g.D.Disk g.P.Peripheral old _ _ _ (g.met.D.Disk.only_now _)
+    beside_is_step g.D.Disk g.P.Peripheral _ _ _ _ (g.met.D.Disk.only_now _)
     (rw (c.in-InputTo.is, c.of_input.ensures.answer) (rw c.as_slice.ensures at c.input.ensures.step))
 
 pub returns-in-WorkOn-clause-step : goal.returns-in-WorkOn-clause-step
 returns-in-WorkOn-clause-step g c =
-    let old = c.args.self.now in
-    beside_is_step g.D.Disk g.P.Peripheral old _ _ _ (g.met.D.Disk.only_now _)
+    beside_is_step g.D.Disk g.P.Peripheral _ _ _ _ (g.met.D.Disk.only_now _)
     (rw (c.in-WorkOn.is, c.of_work.ensures.answer) (rw c.as_slice-in-WorkOn.ensures at c.work.ensures.step))
 
 pub returns-in-Deliver-clause-step : goal.returns-in-Deliver-clause-step
 returns-in-Deliver-clause-step g c =
-    let old = c.args.self.now in
-    beside_is_step g.D.Disk g.P.Peripheral old _ _ _ (g.met.D.Disk.only_now _) (rw c.in-Deliver.is c.deliver.ensures.step)
+    beside_is_step g.D.Disk g.P.Peripheral _ _ _ _ (g.met.D.Disk.only_now _) (rw c.in-Deliver.is c.deliver.ensures.step)
 
 pub returns-in-Snapshot-clause-step : goal.returns-in-Snapshot-clause-step
 returns-in-Snapshot-clause-step g c =
-    let old = c.args.self.now in
-    beside_is_step g.D.Disk g.P.Peripheral old _ _ _ (g.met.D.Disk.only_now _)
+    beside_is_step g.D.Disk g.P.Peripheral _ _ _ _ (g.met.D.Disk.only_now _)
     (rw (c.in-Snapshot.is, c.of_snapshot.ensures.answer) (rw c.as_slice-in-Snapshot.ensures at c.snapshot.ensures))
 
 pub attach-requires-clause-unparked : goal.attach-requires-clause-unparked
@@ -38,12 +34,10 @@ of_attach-requires g c =
 
 pub returns-in-Attach-clause-step : goal.returns-in-Attach-clause-step
 returns-in-Attach-clause-step g c =
-    let old = c.args.self.now in
-    beside_is_step g.D.Disk g.P.Peripheral old _ _ _ (g.met.D.Disk.only_now _)
+    beside_is_step g.D.Disk g.P.Peripheral _ _ _ _ (g.met.D.Disk.only_now _)
     (rw (c.in-Attach.is, c.of_attach.ensures.answer) (rw c.as_slice-in-Attach.ensures at c.attach.ensures.step))
 
 pub returns-in-Detach-clause-step : goal.returns-in-Detach-clause-step
 returns-in-Detach-clause-step g c =
-    let old = c.args.self.now in
-    beside_is_step g.D.Disk g.P.Peripheral old _ _ _ (g.met.D.Disk.only_now _)
+    beside_is_step g.D.Disk g.P.Peripheral _ _ _ _ (g.met.D.Disk.only_now _)
     (rw (c.in-Detach.is, c.of_detach.ensures.answer) (rw c.as_slice-in-Detach.ensures at c.detach.ensures.step))

@@ -1,6 +1,6 @@
 use Rattle.pos_counter.proofs.Common.{SFits, Some, [], decided, inl, inr, machine, part_with, refl, sym, to_z-of_z, w128, ◌∙◌, ⊎_elim}
 use Rattle.pos_counter.proofs.Claiming.{are_totals, area_settled, claim_area, claim_device, covered}
-use Rattle.pos_counter.proofs.Lifts.{decided_either, kept_at}
+use Rattle.pos_counter.proofs.Lifts.{decided_cases, kept_at}
 use Rattle.pos_counter.proofs.Serving.{quiet_serves, stays_serves}
 use Rattle.pos_counter.proofs.counter.Counter.claim.Goals as goal
 
@@ -20,7 +20,7 @@ returns-then-is_totals g c =
     let fits : SFits w128 c.args.timeout = c.ranges.timeout in
     let decided = simp to_z-of_z at c.claim_area.ensures.answer in
     quiet_serves g.D.Disk g.P.Peripheral old _ _ _ c.claim_area.new.totals.totals (g.met.D.Disk.only_now _) c.claim_area.ensures.disk refl
-    (area_settled old.totals.totals _ (Some n) (⊎_elim (λ same. inl same) (λ done. inr done.1) (decided_either decided)))
+    (area_settled old.totals.totals _ (Some n) (⊎_elim (λ done. inr done.1.1) (λ same. inl same.1) (decided_cases decided)))
     c.requires.sound c.requires.sound.devices
     (λ left failures so. claim_area _ _ _ (part_with old.totals.totals left failures) n c.index-control.result.now
     c.requires.in_range c.index-control.ensures c.claim_area.new.totals.totals c.args.timeout c.claim_area.result is decided)

@@ -1,6 +1,5 @@
-use Rattle.pos_counter.proofs.Common.{Device, IsSound, KeptControl, List, None, Option, [], ap, devices_in, length, machine_with, profile_devices, refl}
-use Rattle.pos_counter.proofs.Common.{registered, replicate, subst, sym, ℕ, ◌∙◌, ◌≡◌}
-use Rattle.std.proofs.lemmas.List.{length-replicate}
+use Rattle.pos_counter.proofs.Common.{Device, IsSound, KeptControl, List, None, Option, [], ap, devices_in, length, length-replicate, machine_with}
+use Rattle.pos_counter.proofs.Common.{profile_devices, refl, registered, replicate, subst, sym, ℕ, ◌∙◌, ◌≡◌}
 use Rattle.pos_counter.proofs.Beginning.{begins_sound, count_devices}
 use Rattle.pos_counter.proofs.counter.Counter.new.Goals as goal
 

@@ -1,8 +1,6 @@
 use Rattle.pos_counter.proofs.Common.{◌++◌, All, All-nil, All-push, HandsOut, IsRun, List, OffersInService, [], ap, append-nil, append_assoc, arith, length}
-use Rattle.pos_counter.proofs.Common.{length_push, refl, request_of, response_of, reverse, rules, steps_of, subst, suc, sym, ◌∙◌, ◌∷◌, ◌≡◌}
-use Rattle.std.proofs.lemmas.List.{nil_from_length, reverse-append, reverse-reverse}
-use Rattle.pos_service.specs.declared.request.Request.TheVariants as request
-use Rattle.pos_service.specs.declared.request.Response.TheVariants as response
+use Rattle.pos_counter.proofs.Common.{length_push, nil_from_length, refl, request_of, response_of, reverse, reverse-append, reverse-reverse, rules, steps_of}
+use Rattle.pos_counter.proofs.Common.{subst, suc, sym, ◌∙◌, ◌∷◌, ◌≡◌}
 use Rattle.pos_counter.proofs.Runs.{runs_more, steps_push}
 use Rattle.pos_counter.proofs.counter.Counter.perform.Goals as goal
 
