@@ -5,7 +5,7 @@ use Rattle.pos_counter.proofs.Common.{DisplayTextAt, Err, Gives, Hardware, IfSom
 use Rattle.pos_counter.proofs.Common.{MayWantFor, NoMemory, None, Number, Ok, Option, Place, Property, Queues, Refused, Result, Row, SameHardware, ScrollText}
 use Rattle.pos_counter.proofs.Common.{Some, Strip, Truth, Value, [], and_from, arith, attribute_of, cond, cond_both, cursor_after, device_deed, device_rows}
 use Rattle.pos_counter.proofs.Common.{direction_of, false, fed, first_refusal, is_cursor_place, is_index, is_up_to, length, may_want, nat_abs, nat_le, nat_lt}
-use Rattle.pos_counter.proofs.Common.{not, option_map, origin, outcome, place_in_window, place_left, refl, returned, same_Some, serves, slice_get, subst, takes}
+use Rattle.pos_counter.proofs.Common.{not, option_map, origin, place_in_window, place_left, refl, returned, same_Some, serves, slice_get, subst, takes}
 use Rattle.pos_counter.proofs.Common.{text_from, true, with_run, with_text, ℕ, ℤ, ◌∷◌, ◌≡◌, ◌≤◌, ⊤}
 use Rattle.std.proofs.lemmas.Bool.Decides.{nat_tests}
 use Rattle.std.proofs.lemmas.Nat.{mod_below}

@@ -1,13 +1,12 @@
 -- What the totals do with a call, for all that their disk may leave before it.
 use Rattle.pos_counter.proofs.Common.{◌&&◌, Answer, Answered, Arranges, Asks, Bool, Call, Calls, CallsFiles, Commits, Decided, DiskGhosts, DoesChange}
-use Rattle.pos_counter.proofs.Common.{DoesCommit, Empty, Err, FileCall, FilesCalled, FilesStepped, GroupDone, HasFailed, IsTrue, IsUndone, Leaves, LeavesOneOf}
+use Rattle.pos_counter.proofs.Common.{DoesCommit, Empty, Err, FileCall, FilesCalled, FilesStepped, GroupDone, HasFailed, IsUndone, Leaves, LeavesOneOf}
 use Rattle.pos_counter.proofs.Common.{LeavesOnly, List, Makes, MatchResult, Mode, NoMemory, None, Nothing, Off, Ok, OnErr, Option, PutsChanges, PutsGroup}
 use Rattle.pos_counter.proofs.Common.{Ready, Result, Rises, Row, RunsOut, Some, Standing, StandsForEither, Totals, TotalsChange, TotalsDo, TotalsPart}
 use Rattle.pos_counter.proofs.Common.{TotalsView, TurnsOff, Value, WhenOff, [], ap, ap₂, arith, changes_asked, changes_in, cond, false, file_call, file_rows}
 use Rattle.pos_counter.proofs.Common.{first_refusal, given_by, in_doubt, in_transaction, inl, inr, is_none, left_after, not, outcome, own_takes_memory, part_of}
-use Rattle.pos_counter.proofs.Common.{part_with, put_at_once, refl, refusals_of_change, settled, subst, sym, takes, told, transaction_of, true}
-use Rattle.pos_counter.proofs.Common.{with_transaction, ℕ, ◌∙◌, ◌∷◌, ◌≡◌, ◌≤◌, ◌⊎◌}
-use Rattle.pos_totals.specs.TotalsQuestions.{MayTell}
+use Rattle.pos_counter.proofs.Common.{part_with, put_at_once, refl, refusals_of_change, settled, subst, sym, told, transaction_of, true, with_transaction, ℕ}
+use Rattle.pos_counter.proofs.Common.{◌∙◌, ◌∷◌, ◌≡◌, ◌≤◌, ◌⊎◌}
 use Rattle.pos_counter.proofs.Leaving.{arranged_rest, kept_left, rest_settled, settled_twice}
 use Rattle.pos_counter.proofs.Lifts.{decided_cases, decided_none, decided_some, decided_weaker, match_cases}
 
@@ -94,12 +93,6 @@ comes_mode (Groups change others transactions given done) none = absurd cc
 
 -- ---- a call of the totals' own
 
--- what a call is answered that asks this
-abbrev CalledAs : Bool → ℕ → FileCall → TotalsPart → Result Answer NoMemory → TotalsPart → Type 0
-CalledAs takes n asked old outcome new = MatchResult outcome
-    (λ result. Decided (file_rows old.totals n asked) result (new ≡ old) (TotalsDo asked old n result new))
-    (λ want. IsTrue takes × (first_refusal (file_rows old.totals n asked) ≡ None) × (new ≡ old))
-
 -- what holds anyhow holds while the totals are off
 when_off : (mode : Mode) (P : Type 0) → P → WhenOff mode P
 when_off Off P holds = holds
@@ -121,10 +114,6 @@ module _ {D : Type 0} (bound : DiskGhosts D) (old new : TotalsView D) (n : ℕ) 
   abbrev changes : List TotalsChange
   changes = changes_asked old.totals n (file_call asked)
 
-  -- what it does of itself
-  abbrev Itself : Answer → Type 0
-  Itself result = Puts (file_call asked) (HasFailed bound old.disk new.disk) old.totals n result new.totals
-
   -- the totals are as they were
   same_part : (left : List Standing) (failures : ℕ) → new.totals ≡ old.totals → part_with new.totals left failures ≡ part_with old.totals left failures
   same_part left failures same = ap (λ (t : Totals). part_with t left failures) same
@@ -134,7 +123,8 @@ module _ {D : Type 0} (bound : DiskGhosts D) (old new : TotalsView D) (n : ℕ) 
   same_settled same left = ap (λ (t : Totals). settled t.layout t.mode left) same
 
   -- one with changes to put on the disk as a group, or none, which nothing refuses
-  module _ (result : Answer) (none : first_refusal rows ≡ None) (puts : PutsGroup bound old changes (Ok result) new) (does : Itself result) where
+  module _ (result : Answer) (none : first_refusal rows ≡ None) (puts : PutsGroup bound old changes (Ok result) new)
+      (does : Puts (file_call asked) (HasFailed bound old.disk new.disk) old.totals n result new.totals) where
     comes : Comes (HasFailed bound old.disk new.disk) old.totals result new.totals changes
     comes = puts_comes (file_call asked) (HasFailed bound old.disk new.disk) old.totals n result new.totals does
 
@@ -220,34 +210,31 @@ module _ {D : Type 0} (bound : DiskGhosts D) (old new : TotalsView D) (n : ℕ) 
     answer = λ left failures so. (takes, e, same_part left failures told.1);
   })
 
-  called_as : {asks : FileCall} (left after : List Standing) (was is : ℕ) (outcome : Result Answer NoMemory) → file_call asked ≡ asks
-      → CalledAs (own_takes_memory asked) n asks (part_with old.totals left was) outcome (part_with new.totals after is)
-      → FilesCalled n asked (part_with old.totals left was) outcome (part_with new.totals after is)
-  called_as left after was is outcome asks called =
-      subst (λ a. CalledAs (own_takes_memory asked) n a (part_with old.totals left was) outcome (part_with new.totals after is)) (sym asks) called
-
   -- what it does that asks this
   pub calls_files : (outcome : Result Answer NoMemory) (asks : FileCall) → file_call asked ≡ asks → OnErr outcome (own_takes_memory asked ≡ true)
       → Calls bound old n asks outcome new → CallsFiles bound old n asked outcome new
-  calls_files outcome (Asks question) is takes (tells, same) = inl (record {
-    disk = ap (λ (v : TotalsView D). v.disk) same;
-    is_settled = same_settled (ap (λ (v : TotalsView D). v.totals) same);
-    answer = λ left failures so. called_as left left failures failures outcome is
-        (by outcome takes tells (same_part left failures (ap (λ (v : TotalsView D). v.totals) same)));
-  })
-    where
-      by : {part now : TotalsPart} (o : Result Answer NoMemory) → OnErr o (own_takes_memory asked ≡ true) → MayTell part.totals n question o → now ≡ part
-          → CalledAs (own_takes_memory asked) n (Asks question) part o now
-      by (Ok result) takes tells is = decided_weaker (λ told. (told, is)) (λ same. is) tells
-      by (Err want) takes tells is = (takes, tells.1, is)
+  calls_files (Ok result) (Asks question) is takes (tells, same) =
+      let kept = ap (λ (v : TotalsView D). v.totals) same in
+      inl (record {
+        disk = ap (λ (v : TotalsView D). v.disk) same;
+        is_settled = same_settled kept;
+        answer = λ left failures so. rw is (decided_weaker (λ told. (told, same_part left failures kept)) (λ y. same_part left failures kept) tells);
+      })
+  calls_files (Err want) (Asks question) is takes (tells, same) =
+      let kept = ap (λ (v : TotalsView D). v.totals) same in
+      inl (record {
+        disk = ap (λ (v : TotalsView D). v.disk) same;
+        is_settled = same_settled kept;
+        answer = λ left failures so. rw is (takes, tells.1, same_part left failures kept);
+      })
   calls_files outcome (Makes change) is takes changes =
-      group_calls outcome takes (subst (λ asks. GroupCalls asks outcome) (sym is) (
+      group_calls outcome takes (rw is (
         changes.answer,
         subst (λ group. PutsGroup bound old group outcome new)
             (at_once (first_refusal (refusals_of_change old.totals n change)) (in_transaction old.totals n) change) changes.disk,
       )) (first_refusal rows) refl
   calls_files outcome Commits is takes commits =
-      group_calls outcome takes (subst (λ asks. GroupCalls asks outcome) (sym is) (commits.answer, commits.disk)) (first_refusal rows) refl
+      group_calls outcome takes (rw is (commits.answer, commits.disk)) (first_refusal rows) refl
   calls_files (Ok result) (Arranges arrangement) is takes arranged = inl (record {
     disk = arranged.disk;
     is_settled = λ left. elim (decided_cases arranged.answer) [
@@ -255,7 +242,7 @@ module _ {D : Type 0} (bound : DiskGhosts D) (old new : TotalsView D) (n : ℕ) 
           ∙ rest_settled (part_with old.totals left 0) _ (arranged_rest (part_with old.totals left 0) n arrangement) left
       | inr x ↦ same_settled x.1 left
     ];
-    answer = λ left failures so. called_as left left failures failures (Ok result) is
+    answer = λ left failures so. rw is
         (decided_weaker (λ done. (done.0, ap (λ (t : Totals). part_with t left failures) done.1)) (same_part left failures) arranged.answer);
   })
   calls_files (Err want) (Arranges arrangement) is takes arranged = absurd arranged

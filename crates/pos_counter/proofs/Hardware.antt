@@ -1,15 +1,16 @@
--- What is done at a device, and the steps that it makes.
-use Rattle.pos_counter.proofs.Common.{Answer, Answered, Call, CallOf, CallsAt, CallsFor, Category, CategoryDoes, Claim, Close, Control, Device, DeviceDoes}
-use Rattle.pos_counter.proofs.Common.{Does, Effect, Err, FindsWork, Get, HardTotals, Hardware, IsDoneAt, IsSome, IsSound, IsTrue, KeptControl, Kind, List}
-use Rattle.pos_counter.proofs.Common.{Machine, MatchOption-at_some, MayBeCalled, NoMemory, None, Ok, OnHardware, Open, Option, Release, Result, Row}
-use Rattle.pos_counter.proofs.Common.{SameHardware, Set, Some, Step, TotalsPart, WorksAt, answered, ap, category_rows, changed, controls_of, device_at}
-use Rattle.pos_counter.proofs.Common.{device_rows, due_request_at, false, first_refusal, get_or_from_slice_get, hardware_in, hardware_named, has_call}
-use Rattle.pos_counter.proofs.Common.{holder_at, holder_of, inl, inr, is_common, is_none, is_some, is_totals, kind_of, machine, machine_with, needs_of}
-use Rattle.pos_counter.proofs.Common.{own_takes_memory, place_of, refl, refusals, serves, set, set-get_or, slice_get, subst, sym, table, takes, takes_memory}
-use Rattle.pos_counter.proofs.Common.{true, ◌||◌, ℕ, ◌∙◌, ◌≡◌}
+-- What is done at a device and by whom it is held, and the steps that it makes.
+use Rattle.pos_counter.proofs.Common.{◌<◌, Answer, Bool, Call, CallOf, CallsAt, CallsFor, Category, CategoryDoes, Claim, Close, Control, Device, DeviceDoes}
+use Rattle.pos_counter.proofs.Common.{Does, Effect, Err, FindsWork, Get, HardTotals, Hardware, IfSome, IsDoneAt, IsSome, IsSound, IsTrue, KeptControl, Kind}
+use Rattle.pos_counter.proofs.Common.{List, Machine, MatchOption-at_some, MayBeCalled, NoMemory, None, Ok, OnHardware, Open, Option, Release, Result, Row}
+use Rattle.pos_counter.proofs.Common.{SameHardware, Set, Some, Standing, Step, Totals, TotalsPart, WorksAt, answered, ap, arith, category_rows, claimed}
+use Rattle.pos_counter.proofs.Common.{claimed_by, controls_of, device_at, device_rows, dropped, due_request_at, false, first_refusal, get_or_from_slice_get}
+use Rattle.pos_counter.proofs.Common.{hardware_in, hardware_named, has_call, holder_at, holder_in, holder_of, inl, inr, is_common, is_foreign, is_none, is_some}
+use Rattle.pos_counter.proofs.Common.{is_taken, is_totals, kind_of, length, machine_with, needs_of, not, own_takes_memory, place_of, refl, refusals, released}
+use Rattle.pos_counter.proofs.Common.{released_by, serves, set, set-get_or, settled, slice_get, slice_get_within, sym, table, takes_memory, true, ◌||◌, ℕ, ◌∙◌}
+use Rattle.pos_counter.proofs.Common.{◌≡◌, ◌⊎◌}
 use Rattle.pos_service.specs.declared.worked.Worked.TheVariants as worked
-use Rattle.pos_counter.proofs.Lifts.{decided_some, decided_step, match_cases}
-use Rattle.pos_counter.proofs.Sound.{seated}
+use Rattle.pos_counter.proofs.Lifts.{decided_step, match_cases}
+use Rattle.pos_counter.proofs.Sound.{Served, seated}
 
 -- what stands at the device that a name finds: nothing where it finds none
 pub named : (m : Machine) (name : List ℕ) (place : Option ℕ) → place ≡ place_of m.devices name → hardware_named m name ≡ hardware_in (device_at m.devices place)
@@ -39,14 +40,6 @@ served_there m n c place asked sound found is peripheral has =
     stands (Some k) None served attached = cc
     stands (Some k) (Some s) served attached = refl
 
--- where work finds no memory, there is a request that is to be done, and nothing has changed
-wants_work : (holder : Option ℕ) (place : ℕ) (want : NoMemory) (old : List Control) (before : Hardware) (new : List Control) (after : Hardware)
-    → WorksAt holder place (Err want) old before new after → IsSome (due_request_at before.kind place holder old) × SameHardware old before new after
-wants_work holder place want old before new after h = elim (match_cases (due_request_at before.kind place holder old) _ _ h) [
-  | inl x ↦ absurd (let no : Err want ≡ Ok worked.Idle = x.1.0 in cc)
-  | inr x ↦ (subst IsSome (sym x.1) refl, x.2)
-]
-
 -- A call of a category's own: what it is answered first, what it does, and that it may want memory.
 pub record OwnCall (m : Machine) (n : ℕ) (c : Control) (asked : Call) : Type 0 where
   pub rows : refusals m n c asked ≡ table n (holder_of m c) c (needs_of c.category asked) (category_rows c.category m n c asked)
@@ -65,11 +58,6 @@ own_call m n c asked own = record { rows = refl; does = λ r m' h. h; takes = λ
 -- what the check of the control with a number decides of a call of its category's own
 abbrev pub IsLet : Machine → ℕ → Control → Call → Type 0
 IsLet m n c asked = (rest : List Row) → first_refusal (table n (holder_of m c) c (needs_of c.category asked) rest) ≡ first_refusal rest
-
--- a call that is refused is a step
-pub refused_step : (m : Machine) (n : ℕ) (c : Control) (asked : Call) (refusal : Answer) → slice_get m.controls n ≡ Some c
-    → first_refusal (refusals m n c asked) ≡ Some refusal → Step m (CallOf n asked) (Answered refusal) m
-refused_step m n c asked refusal found refused = rw found (decided_some refused refl refl)
 
 -- behind the check the rest of the table decides
 pub let_refusals : (m : Machine) (n : ℕ) (c : Control) (asked : Call) → is_common asked ≡ false → IsLet m n c asked
@@ -122,16 +110,19 @@ module _ (hs gs : List KeptControl) (ds es : List Device) (cl : List (Option ℕ
   pub want_finds_work : (name : List ℕ) (want : NoMemory) → Some place ≡ place_of ds name
       → IsDoneAt ds place (WorksAt (holder_at cl (Some place)) place (Err want)) hs gs es → FindsWork old name × (new ≡ old)
   want_finds_work name want finds done =
-      let wants = wants_work (holder_at cl (Some place)) place want (controls_of hs) done.before (controls_of gs) done.after done.does in (
-        record {
-          place = place;
-          before = done.before;
-          is_at = sym finds;
-          is_attached = rw (← finds, done.is_device, done.is_attached);
-          work = wants.0;
-        },
-        unchanged done wants.1,
-      )
+      elim (match_cases (due_request_at done.before.kind place (holder_at cl (Some place)) (controls_of hs)) _ _ done.does) [
+        | inl x ↦ absurd (let no : Err want ≡ Ok worked.Idle = x.1.0 in cc)
+        | inr x ↦ (
+          record {
+            place = place;
+            before = done.before;
+            is_at = sym finds;
+            is_attached = rw (← finds, done.is_device, done.is_attached);
+            work = rw x.1;
+          },
+          unchanged done x.2,
+        )
+      ]
 
   -- a call of a category's own that its control may make is a step
   pub device_step : (n : ℕ) (c : Control) (asked : Call) (r : Result Answer NoMemory) → is_common asked ≡ false → slice_get (controls_of hs) n ≡ Some c
@@ -170,3 +161,47 @@ module _ (hs gs : List KeptControl) (ds es : List Device) (cl : List (Option ℕ
           decided_step old new n c asked result rows _ _ found unrefused (unchanged done)
           (λ does. (own_call old n c asked own).does result new (does_at_device c.category old new n c asked result is (at_hardware result does))) h
       by_outcome (Err want) h = rw found ((own_call old n c asked own).takes h.0, unrefused ∙ h.1, unchanged done h.2)
+
+-- ---- what holds a device
+
+-- the device of an open control has a claim
+pub covered : (m : Machine) (n : ℕ) (c : Control) → IsSound m → slice_get m.controls n ≡ Some c → IfSome c.device (λ place. place < length m.claims)
+covered m n c sound at = by_place c.device (seated m n c sound at)
+  where
+    by_place : (o : Option ℕ) → IfSome o (λ place. Served c.category c.cursor.place (slice_get m.devices place))
+        → IfSome o (λ place. place < length m.claims)
+    by_place None seat = tt
+    by_place (Some place) seat = elim (match_cases (slice_get m.devices place) _ _ seat) [
+      | inl x ↦ absurd x.1
+      | inr x ↦ let there = slice_get_within m.devices place x.0 x.1 in omega (arith, there, sound.covers)
+    ]
+
+-- a claim of the area or its release leaves the mode
+pub area_settled : (old new : Totals) (area : Option ℕ) → (new ≡ old) ⊎ (new ≡ record old { area = area }) → (left : List Standing)
+    → settled new.layout new.mode left ≡ settled old.layout old.mode left
+area_settled old new area (inl same) left = ap (λ (t : Totals). settled t.layout t.mode left) same
+area_settled old new area (inr other) left = ap (λ (t : Totals). settled t.layout t.mode left) other
+
+-- what is no device with a peripheral is Hard Totals
+pub are_totals : (k : Category) → is_totals k ≡ true → k ≡ HardTotals
+are_totals HardTotals is = refl
+are_totals k is = cc
+
+-- there is none where the test of one fails
+pub none_of : (o : Option ℕ) (none : Bool) → is_some o ≡ not none → is_none o ≡ none
+none_of None true is = refl
+none_of (Some place) false is = refl
+none_of o none is = cc
+
+-- The device of a control is held by the table of claims.
+pub record IsInTable (k : Category) (m : Machine) (n : ℕ) (c : Control) : Type 0 where
+  pub drops : dropped k m n c ≡ record m { claims = released_by m.claims c.device n }
+  pub releases : released k m n c ≡ record m { claims = released_by m.claims c.device n }
+  pub claims : claimed k m n c ≡ record m { claims = claimed_by m.claims c.device n }
+  pub takes : is_taken k m n c.device ≡ is_foreign n (holder_at m.claims c.device)
+  pub holds : holder_in k m.claims m.totals.totals.area c.device ≡ holder_at m.claims c.device
+
+-- so is that of each device with a peripheral
+pub in_table : (k : Category) (m : Machine) (n : ℕ) (c : Control) → is_totals k ≡ false → IsInTable k m n c
+in_table HardTotals m n c is = absurd cc
+in_table k m n c is = record { drops = refl; releases = refl; claims = refl; takes = refl; holds = refl }

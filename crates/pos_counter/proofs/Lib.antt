@@ -3,13 +3,10 @@ pub mod Common
 pub mod Cursors
 pub mod Sound
 pub mod Leaving
-pub mod Hardware
 pub mod Runs
-pub mod DeviceLists
 pub mod Serving
-pub mod Exchanging
-pub mod Beginning
-pub mod Claiming
+pub mod DeviceLists
+pub mod Hardware
 pub mod FileCalls
 pub mod TotalsSteps
 pub mod Sparing

@@ -1,10 +1,9 @@
 -- From what a call does to one control to what it does to the machine.
-use Rattle.pos_counter.proofs.Common.{◌++◌, ◌<◌, Answer, Answered, Call, CallOf, Category, Control, Decided, Device, Does, Err, Get, Gets, IsUndone}
-use Rattle.pos_counter.proofs.Common.{KeptControl, List, Machine, Made, MatchOption, NewControl, NoMemory, None, Ok, Option, Property, Refused, Result, Row}
-use Rattle.pos_counter.proofs.Common.{Some, Step, TotalsPart, [], answered, ap, cond_both, controls_of, facts_of, first_refusal, get_or, get_or_default}
-use Rattle.pos_counter.proofs.Common.{get_rows, holder_of, inl, inr, length, length-map, machine_with, map-set, map_push, most_controls, new_control}
-use Rattle.pos_counter.proofs.Common.{option_map, property_of, refl, refusals, set, set-get_or, slice_get, slice_get-get_or, slice_get-map, subst, sym, told}
-use Rattle.pos_counter.proofs.Common.{with_control, with_place, ℕ, ◌∙◌, ◌∷◌, ◌≡◌, ◌⊎◌, ⊤}
+use Rattle.pos_counter.proofs.Common.{◌<◌, Answer, Answered, Call, CallOf, Control, Decided, Device, Does, Err, Get, Gets, IsUndone, KeptControl, List, Machine}
+use Rattle.pos_counter.proofs.Common.{MatchOption, NoMemory, None, Ok, Option, Property, Refused, Result, Row, Some, Step, TotalsPart, [], answered, ap}
+use Rattle.pos_counter.proofs.Common.{cond_both, controls_of, facts_of, first_refusal, get_or, get_or_default, get_rows, holder_of, inl, inr, length}
+use Rattle.pos_counter.proofs.Common.{machine_with, map-set, option_map, property_of, refl, refusals, set, set-get_or, slice_get, slice_get-get_or}
+use Rattle.pos_counter.proofs.Common.{slice_get-map, sym, with_control, ℕ, ◌∙◌, ◌∷◌, ◌≡◌, ◌⊎◌, ⊤}
 
 -- the machine of some controls, devices and totals
 abbrev with_controls : List Control → List Device → List (Option ℕ) → TotalsPart → Machine
@@ -76,20 +75,6 @@ pub decided_step : (m m' : Machine) (n : ℕ) (c : Control) (asked : Call) (r : 
     → slice_get m.controls n ≡ Some c → first_refusal (refusals m n c asked) ≡ first_refusal rows → (Same → m' ≡ m) → (Done → Does m n c asked r m')
     → Decided rows r Same Done → Step m (CallOf n asked) (Answered r) m'
 decided_step m m' n c asked r rows Same Done found refused same does d = rw found (record { outcome = rw refused (decided_weaker does same d).outcome })
-
--- a new control is a step
-pub made_step : (hs gs : List KeptControl) (cl : List (Option ℕ)) (ds : List Device) (part : TotalsPart) (k : Category) (h : KeptControl) (number : ℕ)
-    → number < most_controls → number ≡ length hs → gs ≡ hs ++ h ∷ [] → h.control ≡ new_control k
-    → Step (machine_with hs cl ds part) (NewControl tt k) (Made number) (machine_with gs cl ds (record part { totals = with_place part.totals }))
-made_step hs gs cl ds part k h number room many is new = (
-  subst (λ n. n < most_controls) count room,
-  count,
-  ap (λ cs. with_controls cs ds cl (record part { totals = with_place part.totals }))
-      (ap controls_of is ∙ map_push (λ (d : KeptControl). d.control) hs h ∙ ap (λ (c : Control). controls_of hs ++ c ∷ []) new),
-)
-  where
-    count : number ≡ length (controls_of hs)
-    count = many ∙ sym (length-map hs (λ (d : KeptControl). d.control))
 
 -- a property that is told, or for which there is no memory, is a step
 pub get_step : (m : Machine) (n : ℕ) (c : Control) (p : Property) (r : Result Answer NoMemory) → slice_get m.controls n ≡ Some c

@@ -1,12 +1,10 @@
 -- The runs of the example, machine by machine.
-use Rattle.pos_counter.proofs.Common.{◌+◌, AreLeft, Control, DeviceEnabled, HardTotals, IsOneOf, Layout1, List, Machine, MayHave, Mode, None, Off, PlainFile}
-use Rattle.pos_counter.proofs.Common.{Ready, Run, Some, Standing, Stands, Step, Truth, [], a_group, after_set, arith, begun, false, inl, inr, length}
-use Rattle.pos_counter.proofs.Common.{new_control, new_machine, numbered, opened, plain, refl, sets_enabled, signs_at, steps_into_doubt, steps_through_doubt}
-use Rattle.pos_counter.proofs.Common.{true, ℕ, ◌∷◌}
-use Rattle.pos_counter.proofs.Runs.{run_append}
+use Rattle.pos_counter.proofs.Common.{◌+◌, AreLeft, Control, DeviceEnabled, HardTotals, IsOneOf, Layout1, List, Machine, Mode, None, Off, PlainFile, Ready, Run}
+use Rattle.pos_counter.proofs.Common.{Some, Standing, Stands, Step, Truth, [], after_set, arith, false, inl, inr, length, new_control, new_machine, numbered}
+use Rattle.pos_counter.proofs.Common.{opened, plain, refl, sets_enabled, signs_at, steps_into_doubt, true, ℕ, ◌∷◌}
 
 -- the example's machine with one control
-abbrev with_one : Control → Mode → ℕ → List Standing → ℕ → Machine
+abbrev pub with_one : Control → Mode → ℕ → List Standing → ℕ → Machine
 with_one control mode next left failures = record {
   controls = control ∷ [];
   devices = new_machine.devices;
@@ -19,27 +17,27 @@ with_one control mode next left failures = record {
 }
 
 -- the file of the group
-abbrev a_file : PlainFile
+abbrev pub a_file : PlainFile
 a_file = record { name = 97 ∷ []; bytes = 0 ∷ [] }
 
-abbrev both : List Standing
+abbrev pub both : List Standing
 both = Stands Layout1 [] 1 ∷ Stands Layout1 (a_file ∷ []) 1 ∷ Stands Layout1 (a_file ∷ []) 2 ∷ []
 
-abbrev one_opened : Control
+abbrev pub one_opened : Control
 one_opened = opened (new_control HardTotals) (Some 0)
 
-abbrev one_enabled : Control
+abbrev pub one_enabled : Control
 one_enabled = after_set (signs_at new_machine one_opened) one_opened DeviceEnabled (Truth true)
 
-abbrev disabled : List Standing → ℕ → Machine
+abbrev pub disabled : List Standing → ℕ → Machine
 disabled left failures = with_one one_opened Off 1 left failures
 
 -- a recovery finds these files, which are one of those that are left
-abbrev recovered : List PlainFile → ℕ → ℕ → Machine
+abbrev pub recovered : List PlainFile → ℕ → ℕ → Machine
 recovered files sequence failures =
     with_one one_enabled (Ready (numbered 1 files) sequence) (1 + length files) (Stands Layout1 (plain (numbered 1 files)) sequence ∷ []) failures
 
-recovers : (left : List Standing) (failures : ℕ) (files : List PlainFile) (sequence : ℕ) → IsOneOf left (Stands Layout1 files sequence)
+pub recovers : (left : List Standing) (failures : ℕ) (files : List PlainFile) (sequence : ℕ) → IsOneOf left (Stands Layout1 files sequence)
     → AreLeft 1 (length files) → Step (disabled left failures) (sets_enabled true).0 (sets_enabled true).1 (recovered files sequence failures)
 recovers left failures files sequence found handles = record {
   outcome = inl (
@@ -53,10 +51,10 @@ recovers left failures files sequence found handles = record {
   );
 }
 
-abbrev in_doubt : Machine
+abbrev pub in_doubt : Machine
 in_doubt = with_one one_enabled Off 1 both 1
 
-into_doubt : Run new_machine steps_into_doubt in_doubt
+unfoldable pub into_doubt : Run new_machine steps_into_doubt in_doubt
 into_doubt = (
   with_one (new_control HardTotals) Off 1 (Stands Layout1 [] 1 ∷ []) 0,
   (omega arith, refl, refl),
@@ -86,32 +84,7 @@ into_doubt = (
   ),
 )
 
-out_of_doubt : (files : List PlainFile) (sequence : ℕ) → IsOneOf both (Stands Layout1 files sequence) → AreLeft 1 (length files)
+unfoldable pub out_of_doubt : (files : List PlainFile) (sequence : ℕ) → IsOneOf both (Stands Layout1 files sequence) → AreLeft 1 (length files)
     → Run in_doubt (sets_enabled false ∷ sets_enabled true ∷ []) (recovered files sequence 1)
 out_of_doubt files sequence found handles =
     (disabled both 1, record { outcome = (refl, refl) }, (recovered files sequence 1, recovers both 1 files sequence found handles, refl))
-
--- in doubt
-pub may_doubt : MayHave new_machine Layout1 [] steps_into_doubt (record { layout = Layout1; start = []; settled = []; doubt = Some a_group })
-unfolding into_doubt
-may_doubt = record { last = in_doubt; run = into_doubt; is = refl }
-
--- kept
-pub may_keep : MayHave new_machine Layout1 [] steps_through_doubt (record { layout = Layout1; start = []; settled = a_group ∷ []; doubt = None })
-unfolding into_doubt out_of_doubt run_append
-may_keep = record {
-  last = recovered (a_file ∷ []) 2 1;
-  run = run_append new_machine in_doubt (recovered (a_file ∷ []) 2 1) steps_into_doubt (sets_enabled false ∷ sets_enabled true ∷ []) into_doubt
-      (out_of_doubt (a_file ∷ []) 2 (inr (inr (inl refl))) (omega arith));
-  is = refl;
-}
-
--- dropped
-pub may_drop : MayHave new_machine Layout1 [] steps_through_doubt (begun Layout1 [])
-unfolding into_doubt out_of_doubt run_append
-may_drop = record {
-  last = recovered [] 1 1;
-  run = run_append new_machine in_doubt (recovered [] 1 1) steps_into_doubt (sets_enabled false ∷ sets_enabled true ∷ []) into_doubt
-      (out_of_doubt [] 1 (inl refl) (omega arith));
-  is = refl;
-}

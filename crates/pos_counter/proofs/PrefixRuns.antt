@@ -1,10 +1,10 @@
 -- A crash during a run of the machine or of a counter leaves a prefix of the history.
-use Rattle.pos_counter.proofs.Common.{◌++◌, Answer, BeginsOver, Counter, Damaged, DiskGhosts, Failure, Ghosts, HasBegun, HasRun, HasTooMany, History, IsFiles}
+use Rattle.pos_counter.proofs.Common.{◌++◌, Answer, BeginsOver, Counter, Damaged, DiskGhosts, Failure, Ghosts, HasBegun, HasRun, HasTooMany, History}
 use Rattle.pos_counter.proofs.Common.{IsLeftDuring, IsOneOf, IsPrefixAlong, IsPrefixInside, IsPrefixOf, IsRun, IsStep, KeepsPrefix, KeepsPrefixes, Layout}
-use Rattle.pos_counter.proofs.Common.{Leaves, LeavesPrefix, LeavesPrefixInside, List, Machine, PlainFile, Recovers, Refused, Request, Response, Rises, Run}
-use Rattle.pos_counter.proofs.Common.{Standing, Stands, StandsFor, StandsForEither, StandsForOneOf, StandsForSome, StartsWith, Step, TotalsPart, TotalsView}
-use Rattle.pos_counter.proofs.Common.{Unformatted, [], ap, begun, event_of, history_along, history_of, history_until, history_with, inl, inr, machine}
-use Rattle.pos_counter.proofs.Common.{machine_now, part_of, refl, subst, sym, ℕ, ◌∷◌, ◌≡◌, ◌⊎◌}
+use Rattle.pos_counter.proofs.Common.{Leaves, LeavesPrefix, List, Machine, PlainFile, Recovers, Refused, Request, Response, Rises, Run, Standing, Stands}
+use Rattle.pos_counter.proofs.Common.{StandsFor, StandsForEither, StandsForOneOf, StandsForSome, StartsWith, Step, TotalsPart, TotalsView, Unformatted, [], ap}
+use Rattle.pos_counter.proofs.Common.{begun, event_of, history_along, history_of, history_until, history_with, inl, inr, machine, machine_now, part_of, refl}
+use Rattle.pos_counter.proofs.Common.{subst, sym, ℕ, ◌∷◌, ◌≡◌, ◌⊎◌}
 use Rattle.std.proofs.Math.Path.{path_j, subst_refl}
 use Rattle.pos_counter.proofs.Prefixes.{Fits, fits_inside, fits_leaves, fits_start}
 use Rattle.pos_counter.proofs.Runs.{run_append}
@@ -25,9 +25,6 @@ some_left P [] bytes each is = absurd is
 some_left P (standing ∷ left) bytes each (inl is) = record { standing = standing; stands = is; has = each standing (inl refl) }
 some_left P (standing ∷ left) bytes each (inr is) = some_left P left bytes (λ other one. each other (inr one)) is
 
-some_weaker : (P Q : Standing → Type 0) (bytes : List ℕ) → ((standing : Standing) → P standing → Q standing) → StandsForSome P bytes → StandsForSome Q bytes
-some_weaker P Q bytes to is = record { standing = is.standing; stands = is.stands; has = to is.standing is.has }
-
 -- what bytes that are left stand for is a prefix
 pub bytes_after : (history : History) (totals : TotalsPart) (bytes : List ℕ) → Fits history totals → StandsForOneOf totals.left bytes
     → StandsForSome (IsPrefixOf history) bytes
@@ -42,8 +39,8 @@ bytes_along history old (s ∷ steps) new run fits bytes (inl is) =
     (λ standing one. inl (inl (fits_leaves history old.totals fits standing one))) is
 bytes_along history old (s ∷ steps) new run fits bytes (inr is) =
     let next = history_with history old s.0 s.1 run.0 in
-    some_weaker (IsPrefixAlong next run.0 steps new run.2) (IsPrefixAlong history old (s ∷ steps) new run) bytes (λ standing has. inr has)
-    (bytes_along next run.0 steps new run.2 (step_fits history old s.0 s.1 run.0 fits run.1) bytes is)
+    let later = bytes_along next run.0 steps new run.2 (step_fits history old s.0 s.1 run.0 fits run.1) bytes is in
+    record { standing = later.standing; stands = later.stands; has = inr later.has }
 
 -- what bytes that are left before a step or after it stand for
 pub bytes_inside : (history : History) (old : Machine) (q : Request) (r : Response) (new : Machine) (bytes : List ℕ) → Fits history old.totals
@@ -59,30 +56,18 @@ bytes_inside history old q r new bytes fits step h =
 
 module _ (layout : Layout) (start : List PlainFile) (sequence : ℕ) (first last : Machine) (steps : List (Request × Response)) (run : Run first steps last)
     (is : StartsWith layout start sequence first.totals) where
-  fits_last : Fits (history_of layout start first steps last run) last.totals
+  pub fits_last : Fits (history_of layout start first steps last run) last.totals
   fits_last = run_fits (begun layout start) first steps last run (fits_start (begun layout start) start sequence first.totals refl is)
 
   -- after the run
   pub law_after : LeavesPrefix (history_of layout start first steps last run) last.totals
   law_after = fits_leaves (history_of layout start first steps last run) last.totals fits_last
 
-  -- inside one more step
-  pub law_inside : (q : Request) (r : Response) (new : Machine) → Step last q r new
-      → LeavesPrefixInside (history_of layout start first steps last run) last.totals
-      (history_with (history_of layout start first steps last run) last q r new) new.totals
-  law_inside q r new step =
-      let history = history_of layout start first steps last run in
-      fits_inside history last.totals (event_of last q r new) new.totals fits_last (step_fits history last q r new fits_last step)
-
-  -- never damage, nor a disk without totals
-  pub law_files : (left : Standing) → IsOneOf last.totals.left left → IsFiles left
-  law_files left one = rw (law_after left one).stands tt
-
   -- what a recovery answers that recovers nothing
   pub law_recovers : (result : Answer) (new : TotalsPart) → Recovers last.totals result new
       → (result ≡ Refused Failure 0) × (HasTooMany (IsOneOf last.totals.left) last.totals.totals.next ⊎ Rises last.totals.failures new.failures)
-  law_recovers result new (inl h) = absurd (law_files Unformatted h.1)
-  law_recovers result new (inr (failed, inl (inl damaged, same))) = absurd (law_files Damaged damaged)
+  law_recovers result new (inl h) = absurd (let no = (law_after Unformatted h.1).stands in cc)
+  law_recovers result new (inr (failed, inl (inl damaged, same))) = absurd (let no = (law_after Damaged damaged).stands in cc)
   law_recovers result new (inr (failed, inl (inr many, same))) = (failed, inl many)
   law_recovers result new (inr (failed, inr disk)) = (failed, inr disk.rises)
 

@@ -6,8 +6,8 @@ use Rattle.pos_counter.proofs.Common.{ReadsAs, Recovers, RecoversAny, RecoversOn
 use Rattle.pos_counter.proofs.Common.{Some, SparesDisk, Standing, Step, T, Totals, TotalsPart, TotalsView, Truth, Value, WhenOff, [], after_enabling, after_set}
 use Rattle.pos_counter.proofs.Common.{and_from, and_right, answered, ap, asks_recovery, code_of, controls_of, device_at, enabling, false, first_refusal, get_or}
 use Rattle.pos_counter.proofs.Common.{hardware_in, holder_in, holder_of, inl, inr, is_enabling, is_none, is_ready, is_some, is_totals, kind_in, kind_of, length}
-use Rattle.pos_counter.proofs.Common.{machine, machine_with, not, or_left, or_right, part_of, part_with, plain, recovers, refl, refusals, set, set_rows}
-use Rattle.pos_counter.proofs.Common.{settled, signs_at, signs_in, slice_get, subst, sym, tells_power, true, with_control, ℕ, ◌∙◌, ◌≡◌, ◌⊎◌}
+use Rattle.pos_counter.proofs.Common.{machine, machine_with, not, or_left, or_right, part_of, part_with, recovers, refl, refusals, set, set_rows, settled}
+use Rattle.pos_counter.proofs.Common.{signs_at, signs_in, slice_get, subst, sym, tells_power, true, with_control, ℕ, ◌∙◌, ◌≡◌, ◌⊎◌}
 use Rattle.pos_totals.specs.declared.fault.RecoveryFault.TheVariants as fault
 use Rattle.pos_totals.specs.declared.fault.RecoveryFault.{RecoveryFault}
 use Rattle.pos_counter.proofs.Leaving.{settled_twice}
@@ -45,7 +45,8 @@ pub record Asking (hs : List KeptControl) (n : ℕ) (p : Property) (v : Value) (
 
 all_ask : (k : Category) (o : Option ℕ) (enabled : Bool) (p : Property) (v : Value) (mode : Mode)
     → (is_totals k && is_some o && not enabled && is_enabling p v && not (is_ready mode)) ≡ true
-    → (mode ≡ Off) × (p ≡ DeviceEnabled) × (v ≡ Truth true) × ((is_totals k && is_some o && not enabled && true) ≡ true) × (is_none o ≡ false) × (k ≡ HardTotals)
+    → (mode ≡ Off) × (p ≡ DeviceEnabled) × (v ≡ Truth true) × ((is_totals k && is_some o && not enabled && true) ≡ true) × (is_none o ≡ false)
+    × (k ≡ HardTotals)
 all_ask HardTotals (Some place) false DeviceEnabled (Truth true) Off is = (refl, refl, refl, refl, refl, refl)
 all_ask k o enabled p v mode is = absurd cc
 
@@ -201,7 +202,7 @@ module _ {D P : Type 0} (bound : DiskGhosts D) (peripherals : Ghosts P) (old new
       (same : (part : TotalsPart) → machine peripherals new part ≡ machine peripherals old part) where
     kept : new.totals.totals ≡ old.totals.totals
     kept = kept_totals (ReadsAs bound old.totals.disk) old.totals.totals new.totals.totals x
-        (subst (λ mode. WhenOff mode (FindsFiles (ReadsAs bound old.totals.disk) old.totals.totals (Err x) new.totals.totals)) there.off recovers.answer)
+        (rw there.off at recovers.answer)
 
     fails : (response : Response) → ((left : List Standing) → Leaves bound old.totals left → Step (before left) (CallOf n enabling) response (now left))
         → Serves bound peripherals old (CallOf n (Set p v)) response new

@@ -1,15 +1,11 @@
 -- What an enabling finds where a crash has left a disk that stands for some files.
-use Rattle.pos_counter.proofs.Common.{Answer, Answered, Applies, Begins, CallOf, Control, Counter, DeviceEnabled, DiskGhosts, Done, Entry, Failure, FindsThem}
-use Rattle.pos_counter.proofs.Common.{Ghosts, Group, HasCause, HasThem, HasTooMany, History, IsAtRest, IsBytes, IsOneOf, Layout, Layout1, Layout2, Leaves}
-use Rattle.pos_counter.proofs.Common.{Limits, List, Machine, Ok, OutOfMemory, PlainFile, Recovered, Recovers, Refused, Request, Response, Rises, Run}
-use Rattle.pos_counter.proofs.Common.{SetsByRecovery, Some, Standing, Stands, StandsFor, StartsWith, Step, TotalsPart, TotalsView, Truth, [], after_groups}
-use Rattle.pos_counter.proofs.Common.{and_from, ap, arith, asks_recovery, begun, enabling, event_of, first_refusal, history_along, history_of, history_with}
-use Rattle.pos_counter.proofs.Common.{inl, inr, is_ready, length, limits_of, not, outcome_of_all, recovers, refl, refusals, slice_get, subst, sym, true, ℕ, ◌∙◌}
-use Rattle.pos_counter.proofs.Common.{◌∷◌, ◌≡◌, ◌≤◌, ◌⊎◌}
+use Rattle.pos_counter.proofs.Common.{Answer, Answered, Applies, CallOf, Control, DeviceEnabled, Done, Failure, FindsThem, Group, HasCause, HasThem, HasTooMany}
+use Rattle.pos_counter.proofs.Common.{History, IsOneOf, Layout, Layout1, Layout2, Limits, List, Machine, Ok, OutOfMemory, PlainFile, Recovered, Recovers}
+use Rattle.pos_counter.proofs.Common.{Refused, Request, Response, Rises, Run, SetsByRecovery, Some, Standing, Stands, StartsWith, Step, TotalsPart, Truth, []}
+use Rattle.pos_counter.proofs.Common.{after_groups, and_from, ap, arith, asks_recovery, begun, enabling, event_of, first_refusal, history_along, history_of}
+use Rattle.pos_counter.proofs.Common.{history_with, inl, inr, is_ready, length, limits_of, not, outcome_of_all, recovers, refl, refusals, slice_get, subst}
+use Rattle.pos_counter.proofs.Common.{true, ℕ, ◌∙◌, ◌∷◌, ◌≡◌, ◌≤◌, ◌⊎◌}
 use Rattle.pos_dir.proofs.Kept.{few_after_all}
-use Rattle.pos_disk.proofs.Moments.{rest_leaves}
-use Rattle.pos_store.proofs.Deciding.{some_standing}
-use Rattle.pos_counter.proofs.Hardware.{unchanged}
 use Rattle.pos_counter.proofs.Lifts.{match_cases, refused_undone}
 use Rattle.pos_counter.proofs.PrefixRuns.{law_after, law_recovers}
 use Rattle.pos_counter.proofs.Prefixes.{made_then, same_Ok, same_stands, told_grows}
@@ -76,15 +72,11 @@ module _ (layout : Layout) (start : List PlainFile) (sequence : ℕ) (old : Mach
 
 -- ---- how many files a disk stands for
 
-few_applied : (limits : Limits) (base files : List PlainFile) (texts : List (List ℕ)) → length base ≤ limits.files
+pub few_applied : (limits : Limits) (base files : List PlainFile) (texts : List (List ℕ)) → length base ≤ limits.files
     → Applies limits base texts files → length files ≤ limits.files
 few_applied limits base files [] few is = subst (λ (fs : List PlainFile). length fs ≤ limits.files) is few
 few_applied limits base files (text ∷ texts) few is =
     few_applied limits is.0 files texts (few_after_all limits base is.0 is.1.changes few is.1.outcome) is.2
-
-pub few_stand : (layout : Layout) (files : List PlainFile) (sequence : ℕ) (bytes : List ℕ) → StandsFor (Stands layout files sequence) bytes
-    → length files ≤ (limits_of layout).files
-few_stand layout files sequence bytes is = few_applied (limits_of layout) is.base files is.texts is.directory.count is.applies
 
 few_groups : (limits : Limits) (files next : List PlainFile) (groups : List Group) → length files ≤ limits.files
     → after_groups limits files groups ≡ Ok next → length next ≤ limits.files
@@ -132,18 +124,3 @@ module _ (layout : Layout) (start : List PlainFile) (sequence : ℕ) (first last
           | inr rises ↦ rises
         ],
       )
-
--- ---- a new counter
-
-pub leaves_one : {D P : Type 0} (bound : DiskGhosts D) (peripherals : Ghosts P) (entries : List Entry) (disk : D) (counter : Counter D P)
-    → Begins peripherals entries disk counter → bound.honest disk → IsAtRest (bound.state disk) → IsBytes (bound.state disk).reading
-    → (standing : Standing) × Leaves bound counter.totals (standing ∷ [])
-leaves_one {D = D} bound peripherals entries disk counter begins honest rest bytes =
-    let one = some_standing (bound.state disk).reading bytes in (
-      one.0,
-      subst (λ (v : TotalsView D). Leaves bound v (one.0 ∷ [])) (sym begins.totals) (record {
-        honest = honest;
-        leaves = λ left may. inl (subst (StandsFor one.0) (sym (rest_leaves (bound.state disk) left rest may)) one.1);
-        is_settled = refl;
-      }),
-    )

@@ -1,15 +1,14 @@
 -- What keeps a machine sound: each control stays at its device, and each device of its kind.
 use Rattle.pos_counter.proofs.Common.{All, All-cons, All-get_or, All-map, All-nil, All-set, All-weaker, Answer, Call, CarriesOut, Category, Change, Changes}
 use Rattle.pos_counter.proofs.Common.{ChangesOne, Control, Decided, Deed, Device, DeviceDoes, Does, DueRequest, Effect, Err, Follows, Gives, Hardware}
-use Rattle.pos_counter.proofs.Common.{HasItsDevice, HasItsKind, IfSome, Input, IsAttached, IsDetached, IsInRange, IsPlaceOn, IsSound, IsTrue, Kind, List}
-use Rattle.pos_counter.proofs.Common.{Machine, MatchOption, MatchOption-at_some, MatchResult, NoMemory, None, Ok, OnHardware, Option, Ordered, Place, Property}
-use Rattle.pos_counter.proofs.Common.{Queued, Queues, Result, SameHardware, Signs, Some, TakesIn, Value, WorksAt, WorksOn, [], after_release, after_set}
-use Rattle.pos_counter.proofs.Common.{after_work, all_listening, ap, arith, changed, cond_both, cursor_after, device_at, device_deed, device_rows}
-use Rattle.pos_counter.proofs.Common.{due_request_at, eq-eqb, false, false≢true, first_refusal, found_at, get_or_from_slice_get, has_open, id_rows}
-use Rattle.pos_counter.proofs.Common.{if_listening, inl, inr, is_exclusive, is_none, is_open_at, is_place, is_some, kind_in, kind_of, length-set, listens}
-use Rattle.pos_counter.proofs.Common.{option_map, or_parts, or_right, origin, outcome, place_found, queued, reaction, read, refl, scan, serves, set, signs_of}
-use Rattle.pos_counter.proofs.Common.{slice_get, slice_get-map, slice_get_within, slice_set, stopped, subst, suc, sym, takes, told, true, with_control, zero}
-use Rattle.pos_counter.proofs.Common.{◌||◌, ℕ, ◌∙◌, ◌∷◌, ◌≡◌}
+use Rattle.pos_counter.proofs.Common.{HasItsDevice, HasItsKind, IfSome, Input, IsAttached, IsDetached, IsInRange, IsPlaceOn, IsSound, IsTrue, List, Machine}
+use Rattle.pos_counter.proofs.Common.{MatchOption, MatchOption-at_some, MatchResult, NoMemory, None, Ok, OnHardware, Option, Ordered, Place, Property, Queued}
+use Rattle.pos_counter.proofs.Common.{Queues, Result, SameHardware, Signs, Some, TakesIn, Value, WorksAt, WorksOn, [], after_release, after_set, after_work}
+use Rattle.pos_counter.proofs.Common.{all_listening, ap, arith, changed, cond_both, cursor_after, device_at, device_deed, device_rows, due_request_at, eq-eqb}
+use Rattle.pos_counter.proofs.Common.{false, false≢true, first_refusal, found_at, get_or_from_slice_get, has_open, id_rows, if_listening, inl, inr}
+use Rattle.pos_counter.proofs.Common.{is_exclusive, is_none, is_open_at, is_place, is_some, kind_in, kind_of, length-set, listens, option_map, or_parts}
+use Rattle.pos_counter.proofs.Common.{or_right, origin, place_found, queued, reaction, read, refl, serves, set, signs_of, slice_get, slice_get-map}
+use Rattle.pos_counter.proofs.Common.{slice_get_within, slice_set, stopped, subst, suc, sym, takes, true, with_control, zero, ◌||◌, ℕ, ◌∙◌, ◌∷◌, ◌≡◌}
 use Rattle.pos_service.specs.Statuses.{heard_signs}
 use Rattle.pos_service.specs.declared.deed.Change.TheVariants as change
 use Rattle.pos_service.specs.declared.finding.Finding.{Finding}
@@ -102,11 +101,7 @@ served_with : (ds : List Device) (i k : ℕ) (d : Device) (now : Option Hardware
     → Served category cursor (slice_get (set ds i (record d { hardware = now })) k)
 served_with [] i k d now category cursor is stands h = absurd h
 served_with (x ∷ ds) zero zero d now category cursor is stands h =
-    let same : x ≡ d = cc in (
-      subst (λ (y : Device). serves category y.kind ≡ true) same h.0,
-      or_right (is_none d.kind) (is_some now) (stands refl),
-      subst (λ (y : Device). IsPlaceOn y.kind cursor) same h.2,
-    )
+    let same : x ≡ d = cc in (rw same at h.0, or_right (is_none d.kind) (is_some now) (stands refl), rw same at h.2)
 served_with (x ∷ ds) zero (suc k) d now category cursor is stands h = h
 served_with (x ∷ ds) (suc i) zero d now category cursor is stands h = h
 served_with (x ∷ ds) (suc i) (suc k) d now category cursor is stands h = served_with ds i k d now category cursor is (λ e. stands (ap suc e)) h
@@ -145,12 +140,8 @@ pub on_hardware_sound : (m m' : Machine) (at : Option ℕ) (Does : ℕ → Effec
     → Keeps m.devices before m.controls after new) → OnHardware m at Does m' → IsSound m → IsSound m'
 on_hardware_sound m m' at Does keeps o s =
     let here : HasItsKind o.device = all_at HasItsKind m.devices o.place o.device o.is_device s.kinds in
-    let kind : o.device.kind ≡ Some o.before.kind =
-    subst (λ (st : Option Hardware). IfSome st (λ hardware. o.device.kind ≡ Some hardware.kind)) o.is_attached here.1 in
-    let stands : StandsAt m.devices at o.before = record {
-      kind = ap (λ p. kind_in (device_at m.devices p)) o.is_at ∙ ap kind_in o.is_device ∙ kind;
-      range = subst (λ (k : Option Kind). IfSome k IsInRange) kind here.0;
-    } in
+    let kind : o.device.kind ≡ Some o.before.kind = rw o.is_attached at here.1 in
+    let stands : StandsAt m.devices at o.before = record { kind = rw (o.is_at, o.is_device, kind); range = rw kind at here.0 } in
     let kept = keeps o.place o.before o.controls o.after stands o.does in
     rw o.machine (hardware_sound m o.controls o.place o.device (Some o.after) o.is_device (kind ∙ ap Some (sym kept.kind))
     (All-weaker (HasItsDevice m.devices) (HasItsDevice (set m.devices o.place (record o.device { hardware = Some o.after })))
@@ -282,9 +273,7 @@ device_keeps k m asked r n place c before new after at served allowed stands h =
   where
     stays : (d : Deed) → device_deed k (kind_of m c) c asked ≡ Some d → DeedStaysOn (kind_of m c) c.cursor.place d
     stays d is =
-        subst (λ at. DeedStaysOn at c.cursor.place d) (sym stands.kind)
-        (deed_called k before.kind c asked d (subst (λ at. serves k at ≡ true) stands.kind served) stands.range
-        (subst (λ at. NoneApplies (device_rows k at c asked)) stands.kind allowed) (subst (λ at. device_deed k at c asked ≡ Some d) stands.kind is))
+        rw stands.kind (deed_called k before.kind c asked d (rw stands.kind at served) stands.range (rw stands.kind at allowed) (rw stands.kind at is))
 
 -- an open control's category serves its device
 pub served_by : (ds : List Device) (c : Control) (before : Hardware) → StandsAt ds c.device before → HasItsDevice ds c

@@ -2,15 +2,15 @@
 use Rattle.pos_counter.proofs.Common.{◌+◌, ◌++◌, All-push, Answer, Answered, Arranges, Asks, Bool, Call, CallOf, Called, Category, CategoryDoes, Claim, Close}
 use Rattle.pos_counter.proofs.Common.{Control, Deliver, Delivered, Does, DoesTogether, Done, Effect, Failure, File, FileCall, Get, HardTotals, Hardware}
 use Rattle.pos_counter.proofs.Common.{HasItsDevice, History, IsAttached, IsDetached, IsOneGroup, IsOneOf, IsSettled, IsSound, IsUndone, Layout, List, Machine}
-use Rattle.pos_counter.proofs.Common.{MatchBool, MatchOption, Mode, None, Nothing, NothingDone, Off, Ok, OnHardware, Open, Option, OutOfMemory, PlainFile}
-use Rattle.pos_counter.proofs.Common.{Property, Ready, Recovered, Recovers, Refused, Release, Request, Response, Set, Sets, SetsByRecovery, Some, Standing}
-use Rattle.pos_counter.proofs.Common.{Stands, Step, Totals, TotalsChange, TotalsDo, TotalsPart, Value, WorkOn, Worked, [], after_disk_fault, after_release}
-use Rattle.pos_counter.proofs.Common.{after_set, and_parts, ap, arith, asks_recovery, category_rows, changes_asked, changes_of, claimed, claimed_by, closed}
-use Rattle.pos_counter.proofs.Common.{delivered, dropped, event_between, event_of, false, file_call, files_after_all, files_of, first_refusal, has_call}
-use Rattle.pos_counter.proofs.Common.{history_with, holder_of, in_doubt, inl, inr, is_category, is_common, is_none, is_ready, is_totals, kind_of, left_after}
-use Rattle.pos_counter.proofs.Common.{length, length-set, limits_of, map, needs_of, new_control, next_sequences, not, numbered, outcome_of_all, place_of, plain}
-use Rattle.pos_counter.proofs.Common.{recovers, refl, refusals, released, released_by, row_of, serves, settled, signs_at, slice_get, stored, subst, sym, table}
-use Rattle.pos_counter.proofs.Common.{takes, true, with_control, with_place, with_totals, ℕ, ◌∙◌, ◌∷◌, ◌≡◌}
+use Rattle.pos_counter.proofs.Common.{MatchBool, Mode, None, Nothing, NothingDone, Off, Ok, OnHardware, Open, Option, OutOfMemory, PlainFile, Property, Ready}
+use Rattle.pos_counter.proofs.Common.{Recovered, Recovers, Refused, Release, Request, Response, Set, Sets, SetsByRecovery, Some, Standing, Stands, Step, Totals}
+use Rattle.pos_counter.proofs.Common.{TotalsChange, TotalsDo, TotalsPart, Value, WorkOn, Worked, [], after_disk_fault, after_release, after_set, and_parts, ap}
+use Rattle.pos_counter.proofs.Common.{arith, asks_recovery, category_rows, changes_asked, changes_of, claimed, claimed_by, closed, delivered, dropped}
+use Rattle.pos_counter.proofs.Common.{event_between, event_of, false, file_call, files_after_all, files_of, first_refusal, has_call, history_with, holder_of}
+use Rattle.pos_counter.proofs.Common.{in_doubt, inl, inr, is_category, is_common, is_none, is_ready, is_totals, kind_of, left_after, length, length-set}
+use Rattle.pos_counter.proofs.Common.{limits_of, map, needs_of, new_control, next_sequences, not, numbered, outcome_of_all, place_of, plain, recovers, refl}
+use Rattle.pos_counter.proofs.Common.{refusals, released, released_by, row_of, serves, settled, signs_at, slice_get, stored, subst, sym, table, takes, true}
+use Rattle.pos_counter.proofs.Common.{with_control, with_place, with_totals, ℕ, ◌∙◌, ◌∷◌, ◌≡◌}
 use Rattle.pos_totals.specs.Groups.{group_of}
 use Rattle.pos_counter.proofs.Cursors.{NoneApplies, none_applies, unless_not}
 use Rattle.pos_counter.proofs.FileCalls.{Comes, Groups, Stays, puts_comes}
@@ -223,11 +223,6 @@ made_beside old new category h = rw h (record {
   rest = record { layout = refl; mode = refl; left = refl };
 })
 
-one_changes : {P : Type 0} {R : Control → Type 0} (old new : Machine) (n : ℕ) → MatchOption (slice_get old.controls n) P R → (P → Beside old new)
-    → ((c : Control) → slice_get old.controls n ≡ Some c → R c → Beside old new) → Beside old new
-one_changes old new n h same other =
-    elim (match_cases (slice_get old.controls n) _ _ h) [ inl x ↦ same x.1 | inr x ↦ other x.0 x.1 x.2 ]
-
 attached_beside : (old new : Machine) (name : List ℕ) (hardware : Hardware) → IsAttached old name hardware new → Beside old new
 attached_beside old new name hardware h = record { sound = attached_sound old new name hardware h; rest = rw h.machine (same_rest old.totals) }
 
@@ -239,13 +234,10 @@ detached_beside old new name hardware h = record { sound = detached_sound old ne
 length_released : (cl : List (Option ℕ)) (o : Option ℕ) (n : ℕ) → length (released_by cl o n) ≡ length cl
 length_released cl o n = grind (arith, length-set {A = Option ℕ})
 
-length_claimed : (cl : List (Option ℕ)) (o : Option ℕ) (n : ℕ) → length (claimed_by cl o n) ≡ length cl
-length_claimed cl o n = grind (arith, length-set {A = Option ℕ})
-
 -- what a control's claim, its release and its end leave
 claimed_beside : (k : Category) (m : Machine) (n : ℕ) (c : Control) → Beside m (claimed k m n c)
 claimed_beside HardTotals m n c = totals_beside m _ (record { layout = refl; mode = refl; left = refl })
-claimed_beside k m n c = claims_beside m (claimed_by m.claims c.device n) (length_claimed m.claims c.device n)
+claimed_beside k m n c = claims_beside m (claimed_by m.claims c.device n) (grind (arith, length-set {A = Option ℕ}))
 
 released_beside : (k : Category) (m : Machine) (n : ℕ) (c : Control) → Beside m (released k m n c)
 released_beside HardTotals m n c = totals_beside m _ (record { layout = refl; mode = refl; left = refl })
@@ -356,8 +348,10 @@ step_leaves old new r (CallOf n asked) h = absurd h
 step_leaves old new (Worked result) (WorkOn name) h = beside_leaves [] old new (Worked result) (λ some. absurd (some refl))
     (hardware_beside old new _ _ h (λ place before cs after stands does. works_keep old.devices _ place (Ok result) old.controls before cs after does))
 step_leaves old new (Delivered event) (Deliver n reply) h = beside_leaves [] old new (Delivered event) (λ some. absurd (some refl))
-    (one_changes old new n h (λ none. same_beside old new none.1)
-    (λ c found is. rw is.1 (control_beside old n (delivered reply c) (λ s. seated old n c s found))))
+    (elim (match_cases (slice_get old.controls n) _ _ h) [
+      | inl x ↦ same_beside old new x.1.1
+      | inr x ↦ rw x.2.1 (control_beside old n (delivered reply x.0) (λ s. seated old n x.0 s x.1))
+    ])
 step_leaves old new r q h = beside_leaves [] old new r (λ some. absurd (some refl))
     (search (same_beside, made_beside, attached_beside, detached_beside, hardware_beside, takes_keeps))
 

@@ -3,7 +3,7 @@ use Rattle.pos_counter.proofs.Common.{Answer, AsksNothing, Call, CallOf, CallsFi
 use Rattle.pos_counter.proofs.Common.{HardTotals, IsCounterSound, IsDone, IsReady, IsUndone, List, Machine, Mode, NoMemory, Off, Ok, Ready, Refused, Result}
 use Rattle.pos_counter.proofs.Common.{Serves, Set, Some, SparesDisk, SparesFiles, Standing, Step, TotalsPart, TotalsView, TurnsOff, [], answered, ap}
 use Rattle.pos_counter.proofs.Common.{category_rows, changes_asked, controls_of, false, file_call, file_rows, first_refusal, inl, inr, is_common, machine}
-use Rattle.pos_counter.proofs.Common.{outcome, part_of, part_with, refl, refusals, slice_get, subst, sym, ℕ, ◌∙◌, ◌≡◌}
+use Rattle.pos_counter.proofs.Common.{part_of, part_with, refl, refusals, slice_get, subst, sym, ℕ, ◌∙◌, ◌≡◌}
 use Rattle.pos_counter.proofs.Hardware.{IsLet, let_refusals, own_call}
 use Rattle.pos_counter.proofs.Lifts.{decided_step}
 use Rattle.pos_counter.proofs.Serving.{OnlyNow, quiet_serves}

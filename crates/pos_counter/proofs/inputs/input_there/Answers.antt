@@ -1,13 +1,11 @@
-use Rattle.pos_counter.proofs.Common.{registered}
 use Rattle.pos_counter.proofs.DeviceLists.{done_there, may_go_back}
 use Rattle.pos_counter.proofs.inputs.input_there.Goals as goal
 
 pub put-requires-clause-may_serve : goal.put-requires-clause-may_serve
 put-requires-clause-may_serve g c =
-    may_go_back (registered g.P.Peripheral c.args.devices.now.registry) _ c.args.place _ _ c.requires.sound.registry.served
-    c.in-Some.ensures.taken c.in-Some.ensures.vacated c.take_input-taken.ensures.in_service
+    may_go_back _ _ _ _ _ c.requires.sound.registry.served c.in-Some.ensures.taken c.in-Some.ensures.vacated c.take_input-taken.ensures.in_service
 
 pub returns-clause-done : goal.returns-clause-done
 returns-clause-done g c =
-    done_there (registered g.P.Peripheral c.args.devices.now.registry) _ _ c.args.devices.now.totals c.args.place _ _ _
-    c.requires.sound.registry.served c.in-Some.ensures.taken c.in-Some.ensures.vacated c.put.ensures.served c.take_input-taken.ensures.taken
+    done_there _ _ _ c.args.devices.now.totals _ _ _ _ c.requires.sound.registry.served c.in-Some.ensures.taken c.in-Some.ensures.vacated
+    c.put.ensures.served c.take_input-taken.ensures.taken

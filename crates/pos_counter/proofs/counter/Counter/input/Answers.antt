@@ -1,5 +1,5 @@
-use Rattle.pos_counter.proofs.Common.{None, Ok, TakenAt, ap, arith, length, machine, refl, sym, true, with_items_is, ◌∙◌}
-use Rattle.pos_counter.proofs.DeviceLists.{found_fit, found_under_name}
+use Rattle.pos_counter.proofs.Common.{None, Ok, TakenAt, ap, arith, hardware_of, length, machine, option_map, refl, sym, true, with_items_is, ◌∙◌}
+use Rattle.pos_counter.proofs.DeviceLists.{found_under_name, hardware_there}
 use Rattle.pos_counter.proofs.Hardware.{named, on_hardware, unchanged}
 use Rattle.pos_counter.proofs.Serving.{steps_beside}
 use Rattle.pos_counter.proofs.counter.Counter.input.Goals as goal
@@ -24,7 +24,8 @@ returns-then-not-fits-clause-step g c =
 pub input_there-requires-clause-fits : goal.input_there-requires-clause-fits
 input_there-requires-clause-fits g c =
     let fit = rw c.kind.ensures.kind at (sym c.fits.ensures ∙ c.if-not-fits.false) in
-    found_fit _ c.args.self.now.devices.totals c.in-Some.place _ c.args.input.now true c.in-Some-peripheral.ensures fit
+    let there = hardware_there _ c.args.self.now.devices.totals c.in-Some.place ∙ ap (option_map hardware_of) (sym c.in-Some-peripheral.ensures) in
+    record { before = _; is_attached = there; fit = fit }
 
 pub returns-in-Ok : goal.returns-in-Ok
 returns-in-Ok g c =
