@@ -3,7 +3,7 @@ use Rattle.pos_counter.proofs.Common.{◌&&◌, ◌<◌, Answer, Answered, AreDe
 use Rattle.pos_counter.proofs.Common.{DiskGhosts, DiskRecovers, Done, Empty, Err, FindsFiles, Ghosts, HardTotals, IsCounterSound, IsErrOf, IsOneOf}
 use Rattle.pos_counter.proofs.Common.{IsRecovering, KeptControl, Kind, Leaves, List, Machine, Mode, NoMemory, None, Off, Ok, Option, OutOfMemory, Property}
 use Rattle.pos_counter.proofs.Common.{ReadsAs, Recovers, RecoversAny, RecoversOneOf, Refused, Response, Result, Serves, Set, SetsByRecovery, SetsTo, Signs}
-use Rattle.pos_counter.proofs.Common.{Some, SparesDisk, Standing, Step, T, Totals, TotalsPart, TotalsView, Truth, Value, WhenOff, [], after_enabling, after_set}
+use Rattle.pos_counter.proofs.Common.{Some, SparesDisk, Standing, Step, Totals, TotalsPart, TotalsView, Truth, Value, WhenOff, [], after_enabling, after_set}
 use Rattle.pos_counter.proofs.Common.{and_from, and_right, answered, ap, asks_recovery, code_of, controls_of, device_at, enabling, false, first_refusal, get_or}
 use Rattle.pos_counter.proofs.Common.{hardware_in, holder_in, holder_of, inl, inr, is_enabling, is_none, is_ready, is_some, is_totals, kind_in, kind_of, length}
 use Rattle.pos_counter.proofs.Common.{machine, machine_with, not, or_left, or_right, part_of, part_with, recovers, refl, refusals, set, set_rows, settled}

@@ -13,4 +13,5 @@ pub returns-in-Err-clause-called : goal.returns-in-Err-clause-called
 returns-in-Err-clause-called g c =
     let refused = rw (c.in-Err.is, c.kind.ensures.kind) at c.in_ok-deed.ensures in
     let before = hardware_of (g.P.Peripheral.state c.args.peripheral.now) in
-    called_refused c.args.number c.args.place c.args.call.now _ c.in-Err.code _ before (control_at c.args.controls.now _ c.index-controls-number.result c.requires.in_range) refused
+    called_refused c.args.number c.args.place c.args.call.now _ c.in-Err.code _ before
+    (control_at c.args.controls.now _ c.index-controls-number.result c.requires.in_range) refused

@@ -1,4 +1,4 @@
-use Rattle.pos_counter.proofs.Common.{drop_all, drop_more, false, true}
+use Rattle.pos_counter.proofs.Common.{drop_all, drop_more}
 use Rattle.pos_counter.proofs.exchange.is_open_at.Goals as goal
 
 pub returns-then-has_open : goal.returns-then-has_open

@@ -1,4 +1,4 @@
-use Rattle.pos_counter.proofs.Common.{Claim, List, Machine, Option, SFits, Some, Totals, [], ap, claim_rows, claimed, decided, first_refusal, inl, inr}
+use Rattle.pos_counter.proofs.Common.{Claim, List, Machine, Option, SFits, Some, Totals, [], ap, claim_rows, claimed, first_refusal, inl, inr}
 use Rattle.pos_counter.proofs.Common.{is_taken, machine, part_with, refl, subst, sym, to_z-of_z, w128, ℕ, ◌∙◌, ◌≡◌, ⊎_elim}
 use Rattle.pos_counter.proofs.Hardware.{are_totals, area_settled, covered, in_table}
 use Rattle.pos_counter.proofs.Lifts.{decided_cases, decided_step, decided_weaker, kept_at}

@@ -1,4 +1,4 @@
-use Rattle.pos_counter.proofs.Common.{None, Ok, TakenAt, ap, arith, hardware_of, length, machine, option_map, refl, sym, true, with_items_is, ◌∙◌}
+use Rattle.pos_counter.proofs.Common.{None, Ok, TakenAt, ap, arith, hardware_of, length, machine, option_map, refl, sym, with_items_is, ◌∙◌}
 use Rattle.pos_counter.proofs.DeviceLists.{found_under_name, hardware_there}
 use Rattle.pos_counter.proofs.Hardware.{named, on_hardware, unchanged}
 use Rattle.pos_counter.proofs.Serving.{steps_beside}
