@@ -1,16 +1,16 @@
 -- The words of specifications and of the standard library that most proofs of this crate cite, passed on from one place. Declares nothing.
-pub use Rattle.std.proofs.Common.{All, Bool, Err, IfSome, IsSome, IsTrue, List, MatchOption, MatchResult, None, Ok, Option, Result, Some, [], ap, append_assoc}
-pub use Rattle.std.proofs.Common.{ap₂, arith, bytes_eq, cond, drop, false, get_or, inl, inr, is_none, is_some, length, map, nat_abs, nat_le, nat_lt, not}
-pub use Rattle.std.proofs.Common.{option_map, refl, replicate, reverse, rules, set, slice_get, subst, suc, sym, true, zero, ℕ, ℤ, ⊎_elim, ◌&&◌, ◌++◌, ◌+◌, ◌<◌}
-pub use Rattle.std.proofs.Common.{◌||◌, ◌∙◌, ◌∷◌, ◌≡◌, ◌≤◌, ◌⊎◌}
-pub use Rattle.std.proofs.lemmas.Bool.{and_from, and_parts, cond_both, false≢true}
-pub use Rattle.std.proofs.lemmas.Int.{to_z-of_z}
-pub use Rattle.std.proofs.lemmas.List.Elements.{All-cons, All-map, All-nil, All-push}
-pub use Rattle.std.proofs.lemmas.List.{append-nil, length-map, length-set, length_push, map-set, set-get_or, with_items_is}
-pub use Rattle.std.proofs.lemmas.Option.{MatchOption-at_some, get_or_from_slice_get, same_Some, slice_get-map, slice_get_within}
-pub use Rattle.std.specs.Bool.{MatchBool}
-pub use Rattle.std.specs.List.{AllByRecursion}
-pub use Rattle.std.specs.Prelude.{⊤}
+pub use Rattle.std.proofs.Common.{◌%◌, ◌&&◌, ◌+◌, ◌++◌, ◌-◌, ◌<◌, All, Bool, Err, IfSome, IsSome, IsTrue, List, MatchOption, MatchResult, None, Ok, Option}
+pub use Rattle.std.proofs.Common.{Result, Some, T, [], ap, append_assoc, ap₂, arith, bytes_eq, cond, drop, false, get_or, inl, inr, is_none, is_some, length}
+pub use Rattle.std.proofs.Common.{map, nat_abs, nat_le, nat_lt, not, option_map, refl, replicate, reverse, rules, set, slice_get, subst, suc, sym, to_z-of_z}
+pub use Rattle.std.proofs.Common.{true, zero, ◌||◌, ℕ, ℤ, ◌∙◌, ◌∷◌, ◌≡◌, ◌≤◌, ◌⊎◌, ⊎_elim}
+pub use Rattle.std.proofs.lemmas.Bool.{and_from, and_parts, and_right, cond_both, eq-eqb, false≢true, or_left, or_parts, or_right}
+pub use Rattle.std.proofs.lemmas.List.Elements.{All-cons, All-get_or, All-map, All-nil, All-push, All-set, All-weaker}
+pub use Rattle.std.proofs.lemmas.List.{append-nil, drop_all, drop_more, get_or_default, length-map, length-replicate, length-set, length_push, map-set}
+pub use Rattle.std.proofs.lemmas.List.{map_push, nil_from_length, reverse-append, reverse-reverse, set-get_or, with_items_is}
+pub use Rattle.std.proofs.lemmas.Option.{MatchOption-at_some, get_or_from_slice_get, option_and_then_some, same_Some, slice_get-get_or, slice_get-map}
+pub use Rattle.std.proofs.lemmas.Option.{slice_get_within}
+pub use Rattle.std.specs.List.{AllByRecursion, cons_option, list_any}
+pub use Rattle.std.specs.Prelude.{◌==◌, IfErr, IsErrOf, MatchBool, OnErr, filter, find, slice_set, take, vec_capacity, ⊤}
 pub use mir.Syntax.{w128}
 pub use mir.Val.{SFits}
 pub use Rattle.pos_common.specs.KeptControls.{Gets, KeptControl, SetsTo, controls_of}
@@ -18,24 +18,26 @@ pub use Rattle.pos_dir.specs.Changes.{and_then, outcome, outcome_of_all}
 pub use Rattle.pos_dir.specs.declared.fault.DirectoryFault.{DirectoryFault}
 pub use Rattle.pos_dir.specs.declared.file.File.{File as PlainFile}
 pub use Rattle.pos_dir.specs.declared.limits.Limits.{Limits}
-pub use Rattle.pos_disk.specs.State.{MayLeave, Rises}
+pub use Rattle.pos_disk.specs.State.{LeavesOnly, MayLeave, Rises}
 pub use Rattle.pos_disk.specs.declared.device.Disk.{Ghosts as DiskGhosts}
 pub use Rattle.pos_image.specs.declared.layout.Layout.TheVariants.{Layout1, Layout2}
 pub use Rattle.pos_image.specs.declared.layout.Layout.{Layout}
-pub use Rattle.pos_profile.specs.Places.{place_of as registered_place}
-pub use Rattle.pos_profile.specs.Registries.{Device as Registered, IsServed, devices as registered, names_of, standing_at}
+pub use Rattle.pos_profile.specs.Places.{first_of, place_from as registered_from, place_of as registered_place}
+pub use Rattle.pos_profile.specs.Registries.{Attaches, Detaches, Device as Registered, HasKindInRange, IsNamed, IsServed, MayServe, devices as registered}
+pub use Rattle.pos_profile.specs.Registries.{names_of, parked, parked_state, planned_of, standing_at, vacant, vacant_devices, with_peripheral}
 pub use Rattle.pos_profile.specs.declared.entry.Entry.{Entry}
-pub use Rattle.pos_service.specs.Calls.{has_call, is_common, needs_of}
-pub use Rattle.pos_service.specs.Categories.{serves}
+pub use Rattle.pos_service.specs.Calls.{has_call, is_common, needs_of, place_found, row_of, takes_memory as own_takes_memory}
+pub use Rattle.pos_service.specs.Categories.{is_category, is_exclusive, serves}
 pub use Rattle.pos_service.specs.Claims.{after_release, claim_rows, claimed_by, holder_at, is_foreign, is_own, release_rows, released_by}
-pub use Rattle.pos_service.specs.Controls.{Control, closed, new_control}
-pub use Rattle.pos_service.specs.Deeds.{Does as CarriesOut, changed}
-pub use Rattle.pos_service.specs.Displays.{origin}
-pub use Rattle.pos_service.specs.Hardware.{Effect, Hardware, SameHardware, hardware_of, signs_in}
+pub use Rattle.pos_service.specs.Controls.{Control, all_listening, closed, delivered, if_listening, listens, new_control, opened, queued, read, stopped}
+pub use Rattle.pos_service.specs.Deeds.{ChangesOne, Does as CarriesOut, Follows, MayWantFor, Ordered, Queued, changed, id_rows, may_want}
+pub use Rattle.pos_service.specs.Displays.{Strip, attribute_of, direction_of, fed, is_cursor_place, origin, place_in_window, place_left, returned, text_from}
+pub use Rattle.pos_service.specs.Displays.{with_run, with_text}
+pub use Rattle.pos_service.specs.Hardware.{Effect, Hardware, SameHardware, StaysInService, TakenAt, TakesIn, hardware_of, reaction, signs_in}
 pub use Rattle.pos_service.specs.Needs.{table}
 pub use Rattle.pos_service.specs.Numbers.{is_index, is_up_to}
-pub use Rattle.pos_service.specs.Peripherals.{IsInRange, PeripheralState, input_fits}
-pub use Rattle.pos_service.specs.PrinterCalls.{WorksAt, due_request_at}
+pub use Rattle.pos_service.specs.Peripherals.{IsInRange, PeripheralState, input_fits, signs_of}
+pub use Rattle.pos_service.specs.PrinterCalls.{DueRequest, WorksAt, WorksOn, after_work, due_request_at}
 pub use Rattle.pos_service.specs.Properties.{after_set, cursor_after, get_rows, property_of, set_rows, takes, tells_power}
 pub use Rattle.pos_service.specs.Refusals.{Decided, Row, first_refusal}
 pub use Rattle.pos_service.specs.declared.answer.Answer.{Answer}
@@ -54,42 +56,50 @@ pub use Rattle.pos_service.specs.declared.peripheral.Peripheral.{Ghosts}
 pub use Rattle.pos_service.specs.declared.property.Property.{Property}
 pub use Rattle.pos_service.specs.declared.signs.Signs.{Signs}
 pub use Rattle.pos_store.specs.Layouts.{limits_of}
-pub use Rattle.pos_store.specs.Standing.{IsOneOf, LeavesOneOf, Standing, Stands, StandsFor, StandsForEither, StandsForOneOf}
-pub use Rattle.pos_store.specs.StoreViews.{Ready as StoreReady}
-pub use Rattle.pos_totals.specs.Changes.{IsOneGroup, in_doubt}
-pub use Rattle.pos_totals.specs.HardTotals.{File, Mode, Off, Ready, Totals, changes_in, files_of, in_transaction, is_ready, transaction_of}
-pub use Rattle.pos_totals.specs.HardTotals.{with_control as with_place, with_files, with_transaction}
-pub use Rattle.pos_totals.specs.Recoveries.{AreLeft, HasTooMany, numbered}
-pub use Rattle.pos_totals.specs.TotalsArrangements.{Arrangement, ClaimFile, ReleaseFile, after_arrangement}
-pub use Rattle.pos_totals.specs.TotalsCalls.{Arranges, Asks, Commits, FileCall, Makes, Nothing, file_call, file_rows}
-pub use Rattle.pos_totals.specs.TotalsChanges.{Done, RunsOut, given_by, number_rows}
-pub use Rattle.pos_totals.specs.TotalsClaims.{is_area_taken, is_own_claim, without_control}
+pub use Rattle.pos_store.specs.Standing.{Applies, Damaged, IsOneOf, LeavesOneOf, Standing, Stands, StandsFor, StandsForEither, StandsForOneOf, Unformatted}
+pub use Rattle.pos_store.specs.StoreViews.{Ready as StoreReady, settled as store_settled}
+pub use Rattle.pos_totals.specs.Changes.{HasFailed, IsDone, IsOneGroup, PutsGroup, in_doubt}
+pub use Rattle.pos_totals.specs.HardTotals.{Change as TotalsChange, File, Mode, Off, Ready, Totals, after_disk_fault, changes_in, files_of, in_transaction}
+pub use Rattle.pos_totals.specs.HardTotals.{is_ready, next_sequences, transaction_of, with_control as with_place, with_files, with_transaction}
+pub use Rattle.pos_totals.specs.Recoveries.{AreLeft, FindsFiles, HasTooMany, ReadsAs, Recovers as DiskRecovers, RecoversAny, RecoversOneOf, code_of, numbered}
+pub use Rattle.pos_totals.specs.TotalsArrangements.{Arrangement, ClaimFile, ReleaseFile, after_arrangement, claimed as with_claim}
+pub use Rattle.pos_totals.specs.TotalsCalls.{Arranges, Asks, Calls, Commits, FileCall, Makes, Nothing, file_call, file_rows}
+pub use Rattle.pos_totals.specs.TotalsChanges.{DoesChange, DoesTogether, Done as GroupDone, RunsOut, files_after_all, given_by, refusals_of_change}
+pub use Rattle.pos_totals.specs.TotalsClaims.{is_own_claim, without_control}
 pub use Rattle.pos_totals.specs.TotalsCommits.{DoesCommit}
 pub use Rattle.pos_totals.specs.TotalsFiles.{is_called, with_each}
-pub use Rattle.pos_totals.specs.Views.{IsReady, TotalsView, TurnsOff, WhenOff, plain, stored}
+pub use Rattle.pos_totals.specs.Views.{IsReady, TotalsView, TurnsOff, WhenOff, plain, plain_file, stored}
 pub use Rattle.pos_counter.specs.AtDevices.{CallsAt, CallsFor, IsDoneAt, MayBeCalled}
-pub use Rattle.pos_counter.specs.Counters.{Begins, IsCounterSound, IsLeftDuring, IsRun, IsStep, IsStepBeside, RunsAnyhow, RunsFrom, Serves, machine}
+pub use Rattle.pos_counter.specs.Counters.{IsCounterSound, IsLeftDuring, IsRun, IsStep, IsStepBeside, RunsAnyhow, RunsFrom, Serves, machine}
 pub use Rattle.pos_counter.specs.Counters.{machine as machine_of_counter}
 pub use Rattle.pos_counter.specs.Crashes.{BeginsOver, HasBegun, HasRun, KeepsPrefix, KeepsPrefixes, history_until, machine_now}
 pub use Rattle.pos_counter.specs.DiskUse.{AsksNothing, ChangesTotalsAlone, IsUndone, SparesDisk, SparesFiles, after_enabling}
-pub use Rattle.pos_counter.specs.Examples.{MayHave, a_group, new_machine, sets_enabled, steps_into_doubt, steps_through_doubt}
+pub use Rattle.pos_counter.specs.Examples.{new_machine, sets_enabled, steps_into_doubt}
 pub use Rattle.pos_counter.specs.FileCalls.{CallsFiles, FilesStepped, IsRecovering}
 pub use Rattle.pos_counter.specs.History.{FilesEvent, FilesFound, Group, GroupAccepted, GroupInDoubt, History, NothingDone, after_groups, begun, changes_asked}
 pub use Rattle.pos_counter.specs.History.{changes_of, decided, event_between, event_of, files_after, has_made, history_along, history_of, history_with, is_same}
 pub use Rattle.pos_counter.specs.History.{listed, told, with_settled, without_doubt}
 pub use Rattle.pos_counter.specs.KeptDevices.{AreDevicesSound, device_of, devices_in, devices_of, has_kind, profile_devices, totals_devices, totals_place}
-pub use Rattle.pos_counter.specs.Leaving.{IsSettled, Leaves, Spared, Stepped, part_of, part_with}
+pub use Rattle.pos_counter.specs.Leaving.{IsSettled, Leaves, Spared, part_of, part_with}
 pub use Rattle.pos_counter.specs.Machine.{Device, Machine, device_at, found_at, hardware_in, hardware_named, holder_in, holder_of, kind_in, kind_of}
 pub use Rattle.pos_counter.specs.Machine.{machine_with, place_from, place_of, signs_at, with_control, with_totals}
 pub use Rattle.pos_counter.specs.Prefixes.{BeginsWith, IsFiles, IsPrefix, IsPrefixAlong, IsPrefixInside, IsPrefixOf, LeavesPrefix, LeavesPrefixInside}
 pub use Rattle.pos_counter.specs.Prefixes.{StandsForSome, StartsWith, moved_with}
 pub use Rattle.pos_counter.specs.Reopening.{FindsThem, HasCause, HasThem, enabling}
-pub use Rattle.pos_counter.specs.Responses.{HandsOut, OffersInService, answered, detached, request_of, response_of, steps_of}
+pub use Rattle.pos_counter.specs.Responses.{HandsOut, OffersInService, answered, attached, detached, request_of, response_of, steps_of}
 pub use Rattle.pos_counter.specs.Sparing.{AllSpare, RunSparing, StepSparing}
-pub use Rattle.pos_counter.specs.Steps.{Answered, Attach, CallOf, Called, CategoryDoes, Detach, DeviceDoes, Does, FindsFit, FindsWork}
-pub use Rattle.pos_counter.specs.Steps.{HasItsDevice, HasItsKind, IsAttached, IsDetached, IsPlaceOn, IsSound, Made, NewControl, OnHardware, OutOfMemory}
-pub use Rattle.pos_counter.specs.Steps.{Request, Response, Run, Sets, SetsByRecovery, Step, WorkOn, Worked, category_rows, claimed, device_deed, device_rows}
-pub use Rattle.pos_counter.specs.Steps.{dropped, facts_of, has_open, is_open_at, is_place, is_taken, most_controls, refusals, released, takes_memory}
+pub use Rattle.pos_counter.specs.Steps.{Answered, Attach, CallOf, Called, CategoryDoes, Deliver, Delivered, Detach, DeviceDoes, Does, FindsFit, FindsWork}
+pub use Rattle.pos_counter.specs.Steps.{HasItsDevice, HasItsKind, IsAttached, IsDetached, IsPlaceOn, IsSound, OnHardware, OutOfMemory, Request, Response, Run}
+pub use Rattle.pos_counter.specs.Steps.{Sets, SetsByRecovery, Step, WorkOn, Worked, category_rows, claimed, device_deed, device_rows, dropped, facts_of}
+pub use Rattle.pos_counter.specs.Steps.{has_open, is_open_at, is_place, is_taken, most_controls, refusals, released, takes_memory}
 pub use Rattle.pos_counter.specs.Totals.{FilesCalled, PutsChanges, Recovered, Recovers, TotalsDo, TotalsPart, asks_recovery, is_enabling, is_totals, left_after}
 pub use Rattle.pos_counter.specs.Totals.{put_at_once, recovers, settled}
 pub use Rattle.pos_counter.specs.declared.counter.Counter.{Counter}
+pub use Rattle.pos_service.specs.declared.answer.Answer.TheVariants.{Done, Refused}
+pub use Rattle.pos_service.specs.declared.answer.Value.TheVariants.{Empty, Number, Truth}
+pub use Rattle.pos_service.specs.declared.kind.Kind.TheVariants.{Display}
+pub use Rattle.pos_service.specs.declared.property.Property.TheVariants.{CursorColumn, CursorRow, CursorUpdate, DeviceEnabled}
+pub use Rattle.pos_service.specs.declared.call.Call.TheVariants.{Claim, ClearText, Close, DisplayText, DisplayTextAt, Get, Open, Release, ScrollText, Set}
+pub use Rattle.pos_service.specs.declared.category.Category.TheVariants.{HardTotals, LineDisplay}
+pub use Rattle.pos_service.specs.declared.code.Code.TheVariants.{Failure}
+pub use Rattle.pos_service.specs.declared.deed.Deed.TheVariants.{Changes, Gives, Queues}

@@ -1,17 +1,19 @@
--- Where the calls of a display and its properties leave a cursor: at a place of the display.
-use Rattle.pos_counter.proofs.Common.{◌+◌, ◌++◌, ◌<◌, AllByRecursion, Bool, Cursor, IfSome, IsInRange, IsPlaceOn, Kind, List, None, Option, Place, Property}
-use Rattle.pos_counter.proofs.Common.{Row, Some, Value, [], and_from, and_parts, arith, cond, cursor_after, false, first_refusal, is_index, is_up_to, length}
-use Rattle.pos_counter.proofs.Common.{nat_abs, nat_le, nat_lt, not, origin, refl, takes, true, ℕ, ℤ, ◌∷◌, ◌≡◌, ◌≤◌}
-use Rattle.std.proofs.Common.{◌%◌, ◌-◌, chars, negsuc, pos}
+-- What calls come to: they leave a cursor at a place of its display, and want memory only where they may.
+use Rattle.pos_counter.proofs.Common.{◌%◌, ◌+◌, ◌++◌, ◌-◌, ◌<◌, ◌==◌, AllByRecursion, Answer, Bool, Call, CallsAt, CallsFor, CarriesOut, Category, Change}
+use Rattle.pos_counter.proofs.Common.{Changes, ClearText, Code, Control, Cursor, CursorColumn, CursorRow, CursorUpdate, Deed, Display, DisplayText}
+use Rattle.pos_counter.proofs.Common.{DisplayTextAt, Err, Gives, Hardware, IfSome, IsInRange, IsPlaceOn, IsTrue, Kind, LineDisplay, List, MatchResult}
+use Rattle.pos_counter.proofs.Common.{MayWantFor, NoMemory, None, Number, Ok, Option, Place, Property, Queues, Refused, Result, Row, SameHardware, ScrollText}
+use Rattle.pos_counter.proofs.Common.{Some, Strip, Truth, Value, [], and_from, arith, attribute_of, cond, cond_both, cursor_after, device_deed, device_rows}
+use Rattle.pos_counter.proofs.Common.{direction_of, false, fed, first_refusal, is_cursor_place, is_index, is_up_to, length, may_want, nat_abs, nat_le, nat_lt}
+use Rattle.pos_counter.proofs.Common.{not, option_map, origin, place_in_window, place_left, refl, returned, same_Some, serves, slice_get, subst, takes}
+use Rattle.pos_counter.proofs.Common.{text_from, true, with_run, with_text, ℕ, ℤ, ◌∷◌, ◌≡◌, ◌≤◌, ⊤}
 use Rattle.std.proofs.lemmas.Bool.Decides.{nat_tests}
 use Rattle.std.proofs.lemmas.Nat.{mod_below}
-use Rattle.std.specs.Prelude.{◌==◌}
-use Rattle.pos_service.specs.Displays.{Strip, fed, is_cursor_place, place_in_window, place_left, returned, text_from, with_run, with_text}
-use Rattle.pos_service.specs.Kinds.{columns_of, rows_of}
-use Rattle.pos_service.specs.declared.answer.Answer.TheVariants as answer
-use Rattle.pos_service.specs.declared.answer.Value.TheVariants as value
-use Rattle.pos_service.specs.declared.kind.Kind.TheVariants as kind
-use Rattle.pos_service.specs.declared.property.Property.TheVariants as property
+use Rattle.pos_service.specs.Kinds.{columns_of, is_display, rows_of}
+use Rattle.pos_service.specs.DisplayCalls.{display_deed, display_rows, scrolls, shows}
+use Rattle.pos_service.specs.declared.deed.Change.TheVariants as change
+use Rattle.pos_service.specs.declared.display_text.Attribute.{Attribute}
+use Rattle.pos_counter.proofs.Lifts.{decided_none, decided_some}
 
 -- ---- tables of which no row applies
 
@@ -21,12 +23,11 @@ NoneApplies rows = AllByRecursion (λ (row : Row). row.applies ≡ false) rows
 -- where a table refuses nothing, no row applies
 pub none_applies : (rows : List Row) → first_refusal rows ≡ None → NoneApplies rows
 none_applies [] none = tt
-none_applies (row ∷ rows) none = by row.applies none (none_applies rows)
-  where
-    by : (b : Bool) → cond b (Some (answer.Refused row.code row.extended)) (first_refusal rows) ≡ None
-        → (first_refusal rows ≡ None → NoneApplies rows) → (b ≡ false) × NoneApplies rows
-    by true same rest = cc
-    by false same rest = (refl, rest same)
+none_applies (row ∷ rows) none =
+    (elim row.applies as (λ b. cond b (Some (Refused row.code row.extended)) (first_refusal rows) ≡ None → (b ≡ false) × NoneApplies rows) [
+      | true ↦ λ same. cc
+      | false ↦ λ same. (refl, none_applies rows same)
+    ]) none
 
 pub unless_not : (b : Bool) → not b ≡ false → b ≡ true
 unless_not true is = refl
@@ -40,15 +41,11 @@ IsPlace rows columns place = is_cursor_place rows columns place ≡ true
 
 pub with_row : (rows columns : ℕ) (place : Place) (n : ℤ) → is_index rows n ≡ true → IsPlace rows columns place
     → IsPlace rows columns (record place { row = nat_abs n })
-with_row rows columns place (pos n) index is =
-    and_from (nat_lt n rows) (nat_le place.column columns) index (and_parts (nat_lt place.row rows) (nat_le place.column columns) is).1
-with_row rows columns place (negsuc n) index is = cc
+with_row rows columns place n index is = grind arith
 
 pub with_column : (rows columns : ℕ) (place : Place) (n : ℤ) → is_up_to columns n ≡ true → IsPlace rows columns place
     → IsPlace rows columns (record place { column = nat_abs n })
-with_column rows columns place (pos n) count is =
-    and_from (nat_lt place.row rows) (nat_le n columns) (and_parts (nat_lt place.row rows) (nat_le place.column columns) is).0 count
-with_column rows columns place (negsuc n) count is = cc
+with_column rows columns place n count is = grind arith
 
 -- ---- properties
 
@@ -58,31 +55,21 @@ pub place_set : (at : Option Kind) (c : Cursor) (p : Property) (v : Value) → t
 place_set None c p v may is = tt
 place_set (Some k) c p v may is = λ display. by p v may (is display)
   where
-    rows : ℕ
-    rows = rows_of (Some k)
-
-    columns : ℕ
-    columns = columns_of (Some k)
-
-    by : (p : Property) (v : Value) → takes (Some k) p v ≡ true → IsPlace rows columns c.place → IsPlace rows columns (cursor_after c p v).place
-    by property.CursorRow (value.Number n) may is = with_row rows columns c.place n may is
-    by property.CursorRow v may is = is
-    by property.CursorColumn (value.Number n) may is = with_column rows columns c.place n may is
-    by property.CursorColumn v may is = is
-    by property.CursorUpdate (value.Truth truth) may is = is
-    by property.CursorUpdate v may is = is
+    by : (p : Property) (v : Value) → takes (Some k) p v ≡ true → IsPlace (rows_of (Some k)) (columns_of (Some k)) c.place
+        → IsPlace (rows_of (Some k)) (columns_of (Some k)) (cursor_after c p v).place
+    by CursorRow (Number n) may is = with_row (rows_of (Some k)) (columns_of (Some k)) c.place n may is
+    by CursorColumn (Number n) may is = with_column (rows_of (Some k)) (columns_of (Some k)) c.place n may is
+    by CursorUpdate (Truth truth) may is = is
     by p v may is = is
 
 pub first_place : (rows columns : ℕ) → 1 ≤ rows → IsPlace rows columns origin
-first_place rows columns some = and_from (nat_lt 0 rows) (nat_le 0 columns) (grind (arith, nat_tests)) (grind (arith, nat_tests))
+first_place rows columns some = grind (arith, nat_tests)
 
 -- the first place is one of each display
 pub place_opened : (at : Option Kind) → IfSome at IsInRange → IsPlaceOn at origin
 place_opened None range = tt
-place_opened (Some kind.Drawer) range = λ display. cc
-place_opened (Some kind.Scanner) range = λ display. cc
-place_opened (Some (kind.Display rows columns)) range = λ display. first_place rows columns range.0
-place_opened (Some (kind.Printer chars near)) range = λ display. cc
+place_opened (Some (Display rows columns)) range = λ display. first_place rows columns range.0
+place_opened (Some k) range = λ display. cc
 
 -- ---- texts
 
@@ -92,21 +79,15 @@ run_column columns (b ∷ run) strip some le =
     let below : (strip.place.column + length run) % columns < columns = mod_below (strip.place.column + length run) columns some in
     omega (arith, below)
 
-by_byte : (columns : ℕ) (feeds returns : Bool) (x y z : Strip) → x.place.column ≤ columns → y.place.column ≤ columns → z.place.column ≤ columns
-    → (cond feeds x (cond returns y z)).place.column ≤ columns
-by_byte columns true returns x y z p q r = p
-by_byte columns false true x y z p q r = q
-by_byte columns false false x y z p q r = r
-
 -- a text leaves the place on the strip at most one right of the last column
 text_column : (columns : ℕ) (run bytes : List ℕ) (strip : Strip) → 0 < columns → strip.place.column ≤ columns
     → (with_text columns run bytes strip).place.column ≤ columns
 text_column columns run [] strip some le = run_column columns run strip some le
 text_column columns run (b ∷ bytes) strip some le =
-    by_byte columns (b == 10) (b == 13) _ _ _
-    (text_column columns [] bytes (fed (with_run columns run strip)) some (omega arith))
-    (text_column columns [] bytes (returned (with_run columns run strip)) some (omega arith))
-    (text_column columns (run ++ b ∷ []) bytes strip some le)
+    let within = λ (s : Strip). s.place.column ≤ columns in
+    cond_both (b == 10) _ _ within (λ feeds. text_column columns [] bytes (fed (with_run columns run strip)) some (omega arith))
+    (λ other. cond_both (b == 13) _ _ within (λ returns. text_column columns [] bytes (returned (with_run columns run strip)) some (omega arith))
+    (λ plain. text_column columns (run ++ b ∷ []) bytes strip some le))
 
 -- the window has the row of the place that it ends with
 window_place : (rows columns : ℕ) (place : Place) → 0 < rows → place.column ≤ columns → IsPlace rows columns (place_in_window rows place)
@@ -119,6 +100,79 @@ pub text_place : (rows columns : ℕ) (update : Bool) (start : Place) (bytes : L
     → IsPlace rows columns (place_left rows columns update start bytes)
 text_place rows columns false start bytes tall wide is = is
 text_place rows columns true start bytes tall wide is =
-    let within : nat_le start.column columns ≡ true = (and_parts (nat_lt start.row rows) (nat_le start.column columns) is).1 in
-    let le : start.column ≤ columns = grind (arith, nat_tests, within) in
+    let le : start.column ≤ columns = grind (arith, nat_tests) in
     window_place rows columns (text_from columns start bytes).place tall (text_column columns [] bytes (record { placed = []; place = start }) wide le)
+
+-- ---- what calls come to
+
+-- what a call changes of its control leaves the cursor at a place of what the device is
+abbrev pub StaysOn : Option Kind → Place → Change → Type 0
+StaysOn at was (change.Cursor place) = IsPlaceOn at was → IsPlaceOn at place
+StaysOn at was what = ⊤
+
+-- so does what it comes to
+abbrev pub DeedStaysOn : Option Kind → Place → Deed → Type 0
+DeedStaysOn at was (Gives given what) = StaysOn at was what
+DeedStaysOn at was (Changes what) = StaysOn at was what
+DeedStaysOn at was (Queues given) = ⊤
+
+-- what comes of an attribute, or of a direction, is one
+one_of : {A : Type 0} (f : A → Deed) (o : Option A) (d : Deed) (P : Deed → Type 0) → ((a : A) → P (f a)) → option_map f o ≡ Some d → P d
+one_of f None d P each is = absurd cc
+one_of f (Some a) d P each is = subst P (same_Some (f a) d is) (each a)
+
+-- of a display
+module _ (rows columns : ℕ) (cursor : Cursor) (tall : 1 ≤ rows) (wide : 1 ≤ columns) where
+  abbrev at : Option Kind
+  at = Some (Display rows columns)
+
+  -- a text from a place leaves the cursor at one
+  text_stays : (start : Place) (text : List ℕ) (style : Option Attribute) (d : Deed) → (IsPlace rows columns cursor.place → IsPlace rows columns start)
+      → option_map (shows at cursor start text) style ≡ Some d → DeedStaysOn at cursor.place d
+  text_stays start text style d within is =
+      one_of (shows at cursor start text) style d (DeedStaysOn at cursor.place)
+      (λ s was display. text_place rows columns cursor.update start text (omega arith) (omega arith) (within (was display))) is
+
+  display_stays : (asked : Call) (d : Deed) → NoneApplies (display_rows at asked) → display_deed at cursor asked ≡ Some d → DeedStaysOn at cursor.place d
+  display_stays (DisplayText text attribute) d allowed is = text_stays cursor.place text (attribute_of attribute) d (λ i. i) is
+  display_stays (DisplayTextAt row column text attribute) d allowed is =
+      let first = with_row rows columns origin row (unless_not (is_index rows row) allowed.0) (first_place rows columns tall) in
+      let start = with_column rows columns (record { row = nat_abs row; column = 0 }) column (unless_not (is_up_to columns column) allowed.1.0) first in
+      text_stays (record { row = nat_abs row; column = nat_abs column }) text (attribute_of attribute) d (λ i. start) is
+  display_stays ClearText d allowed is = subst (DeedStaysOn at cursor.place) (same_Some _ d is) (λ i display. first_place rows columns tall)
+  display_stays (ScrollText direction units) d allowed is = one_of (scrolls units) (direction_of direction) d (DeedStaysOn at cursor.place) (λ way. tt) is
+  display_stays asked d allowed is = absurd cc
+
+-- where nothing is a display, each place is as good
+no_display : (k : Kind) (was : Place) (d : Deed) → is_display k ≡ false → DeedStaysOn (Some k) was d
+no_display k was (Gives given (change.Cursor place)) flat = λ is display. absurd cc
+no_display k was (Changes (change.Cursor place)) flat = λ is display. absurd cc
+no_display k was d flat = tt
+
+-- a call whose arguments are allowed comes to what leaves the cursor at a place of the device, which serves the category
+pub deed_called : (k : Category) (is : Kind) (c : Control) (asked : Call) (d : Deed) → serves k (Some is) ≡ true → IsInRange is
+    → NoneApplies (device_rows k (Some is) c asked) → device_deed k (Some is) c asked ≡ Some d → DeedStaysOn (Some is) c.cursor.place d
+deed_called LineDisplay (Display rows columns) c asked d served range allowed e =
+    display_stays rows columns c.cursor range.0 range.2 asked d allowed e
+deed_called k (Display rows columns) c asked d served range allowed e = absurd cc
+deed_called k is c asked d served range allowed e = no_display is c.cursor.place d refl
+
+-- a call that is refused by its arguments
+pub called_refused : (n place : ℕ) (asked : Call) (c : Control) (code : Code) (old : List Control) (before : Hardware) → slice_get old n ≡ Some c
+    → first_refusal (device_rows c.category (Some before.kind) c asked) ≡ Some (Refused code 0)
+    → CallsAt n asked place (Ok (Refused code 0)) old before old before
+called_refused n place asked c code old before found refused = rw found (decided_some refused refl (record { controls = refl; hardware = refl }))
+
+-- one that comes to a deed
+pub called_done : (n place : ℕ) (asked : Call) (c : Control) (d : Deed) (outcome : Result Answer NoMemory) (old new : List Control)
+    (before after : Hardware) → slice_get old n ≡ Some c → first_refusal (device_rows c.category (Some before.kind) c asked) ≡ None
+    → device_deed c.category (Some before.kind) c asked ≡ Some d → MayWantFor asked d
+    → MatchResult outcome (λ result. CarriesOut d n place result old before new after)
+    (λ want. IsTrue (may_want d) × SameHardware old before new after) → CallsAt n asked place outcome old before new after
+called_done n place asked c d outcome old new before after found none is wants done = rw found (by outcome done)
+  where
+    by : (o : Result Answer NoMemory)
+        → MatchResult o (λ result. CarriesOut d n place result old before new after) (λ want. IsTrue (may_want d) × SameHardware old before new after)
+        → CallsFor n asked place o c old before new after
+    by (Ok result) h = decided_none none (rw is h)
+    by (Err want) h = (wants h.0, none, h.1)

@@ -1,10 +1,80 @@
--- The devices of a machine, by the registry of a counter.
-use Rattle.pos_counter.proofs.Common.{AllByRecursion, Bool, Device, Does, Effect, FindsFit, IfSome, Input, IsDoneAt, IsServed, IsSome, KeptControl, List, None}
-use Rattle.pos_counter.proofs.Common.{Option, PeripheralState, Registered, Some, [], ap, controls_of, device_at, device_of, devices_of, false, hardware_in}
-use Rattle.pos_counter.proofs.Common.{hardware_of, input_fits, is_some, option_map, place_of, refl, set, slice_get, standing_at, subst, suc, sym, true, zero, ℕ}
-use Rattle.pos_counter.proofs.Common.{◌∙◌, ◌∷◌, ◌≡◌}
-use Rattle.pos_profile.specs.Registries.{with_peripheral}
-use Rattle.pos_service.specs.declared.kind.Kind.TheVariants as kind
+-- The devices of a machine, by the registry of a counter: what stands at their places, how they begin and end, and exchanges.
+use Rattle.pos_counter.proofs.Common.{◌+◌, ◌++◌, All, All-cons, All-map, All-nil, AllByRecursion, Attach, Attaches, Bool, Category, Detach, Detaches, Device}
+use Rattle.pos_counter.proofs.Common.{Does, Effect, Entry, Err, HardTotals, Hardware, HasItsKind, HasKindInRange, IfErr, IfSome, IsDoneAt, IsNamed, IsServed}
+use Rattle.pos_counter.proofs.Common.{IsSome, KeptControl, List, MayServe, None, Ok, Option, PeripheralState, Registered, Result, Some, StaysInService, Step}
+use Rattle.pos_counter.proofs.Common.{TotalsPart, [], ap, append-nil, append_assoc, arith, attached, bytes_eq, cond, cond_both, cons_option, controls_of}
+use Rattle.pos_counter.proofs.Common.{detached, device_at, device_of, devices_of, false, false≢true, filter, find, first_of, get_or, hardware_in, hardware_of}
+use Rattle.pos_counter.proofs.Common.{has_kind, is_open_at, is_some, kind_in, length, length-map, length_push, list_any, machine_with, map, names_of}
+use Rattle.pos_counter.proofs.Common.{option_and_then_some, option_map, parked, parked_state, place_from, place_of, planned_of, profile_devices, refl}
+use Rattle.pos_counter.proofs.Common.{registered_from, registered_place, same_Some, set, slice_get, standing_at, subst, suc, sym, take, totals_devices}
+use Rattle.pos_counter.proofs.Common.{totals_place, true, vacant, vacant_devices, with_peripheral, zero, ◌||◌, ℕ, ◌∙◌, ◌∷◌, ◌≡◌}
+use Rattle.std.proofs.Math.Bool.{and-true}
+use Rattle.std.proofs.lemmas.List.Folds.{list_any-append}
+use Rattle.pos_profile.specs.Categories.{is_totals}
+use Rattle.pos_profile.specs.Kinds.{kind_with}
+use Rattle.pos_profile.specs.Profiles.{is_refused_after, is_totals_entry}
+use Rattle.pos_service.specs.declared.exchange_fault.AttachFault.TheVariants as attach
+use Rattle.pos_service.specs.declared.exchange_fault.AttachFault.{AttachFault}
+use Rattle.pos_service.specs.declared.exchange_fault.DetachFault.TheVariants as detach
+use Rattle.pos_service.specs.declared.exchange_fault.DetachFault.{DetachFault}
+
+-- the place of the Hard Totals device
+totals_from : (at : ℕ) (name : List ℕ) (totals : Option (List ℕ)) → place_from at name (totals_devices totals) ≡ totals_place at name totals
+totals_from at name None = refl
+totals_from at name (Some totals) = refl
+
+-- the first place of the registry that has the name, else that of the Hard Totals device
+place_found : (at : ℕ) (name : List ℕ) (list : List Registered) (totals : Option (List ℕ))
+    → place_from at name (devices_of list totals) ≡ first_of (registered_from at name (names_of list)) (totals_place (at + length list) name totals)
+place_found at name [] totals = totals_from at name totals ∙ ap (λ k. totals_place k name totals) (omega arith)
+place_found at name (d ∷ list) totals = let rest = place_found (at + 1) name list totals in grind arith
+
+pub place_under_name : (name : List ℕ) (list : List Registered) (totals : Option (List ℕ))
+    → place_of (devices_of list totals) name ≡ first_of (registered_place (names_of list) name) (totals_place (length list) name totals)
+place_under_name name list totals =
+    place_found 0 name list totals ∙ ap (λ k. first_of (registered_place (names_of list) name) (totals_place k name totals)) (omega arith)
+
+-- a device of the registry is found
+pub found_first : (name : List ℕ) (list : List Registered) (totals : Option (List ℕ)) (place : ℕ)
+    → registered_place (names_of list) name ≡ Some place → place_of (devices_of list totals) name ≡ Some place
+found_first name list totals place is = place_under_name name list totals ∙ ap (λ o. first_of o (totals_place (length list) name totals)) is
+
+-- no other device has that name but that of Hard Totals
+pub found_last : (name : List ℕ) (list : List Registered) (totals : Option (List ℕ)) → registered_place (names_of list) name ≡ None
+    → place_of (devices_of list totals) name ≡ totals_place (length list) name totals
+found_last name list totals is = place_under_name name list totals ∙ ap (λ o. first_of o (totals_place (length list) name totals)) is
+
+-- that device has no peripheral
+totals_kind : (list : List Registered) (totals : List ℕ) → kind_in (slice_get (devices_of list (Some totals)) (length list)) ≡ None
+totals_kind [] totals = refl
+totals_kind (d ∷ list) totals = totals_kind list totals
+
+-- so a name that isn't registered has none
+pub kind_last : (name : List ℕ) (list : List Registered) (totals : Option (List ℕ)) → registered_place (names_of list) name ≡ None
+    → kind_in (device_at (devices_of list totals) (place_of (devices_of list totals) name)) ≡ None
+kind_last name list None is = ap (λ o. kind_in (device_at (devices_of list None) o)) (found_last name list None is)
+kind_last name list (Some totals) is =
+    rw (found_last name list (Some totals) is)
+    (cond_both (bytes_eq name totals) (Some (length list)) None (λ o. kind_in (device_at (devices_of list (Some totals)) o) ≡ None)
+    (λ yes. totals_kind list totals) (λ no. refl))
+
+-- what is found is there
+found_from : (at : ℕ) (name : List ℕ) (ds : List Device) (place : ℕ) → place_from at name ds ≡ Some place → (k : ℕ) × (place ≡ at + k) × IsSome (slice_get ds k)
+found_from at name [] place is = cc
+found_from at name (d ∷ ds) place is =
+    (elim (bytes_eq name d.name) as (λ b. cond b (Some at) (place_from (at + 1) name ds) ≡ Some place
+    → (k : ℕ) × (place ≡ at + k) × IsSome (slice_get (d ∷ ds) k)) [
+      | true ↦ λ same. (zero, omega (arith, same_Some at place same), refl)
+      | false ↦ λ rest. let there = found_from (at + 1) name ds place rest in (suc there.0, omega (arith, there.1), there.2)
+    ]) is
+
+pub found_there : (name : List ℕ) (ds : List Device) (place : ℕ) → place_of ds name ≡ Some place → IsSome (slice_get ds place)
+found_there name ds place is =
+    let there = found_from 0 name ds place is in
+    let same : place ≡ there.0 = omega (arith, there.1) in
+    rw same there.2
+
+-- ---- what stands at a place
 
 -- what stands at it
 pub hardware_there : (list : List Registered) (totals : Option (List ℕ)) (place : ℕ)
@@ -67,27 +137,189 @@ done_there list new totals place was now Does served stands is does =
 -- a device whose peripheral isn't found has none
 pub vacant_there : {B : Type 0} (list : List Registered) (totals : Option (List ℕ)) (place : ℕ) (found : Option B) (f : B → PeripheralState)
     → option_map f found ≡ standing_at list place → is_some found ≡ false → hardware_in (slice_get (devices_of list totals) place) ≡ None
-vacant_there list totals place None f is none = hardware_there list totals place ∙ ap (option_map hardware_of) (sym is)
+vacant_there list totals place None f is none = rw (hardware_there list totals place, ← is)
 vacant_there list totals place (Some x) f is none = cc
 
 -- what is found at the place of a name is what stands at the device of this name
 pub found_under_name : (list : List Registered) (totals : Option (List ℕ)) (name : List ℕ) (place : ℕ) (found : Option PeripheralState)
     → Some place ≡ place_of (devices_of list totals) name → found ≡ standing_at list place
     → hardware_in (device_at (devices_of list totals) (place_of (devices_of list totals) name)) ≡ option_map hardware_of found
-found_under_name list totals name place found finds is =
-    ap (λ o. hardware_in (device_at (devices_of list totals) o)) (sym finds) ∙ hardware_there list totals place ∙ ap (option_map hardware_of) (sym is)
-
--- an input fits what is found, or doesn't
-pub found_fit : (list : List Registered) (totals : Option (List ℕ)) (place : ℕ) (state : PeripheralState) (given : Input) (fits : Bool)
-    → Some state ≡ standing_at list place → input_fits state.kind given ≡ fits → FindsFit (hardware_in (slice_get (devices_of list totals) place)) given fits
-found_fit list totals place state given fits is fit = record {
-  before = hardware_of state;
-  is_attached = hardware_there list totals place ∙ ap (option_map hardware_of) (sym is);
-  fit = fit;
-}
+found_under_name list totals name place found finds is = rw (← finds, hardware_there list totals place, is)
 
 -- one whose peripheral is found has one
 pub attached_there : {B : Type 0} (list : List Registered) (totals : Option (List ℕ)) (place : ℕ) (found : Option B) (f : B → PeripheralState)
     → option_map f found ≡ standing_at list place → is_some found ≡ true → IsSome (hardware_in (slice_get (devices_of list totals) place))
 attached_there list totals place None f is some = cc
-attached_there list totals place (Some x) f is some = subst IsSome (sym (hardware_there list totals place ∙ ap (option_map hardware_of) (sym is))) refl
+attached_there list totals place (Some x) f is some = rw (hardware_there list totals place, ← is)
+
+-- ---- the end of a counter
+
+-- a device whose peripheral is out of service is to the machine as it was
+still : (o : Option PeripheralState) → option_map hardware_of (option_map parked_state o) ≡ option_map hardware_of o
+still None = refl
+still (Some state) = refl
+
+parked_device : (d : Registered) → device_of (parked d) ≡ device_of d
+parked_device d = ap (λ (o : Option Hardware). let x : Device = record { name = d.name; kind = Some d.kind; hardware = o } in x) (still d.peripheral)
+
+-- so are the devices that may have a peripheral
+pub devices_stay : (list : List Registered) (totals : Option (List ℕ)) → map device_of (map parked list) ≡ filter has_kind (devices_of list totals)
+devices_stay [] None = refl
+devices_stay [] (Some name) = refl
+devices_stay (d ∷ list) totals =
+    ap (λ (x : Device). x ∷ map device_of (map parked list)) (parked_device d)
+    ∙ ap (λ (xs : List Device). device_of d ∷ xs) (devices_stay list totals)
+
+-- what was taken out of service is out of service
+out_of_service : (o : Option PeripheralState) → IfSome (option_map parked_state o) (λ state. state.is_parked ≡ true)
+out_of_service None = tt
+out_of_service (Some state) = refl
+
+pub all_parked : (list : List Registered) → All (λ (d : Registered). IfSome d.peripheral (λ state. state.is_parked ≡ true)) (map parked list)
+all_parked list = All-map (λ (d : Registered). IfSome d.peripheral (λ state. state.is_parked ≡ true)) parked list
+    (λ k d lt. out_of_service (get_or list k d).peripheral)
+
+-- ---- the devices of a profile
+
+-- no entry behind earlier ones is refused
+abbrev pub AreKept : List (Option Entry) → List Entry → Type 0
+AreKept earlier entries = (place : ℕ)
+    → is_refused_after (earlier ++ take place (map (λ entry. Some entry) entries)) (slice_get (map (λ entry. Some entry) entries) place) ≡ false
+
+-- the same one entry later
+kept_later : (earlier : List (Option Entry)) (e : Entry) (es : List Entry) → AreKept earlier (e ∷ es) → AreKept (earlier ++ Some e ∷ []) es
+kept_later earlier e es kept place =
+    ap (λ xs. is_refused_after xs (slice_get (map (λ entry. Some entry) es) place))
+    (append_assoc earlier (Some e ∷ []) (take place (map (λ entry. Some entry) es))) ∙ kept (suc place)
+
+-- behind an entry of Hard Totals none is another
+kept_after : (earlier : List (Option Entry)) (e : Entry) (es : List Entry) → list_any is_totals_entry earlier ≡ true → AreKept earlier (e ∷ es)
+    → is_totals e.category ≡ false
+kept_after earlier e es has kept = simp (append-nil, has, and-true) at (kept 0)
+
+-- whether one of them is, with one more
+any_later : (earlier : List (Option Entry)) (e : Entry) (one : Bool) → is_totals e.category ≡ one
+    → list_any is_totals_entry (earlier ++ Some e ∷ []) ≡ (list_any is_totals_entry earlier || (one || false))
+any_later earlier e one is = list_any-append is_totals_entry earlier (Some e ∷ []) ∙ ap (λ b. list_any is_totals_entry earlier || (b || false)) is
+
+-- so each of them has a device with a peripheral
+count_after : (earlier : List (Option Entry)) (es : List Entry) → list_any is_totals_entry earlier ≡ true → AreKept earlier es
+    → length (vacant_devices es) ≡ length es
+count_after earlier [] has kept = refl
+count_after earlier (e ∷ es) has kept =
+    by e.category (kept_after earlier e es has kept)
+    (count_after (earlier ++ Some e ∷ []) es (any_later earlier e (is_totals e.category) refl ∙ ap (λ b. b || (is_totals e.category || false)) has)
+    (kept_later earlier e es kept))
+  where
+    by : (k : Category) → is_totals k ≡ false → length (vacant_devices es) ≡ length es
+        → length (map vacant (cons_option (option_map (λ kind. record { name = e.name; kind = kind }) (kind_with k e)) (planned_of es))) ≡ suc (length es)
+    by HardTotals is rest = absurd (false≢true (sym is))
+    by k is rest = ap suc rest
+
+-- each entry of a profile has a device
+pub count_devices : (earlier : List (Option Entry)) (es : List Entry) → list_any is_totals_entry earlier ≡ false → AreKept earlier es
+    → length (profile_devices es) ≡ length es
+count_devices earlier [] none kept = refl
+count_devices earlier (e ∷ es) none kept =
+    by e.category
+    (λ is. count_after (earlier ++ Some e ∷ []) es (any_later earlier e true is ∙ ap (λ b. b || true) none) (kept_later earlier e es kept))
+    (λ is. count_devices (earlier ++ Some e ∷ []) es (any_later earlier e false is ∙ ap (λ b. b || false) none) (kept_later earlier e es kept))
+  where
+    by : (k : Category) → (is_totals k ≡ true → length (vacant_devices es) ≡ length es) → (is_totals k ≡ false → length (profile_devices es) ≡ length es)
+        → length (map device_of (map vacant
+        (cons_option (option_map (λ kind. record { name = e.name; kind = kind }) (kind_with k e)) (planned_of es))) ++ totals_devices
+        (option_map (λ entry. entry.name) (cond (is_totals k) (Some e) (find (λ entry. is_totals entry.category) es)))) ≡ suc (length es)
+    by HardTotals last more =
+        let t : Device = record { name = e.name; kind = None; hardware = None } in
+        omega (arith, length_push (map device_of (vacant_devices es)) t, length-map (vacant_devices es) device_of, last refl)
+    by k last more = ap suc (more refl)
+
+-- a device of a sound registry is of a kind in range, and so is its peripheral
+has_its_kind : (d : Registered) → HasKindInRange d → IsServed d → HasItsKind (device_of d)
+has_its_kind d range served = (range, by d.peripheral served)
+  where
+    by : (o : Option PeripheralState) → IfSome o (λ state. (state.is_parked ≡ false) × (state.kind ≡ d.kind))
+        → IfSome (option_map hardware_of o) (λ (hardware : Hardware). Some d.kind ≡ Some hardware.kind)
+    by None h = tt
+    by (Some state) h = ap Some (sym h.1)
+
+pub kinds_hold : (list : List Registered) (totals : Option (List ℕ)) → AllByRecursion HasKindInRange list → AllByRecursion IsServed list
+    → All HasItsKind (devices_of list totals)
+kinds_hold [] None kinds served = All-nil HasItsKind
+kinds_hold [] (Some name) kinds served = All-cons HasItsKind (record { name = name; kind = None; hardware = None }) [] (tt, tt) (All-nil HasItsKind)
+kinds_hold (d ∷ list) totals kinds served =
+    All-cons HasItsKind (device_of d) (devices_of list totals) (has_its_kind d kinds.0 served.0) (kinds_hold list totals kinds.1 served.1)
+
+-- ---- exchanges
+
+-- the device of a name that the registry has
+named_device : (list : List Registered) (totals : Option (List ℕ)) (name : List ℕ) (d : Registered) → IsNamed list name d
+    → device_at (devices_of list totals) (place_of (devices_of list totals) name) ≡ Some (device_of d)
+named_device list totals name d is =
+    ap (device_at (devices_of list totals)) (found_first name list totals is.place is.found) ∙ registered_there list totals is.place d is.at
+
+module _ (hs : List KeptControl) (list new : List Registered) (totals : Option (List ℕ)) (name : List ℕ) (cl : List (Option ℕ)) (part : TotalsPart) where
+  -- nothing has changed
+  same_machine : new ≡ list → machine_with hs cl (devices_of new totals) part ≡ machine_with hs cl (devices_of list totals) part
+  same_machine is = ap (λ xs. machine_with hs cl (devices_of xs totals) part) is
+
+  -- what stands at a place of the registry
+  registered_at : (place : ℕ) (was : PeripheralState) → standing_at list place ≡ Some was
+      → (d : Registered) × (slice_get list place ≡ Some d) × (d.peripheral ≡ Some was)
+  registered_at place was stood = option_and_then_some (λ d. d.peripheral) (slice_get list place) was stood (λ d at is. (d, at, is))
+
+  pub attach_step : {B : Type 0} (state : B → PeripheralState) (peripheral : B) (result : Result (Unit {0}) (AttachFault × B))
+      → IfErr result (λ refusal. refusal.1 ≡ peripheral) → Attaches list name (state peripheral) result new
+      → Step (machine_with hs cl (devices_of list totals) part) (Attach name (hardware_of (state peripheral))) (attached state result)
+      (machine_with hs cl (devices_of new totals) part)
+  attach_step state peripheral (Ok u) back h =
+      record {
+        place = h.place;
+        device = device_of h.may.device;
+        is_at = found_first name list totals h.place h.found;
+        is_device = registered_there list totals h.place h.may.device h.may.at;
+        is_vacant = ap (option_map hardware_of) h.may.vacant;
+        kind = ap Some (sym h.may.kind);
+        machine = rw (h.served, devices_with list totals h.place h.may.device (Some (state peripheral)) h.may.at);
+      }
+  attach_step state peripheral (Err (attach.Unknown, given)) back h =
+      (kind_last name list totals h.0, ap (λ b. hardware_of (state b)) back, same_machine h.1)
+  attach_step state peripheral (Err (attach.InUse, given)) back h =
+      (rw (named_device list totals name h.0.device h.0.named, h.0.served), ap (λ b. hardware_of (state b)) back, same_machine h.1)
+  attach_step state peripheral (Err (attach.KindDiffers, given)) back h =
+      let there = named_device list totals name h.0.device h.0.named in (
+        record { kind = h.0.device.kind; named = rw there; is_vacant = rw (there, h.0.vacant); differs = h.0.kind },
+        ap (λ b. hardware_of (state b)) back,
+        same_machine h.1,
+      )
+
+  pub detach_step : {B : Type 0} (state : B → PeripheralState) (is_open : Bool) (result : Result B DetachFault)
+      → ((place : ℕ) → registered_place (names_of list) name ≡ Some place → is_open ≡ is_open_at place (controls_of hs))
+      → Detaches state list name is_open result new
+      → Step (machine_with hs cl (devices_of list totals) part) (Detach name) (detached state result) (machine_with hs cl (devices_of new totals) part)
+  detach_step state is_open (Ok peripheral) told h =
+      let d = registered_at h.0.place h.0.was h.0.stood in
+      record {
+        place = h.0.place;
+        device = device_of d.0;
+        is_at = found_first name list totals h.0.place h.0.found;
+        is_device = registered_there list totals h.0.place d.0 d.1;
+        is_attached = ap (option_map hardware_of) d.2 ∙ ap (λ s. Some (hardware_of s)) (sym h.0.parked);
+        is_closed = sym (told h.0.place h.0.found) ∙ h.1;
+        machine = ap (λ xs. machine_with hs cl xs part) (ap (λ xs. devices_of xs totals) h.0.vacated ∙ devices_with list totals h.0.place d.0 None d.1);
+      }
+  detach_step state is_open (Err detach.Unknown) told h =
+      (kind_last name list totals h.0, same_machine h.1)
+  detach_step state is_open (Err detach.Vacant) told h =
+      let there = named_device list totals name h.0.device h.0.named in
+      ((rw there, rw (there, h.0.vacant)), same_machine h.1)
+  detach_step state is_open (Err detach.InUse) told h =
+      let named : IsNamed list name h.0.device = h.0.named in (
+        record {
+          place = named.place;
+          is_at = found_first name list totals named.place named.found;
+          is_attached = rw (named_device list totals name h.0.device named, h.0.served);
+          is_open = sym (told named.place named.found) ∙ h.1;
+        },
+        same_machine h.2,
+      )

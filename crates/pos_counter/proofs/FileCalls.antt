@@ -1,26 +1,14 @@
 -- What the totals do with a call, for all that their disk may leave before it.
-use Rattle.pos_counter.proofs.Common.{◌&&◌, ◌++◌, Answer, Answered, Arranges, Asks, Bool, Call, CallsFiles, Commits, Decided, DoesCommit, Done, Err, FileCall}
-use Rattle.pos_counter.proofs.Common.{FilesCalled, FilesStepped, IsTrue, IsUndone, Leaves, LeavesOneOf, List, Makes, MatchOption, MatchResult, Mode, NoMemory}
-use Rattle.pos_counter.proofs.Common.{None, Nothing, Off, Ok, Option, PutsChanges, Ready, Result, Rises, Row, RunsOut, Some, Standing, StandsForEither, Totals}
-use Rattle.pos_counter.proofs.Common.{TotalsDo, TotalsPart, TotalsView, TurnsOff, Value, WhenOff, [], ap, ap₂, arith, changes_asked, changes_in, cond, false}
-use Rattle.pos_counter.proofs.Common.{file_call, file_rows, first_refusal, given_by, in_doubt, in_transaction, inl, inr, is_none, is_some, left_after, not}
-use Rattle.pos_counter.proofs.Common.{number_rows, outcome, part_of, part_with, put_at_once, refl, settled, subst, sym, takes, told, transaction_of, true}
-use Rattle.pos_counter.proofs.Common.{with_transaction, ℕ, ◌∙◌, ◌∷◌, ◌≡◌, ◌≤◌, ◌⊎◌}
-use Rattle.std.specs.Prelude.{OnErr}
-use Rattle.pos_disk.specs.State.{LeavesOnly}
-use Rattle.pos_disk.specs.declared.device.Disk.{Ghosts}
-use Rattle.pos_service.specs.Calls.{takes_memory}
-use Rattle.pos_service.specs.declared.answer.Answer.TheVariants as answer
-use Rattle.pos_service.specs.declared.answer.Value.TheVariants as value
-use Rattle.pos_service.specs.declared.deed.Change.TheVariants as change
-use Rattle.pos_totals.specs.Changes.{HasFailed, PutsGroup}
-use Rattle.pos_totals.specs.HardTotals.{Change}
-use Rattle.pos_totals.specs.TotalsArrangements.{refusals_of_arrangement}
-use Rattle.pos_totals.specs.TotalsCalls.{Calls}
-use Rattle.pos_totals.specs.TotalsChanges.{DoesChange, refusals_of_change}
-use Rattle.pos_totals.specs.TotalsQuestions.{MayTell}
+use Rattle.pos_counter.proofs.Common.{◌&&◌, Answer, Answered, Arranges, Asks, Bool, Call, Calls, CallsFiles, Commits, Decided, DiskGhosts, DoesChange}
+use Rattle.pos_counter.proofs.Common.{DoesCommit, Empty, Err, FileCall, FilesCalled, FilesStepped, GroupDone, HasFailed, IsUndone, Leaves, LeavesOneOf}
+use Rattle.pos_counter.proofs.Common.{LeavesOnly, List, Makes, MatchResult, Mode, NoMemory, None, Nothing, Off, Ok, OnErr, Option, PutsChanges, PutsGroup}
+use Rattle.pos_counter.proofs.Common.{Ready, Result, Rises, Row, RunsOut, Some, Standing, StandsForEither, Totals, TotalsChange, TotalsDo, TotalsPart}
+use Rattle.pos_counter.proofs.Common.{TotalsView, TurnsOff, Value, WhenOff, [], ap, ap₂, arith, changes_asked, changes_in, cond, false, file_call, file_rows}
+use Rattle.pos_counter.proofs.Common.{first_refusal, given_by, in_doubt, in_transaction, inl, inr, is_none, left_after, not, outcome, own_takes_memory, part_of}
+use Rattle.pos_counter.proofs.Common.{part_with, put_at_once, refl, refusals_of_change, settled, subst, sym, told, transaction_of, true, with_transaction, ℕ}
+use Rattle.pos_counter.proofs.Common.{◌∙◌, ◌∷◌, ◌≡◌, ◌≤◌, ◌⊎◌}
 use Rattle.pos_counter.proofs.Leaving.{arranged_rest, kept_left, rest_settled, settled_twice}
-use Rattle.pos_counter.proofs.Lifts.{decided_cases, decided_none, decided_some, decided_weaker}
+use Rattle.pos_counter.proofs.Lifts.{decided_cases, decided_none, decided_some, decided_weaker, match_cases}
 
 -- ---- what a change and a commit do
 
@@ -30,71 +18,58 @@ Puts (Makes change) P old n result new = DoesChange P old n change result new
 Puts Commits P old n result new = DoesCommit P old (with_transaction old n None) (changes_in (transaction_of old n)) result new
 Puts other P old n result new = ⊥
 
--- what comes of its changes: it isn't done, and nothing has changed; or it has none, and transactions change; or they are
--- done as one group, or the disk fails in them
-pub data Comes (P : Type 0) (old : Totals) (changes : List Change) (result : Answer) (new : Totals) : Type 0 where
-  Stays : IsUndone (Answered result) → new ≡ old → Comes P old changes result new
-  Buffers : (transactions : List (Option (List Change))) → changes ≡ [] → new ≡ record old { transactions = transactions }
-      → Comes P old changes result new
-  Groups : (change : Change) (others : List Change) → changes ≡ change ∷ others → (transactions : List (Option (List Change))) (given : Value)
-      → Done P (record old { transactions = transactions }) (change ∷ others) given result new → Comes P old changes result new
+-- what comes of its changes: transactions alone may change, where it isn't done or has no changes; or they are done as one group, or the disk
+-- fails in them
+pub data Comes (P : Type 0) (old : Totals) (result : Answer) (new : Totals) : List TotalsChange → Type 0 where
+  Stays : {changes : List TotalsChange} (transactions : List (Option (List TotalsChange))) → ((changes ≡ [] → ⊥) → IsUndone (Answered result))
+      → new ≡ record old { transactions = transactions } → Comes P old result new changes
+  Groups : (change : TotalsChange) (others : List TotalsChange) (transactions : List (Option (List TotalsChange))) (given : Value)
+      → GroupDone P (record old { transactions = transactions }) (change ∷ others) given result new → Comes P old result new (change ∷ others)
 
-grouped : (P : Type 0) (old : Totals) (transactions : List (Option (List Change))) (change : Change) (others : List Change) (given : Value)
+grouped : (P : Type 0) (old : Totals) (transactions : List (Option (List TotalsChange))) (change : TotalsChange) (others : List TotalsChange) (given : Value)
     (result : Answer) (new : Totals)
-    → RunsOut old result new ⊎ Done P (record old { transactions = transactions }) (change ∷ others) given result new
-    → Comes P old (change ∷ others) result new
-grouped P old transactions change others given result new (inl out) = Stays (rw out.1 tt) out.2
-grouped P old transactions change others given result new (inr done) = Groups change others refl transactions given done
+    → RunsOut old result new ⊎ GroupDone P (record old { transactions = transactions }) (change ∷ others) given result new
+    → Comes P old result new (change ∷ others)
+grouped P old transactions change others given result new (inl out) = Stays old.transactions (λ some. rw out.1 tt) out.2
+grouped P old transactions change others given result new (inr done) = Groups change others transactions given done
 
 pub puts_comes : (asked : FileCall) (P : Type 0) (old : Totals) (n : ℕ) (result : Answer) (new : Totals) → Puts asked P old n result new
-    → Comes P old (changes_asked old n asked) result new
-puts_comes (Makes change) P old n result new does = by (transaction_of old n) does
-  where
-    by : (o : Option (List Change)) → MatchOption o (Decided (number_rows old change) result (new ≡ old)
-        (RunsOut old result new ⊎ Done P old (change ∷ []) (given_by old.next change) result new))
-        (λ buffer. (result ≡ answer.Done value.Empty) × (new ≡ with_transaction old n (Some (buffer ++ change ∷ []))))
-        → Comes P old (put_at_once (is_some o) change) result new
-    by None does = elim (decided_cases (number_rows old change) result _ _ does) [
-      | inl x ↦ grouped P old old.transactions change [] (given_by old.next change) result new x.1
-      | inr x ↦ Stays x.0 x.1
-    ]
-    by (Some buffer) does = Buffers _ refl does.1
+    → Comes P old result new (changes_asked old n asked)
+puts_comes (Makes change) P old n result new does = elim (match_cases (transaction_of old n) _ _ does) [
+  | inl x ↦ rw x.0 (elim (decided_cases x.1) [
+    | inl y ↦ grouped P old old.transactions change [] (given_by old.next change) result new y.1
+    | inr y ↦ Stays old.transactions (λ some. y.0) y.1
+  ])
+  | inr x ↦ rw x.1 (Stays _ (λ some. absurd (some refl)) x.2.1)
+]
 puts_comes Commits P old n result new does = by (changes_in (transaction_of old n)) does
   where
-    by : (changes : List Change) → DoesCommit P old (with_transaction old n None) changes result new → Comes P old changes result new
-    by [] does = Buffers _ refl does.1
-    by (change ∷ others) does = grouped P old _ change others value.Empty result new does
+    by : (changes : List TotalsChange) → DoesCommit P old (with_transaction old n None) changes result new → Comes P old result new changes
+    by [] does = Stays _ (λ some. absurd (some refl)) does.1
+    by (change ∷ others) does = grouped P old _ change others Empty result new does
 puts_comes other P old n result new does = absurd does
 
 -- it does so where the disk fails for a weaker cause; where it has no changes, for any
-done_so : {Out : Type 0} (P Q : Type 0) → (P → Q) → (old : Totals) (changes : List Change) (given : Value) (result : Answer) (new : Totals)
-    → Out ⊎ Done P old changes given result new → Out ⊎ Done Q old changes given result new
+done_so : {Out : Type 0} (P Q : Type 0) → (P → Q) → (old : Totals) (changes : List TotalsChange) (given : Value) (result : Answer) (new : Totals)
+    → Out ⊎ GroupDone P old changes given result new → Out ⊎ GroupDone Q old changes given result new
 done_so P Q to old changes given result new (inl out) = inl out
 done_so P Q to old changes given result new (inr (inl done)) = inr (inl done)
 done_so P Q to old changes given result new (inr (inr failed)) = inr (inr (failed.0, to failed.1, failed.2))
 
 puts_so : (asked : FileCall) (P Q : Type 0) (old : Totals) (n : ℕ) (result : Answer) (new : Totals)
     → ((changes_asked old n asked ≡ [] → ⊥) → P → Q) → Puts asked P old n result new → Puts asked Q old n result new
-puts_so (Makes change) P Q old n result new to does = by (transaction_of old n) to does
-  where
-    AtOnce : Type 0 → Type 0
-    AtOnce R = Decided (number_rows old change) result (new ≡ old)
-        (RunsOut old result new ⊎ Done R old (change ∷ []) (given_by old.next change) result new)
-
-    Buffered : List Change → Type 0
-    Buffered buffer = (result ≡ answer.Done value.Empty) × (new ≡ with_transaction old n (Some (buffer ++ change ∷ [])))
-
-    by : (o : Option (List Change)) → ((put_at_once (is_some o) change ≡ [] → ⊥) → P → Q) → MatchOption o (AtOnce P) Buffered
-        → MatchOption o (AtOnce Q) Buffered
-    by None to does =
-        decided_weaker (done_so P Q (to (λ none. cc)) old (change ∷ []) (given_by old.next change) result new) (λ same. same) does
-    by (Some buffer) to does = does
+puts_so (Makes change) P Q old n result new to does = elim (match_cases (transaction_of old n) _ _ does) [
+  | inl x ↦
+      let so = to (λ none. let no : change ∷ [] ≡ [] = rw x.0 at none in cc) in
+      rw x.0 (decided_weaker (done_so P Q so old (change ∷ []) (given_by old.next change) result new) (λ same. same) x.1)
+  | inr x ↦ rw x.1 x.2
+]
 puts_so Commits P Q old n result new to does = by (changes_in (transaction_of old n)) to does
   where
-    by : (changes : List Change) → ((changes ≡ [] → ⊥) → P → Q) → DoesCommit P old (with_transaction old n None) changes result new
+    by : (changes : List TotalsChange) → ((changes ≡ [] → ⊥) → P → Q) → DoesCommit P old (with_transaction old n None) changes result new
         → DoesCommit Q old (with_transaction old n None) changes result new
     by [] to does = does
-    by (change ∷ others) to does = done_so P Q (to (λ none. cc)) (with_transaction old n None) (change ∷ others) value.Empty result new does
+    by (change ∷ others) to does = done_so P Q (to (λ none. cc)) (with_transaction old n None) (change ∷ others) Empty result new does
 puts_so other P Q old n result new to does = absurd does
 
 -- the totals do so
@@ -106,26 +81,17 @@ totals_do Commits old n result new puts = puts
 totals_do other old n result new puts = absurd puts.does
 
 -- it keeps the layout, and without changes the mode
-comes_layout : (P : Type 0) (old : Totals) (changes : List Change) (result : Answer) (new : Totals) → Comes P old changes result new
-    → new.layout ≡ old.layout
-comes_layout P old changes result new (Stays undone same) = ap (λ (t : Totals). t.layout) same
-comes_layout P old changes result new (Buffers transactions none same) = ap (λ (t : Totals). t.layout) same
-comes_layout P old changes result new (Groups change others some transactions given (inl done)) = ap (λ (t : Totals). t.layout) done.1.totals
-comes_layout P old changes result new (Groups change others some transactions given (inr failed)) = ap (λ (t : Totals). t.layout) failed.2
+comes_layout : {P : Type 0} {old new : Totals} {result : Answer} {changes : List TotalsChange} → Comes P old result new changes → new.layout ≡ old.layout
+comes_layout (Stays transactions undone same) = ap (λ (t : Totals). t.layout) same
+comes_layout (Groups change others transactions given (inl done)) = ap (λ (t : Totals). t.layout) done.1.totals
+comes_layout (Groups change others transactions given (inr failed)) = ap (λ (t : Totals). t.layout) failed.2
 
-comes_mode : (P : Type 0) (old : Totals) (changes : List Change) (result : Answer) (new : Totals) → Comes P old changes result new → changes ≡ []
+comes_mode : {P : Type 0} {old new : Totals} {result : Answer} {changes : List TotalsChange} → Comes P old result new changes → changes ≡ []
     → new.mode ≡ old.mode
-comes_mode P old changes result new (Stays undone same) none = ap (λ (t : Totals). t.mode) same
-comes_mode P old changes result new (Buffers transactions empty same) none = ap (λ (t : Totals). t.mode) same
-comes_mode P old changes result new (Groups change others some transactions given done) none = absurd cc
+comes_mode (Stays transactions undone same) none = ap (λ (t : Totals). t.mode) same
+comes_mode (Groups change others transactions given done) none = absurd cc
 
 -- ---- a call of the totals' own
-
--- what a call is answered that asks this
-abbrev CalledAs : Bool → ℕ → FileCall → TotalsPart → Result Answer NoMemory → TotalsPart → Type 0
-CalledAs takes n asked old outcome new = MatchResult outcome
-    (λ result. Decided (file_rows old.totals n asked) result (new ≡ old) (TotalsDo asked old n result new))
-    (λ want. IsTrue takes × (first_refusal (file_rows old.totals n asked) ≡ None) × (new ≡ old))
 
 -- what holds anyhow holds while the totals are off
 when_off : (mode : Mode) (P : Type 0) → P → WhenOff mode P
@@ -137,22 +103,16 @@ never_turns Off turns = turns
 never_turns (Ready files sequence) turns = turns
 
 -- the group of a change is what it puts there at once, where nothing refuses it
-at_once : (o : Option Answer) (transacting : Bool) (change : Change)
+at_once : (o : Option Answer) (transacting : Bool) (change : TotalsChange)
     → cond (is_none o && not transacting) (change ∷ []) [] ≡ cond (is_none o) (put_at_once transacting change) []
-at_once (Some refusal) transacting change = refl
-at_once None true change = refl
-at_once None false change = refl
+at_once o transacting change = grind arith
 
-module _ {D : Type 0} (bound : Ghosts D) (old new : TotalsView D) (n : ℕ) (asked : Call) where
+module _ {D : Type 0} (bound : DiskGhosts D) (old new : TotalsView D) (n : ℕ) (asked : Call) where
   abbrev rows : List Row
   rows = file_rows old.totals n (file_call asked)
 
-  abbrev changes : List Change
+  abbrev changes : List TotalsChange
   changes = changes_asked old.totals n (file_call asked)
-
-  -- what it does of itself
-  abbrev Itself : Answer → Type 0
-  Itself result = Puts (file_call asked) (HasFailed bound old.disk new.disk) old.totals n result new.totals
 
   -- the totals are as they were
   same_part : (left : List Standing) (failures : ℕ) → new.totals ≡ old.totals → part_with new.totals left failures ≡ part_with old.totals left failures
@@ -163,12 +123,13 @@ module _ {D : Type 0} (bound : Ghosts D) (old new : TotalsView D) (n : ℕ) (ask
   same_settled same left = ap (λ (t : Totals). settled t.layout t.mode left) same
 
   -- one with changes to put on the disk as a group, or none, which nothing refuses
-  module _ (result : Answer) (none : first_refusal rows ≡ None) (puts : PutsGroup bound old changes (Ok result) new) (does : Itself result) where
-    comes : Comes (HasFailed bound old.disk new.disk) old.totals changes result new.totals
+  module _ (result : Answer) (none : first_refusal rows ≡ None) (puts : PutsGroup bound old changes (Ok result) new)
+      (does : Puts (file_call asked) (HasFailed bound old.disk new.disk) old.totals n result new.totals) where
+    comes : Comes (HasFailed bound old.disk new.disk) old.totals result new.totals changes
     comes = puts_comes (file_call asked) (HasFailed bound old.disk new.disk) old.totals n result new.totals does
 
     layout : new.totals.layout ≡ old.totals.layout
-    layout = comes_layout _ old.totals changes result new.totals comes
+    layout = comes_layout comes
 
     answers : (left after : List Standing) (was is : ℕ) → ((changes ≡ [] → ⊥) → HasFailed bound old.disk new.disk → Rises was is)
         → after ≡ left_after (part_with old.totals left was) changes new.totals.mode → TurnsOff old.totals.mode new.totals.mode ⊎ (is ≡ was) → was ≤ is
@@ -200,9 +161,9 @@ module _ {D : Type 0} (bound : Ghosts D) (old new : TotalsView D) (n : ℕ) (ask
               (sym leaves.is_settled) passes.any_moment;
         }
 
-    unrefused : (cs : List Change) → changes ≡ cs → CallsFiles bound old n asked (Ok result) new
+    unrefused : (cs : List TotalsChange) → changes ≡ cs → CallsFiles bound old n asked (Ok result) new
     unrefused [] empty =
-        let mode = comes_mode _ old.totals changes result new.totals comes empty in
+        let mode = comes_mode comes empty in
         inl (record {
           disk = puts.untouched empty;
           is_settled = λ left. ap₂ (λ l m. settled l m left) layout mode;
@@ -229,7 +190,7 @@ module _ {D : Type 0} (bound : Ghosts D) (old new : TotalsView D) (n : ℕ) (ask
       (λ want. (first_refusal rows ≡ None) × (new.totals ≡ old.totals))
       × PutsGroup bound old (cond (is_none (first_refusal rows)) (changes_asked old.totals n asks) []) outcome new
 
-  group_calls : (outcome : Result Answer NoMemory) → OnErr outcome (takes_memory asked ≡ true) → GroupCalls (file_call asked) outcome
+  group_calls : (outcome : Result Answer NoMemory) → OnErr outcome (own_takes_memory asked ≡ true) → GroupCalls (file_call asked) outcome
       → (o : Option Answer) → first_refusal rows ≡ o → CallsFiles bound old n asked outcome new
   group_calls (Ok result) takes (told, puts) (Some refusal) e =
       let y = rw e at told.outcome in
@@ -249,42 +210,39 @@ module _ {D : Type 0} (bound : Ghosts D) (old new : TotalsView D) (n : ℕ) (ask
     answer = λ left failures so. (takes, e, same_part left failures told.1);
   })
 
-  called_as : {asks : FileCall} (left after : List Standing) (was is : ℕ) (outcome : Result Answer NoMemory) → file_call asked ≡ asks
-      → CalledAs (takes_memory asked) n asks (part_with old.totals left was) outcome (part_with new.totals after is)
-      → FilesCalled n asked (part_with old.totals left was) outcome (part_with new.totals after is)
-  called_as left after was is outcome asks called =
-      subst (λ a. CalledAs (takes_memory asked) n a (part_with old.totals left was) outcome (part_with new.totals after is)) (sym asks) called
-
   -- what it does that asks this
-  pub calls_files : (outcome : Result Answer NoMemory) (asks : FileCall) → file_call asked ≡ asks → OnErr outcome (takes_memory asked ≡ true)
+  pub calls_files : (outcome : Result Answer NoMemory) (asks : FileCall) → file_call asked ≡ asks → OnErr outcome (own_takes_memory asked ≡ true)
       → Calls bound old n asks outcome new → CallsFiles bound old n asked outcome new
-  calls_files outcome (Asks question) is takes (tells, same) = inl (record {
-    disk = ap (λ (v : TotalsView D). v.disk) same;
-    is_settled = same_settled (ap (λ (v : TotalsView D). v.totals) same);
-    answer = λ left failures so. called_as left left failures failures outcome is
-        (by outcome takes tells (same_part left failures (ap (λ (v : TotalsView D). v.totals) same)));
-  })
-    where
-      by : {part now : TotalsPart} (o : Result Answer NoMemory) → OnErr o (takes_memory asked ≡ true) → MayTell part.totals n question o → now ≡ part
-          → CalledAs (takes_memory asked) n (Asks question) part o now
-      by (Ok result) takes tells is = decided_weaker (λ told. (told, is)) (λ same. is) tells
-      by (Err want) takes tells is = (takes, tells.1, is)
+  calls_files (Ok result) (Asks question) is takes (tells, same) =
+      let kept = ap (λ (v : TotalsView D). v.totals) same in
+      inl (record {
+        disk = ap (λ (v : TotalsView D). v.disk) same;
+        is_settled = same_settled kept;
+        answer = λ left failures so. rw is (decided_weaker (λ told. (told, same_part left failures kept)) (λ y. same_part left failures kept) tells);
+      })
+  calls_files (Err want) (Asks question) is takes (tells, same) =
+      let kept = ap (λ (v : TotalsView D). v.totals) same in
+      inl (record {
+        disk = ap (λ (v : TotalsView D). v.disk) same;
+        is_settled = same_settled kept;
+        answer = λ left failures so. rw is (takes, tells.1, same_part left failures kept);
+      })
   calls_files outcome (Makes change) is takes changes =
-      group_calls outcome takes (subst (λ asks. GroupCalls asks outcome) (sym is) (
+      group_calls outcome takes (rw is (
         changes.answer,
         subst (λ group. PutsGroup bound old group outcome new)
             (at_once (first_refusal (refusals_of_change old.totals n change)) (in_transaction old.totals n) change) changes.disk,
       )) (first_refusal rows) refl
   calls_files outcome Commits is takes commits =
-      group_calls outcome takes (subst (λ asks. GroupCalls asks outcome) (sym is) (commits.answer, commits.disk)) (first_refusal rows) refl
+      group_calls outcome takes (rw is (commits.answer, commits.disk)) (first_refusal rows) refl
   calls_files (Ok result) (Arranges arrangement) is takes arranged = inl (record {
     disk = arranged.disk;
-    is_settled = λ left. elim (decided_cases (refusals_of_arrangement old.totals n arrangement) result _ _ arranged.answer) [
+    is_settled = λ left. elim (decided_cases arranged.answer) [
       | inl x ↦ ap (λ (t : Totals). settled t.layout t.mode left) x.1.1
           ∙ rest_settled (part_with old.totals left 0) _ (arranged_rest (part_with old.totals left 0) n arrangement) left
       | inr x ↦ same_settled x.1 left
     ];
-    answer = λ left failures so. called_as left left failures failures (Ok result) is
+    answer = λ left failures so. rw is
         (decided_weaker (λ done. (done.0, ap (λ (t : Totals). part_with t left failures) done.1)) (same_part left failures) arranged.answer);
   })
   calls_files (Err want) (Arranges arrangement) is takes arranged = absurd arranged

@@ -1,43 +1,20 @@
--- What is done at a device, and the steps that it makes.
-use Rattle.pos_counter.proofs.Common.{Answer, Answered, Call, CallOf, CallsAt, CallsFor, Category, CategoryDoes, Control, Device, DeviceDoes, Does, Effect, Err}
-use Rattle.pos_counter.proofs.Common.{FindsWork, Hardware, IsDoneAt, IsSome, IsSound, IsTrue, KeptControl, Kind, List, Machine, MatchOption-at_some}
-use Rattle.pos_counter.proofs.Common.{MayBeCalled, NoMemory, None, Ok, OnHardware, Option, Result, Row, SameHardware, Some, Step, TotalsPart, WorksAt, answered}
-use Rattle.pos_counter.proofs.Common.{ap, category_rows, changed, controls_of, device_at, device_rows, due_request_at, false, first_refusal}
-use Rattle.pos_counter.proofs.Common.{get_or_from_slice_get, hardware_in, hardware_named, has_call, holder_at, holder_of, inl, inr, is_common, is_none, is_some}
-use Rattle.pos_counter.proofs.Common.{is_totals, kind_in, kind_of, machine, machine_with, needs_of, place_of, refl, refusals, serves, set, set-get_or}
-use Rattle.pos_counter.proofs.Common.{slice_get, subst, sym, table, takes, takes_memory, true, ◌||◌, ℕ, ◌∙◌, ◌≡◌}
-use Rattle.pos_service.specs.Calls.{takes_memory as own_takes_memory}
-use Rattle.pos_service.specs.declared.call.Call.TheVariants as call
-use Rattle.pos_service.specs.declared.category.Category.TheVariants as category
-use Rattle.pos_service.specs.declared.kind.Kind.TheVariants as kind
+-- What is done at a device and by whom it is held, and the steps that it makes.
+use Rattle.pos_counter.proofs.Common.{◌<◌, Answer, Bool, Call, CallOf, CallsAt, CallsFor, Category, CategoryDoes, Claim, Close, Control, Device, DeviceDoes}
+use Rattle.pos_counter.proofs.Common.{Does, Effect, Err, FindsWork, Get, HardTotals, Hardware, IfSome, IsDoneAt, IsSome, IsSound, IsTrue, KeptControl, Kind}
+use Rattle.pos_counter.proofs.Common.{List, Machine, MatchOption-at_some, MayBeCalled, NoMemory, None, Ok, OnHardware, Open, Option, Release, Result, Row}
+use Rattle.pos_counter.proofs.Common.{SameHardware, Set, Some, Standing, Step, Totals, TotalsPart, WorksAt, answered, ap, arith, category_rows, claimed}
+use Rattle.pos_counter.proofs.Common.{claimed_by, controls_of, device_at, device_rows, dropped, due_request_at, false, first_refusal, get_or_from_slice_get}
+use Rattle.pos_counter.proofs.Common.{hardware_in, hardware_named, has_call, holder_at, holder_in, holder_of, inl, inr, is_common, is_foreign, is_none, is_some}
+use Rattle.pos_counter.proofs.Common.{is_taken, is_totals, kind_of, length, machine_with, needs_of, not, own_takes_memory, place_of, refl, refusals, released}
+use Rattle.pos_counter.proofs.Common.{released_by, serves, set, set-get_or, settled, slice_get, slice_get_within, sym, table, takes_memory, true, ◌||◌, ℕ, ◌∙◌}
+use Rattle.pos_counter.proofs.Common.{◌≡◌, ◌⊎◌}
 use Rattle.pos_service.specs.declared.worked.Worked.TheVariants as worked
-use Rattle.pos_counter.proofs.Lifts.{decided_some, decided_step, match_cases}
-use Rattle.pos_counter.proofs.Sound.{seated}
+use Rattle.pos_counter.proofs.Lifts.{decided_step, match_cases}
+use Rattle.pos_counter.proofs.Sound.{Served, seated}
 
--- what stands at the device that a name finds
-pub named : (m : Machine) (name : List ℕ) (place : ℕ) → Some place ≡ place_of m.devices name
-    → hardware_named m name ≡ hardware_in (device_at m.devices (Some place))
+-- what stands at the device that a name finds: nothing where it finds none
+pub named : (m : Machine) (name : List ℕ) (place : Option ℕ) → place ≡ place_of m.devices name → hardware_named m name ≡ hardware_in (device_at m.devices place)
 named m name place finds = ap (λ o. hardware_in (device_at m.devices o)) (sym finds)
-
--- a name that finds no device finds no hardware
-pub unnamed : (m : Machine) (name : List ℕ) → None ≡ place_of m.devices name → hardware_named m name ≡ None
-unnamed m name finds = ap (λ o. hardware_in (device_at m.devices o)) (sym finds)
-
--- what is done with what stands at a place is done at the device's hardware
-pub on_hardware : (hs gs : List KeptControl) (ds es : List Device) (cl : List (Option ℕ)) (part : TotalsPart) (place : ℕ) (o : Option ℕ) (Does : ℕ → Effect)
-    → o ≡ Some place → IsDoneAt ds place (Does place) hs gs es → OnHardware (machine_with hs cl ds part) o Does (machine_with gs cl es part)
-on_hardware hs gs ds es cl part place o Does is done = record {
-  place = place;
-  device = done.device;
-  before = done.before;
-  controls = controls_of gs;
-  after = done.after;
-  is_at = is;
-  is_device = done.is_device;
-  is_attached = done.is_attached;
-  does = done.does;
-  machine = ap (λ xs. machine_with gs cl xs part) done.changed;
-}
 
 -- a device whose hardware is as it was
 same_device : (ds : List Device) (place : ℕ) (d : Device) (before after : Hardware) → slice_get ds place ≡ Some d → d.hardware ≡ Some before
@@ -45,15 +22,6 @@ same_device : (ds : List Device) (place : ℕ) (d : Device) (before after : Hard
 same_device ds place d before after at is same =
     ap (set ds place) (ap (λ (o : Option Hardware). let y : Device = record d { hardware = o } in y) (ap Some same ∙ sym is)
     ∙ sym (get_or_from_slice_get ds place d d at)) ∙ set-get_or ds place d
-
--- what did nothing leaves the machine as it was
-pub unchanged : {Does : Effect} (hs gs : List KeptControl) (ds es : List Device) (cl : List (Option ℕ)) (part : TotalsPart) (place : ℕ)
-    (done : IsDoneAt ds place Does hs gs es) → SameHardware (controls_of hs) done.before (controls_of gs) done.after
-    → machine_with gs cl es part ≡ machine_with hs cl ds part
-unchanged hs gs ds es cl part place done same =
-    ap (λ (cs : List Control). let m : Machine = record { controls = cs; devices = es; claims = cl; totals = part } in m) same.controls
-    ∙ ap (λ xs. machine_with hs cl xs part)
-    (done.changed ∙ same_device ds place done.device done.before done.after done.is_device done.is_attached same.hardware)
 
 -- an open control's device has a peripheral, where its category serves no device without one, and may be called
 pub served_there : (m : Machine) (n : ℕ) (c : Control) (place : ℕ) (asked : Call) → IsSound m → slice_get m.controls n ≡ Some c
@@ -72,30 +40,6 @@ served_there m n c place asked sound found is peripheral has =
     stands (Some k) None served attached = cc
     stands (Some k) (Some s) served attached = refl
 
--- where work finds no memory, there is a request that is to be done, and nothing has changed
-wants_work : (holder : Option ℕ) (place : ℕ) (want : NoMemory) (old : List Control) (before : Hardware) (new : List Control) (after : Hardware)
-    → WorksAt holder place (Err want) old before new after → IsSome (due_request_at before.kind place holder old) × SameHardware old before new after
-wants_work holder place want old before new after h = elim (match_cases (due_request_at before.kind place holder old) _ _ h) [
-  | inl x ↦ absurd (let no : Err want ≡ Ok worked.Idle = x.1.0 in cc)
-  | inr x ↦ (subst IsSome (sym x.1) refl, x.2)
-]
-
--- so a name finds such a request, and the machine is as it was
-pub want_finds_work : (hs gs : List KeptControl) (ds es : List Device) (cl : List (Option ℕ)) (part : TotalsPart) (name : List ℕ) (place : ℕ) (want : NoMemory)
-    → Some place ≡ place_of ds name → IsDoneAt ds place (WorksAt (holder_at cl (Some place)) place (Err want)) hs gs es
-    → FindsWork (machine_with hs cl ds part) name × (machine_with gs cl es part ≡ machine_with hs cl ds part)
-want_finds_work hs gs ds es cl part name place want finds done =
-    let wants = wants_work (holder_at cl (Some place)) place want (controls_of hs) done.before (controls_of gs) done.after done.does in (
-      record {
-        place = place;
-        before = done.before;
-        is_at = sym finds;
-        is_attached = named (machine_with hs cl ds part) name place finds ∙ ap hardware_in done.is_device ∙ done.is_attached;
-        work = wants.0;
-      },
-      unchanged hs gs ds es cl part place done wants.1,
-    )
-
 -- A call of a category's own: what it is answered first, what it does, and that it may want memory.
 pub record OwnCall (m : Machine) (n : ℕ) (c : Control) (asked : Call) : Type 0 where
   pub rows : refusals m n c asked ≡ table n (holder_of m c) c (needs_of c.category asked) (category_rows c.category m n c asked)
@@ -103,22 +47,17 @@ pub record OwnCall (m : Machine) (n : ℕ) (c : Control) (asked : Call) : Type 0
   pub takes : IsTrue (own_takes_memory asked) → IsTrue (takes_memory m c asked)
 
 pub own_call : (m : Machine) (n : ℕ) (c : Control) (asked : Call) → is_common asked ≡ false → OwnCall m n c asked
-own_call m n c (call.Open name) own = absurd cc
-own_call m n c call.Close own = absurd cc
-own_call m n c (call.Claim timeout) own = absurd cc
-own_call m n c call.Release own = absurd cc
-own_call m n c (call.Set p v) own = absurd cc
-own_call m n c (call.Get p) own = absurd cc
+own_call m n c (Open name) own = absurd cc
+own_call m n c Close own = absurd cc
+own_call m n c (Claim timeout) own = absurd cc
+own_call m n c Release own = absurd cc
+own_call m n c (Set p v) own = absurd cc
+own_call m n c (Get p) own = absurd cc
 own_call m n c asked own = record { rows = refl; does = λ r m' h. h; takes = λ h. h }
 
 -- what the check of the control with a number decides of a call of its category's own
 abbrev pub IsLet : Machine → ℕ → Control → Call → Type 0
 IsLet m n c asked = (rest : List Row) → first_refusal (table n (holder_of m c) c (needs_of c.category asked) rest) ≡ first_refusal rest
-
--- a call that is refused is a step
-pub refused_step : (m : Machine) (n : ℕ) (c : Control) (asked : Call) (refusal : Answer) → slice_get m.controls n ≡ Some c
-    → first_refusal (refusals m n c asked) ≡ Some refusal → Step m (CallOf n asked) (Answered refusal) m
-refused_step m n c asked refusal found refused = rw found (decided_some refused refl refl)
 
 -- behind the check the rest of the table decides
 pub let_refusals : (m : Machine) (n : ℕ) (c : Control) (asked : Call) → is_common asked ≡ false → IsLet m n c asked
@@ -128,66 +67,141 @@ let_refusals m n c asked own lets = ap first_refusal (own_call m n c asked own).
 -- what the categories with a peripheral ask and do
 rows_at_device : (k : Category) (m : Machine) (n : ℕ) (c : Control) (asked : Call) → is_totals k ≡ false
     → category_rows k m n c asked ≡ device_rows k (kind_of m c) c asked
-rows_at_device category.HardTotals m n c asked is = cc
+rows_at_device HardTotals m n c asked is = cc
 rows_at_device k m n c asked is = refl
 
 does_at_device : (k : Category) (m m' : Machine) (n : ℕ) (c : Control) (asked : Call) (r : Answer) → is_totals k ≡ false
     → OnHardware m c.device (DeviceDoes k (kind_of m c) n c asked r) m' → CategoryDoes k m n c asked r m'
-does_at_device category.HardTotals m m' n c asked r is h = cc
+does_at_device HardTotals m m' n c asked r is h = cc
 does_at_device k m m' n c asked r is h = h
 
--- a call of a category's own that its control may make, at its device's hardware, is a step
-pub device_step : (hs gs : List KeptControl) (ds es : List Device) (cl : List (Option ℕ)) (part : TotalsPart) (n place : ℕ) (c : Control) (asked : Call)
-    (r : Result Answer NoMemory) → is_common asked ≡ false → slice_get (controls_of hs) n ≡ Some c → is_totals c.category ≡ false → c.device ≡ Some place
-    → IsLet (machine_with hs cl ds part) n c asked
-    → IsDoneAt ds place (CallsAt n asked place r) hs gs es → Step (machine_with hs cl ds part) (CallOf n asked) (answered r) (machine_with gs cl es part)
-device_step hs gs ds es cl part n place c asked r own found is device lets done =
-    by_outcome r (MatchOption-at_some ⊥ (λ control. CallsFor n asked place r control (controls_of hs) done.before (controls_of gs) done.after)
-    c found done.does)
-  where
-    m : Machine
-    m = machine_with hs cl ds part
+-- ---- what is done with what stands at a place
 
-    m' : Machine
-    m' = machine_with gs cl es part
+module _ (hs gs : List KeptControl) (ds es : List Device) (cl : List (Option ℕ)) (part : TotalsPart) (place : ℕ) where
+  abbrev old : Machine
+  old = machine_with hs cl ds part
 
-    rows : List Row
-    rows = device_rows c.category (Some done.before.kind) c asked
+  abbrev new : Machine
+  new = machine_with gs cl es part
 
-    kind : kind_of m c ≡ Some done.before.kind
-    kind = ap (λ o. kind_in (device_at m.devices o)) device ∙ ap kind_in done.is_device ∙ done.kind
+  -- it is done at the device's hardware
+  pub on_hardware : (o : Option ℕ) (Does : ℕ → Effect) → o ≡ Some place → IsDoneAt ds place (Does place) hs gs es → OnHardware old o Does new
+  on_hardware o Does is done = record {
+    place = place;
+    device = done.device;
+    before = done.before;
+    controls = controls_of gs;
+    after = done.after;
+    is_at = is;
+    is_device = done.is_device;
+    is_attached = done.is_attached;
+    does = done.does;
+    machine = ap (λ xs. machine_with gs cl xs part) done.changed;
+  }
 
-    unrefused : first_refusal (refusals m n c asked) ≡ first_refusal rows
-    unrefused =
-        let_refusals m n c asked own lets
-        ∙ ap first_refusal (rows_at_device c.category m n c asked is)
-        ∙ ap (λ at. first_refusal (device_rows c.category at c asked)) kind
+  -- what did nothing leaves the machine as it was
+  pub unchanged : {Does : Effect} (done : IsDoneAt ds place Does hs gs es) → SameHardware (controls_of hs) done.before (controls_of gs) done.after → new ≡ old
+  unchanged done same =
+      ap (λ (cs : List Control). let m : Machine = record { controls = cs; devices = es; claims = cl; totals = part } in m) same.controls
+      ∙ ap (λ xs. machine_with hs cl xs part)
+      (done.changed ∙ same_device ds place done.device done.before done.after done.is_device done.is_attached same.hardware)
 
-    same : SameHardware (controls_of hs) done.before (controls_of gs) done.after → m' ≡ m
-    same s = unchanged hs gs ds es cl part place done s
-
-    at_hardware : (result : Answer)
-        → DeviceDoes c.category (Some done.before.kind) n c asked result place (controls_of hs) done.before (controls_of gs) done.after
-        → OnHardware m c.device (DeviceDoes c.category (kind_of m c) n c asked result) m'
-    at_hardware result does = on_hardware hs gs ds es cl part place c.device (DeviceDoes c.category (kind_of m c) n c asked result) device (record {
-      device = done.device;
-      before = done.before;
-      after = done.after;
-      is_device = done.is_device;
-      is_attached = done.is_attached;
-      kind = done.kind;
-      does = subst (λ at. DeviceDoes c.category at n c asked result place (controls_of hs) done.before (controls_of gs) done.after) (sym kind) does;
-      changed = done.changed;
-    })
-
-    by_outcome : (o : Result Answer NoMemory) → CallsFor n asked place o c (controls_of hs) done.before (controls_of gs) done.after
-        → Step m (CallOf n asked) (answered o) m'
-    by_outcome (Ok result) h =
-        decided_step m m' n c asked result rows _ _ found unrefused same
-        (λ does. (own_call m n c asked own).does result m' (does_at_device c.category m m' n c asked result is (at_hardware result does))) h
-    by_outcome (Err want) h =
-        rw found (
-          (own_call m n c asked own).takes h.0,
-          unrefused ∙ h.1,
-          same h.2,
+  -- where work finds no memory, the name finds a request that is to be done
+  pub want_finds_work : (name : List ℕ) (want : NoMemory) → Some place ≡ place_of ds name
+      → IsDoneAt ds place (WorksAt (holder_at cl (Some place)) place (Err want)) hs gs es → FindsWork old name × (new ≡ old)
+  want_finds_work name want finds done =
+      elim (match_cases (due_request_at done.before.kind place (holder_at cl (Some place)) (controls_of hs)) _ _ done.does) [
+        | inl x ↦ absurd (let no : Err want ≡ Ok worked.Idle = x.1.0 in cc)
+        | inr x ↦ (
+          record {
+            place = place;
+            before = done.before;
+            is_at = sym finds;
+            is_attached = rw (← finds, done.is_device, done.is_attached);
+            work = rw x.1;
+          },
+          unchanged done x.2,
         )
+      ]
+
+  -- a call of a category's own that its control may make is a step
+  pub device_step : (n : ℕ) (c : Control) (asked : Call) (r : Result Answer NoMemory) → is_common asked ≡ false → slice_get (controls_of hs) n ≡ Some c
+      → is_totals c.category ≡ false → c.device ≡ Some place → IsLet old n c asked → IsDoneAt ds place (CallsAt n asked place r) hs gs es
+      → Step old (CallOf n asked) (answered r) new
+  device_step n c asked r own found is device lets done =
+      by_outcome r (MatchOption-at_some ⊥ (λ control. CallsFor n asked place r control (controls_of hs) done.before (controls_of gs) done.after)
+      c found done.does)
+    where
+      rows : List Row
+      rows = device_rows c.category (Some done.before.kind) c asked
+
+      kind : kind_of old c ≡ Some done.before.kind
+      kind = rw (device, done.is_device, done.kind)
+
+      unrefused : first_refusal (refusals old n c asked) ≡ first_refusal rows
+      unrefused = let_refusals old n c asked own lets ∙ rw (rows_at_device c.category old n c asked is, kind)
+
+      at_hardware : (result : Answer)
+          → DeviceDoes c.category (Some done.before.kind) n c asked result place (controls_of hs) done.before (controls_of gs) done.after
+          → OnHardware old c.device (DeviceDoes c.category (kind_of old c) n c asked result) new
+      at_hardware result does = on_hardware c.device (DeviceDoes c.category (kind_of old c) n c asked result) device (record {
+        device = done.device;
+        before = done.before;
+        after = done.after;
+        is_device = done.is_device;
+        is_attached = done.is_attached;
+        kind = done.kind;
+        does = rw kind does;
+        changed = done.changed;
+      })
+
+      by_outcome : (o : Result Answer NoMemory) → CallsFor n asked place o c (controls_of hs) done.before (controls_of gs) done.after
+          → Step old (CallOf n asked) (answered o) new
+      by_outcome (Ok result) h =
+          decided_step old new n c asked result rows _ _ found unrefused (unchanged done)
+          (λ does. (own_call old n c asked own).does result new (does_at_device c.category old new n c asked result is (at_hardware result does))) h
+      by_outcome (Err want) h = rw found ((own_call old n c asked own).takes h.0, unrefused ∙ h.1, unchanged done h.2)
+
+-- ---- what holds a device
+
+-- the device of an open control has a claim
+pub covered : (m : Machine) (n : ℕ) (c : Control) → IsSound m → slice_get m.controls n ≡ Some c → IfSome c.device (λ place. place < length m.claims)
+covered m n c sound at = by_place c.device (seated m n c sound at)
+  where
+    by_place : (o : Option ℕ) → IfSome o (λ place. Served c.category c.cursor.place (slice_get m.devices place))
+        → IfSome o (λ place. place < length m.claims)
+    by_place None seat = tt
+    by_place (Some place) seat = elim (match_cases (slice_get m.devices place) _ _ seat) [
+      | inl x ↦ absurd x.1
+      | inr x ↦ let there = slice_get_within m.devices place x.0 x.1 in omega (arith, there, sound.covers)
+    ]
+
+-- a claim of the area or its release leaves the mode
+pub area_settled : (old new : Totals) (area : Option ℕ) → (new ≡ old) ⊎ (new ≡ record old { area = area }) → (left : List Standing)
+    → settled new.layout new.mode left ≡ settled old.layout old.mode left
+area_settled old new area (inl same) left = ap (λ (t : Totals). settled t.layout t.mode left) same
+area_settled old new area (inr other) left = ap (λ (t : Totals). settled t.layout t.mode left) other
+
+-- what is no device with a peripheral is Hard Totals
+pub are_totals : (k : Category) → is_totals k ≡ true → k ≡ HardTotals
+are_totals HardTotals is = refl
+are_totals k is = cc
+
+-- there is none where the test of one fails
+pub none_of : (o : Option ℕ) (none : Bool) → is_some o ≡ not none → is_none o ≡ none
+none_of None true is = refl
+none_of (Some place) false is = refl
+none_of o none is = cc
+
+-- The device of a control is held by the table of claims.
+pub record IsInTable (k : Category) (m : Machine) (n : ℕ) (c : Control) : Type 0 where
+  pub drops : dropped k m n c ≡ record m { claims = released_by m.claims c.device n }
+  pub releases : released k m n c ≡ record m { claims = released_by m.claims c.device n }
+  pub claims : claimed k m n c ≡ record m { claims = claimed_by m.claims c.device n }
+  pub takes : is_taken k m n c.device ≡ is_foreign n (holder_at m.claims c.device)
+  pub holds : holder_in k m.claims m.totals.totals.area c.device ≡ holder_at m.claims c.device
+
+-- so is that of each device with a peripheral
+pub in_table : (k : Category) (m : Machine) (n : ℕ) (c : Control) → is_totals k ≡ false → IsInTable k m n c
+in_table HardTotals m n c is = absurd cc
+in_table k m n c is = record { drops = refl; releases = refl; claims = refl; takes = refl; holds = refl }

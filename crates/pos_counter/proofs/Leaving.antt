@@ -1,12 +1,8 @@
 -- What a crash leaves, by the files that the totals have.
 use Rattle.pos_counter.proofs.Common.{Arrangement, Bool, ClaimFile, File, IsSettled, Layout, List, Mode, None, Off, Option, Ready, ReleaseFile, Some, Standing}
-use Rattle.pos_counter.proofs.Common.{StoreReady, TotalsPart, [], after_arrangement, ap, ap₂, cond_both, in_doubt, is_called, is_own_claim, left_after, plain}
-use Rattle.pos_counter.proofs.Common.{refl, settled, stored, sym, with_each, with_files, without_control, ℕ, ◌∷◌, ◌≡◌}
-use Rattle.pos_dir.specs.declared.change.Change.TheVariants as file
-use Rattle.pos_store.specs.StoreViews.{settled as store_settled}
-use Rattle.pos_totals.specs.HardTotals.{Change}
-use Rattle.pos_totals.specs.TotalsArrangements.{claimed}
-use Rattle.pos_totals.specs.Views.{plain_file}
+use Rattle.pos_counter.proofs.Common.{StoreReady, TotalsChange, TotalsPart, [], after_arrangement, ap, ap₂, cond_both, in_doubt, is_called, is_own_claim}
+use Rattle.pos_counter.proofs.Common.{left_after, plain, plain_file, refl, settled, store_settled, stored, sym, with_claim, with_each, with_files}
+use Rattle.pos_counter.proofs.Common.{without_control, ℕ, ◌∷◌, ◌≡◌}
 
 -- what is settled is so once
 pub settled_twice : (layout : Layout) (left : List Standing) (mode : Mode) → settled layout mode left ≡ settled layout mode (settled layout mode left)
@@ -19,7 +15,7 @@ settles layout Off left was is = refl
 settles layout (Ready files sequence) left was is = is
 
 -- what a crash leaves is said of the files that the totals have
-pub kept_left : (changes : List Change) (old : TotalsPart) → IsSettled old.totals old.left → left_after old changes old.totals.mode ≡ old.left
+pub kept_left : (changes : List TotalsChange) (old : TotalsPart) → IsSettled old.totals old.left → left_after old changes old.totals.mode ≡ old.left
 kept_left changes old is = by old.totals.mode refl is
   where
     by : (m : Mode) → old.totals.mode ≡ m → old.left ≡ settled old.totals.layout m old.left
@@ -28,15 +24,15 @@ kept_left changes old is = by old.totals.mode refl is
     by (Ready files sequence) ready is = sym is
 
 -- files with other claims are the same files
-plain_claimed : (test : File → Bool) (claim : Option ℕ) (files : List File) → plain (with_each test (claimed claim) files) ≡ plain files
+plain_claimed : (test : File → Bool) (claim : Option ℕ) (files : List File) → plain (with_each test (with_claim claim) files) ≡ plain files
 plain_claimed test claim [] = refl
 plain_claimed test claim (file ∷ files) =
     ap₂ (λ one others. one ∷ others)
-    (cond_both (test file) (claimed claim file) file (λ f. plain_file f ≡ plain_file file) (λ yes. refl) (λ no. refl))
+    (cond_both (test file) (with_claim claim file) file (λ f. plain_file f ≡ plain_file file) (λ yes. refl) (λ no. refl))
     (plain_claimed test claim files)
 
 -- and are stored as they were
-stored_claimed : (test : File → Bool) (claim : Option ℕ) (mode : Mode) → stored (with_files (with_each test (claimed claim)) mode) ≡ stored mode
+stored_claimed : (test : File → Bool) (claim : Option ℕ) (mode : Mode) → stored (with_files (with_each test (with_claim claim)) mode) ≡ stored mode
 stored_claimed test claim Off = refl
 stored_claimed test claim (Ready files sequence) = ap (λ fs. StoreReady fs sequence) (plain_claimed test claim files)
 

@@ -1,13 +1,9 @@
 -- From what a call does to one control to what it does to the machine.
-use Rattle.pos_counter.proofs.Common.{◌++◌, ◌<◌, Answer, Answered, Call, CallOf, Category, Control, Decided, Device, Does, Done, Err, Gets, IsUndone}
-use Rattle.pos_counter.proofs.Common.{KeptControl, List, Machine, Made, MatchOption, NewControl, NoMemory, None, Ok, Option, Property, Result, Row, Some, Step}
-use Rattle.pos_counter.proofs.Common.{TotalsPart, [], answered, ap, cond_both, controls_of, facts_of, first_refusal, get_or, get_rows, holder_of, inl, inr}
-use Rattle.pos_counter.proofs.Common.{length, length-map, machine_with, map-set, most_controls, new_control, option_map, property_of, refl, refusals, set}
-use Rattle.pos_counter.proofs.Common.{set-get_or, slice_get, slice_get-map, subst, sym, told, with_control, with_place, ℕ, ◌∙◌, ◌∷◌, ◌≡◌, ◌⊎◌, ⊤}
-use Rattle.std.proofs.lemmas.List.{get_or_default, map_push}
-use Rattle.std.proofs.lemmas.Option.{slice_get-get_or}
-use Rattle.pos_service.specs.declared.answer.Answer.TheVariants as answer
-use Rattle.pos_service.specs.declared.call.Call.TheVariants as call
+use Rattle.pos_counter.proofs.Common.{◌<◌, Answer, Answered, Call, CallOf, Control, Decided, Device, Does, Err, Get, Gets, IsUndone, KeptControl, List, Machine}
+use Rattle.pos_counter.proofs.Common.{MatchOption, NoMemory, None, Ok, Option, Property, Refused, Result, Row, Some, Step, TotalsPart, [], answered, ap}
+use Rattle.pos_counter.proofs.Common.{cond_both, controls_of, facts_of, first_refusal, get_or, get_or_default, get_rows, holder_of, inl, inr, length}
+use Rattle.pos_counter.proofs.Common.{machine_with, map-set, option_map, property_of, refl, refusals, set, set-get_or, slice_get, slice_get-get_or}
+use Rattle.pos_counter.proofs.Common.{slice_get-map, sym, with_control, ℕ, ◌∙◌, ◌∷◌, ◌≡◌, ◌⊎◌, ⊤}
 
 -- the machine of some controls, devices and totals
 abbrev with_controls : List Control → List Device → List (Option ℕ) → TotalsPart → Machine
@@ -40,20 +36,16 @@ decided_some some is same = record { outcome = rw some (is, same) }
 -- a refusal acknowledges nothing
 pub refused_undone : (rows : List Row) → MatchOption (first_refusal rows) ⊤ (λ refusal. IsUndone (Answered refusal))
 refused_undone [] = tt
-refused_undone (row ∷ rows) = cond_both row.applies (Some (answer.Refused row.code row.extended)) (first_refusal rows)
+refused_undone (row ∷ rows) = cond_both row.applies (Some (Refused row.code row.extended)) (first_refusal rows)
     (λ o. MatchOption o ⊤ (λ refusal. IsUndone (Answered refusal))) (λ yes. tt) (λ no. refused_undone rows)
 
 -- a table refuses nothing, and its call is done, or its refusal acknowledges nothing
-pub decided_cases : (rows : List Row) (result : Answer) (Same Done : Type 0) → Decided rows result Same Done
+pub decided_cases : {rows : List Row} {result : Answer} {Same Done : Type 0} → Decided rows result Same Done
     → ((first_refusal rows ≡ None) × Done) ⊎ (IsUndone (Answered result) × Same)
-decided_cases rows result Same Done d = elim (match_cases (first_refusal rows) _ _ d.outcome) [
+decided_cases {rows = rows} d = elim (match_cases (first_refusal rows) _ _ d.outcome) [
   | inl x ↦ inl x
   | inr x ↦ inr (rw x.2.0 (rw x.1 at (refused_undone rows)), x.2.1)
 ]
-
--- it is the one or the other
-pub decided_either : {rows : List Row} {result : Answer} {Same Done : Type 0} → Decided rows result Same Done → Same ⊎ Done
-decided_either {rows = rows} d = elim (match_cases (first_refusal rows) _ _ d.outcome) [ inl x ↦ inr x.1 | inr x ↦ inl x.2.1 ]
 
 -- the control with a number that is given, as the machine sees it
 pub control_at : (hs : List KeptControl) (n : ℕ) (d : KeptControl) → n < length hs → slice_get (controls_of hs) n ≡ Some (get_or hs n d).control
@@ -67,15 +59,11 @@ kept_at hs n h lt is = control_at hs n h lt ∙ ap (λ (k : KeptControl). Some k
 pub kept_same : (hs : List KeptControl) (n : ℕ) (h k : KeptControl) → n < length hs → h ≡ get_or hs n h → k ≡ get_or hs n k → h ≡ k
 kept_same hs n h k lt is also = is ∙ get_or_default hs n h k lt ∙ sym also
 
--- the machine with other controls
-pub over_same : (cs ds : List Control) (devices : List Device) (cl : List (Option ℕ)) (part : TotalsPart) → cs ≡ ds
-    → with_controls cs devices cl part ≡ with_controls ds devices cl part
-over_same cs ds devices cl part e = ap (λ (c : List Control). with_controls c devices cl part) e
-
 -- the machine with one control in the place of another
 pub set_machine : (hs : List KeptControl) (cl : List (Option ℕ)) (ds : List Device) (part : TotalsPart) (n : ℕ) (g : KeptControl) (c : Control) → g.control ≡ c
     → machine_with (set hs n g) cl ds part ≡ with_control (machine_with hs cl ds part) n c
-set_machine hs cl ds part n g c e = over_same _ _ ds cl part (map-set (λ (h : KeptControl). h.control) hs n g ∙ ap (set (controls_of hs) n) e)
+set_machine hs cl ds part n g c e =
+    ap (λ cs. with_controls cs ds cl part) (map-set (λ (h : KeptControl). h.control) hs n g ∙ ap (set (controls_of hs) n) e)
 
 -- the machine whose control is as it was
 pub kept_machine : (hs : List KeptControl) (cl : List (Option ℕ)) (ds : List Device) (part : TotalsPart) (n : ℕ) (g h : KeptControl) → g ≡ h → h ≡ get_or hs n h
@@ -88,22 +76,8 @@ pub decided_step : (m m' : Machine) (n : ℕ) (c : Control) (asked : Call) (r : 
     → Decided rows r Same Done → Step m (CallOf n asked) (Answered r) m'
 decided_step m m' n c asked r rows Same Done found refused same does d = rw found (record { outcome = rw refused (decided_weaker does same d).outcome })
 
--- a new control is a step
-pub made_step : (hs gs : List KeptControl) (cl : List (Option ℕ)) (ds : List Device) (part : TotalsPart) (k : Category) (h : KeptControl) (number : ℕ)
-    → number < most_controls → number ≡ length hs → gs ≡ hs ++ h ∷ [] → h.control ≡ new_control k
-    → Step (machine_with hs cl ds part) (NewControl tt k) (Made number) (machine_with gs cl ds (record part { totals = with_place part.totals }))
-made_step hs gs cl ds part k h number room many is new = (
-  subst (λ n. n < most_controls) count room,
-  count,
-  over_same (controls_of gs) (controls_of hs ++ new_control k ∷ []) ds cl (record part { totals = with_place part.totals })
-      (ap controls_of is ∙ map_push (λ (d : KeptControl). d.control) hs h ∙ ap (λ (c : Control). controls_of hs ++ c ∷ []) new),
-)
-  where
-    count : number ≡ length (controls_of hs)
-    count = many ∙ sym (length-map hs (λ (d : KeptControl). d.control))
-
 -- a property that is told, or for which there is no memory, is a step
 pub get_step : (m : Machine) (n : ℕ) (c : Control) (p : Property) (r : Result Answer NoMemory) → slice_get m.controls n ≡ Some c
-    → Gets (get_rows n (holder_of m c) c (facts_of m n c) p) p (property_of c (facts_of m n c) p) r → Step m (CallOf n (call.Get p)) (answered r) m
-get_step m n c p (Ok result) at d = decided_step m m n c (call.Get p) result _ _ _ at refl (λ same. refl) (λ told. (told, refl)) d
+    → Gets (get_rows n (holder_of m c) c (facts_of m n c) p) p (property_of c (facts_of m n c) p) r → Step m (CallOf n (Get p)) (answered r) m
+get_step m n c p (Ok result) at d = decided_step m m n c (Get p) result _ _ _ at refl (λ same. refl) (λ told. (told, refl)) d
 get_step m n c p (Err want) found h = rw found (h.0, h.1, refl)

@@ -1,15 +1,15 @@
--- A crash during a run of the machine leaves a prefix of its history.
-use Rattle.pos_counter.proofs.Common.{◌++◌, Answer, HasTooMany, History, IsFiles, IsLeftDuring, IsOneOf, IsPrefixAlong, IsPrefixInside, IsPrefixOf, Layout}
-use Rattle.pos_counter.proofs.Common.{LeavesPrefix, LeavesPrefixInside, List, Machine, PlainFile, Recovers, Request, Response, Rises, Run, Standing}
-use Rattle.pos_counter.proofs.Common.{StandsForEither, StandsForOneOf, StandsForSome, StartsWith, Step, TotalsPart, [], ap, begun, event_of, history_along}
-use Rattle.pos_counter.proofs.Common.{history_of, history_with, inl, inr, refl, subst, sym, ℕ, ◌∷◌, ◌≡◌, ◌⊎◌}
+-- A crash during a run of the machine or of a counter leaves a prefix of the history.
+use Rattle.pos_counter.proofs.Common.{◌++◌, Answer, BeginsOver, Counter, Damaged, DiskGhosts, Failure, Ghosts, HasBegun, HasRun, HasTooMany, History}
+use Rattle.pos_counter.proofs.Common.{IsLeftDuring, IsOneOf, IsPrefixAlong, IsPrefixInside, IsPrefixOf, IsRun, IsStep, KeepsPrefix, KeepsPrefixes, Layout}
+use Rattle.pos_counter.proofs.Common.{Leaves, LeavesPrefix, List, Machine, PlainFile, Recovers, Refused, Request, Response, Rises, Run, Standing, Stands}
+use Rattle.pos_counter.proofs.Common.{StandsFor, StandsForEither, StandsForOneOf, StandsForSome, StartsWith, Step, TotalsPart, TotalsView, Unformatted, [], ap}
+use Rattle.pos_counter.proofs.Common.{begun, event_of, history_along, history_of, history_until, history_with, inl, inr, machine, machine_now, part_of, refl}
+use Rattle.pos_counter.proofs.Common.{subst, sym, ℕ, ◌∷◌, ◌≡◌, ◌⊎◌}
 use Rattle.std.proofs.Math.Path.{path_j, subst_refl}
-use Rattle.pos_service.specs.declared.answer.Answer.TheVariants as answer
-use Rattle.pos_service.specs.declared.code.Code.TheVariants as code
-use Rattle.pos_store.specs.Standing.{Damaged, Unformatted}
-use Rattle.pos_counter.proofs.Prefixes.{Fits, fits_inside, fits_leaves, fits_start, prefix_files}
+use Rattle.pos_counter.proofs.Prefixes.{Fits, fits_inside, fits_leaves, fits_start}
 use Rattle.pos_counter.proofs.Runs.{run_append}
 use Rattle.pos_counter.proofs.Steps.{step_fits}
+use Rattle.pos_disk.proofs.Moments.{rest_leaves}
 
 -- where a history fits, it goes on fitting along a run
 pub run_fits : (history : History) (old : Machine) (steps : List (Request × Response)) (new : Machine) (run : Run old steps new)
@@ -25,9 +25,6 @@ some_left P [] bytes each is = absurd is
 some_left P (standing ∷ left) bytes each (inl is) = record { standing = standing; stands = is; has = each standing (inl refl) }
 some_left P (standing ∷ left) bytes each (inr is) = some_left P left bytes (λ other one. each other (inr one)) is
 
-some_weaker : (P Q : Standing → Type 0) (bytes : List ℕ) → ((standing : Standing) → P standing → Q standing) → StandsForSome P bytes → StandsForSome Q bytes
-some_weaker P Q bytes to is = record { standing = is.standing; stands = is.stands; has = to is.standing is.has }
-
 -- what bytes that are left stand for is a prefix
 pub bytes_after : (history : History) (totals : TotalsPart) (bytes : List ℕ) → Fits history totals → StandsForOneOf totals.left bytes
     → StandsForSome (IsPrefixOf history) bytes
@@ -42,8 +39,8 @@ bytes_along history old (s ∷ steps) new run fits bytes (inl is) =
     (λ standing one. inl (inl (fits_leaves history old.totals fits standing one))) is
 bytes_along history old (s ∷ steps) new run fits bytes (inr is) =
     let next = history_with history old s.0 s.1 run.0 in
-    some_weaker (IsPrefixAlong next run.0 steps new run.2) (IsPrefixAlong history old (s ∷ steps) new run) bytes (λ standing has. inr has)
-    (bytes_along next run.0 steps new run.2 (step_fits history old s.0 s.1 run.0 fits run.1) bytes is)
+    let later = bytes_along next run.0 steps new run.2 (step_fits history old s.0 s.1 run.0 fits run.1) bytes is in
+    record { standing = later.standing; stands = later.stands; has = inr later.has }
 
 -- what bytes that are left before a step or after it stand for
 pub bytes_inside : (history : History) (old : Machine) (q : Request) (r : Response) (new : Machine) (bytes : List ℕ) → Fits history old.totals
@@ -59,32 +56,18 @@ bytes_inside history old q r new bytes fits step h =
 
 module _ (layout : Layout) (start : List PlainFile) (sequence : ℕ) (first last : Machine) (steps : List (Request × Response)) (run : Run first steps last)
     (is : StartsWith layout start sequence first.totals) where
-  fits_last : Fits (history_of layout start first steps last run) last.totals
+  pub fits_last : Fits (history_of layout start first steps last run) last.totals
   fits_last = run_fits (begun layout start) first steps last run (fits_start (begun layout start) start sequence first.totals refl is)
 
   -- after the run
   pub law_after : LeavesPrefix (history_of layout start first steps last run) last.totals
   law_after = fits_leaves (history_of layout start first steps last run) last.totals fits_last
 
-  -- inside one more step
-  pub law_inside : (q : Request) (r : Response) (new : Machine) → Step last q r new
-      → LeavesPrefixInside (history_of layout start first steps last run) last.totals
-      (history_with (history_of layout start first steps last run) last q r new) new.totals
-  law_inside q r new step =
-      let history = history_of layout start first steps last run in
-      fits_inside history last.totals (event_of last q r new) new.totals fits_last (step_fits history last q r new fits_last step)
-
-  -- never damage, nor a disk without totals
-  pub law_files : (left : Standing) → IsOneOf last.totals.left left → IsFiles left
-  law_files left one =
-      let history = history_of layout start first steps last run in
-      prefix_files history history.settled left (law_after left one)
-
   -- what a recovery answers that recovers nothing
   pub law_recovers : (result : Answer) (new : TotalsPart) → Recovers last.totals result new
-      → (result ≡ answer.Refused code.Failure 0) × (HasTooMany (IsOneOf last.totals.left) last.totals.totals.next ⊎ Rises last.totals.failures new.failures)
-  law_recovers result new (inl h) = absurd (law_files Unformatted h.1)
-  law_recovers result new (inr (failed, inl (inl damaged, same))) = absurd (law_files Damaged damaged)
+      → (result ≡ Refused Failure 0) × (HasTooMany (IsOneOf last.totals.left) last.totals.totals.next ⊎ Rises last.totals.failures new.failures)
+  law_recovers result new (inl h) = absurd (let no = (law_after Unformatted h.1).stands in cc)
+  law_recovers result new (inr (failed, inl (inl damaged, same))) = absurd (let no = (law_after Damaged damaged).stands in cc)
   law_recovers result new (inr (failed, inl (inr many, same))) = (failed, inl many)
   law_recovers result new (inr (failed, inr disk)) = (failed, inr disk.rises)
 
@@ -96,3 +79,71 @@ history_append history a b c [] more run rest =
     path_j (λ m e. history_along history m more c (subst (λ n. Run n more c) e rest) ≡ history_along history b more c rest)
     (ap (λ r. history_along history b more c r) (subst_refl (λ m. Run m more c) rest)) run
 history_append history a b c (s ∷ steps) more run rest = history_append (history_with history a s.0 s.1 run.0) run.0 b c steps more run.2 rest
+
+-- ---- a counter over a disk
+
+module _ {D P : Type 0} (bound : DiskGhosts D) (peripherals : Ghosts P) (layout : Layout) (start : List PlainFile) (sequence : ℕ) where
+  -- the disk of a counter that begins leaves these files alone
+  begins_leaves : (counter : Counter D P) → BeginsOver bound peripherals layout start sequence counter
+      → Leaves bound counter.totals (Stands layout start sequence ∷ [])
+  begins_leaves counter is = subst (λ (v : TotalsView D). Leaves bound v (Stands layout start sequence ∷ [])) (sym is.begins.totals) (record {
+    honest = is.honest;
+    leaves = λ bytes may. inl (subst (StandsFor (Stands layout start sequence)) (sym (rest_leaves (bound.state is.disk) bytes is.at_rest may)) is.stands);
+    is_settled = refl;
+  })
+
+  begins_with : (counter : Counter D P) → BeginsOver bound peripherals layout start sequence counter
+      → StartsWith layout start sequence (part_of bound counter.totals (Stands layout start sequence ∷ []))
+  begins_with counter is = record { off = ap (λ (v : TotalsView D). v.totals.mode) is.begins.totals; left = refl }
+
+  -- it has run through nothing
+  pub has_begun : (counter : Counter D P) → BeginsOver bound peripherals layout start sequence counter
+      → HasBegun bound peripherals layout start sequence counter
+  has_begun counter is = record {
+    past = record { first = counter; begins = is; left = Stands layout start sequence ∷ []; leaves = begins_leaves counter is; run = refl };
+    history = refl;
+  }
+
+  -- the history of what a counter has run through fits its totals
+  past_fits : (steps : List (Request × Response)) (counter : Counter D P) (past : HasRun bound peripherals layout start sequence steps counter)
+      → Fits (history_until past) (part_of bound counter.totals past.left)
+  past_fits steps counter past =
+      let from = part_of bound past.first.totals (Stands layout start sequence ∷ []) in
+      run_fits (begun layout start) (machine peripherals past.first from) steps (machine_now past) past.run
+      (fits_start (begun layout start) start sequence from refl (begins_with past.first past.begins))
+
+  -- one more request
+  pub keeps_prefix : (steps : List (Request × Response)) (old new : Counter D P) (past : HasRun bound peripherals layout start sequence steps old)
+      (q : Request) (r : Response) → IsStep bound peripherals old q r new → KeepsPrefix bound peripherals layout start sequence steps old past q r new
+  keeps_prefix steps old new past q r next =
+      let s = next.steps past.left past.leaves in
+      let A = machine peripherals past.first (part_of bound past.first.totals (Stands layout start sequence ∷ [])) in
+      let B = machine_now past in
+      let C = machine peripherals new (part_of bound new.totals s.after) in
+      let fits = past_fits steps old past in
+      let same = history_append (begun layout start) A B C steps ((q, r) ∷ []) past.run (C, s.step, refl) in
+      record {
+        next = record {
+          first = past.first;
+          begins = past.begins;
+          left = s.after;
+          leaves = s.leaves;
+          run = run_append A B C steps
+              ((q, r) ∷ []) past.run (C, s.step, refl);
+        };
+        step = s.step;
+        history = same;
+        any_moment = λ bytes left. subst (λ (h : History). StandsForSome (IsPrefixInside (history_until past) h) bytes) (sym same)
+            (bytes_inside (history_until past) B q r C bytes fits s.step (s.any_moment.each bytes left));
+        now = λ bytes may. subst (λ (h : History). StandsForSome (IsPrefixOf h) bytes) (sym same)
+            (bytes_after (history_with (history_until past) B q r C) C.totals bytes
+            (run_fits (history_until past) B ((q, r) ∷ []) C (C, s.step, refl) fits) (s.leaves.leaves bytes may));
+      }
+
+  -- a list of requests
+  pub keeps_prefixes : (steps more : List (Request × Response)) (old new : Counter D P) (past : HasRun bound peripherals layout start sequence steps old)
+      (run : IsRun bound peripherals old more new) → KeepsPrefixes bound peripherals layout start sequence steps old past more new run
+  keeps_prefixes steps [] old new past run = tt
+  keeps_prefixes steps (s ∷ more) old new past run =
+      let one = keeps_prefix steps old run.0 past s.0 s.1 run.1 in
+      (one, keeps_prefixes (steps ++ (s.0, s.1) ∷ []) more run.0 new one.next run.2)

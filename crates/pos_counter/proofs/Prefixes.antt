@@ -1,30 +1,30 @@
--- Whatever happens to the totals' files, a crash leaves a prefix of their history.
-use Rattle.pos_counter.proofs.Common.{◌++◌, BeginsWith, DirectoryFault, Err, FilesEvent, FilesFound, Group, GroupAccepted, GroupInDoubt, History, IsFiles}
-use Rattle.pos_counter.proofs.Common.{IsOneOf, IsPrefix, IsReady, IsSettled, Layout, LeavesPrefix, LeavesPrefixInside, Limits, List, Mode, None, NothingDone}
-use Rattle.pos_counter.proofs.Common.{Off, Ok, Option, PlainFile, Ready, Result, Some, Standing, Stands, StartsWith, TotalsPart, [], after_groups, and_from}
-use Rattle.pos_counter.proofs.Common.{and_parts, and_then, ap, append-nil, append_assoc, ap₂, bytes_eq, cond_both, decided, files_after, files_of, has_made}
-use Rattle.pos_counter.proofs.Common.{inl, inr, is_same, limits_of, listed, outcome_of_all, plain, refl, same_Some, settled, stored, sym, told, true}
-use Rattle.pos_counter.proofs.Common.{with_settled, without_doubt, ℕ, ◌∙◌, ◌∷◌, ◌≡◌, ◌⊎◌, ◌≡◌}
+-- Whatever happens to the totals' files, a crash leaves a prefix of their history, also where their disk is moved to layout 2.
+use Rattle.pos_counter.proofs.Common.{◌&&◌, ◌+◌, ◌++◌, BeginsWith, Bool, DirectoryFault, Err, FilesEvent, FilesFound, Group, GroupAccepted, GroupInDoubt}
+use Rattle.pos_counter.proofs.Common.{History, IsOneOf, IsPrefix, IsPrefixOf, IsReady, IsSettled, Layout, Layout1, Layout2, LeavesPrefix, LeavesPrefixInside}
+use Rattle.pos_counter.proofs.Common.{Limits, List, Machine, Mode, None, NothingDone, Off, Ok, Option, PlainFile, Ready, Request, Response, Result, Run, Some}
+use Rattle.pos_counter.proofs.Common.{Standing, Stands, StartsWith, TotalsPart, [], after_groups, and_then, ap, append-nil, append_assoc, ap₂, arith, cond}
+use Rattle.pos_counter.proofs.Common.{cond_both, decided, event_of, files_after, files_of, has_made, history_along, history_with, inl, inr, is_same, length}
+use Rattle.pos_counter.proofs.Common.{limits_of, listed, moved_with, nat_le, nat_lt, outcome, outcome_of_all, plain, refl, replicate, settled, stored, subst}
+use Rattle.pos_counter.proofs.Common.{sym, told, true, with_settled, without_doubt, ℕ, ◌∙◌, ◌∷◌, ◌≡◌, ◌⊎◌}
+use Rattle.std.proofs.lemmas.Bool.Decides.{Decides-and, nat_tests}
 use Rattle.std.proofs.lemmas.Slice.Eq.{bytes_eq-Decides}
 use Rattle.std.specs.Cmp.Lexicographic.{pointwise_decides}
-use Rattle.pos_dir.specs.declared.change.Change.TheVariants as file
-use Rattle.pos_totals.specs.declared.fault.RecoveryFault.TheVariants as fault
 use Rattle.pos_counter.proofs.Leaving.{Rest, settles}
+use Rattle.pos_dir.specs.Files.{AreWider, has_name, total_size}
+use Rattle.pos_dir.specs.declared.change.Change.TheVariants.{Create}
+use Rattle.pos_dir.specs.declared.change.Change.{Change}
+use Rattle.pos_dir.specs.declared.fault.DirectoryFault.TheVariants.{Exists, NoRoom}
+use Rattle.pos_dir.specs.declared.limits.TheConstants.{LAYOUT_1, LAYOUT_2}
 
 -- ---- files
 
 -- the test of two files decides
 file_decides : (file other : PlainFile) → (is_same file other ≡ true → file ≡ other) × (file ≡ other → is_same file other ≡ true)
-file_decides file other = (
-  λ same.
-      let parts = and_parts (bytes_eq file.name other.name) (bytes_eq file.bytes other.bytes) same in
-      ap₂ (λ name bytes. let f : PlainFile = record { name = name; bytes = bytes } in f)
-      ((bytes_eq-Decides file.name other.name).0 parts.0) ((bytes_eq-Decides file.bytes other.bytes).0 parts.1),
-  λ same.
-      and_from (bytes_eq file.name other.name) (bytes_eq file.bytes other.bytes)
-      ((bytes_eq-Decides file.name other.name).1 (ap (λ (f : PlainFile). f.name) same))
-      ((bytes_eq-Decides file.bytes other.bytes).1 (ap (λ (f : PlainFile). f.bytes) same)),
-)
+file_decides file other =
+    let both = Decides-and _ _ (bytes_eq-Decides file.name other.name) (bytes_eq-Decides file.bytes other.bytes) in (
+      λ same. let parts = both.0 same in ap₂ (λ name bytes. let f : PlainFile = record { name = name; bytes = bytes } in f) parts.0 parts.1,
+      λ same. both.1 (ap (λ (f : PlainFile). f.name) same, ap (λ (f : PlainFile). f.bytes) same),
+    )
 
 -- the test of what groups make
 these_files : (made : Result (List PlainFile) DirectoryFault) (found : List PlainFile) → has_made made found ≡ true → made ≡ Ok found
@@ -37,6 +37,12 @@ are_these made found is = ap (λ o. has_made o found) is ∙ (pointwise_decides 
 pub same_Ok : (files others : List PlainFile) → ◌≡◌ {A = Result (List PlainFile) DirectoryFault} (Ok files) (Ok others) → files ≡ others
 same_Ok files others same = cc
 
+-- what is made after something is made of what that made
+pub made_then : (first : Result (List PlainFile) DirectoryFault) (follows : List PlainFile → Result (List PlainFile) DirectoryFault) (last : List PlainFile)
+    → and_then first follows ≡ Ok last → (next : List PlainFile) × (first ≡ Ok next) × (follows next ≡ Ok last)
+made_then (Err fault) follows last made = absurd cc
+made_then (Ok next) follows last made = (next, refl, made)
+
 -- the files after groups, and then after one more
 one_more : (limits : Limits) (start before : List PlainFile) (groups : List Group) (group : Group) → after_groups limits start groups ≡ Ok before
     → after_groups limits start (groups ++ group ∷ []) ≡ outcome_of_all limits before group
@@ -46,14 +52,9 @@ one_more limits start before [] group made =
     last : (o : Result (List PlainFile) DirectoryFault) → and_then o (λ next. Ok next) ≡ o
     last (Err fault) = refl
     last (Ok files) = refl
-one_more limits start before (first ∷ groups) group made = by (outcome_of_all limits start first) made (λ next. one_more limits next before groups group)
-  where
-    by : (o : Result (List PlainFile) DirectoryFault) → and_then o (λ next. after_groups limits next groups) ≡ Ok before
-        → ((next : List PlainFile) → after_groups limits next groups ≡ Ok before
-        → after_groups limits next (groups ++ group ∷ []) ≡ outcome_of_all limits before group)
-        → and_then o (λ next. after_groups limits next (groups ++ group ∷ [])) ≡ outcome_of_all limits before group
-    by (Err fault) made rest = absurd cc
-    by (Ok next) made rest = rest next made
+one_more limits start before (first ∷ groups) group made =
+    let there = made_then (outcome_of_all limits start first) (λ next. after_groups limits next groups) before made in
+    rw there.1 (one_more limits there.0 before groups group there.2)
 
 -- ---- what the disk may stand for
 
@@ -128,12 +129,8 @@ alone layout (Ready files sequence) left doubt ready is standing one = elim (rw 
 
 -- what is stored as it was is ready as it was, with the same files
 same_ready : (early late : Mode) → stored late ≡ stored early → IsReady late → IsReady early × (plain (files_of late) ≡ plain (files_of early))
-same_ready Off late same ready = absurd (no late same ready)
-  where
-    no : (late : Mode) → stored late ≡ stored Off → IsReady late → ⊥
-    no Off same ready = ready
-    no (Ready files sequence) same ready = cc
-same_ready (Ready files sequence) Off same ready = absurd ready
+same_ready early Off same ready = absurd ready
+same_ready Off (Ready files sequence) same ready = absurd cc
 same_ready (Ready files sequence) (Ready others next) same ready = (tt, cc)
 
 -- a recovery decides on the group in doubt
@@ -143,10 +140,7 @@ decided_made : (history : History) (doubt : Option Group) (before found : List P
     → history.doubt ≡ doubt → (files_after (decided history doubt found) (decided history doubt found).settled ≡ Ok found)
     × ((decided history doubt found).doubt ≡ None)
 decided_made history None before found sequence made one none = (
-  elim one [
-    | inl w ↦ made ∙ ap (λ (fs : List PlainFile). Ok fs) (sym (same_stands history.layout history.layout found before sequence w.0 w.1).1)
-    | inr w ↦ absurd (let no = w.doubted in cc)
-  ],
+  elim one [ inl w ↦ rw (same_stands history.layout history.layout found before sequence w.0 w.1).1 made | inr w ↦ absurd (let no = w.doubted in cc) ],
   none,
 )
 decided_made history (Some group) before found sequence made one some =
@@ -155,13 +149,11 @@ decided_made history (Some group) before found sequence made one some =
     (λ test. (these_files _ found test, refl))
     (λ test. (
       elim one [
-        | inl w ↦ made ∙ ap (λ (fs : List PlainFile). Ok fs) (sym (same_stands history.layout history.layout found before sequence w.0 w.1).1)
-        | inr w ↦ absurd (
-            let after = one_more (limits_of history.layout) history.start before history.settled group made
-            ∙ ap (outcome_of_all (limits_of history.layout) before) (same_Some group w.group w.doubted) ∙ w.made
-            ∙ ap (λ (fs : List PlainFile). Ok fs) (sym (same_stands history.layout history.layout found w.files sequence w.sequence w.stands).1) in
-            let yes = are_these _ found after in
-            cc)
+        | inl w ↦ rw (same_stands history.layout history.layout found before sequence w.0 w.1).1 made
+        | inr w ↦
+            let there = one_more (limits_of history.layout) history.start before history.settled group made in
+            let after : files_after history (history.settled ++ group ∷ []) ≡ Ok found = cc (there, w.made, w.stands, w.doubted) in
+            absurd (let yes = are_these _ found after in cc)
       ],
       refl,
     ))
@@ -273,9 +265,10 @@ fits_leaves history totals fits standing is = elim (fits.around standing is) [
   }
 ]
 
--- a prefix is files
-pub prefix_files : (history : History) (held : List Group) (left : Standing) → IsPrefix history held left → IsFiles left
-prefix_files history held left is = rw is.stands tt
+-- the settled groups of a history begin with those of the one before
+pub begins_on : (third second first : List Group) → BeginsWith third second → BeginsWith second first → BeginsWith third first
+begins_on third second first late early =
+    (early.0 ++ late.0, late.1 ∙ ap (λ groups. groups ++ late.0) early.1 ∙ append_assoc first early.0 late.0)
 
 -- inside a step a crash leaves a prefix of the history before or after it
 pub fits_inside : (history : History) (old : TotalsPart) (event : FilesEvent) (new : TotalsPart) → Fits history old → Fits (told history event) new
@@ -284,7 +277,6 @@ fits_inside history old event new fits next left is = elim is [
   | inl before ↦ inl (fits_leaves history old fits left before)
   | inr after ↦
       let prefix = fits_leaves (told history event) new next left after in
-      let begins = grows history event in
       inr (record {
         prefix = prefix.prefix;
         first = prefix.first;
@@ -292,9 +284,79 @@ fits_inside history old event new fits next left is = elim is [
         sequence = prefix.sequence;
         made = prefix.made;
         stands = prefix.stands;
-        holds = (
-          begins.0 ++ prefix.holds.0,
-          prefix.holds.1 ∙ ap (λ groups. groups ++ prefix.holds.0) begins.1 ∙ append_assoc history.settled begins.0 prefix.holds.0,
-        );
+        holds = begins_on prefix.prefix (told history event).settled history.settled prefix.holds (grows history event);
       })
 ]
+
+-- ---- a disk that is moved to layout 2
+
+abbrev Outcome : Type 0
+Outcome = Result (List PlainFile) DirectoryFault
+
+module _ (limits wider : Limits) (are : AreWider limits wider) where
+  -- a file that there was room for
+  wider_room : (twice : Bool) (count size : ℕ) (made next : List PlainFile)
+      → ◌≡◌ {A = Outcome} (cond twice (Err Exists) (cond (nat_lt count limits.files && nat_le size limits.bytes) (Ok made) (Err NoRoom))) (Ok next)
+      → ◌≡◌ {A = Outcome} (cond twice (Err Exists) (cond (nat_lt count wider.files && nat_le size wider.bytes) (Ok made) (Err NoRoom))) (Ok next)
+  wider_room twice count size made next done = grind (arith, nat_tests)
+
+  -- a change that is applicable within limits is so within wider ones
+  wider_outcome : (files : List PlainFile) (change : Change) (next : List PlainFile) → outcome limits files change ≡ Ok next
+      → outcome wider files change ≡ Ok next
+  wider_outcome files (Create name size) next done =
+      wider_room (has_name files name) (length files) (total_size files + size) (files ++ record { name = name; bytes = replicate size 0 } ∷ []) next done
+  wider_outcome files other next done = done
+
+  -- so is a group
+  wider_group : (files : List PlainFile) (changes : List Change) (last : List PlainFile) → outcome_of_all limits files changes ≡ Ok last
+      → outcome_of_all wider files changes ≡ Ok last
+  wider_group files [] last done = done
+  wider_group files (change ∷ changes) last done =
+      let there = made_then (outcome limits files change) (λ next. outcome_of_all limits next changes) last done in
+      rw (wider_outcome files change there.0 there.1) (wider_group there.0 changes last there.2)
+
+  -- and all groups of a history
+  wider_groups : (files : List PlainFile) (groups : List Group) (last : List PlainFile) → after_groups limits files groups ≡ Ok last
+      → after_groups wider files groups ≡ Ok last
+  wider_groups files [] last done = done
+  wider_groups files (group ∷ groups) last done =
+      let there = made_then (outcome_of_all limits files group) (λ next. after_groups limits next groups) last done in
+      rw (wider_group files group there.0 there.1) (wider_groups there.0 groups last there.2)
+
+-- layout 2 has the wider limits
+moves_wider : AreWider LAYOUT_1 LAYOUT_2
+moves_wider = record { files = omega arith; bytes = omega arith }
+
+module _ (history : History) (held : List Group) (files : List PlainFile) (sequence : ℕ) (is : IsPrefix history held (Stands Layout1 files sequence)) where
+  -- the groups of the prefix make the same files by layout 2
+  made_moved : files_after (moved_with history is.prefix) is.prefix ≡ Ok files
+  made_moved =
+      let same = same_stands Layout1 history.layout files is.files sequence is.sequence is.stands in
+      wider_groups LAYOUT_1 LAYOUT_2 moves_wider history.start is.prefix files
+      (subst (λ (l : Layout). after_groups (limits_of l) history.start is.prefix ≡ Ok files) (sym same.0)
+      (is.made ∙ ap (λ (fs : List PlainFile). Ok fs) (sym same.1)))
+
+  -- so the prefix is one of the history of the disk that was moved
+  pub moved_prefix : IsPrefixOf (moved_with history is.prefix) (Stands Layout2 files 1)
+  moved_prefix = record {
+    prefix = is.prefix;
+    first = ([], refl);
+    holds = ([], sym (append-nil is.prefix));
+    files = files;
+    sequence = 1;
+    made = made_moved;
+    stands = refl;
+  }
+
+  -- which fits a machine that begins over these files
+  pub fits_moved : (totals : TotalsPart) → StartsWith Layout2 files 1 totals → Fits (moved_with history is.prefix) totals
+  fits_moved totals starts = fits_start (moved_with history is.prefix) files 1 totals made_moved starts
+
+-- whatever a machine runs through, the settled groups stay
+pub held_along : (history : History) (held : List Group) (old : Machine) (steps : List (Request × Response)) (new : Machine) (run : Run old steps new)
+    → BeginsWith history.settled held → BeginsWith (history_along history old steps new run).settled held
+held_along history held old [] new run begins = begins
+held_along history held old (s ∷ steps) new run begins =
+    let next = history_with history old s.0 s.1 run.0 in
+    held_along next held run.0 steps new run.2
+    (begins_on next.settled history.settled held (grows history (event_of old s.0 s.1 run.0)) begins)

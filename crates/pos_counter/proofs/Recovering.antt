@@ -1,31 +1,19 @@
 -- Setting a property as a step of the machine, where it recovers the totals and where it doesn't.
-use Rattle.pos_counter.proofs.Common.{◌&&◌, ◌<◌, Answer, Answered, AreDevicesSound, CallOf, Code, Control, Counter, Device, DiskGhosts, Err, Ghosts}
-use Rattle.pos_counter.proofs.Common.{IsCounterSound, IsOneOf, IsRecovering, KeptControl, Kind, Leaves, List, Machine, Mode, NoMemory, None, Off, Ok, Option}
-use Rattle.pos_counter.proofs.Common.{OutOfMemory, Property, Recovers, Response, Result, Serves, SetsByRecovery, SetsTo, Signs, Some, SparesDisk, Standing}
-use Rattle.pos_counter.proofs.Common.{Step, Totals, TotalsPart, TotalsView, Value, WhenOff, [], after_enabling, after_set, and_from, and_parts, answered, ap}
-use Rattle.pos_counter.proofs.Common.{asks_recovery, controls_of, device_at, enabling, false, first_refusal, get_or, hardware_in, holder_in, holder_of, inl}
-use Rattle.pos_counter.proofs.Common.{inr, is_enabling, is_none, is_ready, is_some, is_totals, kind_in, kind_of, length, machine, machine_with, not, part_of}
-use Rattle.pos_counter.proofs.Common.{part_with, plain, recovers, refl, refusals, set, set_rows, settled, signs_at, signs_in, slice_get, subst, sym}
-use Rattle.pos_counter.proofs.Common.{tells_power, told, true, with_control, ℕ, ◌∙◌, ◌≡◌, ◌⊎◌}
-use Rattle.std.proofs.Common.{T}
-use Rattle.std.proofs.lemmas.Bool.{and_right, or_left, or_right}
-use Rattle.std.specs.Prelude.{IsErrOf}
-use Rattle.pos_service.specs.declared.answer.Answer.TheVariants as answer
-use Rattle.pos_service.specs.declared.answer.Value.TheVariants as value
-use Rattle.pos_service.specs.declared.call.Call.TheVariants as call
-use Rattle.pos_service.specs.declared.category.Category.TheVariants as category
-use Rattle.pos_service.specs.declared.kind.Kind.TheVariants as kind
-use Rattle.pos_service.specs.declared.property.Property.TheVariants as property
-use Rattle.pos_service.specs.declared.request.Response.TheVariants as response
-use Rattle.pos_totals.specs.Recoveries.{Recovers as DiskRecovers, FindsFiles, ReadsAs, RecoversAny, RecoversOneOf, code_of}
+use Rattle.pos_counter.proofs.Common.{◌&&◌, ◌<◌, Answer, Answered, AreDevicesSound, Bool, CallOf, Category, Code, Control, Counter, Device, DeviceEnabled}
+use Rattle.pos_counter.proofs.Common.{DiskGhosts, DiskRecovers, Done, Empty, Err, FindsFiles, Ghosts, HardTotals, IsCounterSound, IsErrOf, IsOneOf}
+use Rattle.pos_counter.proofs.Common.{IsRecovering, KeptControl, Kind, Leaves, List, Machine, Mode, NoMemory, None, Off, Ok, Option, OutOfMemory, Property}
+use Rattle.pos_counter.proofs.Common.{ReadsAs, Recovers, RecoversAny, RecoversOneOf, Refused, Response, Result, Serves, Set, SetsByRecovery, SetsTo, Signs}
+use Rattle.pos_counter.proofs.Common.{Some, SparesDisk, Standing, Step, Totals, TotalsPart, TotalsView, Truth, Value, WhenOff, [], after_enabling, after_set}
+use Rattle.pos_counter.proofs.Common.{and_from, and_right, answered, ap, asks_recovery, code_of, controls_of, device_at, enabling, false, first_refusal, get_or}
+use Rattle.pos_counter.proofs.Common.{hardware_in, holder_in, holder_of, inl, inr, is_enabling, is_none, is_ready, is_some, is_totals, kind_in, kind_of, length}
+use Rattle.pos_counter.proofs.Common.{machine, machine_with, not, or_left, or_right, part_of, part_with, recovers, refl, refusals, set, set_rows, settled}
+use Rattle.pos_counter.proofs.Common.{signs_at, signs_in, slice_get, subst, sym, tells_power, true, with_control, ℕ, ◌∙◌, ◌≡◌, ◌⊎◌}
 use Rattle.pos_totals.specs.declared.fault.RecoveryFault.TheVariants as fault
 use Rattle.pos_totals.specs.declared.fault.RecoveryFault.{RecoveryFault}
-use Rattle.pos_counter.proofs.Claiming.{are_totals, none_of}
 use Rattle.pos_counter.proofs.Leaving.{settled_twice}
 use Rattle.pos_counter.proofs.Lifts.{decided_none, decided_weaker, kept_at, kept_machine, match_cases, set_machine}
 use Rattle.pos_counter.proofs.Serving.{same_sound}
 use Rattle.pos_counter.proofs.Sound.{seated, set_seat, with_control_sound}
-use Rattle.pos_counter.proofs.Steps.{recovers_off}
 
 -- a property is set, or finds no memory, and nothing is recovered
 pub plain_set : (hs : List KeptControl) (cl : List (Option ℕ)) (ds : List Device) (part : TotalsPart) (n : ℕ) (g h : KeptControl) (p : Property) (v : Value)
@@ -33,7 +21,7 @@ pub plain_set : (hs : List KeptControl) (cl : List (Option ℕ)) (ds : List Devi
     → SetsTo (set_rows n (holder_in h.control.category cl part.totals.area h.control.device)
     (kind_in (device_at ds h.control.device)) h.control p v) (tells_power h.control p v) r h g
     (after_set (signs_in (hardware_in (device_at ds h.control.device))) h.control p v)
-    → Step (machine_with hs cl ds part) (CallOf n (call.Set p v)) (answered r) (machine_with (set hs n g) cl ds part)
+    → Step (machine_with hs cl ds part) (CallOf n (Set p v)) (answered r) (machine_with (set hs n g) cl ds part)
 plain_set hs cl ds part n g h p v (Ok r) lt is plain turns = rw (kept_at hs n h lt is) (decided_weaker
     (λ done. rw plain (done.0, set_machine hs cl ds part n g _ done.1)) (λ same. kept_machine hs cl ds part n g h same is) turns)
 plain_set hs cl ds part n g h p v (Err want) lt is plain wants = rw (kept_at hs n h lt is) (
@@ -49,56 +37,43 @@ pub record Asking (hs : List KeptControl) (n : ℕ) (p : Property) (v : Value) (
   pub control : Control
   pub at : slice_get (controls_of hs) n ≡ Some control
   pub off : mode ≡ Off
-  pub names : p ≡ property.DeviceEnabled
-  pub gives : v ≡ value.Truth true
-  pub asks : asks_recovery control property.DeviceEnabled (value.Truth true) ≡ true
+  pub names : p ≡ DeviceEnabled
+  pub gives : v ≡ Truth true
+  pub asks : asks_recovery control DeviceEnabled (Truth true) ≡ true
   pub opened : is_none control.device ≡ false
-  pub totals : control.category ≡ category.HardTotals
+  pub totals : control.category ≡ HardTotals
 
-enables : (p : Property) (v : Value) → is_enabling p v ≡ true → (p ≡ property.DeviceEnabled) × (v ≡ value.Truth true)
-enables property.DeviceEnabled (value.Truth true) e = (refl, refl)
-enables property.DeviceEnabled (value.Truth false) e = absurd cc
-enables property.DeviceEnabled v e = absurd cc
-enables p v e = absurd cc
+all_ask : (k : Category) (o : Option ℕ) (enabled : Bool) (p : Property) (v : Value) (mode : Mode)
+    → (is_totals k && is_some o && not enabled && is_enabling p v && not (is_ready mode)) ≡ true
+    → (mode ≡ Off) × (p ≡ DeviceEnabled) × (v ≡ Truth true) × ((is_totals k && is_some o && not enabled && true) ≡ true) × (is_none o ≡ false)
+    × (k ≡ HardTotals)
+all_ask HardTotals (Some place) false DeviceEnabled (Truth true) Off is = (refl, refl, refl, refl, refl, refl)
+all_ask k o enabled p v mode is = absurd cc
 
 pub asks_there : (hs : List KeptControl) (n : ℕ) (p : Property) (v : Value) (mode : Mode) → IsRecovering hs n p v mode → Asking hs n p v mode
 asks_there hs n p v mode h =
     elim (match_cases (slice_get (controls_of hs) n) _ _ h) [
       | inl x ↦ absurd x.1
       | inr x ↦
-          let c = x.0 in
-          let both = and_parts (asks_recovery c p v) _ x.2 in
-          let whole = and_parts (is_totals c.category && is_some c.device && not c.enabled) _ both.0 in
-          let front = and_parts (is_totals c.category && is_some c.device) _ whole.0 in
-          let first = and_parts (is_totals c.category) _ front.0 in
-          let sets = enables p v whole.1 in
-          record {
-            control = c;
-            at = x.1;
-            off = recovers_off mode both.1;
-            names = sets.0;
-            gives = sets.1;
-            asks = rw sets.0 at (rw sets.1 at both.0);
-            opened = none_of c.device false first.1;
-            totals = are_totals c.category first.0;
-          }
+          let is = all_ask x.0.category x.0.device x.0.enabled p v mode x.2 in
+          record { control = x.0; at = x.1; off = is.0; names = is.1; gives = is.2; asks = is.3; opened = is.4; totals = is.5 }
     ]
 
-module _ (c : Control) (totals : c.category ≡ category.HardTotals) where
+module _ (c : Control) (totals : c.category ≡ HardTotals) where
   -- nothing refuses to enable it, whoever holds the area
   unrefused : (n : ℕ) (holder : Option ℕ) (at : Option Kind) → is_none c.device ≡ false
-      → first_refusal (set_rows n holder at c property.DeviceEnabled (value.Truth true)) ≡ None
+      → first_refusal (set_rows n holder at c DeviceEnabled (Truth true)) ≡ None
   unrefused n holder at opened = rw (totals, opened)
 
   -- the power of the device of Hard Totals isn't told
-  silent : tells_power c property.DeviceEnabled (value.Truth true) ≡ false
+  silent : tells_power c DeviceEnabled (Truth true) ≡ false
   silent = rw totals (and_right (not c.enabled) false refl)
 
   -- so it is enabled, without memory
   pub done_set : (n : ℕ) (holder : Option ℕ) (kind : Option Kind) (s : Signs) (h g : KeptControl) (p : Property) (v : Value) (r : Result Answer NoMemory)
-      → is_none c.device ≡ false → h.control ≡ c → p ≡ property.DeviceEnabled → v ≡ value.Truth true
+      → is_none c.device ≡ false → h.control ≡ c → p ≡ DeviceEnabled → v ≡ Truth true
       → SetsTo (set_rows n holder kind h.control p v) (tells_power h.control p v) r h g (after_set s h.control p v)
-      → (r ≡ Ok (answer.Done value.Empty)) × (g.control ≡ after_set s c property.DeviceEnabled (value.Truth true))
+      → (r ≡ Ok (Done Empty)) × (g.control ≡ after_set s c DeviceEnabled (Truth true))
   done_set n holder kind s h g p v (Ok r) opened same names gives turns =
       let enabled = rw (same, names, gives) at turns in
       let done = rw (unrefused n holder kind opened) at enabled.outcome in
@@ -154,7 +129,7 @@ module _ {D P : Type 0} (bound : DiskGhosts D) (peripherals : Ghosts P) (old new
   allowed : (left : List Standing) → first_refusal (refusals (before left) n c enabling) ≡ None
   allowed left = unrefused c there.totals n (holder_of (before left) c) (kind_of (before left) c) there.opened
 
-  recovering : (asks_recovery c property.DeviceEnabled (value.Truth true) && not (is_ready old.totals.totals.mode)) ≡ true
+  recovering : (asks_recovery c DeviceEnabled (Truth true) && not (is_ready old.totals.totals.mode)) ≡ true
   recovering = and_from _ _ there.asks (ap (λ mode. not (is_ready mode)) there.off)
 
   -- it uses the disk
@@ -167,7 +142,7 @@ module _ {D P : Type 0} (bound : DiskGhosts D) (peripherals : Ghosts P) (old new
 
   -- what it does where nothing refuses it
   does : (result : Answer) (left after : List Standing)
-      → SetsByRecovery (before left) n c property.DeviceEnabled (value.Truth true) result (now after)
+      → SetsByRecovery (before left) n c DeviceEnabled (Truth true) result (now after)
       → Step (before left) (CallOf n enabling) (Answered result) (now after)
   does result left after sets = rw there.at (decided_none (allowed left) (rw recovering sets))
 
@@ -177,7 +152,7 @@ module _ {D P : Type 0} (bound : DiskGhosts D) (peripherals : Ghosts P) (old new
       → Step (before left) (CallOf n enabling) response (now (settled new.totals.totals.layout new.totals.totals.mode left)))
       → ((part other : TotalsPart) → (machine peripherals new other ≡ record (machine peripherals old part) { totals = other })
       ⊎ (machine peripherals new other ≡ record (with_control (machine peripherals old part) n enabled) { totals = other }))
-      → IsCounterSound peripherals new → Serves bound peripherals old (CallOf n (call.Set p v)) response new
+      → IsCounterSound peripherals new → Serves bound peripherals old (CallOf n (Set p v)) response new
   serves r response recovers step alone sound = rw (there.names, there.gives) (record {
     step = record {
       steps = λ left leaves. record {
@@ -198,13 +173,13 @@ module _ {D P : Type 0} (bound : DiskGhosts D) (peripherals : Ghosts P) (old new
   })
 
   -- the totals are recovered, and the control is enabled
-  pub recovered_serves : (o : Result Answer NoMemory) → o ≡ Ok (answer.Done value.Empty) → DiskRecovers bound old.totals (Ok tt) new.totals
+  pub recovered_serves : (o : Result Answer NoMemory) → o ≡ Ok (Done Empty) → DiskRecovers bound old.totals (Ok tt) new.totals
       → ((part : TotalsPart) → machine peripherals new part ≡ with_control (machine peripherals old part) n enabled)
-      → Serves bound peripherals old (CallOf n (call.Set p v)) (answered o) new
-  recovered_serves o is recovers same = rw is (serves (Ok tt) (Answered (answer.Done value.Empty)) recovers
+      → Serves bound peripherals old (CallOf n (Set p v)) (answered o) new
+  recovered_serves o is recovers same = rw is (serves (Ok tt) (Answered (Done Empty)) recovers
       (λ left leaves.
       let after = settled new.totals.totals.layout new.totals.totals.mode left in
-      does (answer.Done value.Empty) left after (inl (
+      does (Done Empty) left after (inl (
         refl,
         record {
           found = (found_one bound old.totals new.totals there.off (Ok tt) recovers left leaves).found;
@@ -217,7 +192,7 @@ module _ {D P : Type 0} (bound : DiskGhosts D) (peripherals : Ghosts P) (old new
       (record {
         machine = λ part.
             let m = machine peripherals old part in
-            let seat = set_seat m.devices (signs_at m c) c property.DeviceEnabled (value.Truth true) refl (seated m n c (sound.machine part) there.at) in
+            let seat = set_seat m.devices (signs_at m c) c DeviceEnabled (Truth true) refl (seated m n c (sound.machine part) there.at) in
             rw (same part) (with_control_sound m n enabled seat (sound.machine part));
         devices = devices;
       }))
@@ -227,10 +202,10 @@ module _ {D P : Type 0} (bound : DiskGhosts D) (peripherals : Ghosts P) (old new
       (same : (part : TotalsPart) → machine peripherals new part ≡ machine peripherals old part) where
     kept : new.totals.totals ≡ old.totals.totals
     kept = kept_totals (ReadsAs bound old.totals.disk) old.totals.totals new.totals.totals x
-        (subst (λ mode. WhenOff mode (FindsFiles (ReadsAs bound old.totals.disk) old.totals.totals (Err x) new.totals.totals)) there.off recovers.answer)
+        (rw there.off at recovers.answer)
 
     fails : (response : Response) → ((left : List Standing) → Leaves bound old.totals left → Step (before left) (CallOf n enabling) response (now left))
-        → Serves bound peripherals old (CallOf n (call.Set p v)) response new
+        → Serves bound peripherals old (CallOf n (Set p v)) response new
     fails response step = serves (Err x) response recovers
         (λ left leaves. subst (λ after. Step (before left) (CallOf n enabling) response (now after))
         (leaves.is_settled ∙ ap (λ (t : Totals). settled t.layout t.mode left) (sym kept)) (step left leaves))
@@ -243,23 +218,20 @@ module _ {D P : Type 0} (bound : DiskGhosts D) (peripherals : Ghosts P) (old new
 
     -- why it has failed
     why : (left : List Standing) (k : Code) → Leaves bound old.totals left → Some k ≡ code_of x
-        → Recovers (part_of bound old.totals left) (answer.Refused k 0) (part_of bound new.totals left)
+        → Recovers (part_of bound old.totals left) (Refused k 0) (part_of bound new.totals left)
     why left k leaves is =
         by x recovers is (found_one bound old.totals new.totals there.off (Err x) recovers left leaves).found (same_part left leaves)
       where
-        told : (j l : Code) → Some j ≡ Some l → answer.Refused j 0 ≡ answer.Refused l 0
-        told j l e = cc
-
         by : (x : RecoveryFault) → DiskRecovers bound old.totals (Err x) new.totals → Some k ≡ code_of x
             → FindsFiles (IsOneOf left) old.totals.totals (Err x) new.totals.totals
             → ((IsErrOf {T = Unit {0}} (Err x) fault.Device → ⊥) → part_of bound new.totals left ≡ part_of bound old.totals left)
-            → Recovers (part_of bound old.totals left) (answer.Refused k 0) (part_of bound new.totals left)
-        by fault.Unformatted recovers is found same = inl (told k _ is, found.0, same (λ failed. cc))
-        by fault.Damaged recovers is found same = inr (told k _ is, inl (inl found.0, same (λ failed. cc)))
-        by fault.Handles recovers is found same = inr (told k _ is, inl (inr found.0, same (λ failed. cc)))
+            → Recovers (part_of bound old.totals left) (Refused k 0) (part_of bound new.totals left)
+        by fault.Unformatted recovers is found same = inl (cc, found.0, same (λ failed. cc))
+        by fault.Damaged recovers is found same = inr (cc, inl (inl found.0, same (λ failed. cc)))
+        by fault.Handles recovers is found same = inr (cc, inl (inr found.0, same (λ failed. cc)))
         by fault.NoMemory recovers is found same = absurd cc
         by fault.Device recovers is found same = inr (
-          told k _ is,
+          cc,
           inr (record {
             rises = recovers.device refl leaves.honest;
             later = recovers.kept.later leaves.honest;
@@ -268,12 +240,12 @@ module _ {D P : Type 0} (bound : DiskGhosts D) (peripherals : Ghosts P) (old new
         )
 
     -- the recovery fails, and the control stays as it is
-    pub failed_serves : (k : Code) → Some k ≡ code_of x → Serves bound peripherals old (CallOf n (call.Set p v)) (Answered (answer.Refused k 0)) new
-    failed_serves k is = fails (Answered (answer.Refused k 0))
-        (λ left leaves. does (answer.Refused k 0) left left (inr (why left k leaves is, same (part_of bound new.totals left))))
+    pub failed_serves : (k : Code) → Some k ≡ code_of x → Serves bound peripherals old (CallOf n (Set p v)) (Answered (Refused k 0)) new
+    failed_serves k is = fails (Answered (Refused k 0))
+        (λ left leaves. does (Refused k 0) left left (inr (why left k leaves is, same (part_of bound new.totals left))))
 
     -- the recovery finds no memory, and nothing has changed
-    pub starved_serves : None ≡ code_of x → Serves bound peripherals old (CallOf n (call.Set p v)) OutOfMemory new
+    pub starved_serves : None ≡ code_of x → Serves bound peripherals old (CallOf n (Set p v)) OutOfMemory new
     starved_serves is = fails OutOfMemory (λ left leaves. rw there.at (
       or_left _ _ recovering,
       allowed left,

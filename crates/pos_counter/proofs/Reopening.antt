@@ -1,26 +1,14 @@
 -- What an enabling finds where a crash has left a disk that stands for some files.
-use Rattle.pos_counter.proofs.Common.{Answer, Answered, AreLeft, Begins, CallOf, Control, Counter, DirectoryFault, DiskGhosts, Entry, Err, FindsThem, Ghosts}
-use Rattle.pos_counter.proofs.Common.{Group, HasCause, HasThem, HasTooMany, History, IsOneOf, Layout, Layout1, Layout2, Leaves, Limits, List, Machine, Ok}
-use Rattle.pos_counter.proofs.Common.{OutOfMemory, PlainFile, Ready, Recovered, Recovers, Request, Response, Result, Rises, Run, SetsByRecovery, Some, Standing}
-use Rattle.pos_counter.proofs.Common.{Stands, StandsFor, StartsWith, Step, TotalsPart, TotalsView, [], after_groups, and_from, and_then, ap, arith}
-use Rattle.pos_counter.proofs.Common.{asks_recovery, begun, enabling, event_of, first_refusal, history_along, history_of, history_with, inl, inr, is_ready}
-use Rattle.pos_counter.proofs.Common.{length, limits_of, not, numbered, outcome_of_all, recovers, refl, refusals, settled, slice_get, subst, sym, true, ℕ, ◌∙◌}
-use Rattle.pos_counter.proofs.Common.{◌∷◌, ◌≡◌, ◌≤◌, ◌⊎◌}
+use Rattle.pos_counter.proofs.Common.{Answer, Answered, Applies, CallOf, Control, DeviceEnabled, Done, Failure, FindsThem, Group, HasCause, HasThem, HasTooMany}
+use Rattle.pos_counter.proofs.Common.{History, IsOneOf, Layout, Layout1, Layout2, Limits, List, Machine, Ok, OutOfMemory, PlainFile, Recovered, Recovers}
+use Rattle.pos_counter.proofs.Common.{Refused, Request, Response, Rises, Run, SetsByRecovery, Some, Standing, Stands, StartsWith, Step, TotalsPart, Truth, []}
+use Rattle.pos_counter.proofs.Common.{after_groups, and_from, ap, arith, asks_recovery, begun, enabling, event_of, first_refusal, history_along, history_of}
+use Rattle.pos_counter.proofs.Common.{history_with, inl, inr, is_ready, length, limits_of, not, outcome_of_all, recovers, refl, refusals, slice_get, subst}
+use Rattle.pos_counter.proofs.Common.{true, ℕ, ◌∙◌, ◌∷◌, ◌≡◌, ◌≤◌, ◌⊎◌}
 use Rattle.pos_dir.proofs.Kept.{few_after_all}
-use Rattle.pos_disk.proofs.Moments.{rest_leaves}
-use Rattle.pos_disk.specs.State.{IsAtRest}
-use Rattle.pos_service.specs.declared.answer.Answer.TheVariants as answer
-use Rattle.pos_service.specs.declared.answer.Value.TheVariants as value
-use Rattle.pos_service.specs.declared.code.Code.TheVariants as code
-use Rattle.pos_service.specs.declared.property.Property.TheVariants as property
-use Rattle.pos_service.specs.declared.request.Response.TheVariants as response
-use Rattle.pos_store.proofs.Deciding.{some_standing}
-use Rattle.pos_store.specs.Standing.{Applies, IsBytes}
-use Rattle.pos_totals.specs.declared.fault.RecoveryFault.TheVariants as fault
-use Rattle.pos_counter.proofs.Hardware.{unchanged}
 use Rattle.pos_counter.proofs.Lifts.{match_cases, refused_undone}
 use Rattle.pos_counter.proofs.PrefixRuns.{law_after, law_recovers}
-use Rattle.pos_counter.proofs.Prefixes.{same_Ok, same_stands, told_grows}
+use Rattle.pos_counter.proofs.Prefixes.{made_then, same_Ok, same_stands, told_grows}
 use Rattle.pos_counter.proofs.Steps.{plain_numbered}
 
 -- ---- an enabling
@@ -38,40 +26,28 @@ module _ (layout : Layout) (start : List PlainFile) (sequence : ℕ) (old new : 
   found_them : Recovered old new → HasThem layout start sequence old new
   found_them h =
       let same = these h.found.layout h.found.files h.found.sequence h.found.found in
-      let found : new.totals.layout ≡ layout = ap (λ t. t.layout) h.found.totals ∙ same.0 in
-      let ready : new.totals.mode ≡ Ready (numbered old.totals.next start) sequence =
-      ap (λ t. t.mode) h.found.totals ∙ ap (λ files. Ready (numbered old.totals.next files) h.found.sequence) same.1
-      ∙ ap (λ q. Ready (numbered old.totals.next start) q) same.2 in
       record {
-        found = found;
-        mode = ready;
-        left = h.left ∙ is_settled found ready;
+        found = rw (h.found.totals, same.0);
+        mode = rw (h.found.totals, same.1, same.2);
+        left = h.left ∙ rw (h.found.totals, same.0, same.1, same.2, plain_numbered old.totals.next start);
         counts = h.counts;
       }
-    where
-      is_settled : new.totals.layout ≡ layout → new.totals.mode ≡ Ready (numbered old.totals.next start) sequence
-          → settled new.totals.layout new.totals.mode old.left ≡ Stands layout start sequence ∷ []
-      is_settled found ready =
-          ap (λ l. settled l new.totals.mode old.left) found ∙ ap (λ m. settled layout m old.left) ready
-          ∙ ap (λ files. Stands layout files sequence ∷ []) (plain_numbered old.totals.next start)
 
   -- or fails, for a cause
   has_cause : HasTooMany (IsOneOf old.left) old.totals.next ⊎ Rises old.failures new.failures → HasCause start old new
-  has_cause (inl many) =
-      inr (subst (λ (files : List PlainFile). ¬ (AreLeft old.totals.next (length files)))
-      (these many.layout many.files many.sequence many.found).1 many.handles)
+  has_cause (inl many) = inr (rw (these many.layout many.files many.sequence many.found).1 at many.handles)
   has_cause (inr rises) = inl rises
 
 module _ (layout : Layout) (start : List PlainFile) (sequence : ℕ) (old : Machine) (is : StartsWith layout start sequence old.totals)
     (number : ℕ) (control : Control)
-    (asks : asks_recovery control property.DeviceEnabled (value.Truth true) ≡ true) where
+    (asks : asks_recovery control DeviceEnabled (Truth true) ≡ true) where
   -- the totals are to be recovered
-  is_recovering : recovers old.totals control property.DeviceEnabled (value.Truth true) ≡ true
+  is_recovering : recovers old.totals control DeviceEnabled (Truth true) ≡ true
   is_recovering =
-      and_from (asks_recovery control property.DeviceEnabled (value.Truth true)) (not (is_ready old.totals.totals.mode)) asks
+      and_from (asks_recovery control DeviceEnabled (Truth true)) (not (is_ready old.totals.totals.mode)) asks
       (ap (λ mode. not (is_ready mode)) is.off)
 
-  by_recovery : (result : Answer) (new : Machine) → SetsByRecovery old number control property.DeviceEnabled (value.Truth true) result new
+  by_recovery : (result : Answer) (new : Machine) → SetsByRecovery old number control DeviceEnabled (Truth true) result new
       → FindsThem layout start sequence old number control (Answered result) new
   by_recovery result new (inl h) = rw h.0 (found_them layout start sequence old.totals new.totals is h.1)
   by_recovery result new (inr h) =
@@ -80,8 +56,8 @@ module _ (layout : Layout) (start : List PlainFile) (sequence : ℕ) (old : Mach
 
   refused : (refusal : Answer) (new : Machine) → first_refusal (refusals old number control enabling) ≡ Some refusal → new ≡ old
       → FindsThem layout start sequence old number control (Answered refusal) new
-  refused (answer.Refused why extended) new first unchanged = inl (first, unchanged)
-  refused (answer.Done given) new first unchanged = absurd (rw first at (refused_undone (refusals old number control enabling)))
+  refused (Refused why extended) new first unchanged = inl (first, unchanged)
+  refused (Done given) new first unchanged = absurd (rw first at (refused_undone (refusals old number control enabling)))
 
   pub finds_them : (response : Response) (new : Machine) → slice_get old.controls number ≡ Some control
       → Step old (CallOf number enabling) response new → FindsThem layout start sequence old number control response new
@@ -96,27 +72,18 @@ module _ (layout : Layout) (start : List PlainFile) (sequence : ℕ) (old : Mach
 
 -- ---- how many files a disk stands for
 
-few_applied : (limits : Limits) (base files : List PlainFile) (texts : List (List ℕ)) → length base ≤ limits.files
+pub few_applied : (limits : Limits) (base files : List PlainFile) (texts : List (List ℕ)) → length base ≤ limits.files
     → Applies limits base texts files → length files ≤ limits.files
 few_applied limits base files [] few is = subst (λ (fs : List PlainFile). length fs ≤ limits.files) is few
 few_applied limits base files (text ∷ texts) few is =
     few_applied limits is.0 files texts (few_after_all limits base is.0 is.1.changes few is.1.outcome) is.2
 
-pub few_stand : (layout : Layout) (files : List PlainFile) (sequence : ℕ) (bytes : List ℕ) → StandsFor (Stands layout files sequence) bytes
-    → length files ≤ (limits_of layout).files
-few_stand layout files sequence bytes is = few_applied (limits_of layout) is.base files is.texts is.directory.count is.applies
-
 few_groups : (limits : Limits) (files next : List PlainFile) (groups : List Group) → length files ≤ limits.files
     → after_groups limits files groups ≡ Ok next → length next ≤ limits.files
 few_groups limits files next [] few made = subst (λ (fs : List PlainFile). length fs ≤ limits.files) (same_Ok files next made) few
 few_groups limits files next (group ∷ groups) few made =
-    by (outcome_of_all limits files group) refl made (λ mid less rest. few_groups limits mid next groups less rest)
-  where
-    by : (o : Result (List PlainFile) DirectoryFault) → outcome_of_all limits files group ≡ o → and_then o (λ mid. after_groups limits mid groups) ≡ Ok next
-        → ((mid : List PlainFile) → length mid ≤ limits.files → after_groups limits mid groups ≡ Ok next → length next ≤ limits.files)
-        → length next ≤ limits.files
-    by (Ok mid) is made rest = rest mid (few_after_all limits files mid group few is) made
-    by (Err fault) is made rest = absurd cc
+    let there = made_then (outcome_of_all limits files group) (λ mid. after_groups limits mid groups) next made in
+    few_groups limits there.0 next groups (few_after_all limits files there.0 group few there.1) there.2
 
 -- a history keeps the layout and the files that it starts with
 abbrev HasStart : Layout → List PlainFile → History → Type 0
@@ -145,13 +112,10 @@ module _ (layout : Layout) (start : List PlainFile) (sequence : ℕ) (first last
       let prefix = law_after layout start sequence first last steps run is (Stands other files q) one in
       let from = along_start (begun layout start) first steps last run in
       let same = same_stands other history.layout files prefix.files q prefix.sequence prefix.stands in
-      subst (λ (fs : List PlainFile). length fs ≤ (limits_of layout).files) (sym same.1)
-      (few_groups (limits_of layout) start prefix.files prefix.prefix few
-      (subst (λ l. after_groups (limits_of l) start prefix.prefix ≡ Ok prefix.files) from.0
-      (subst (λ fs. after_groups (limits_of history.layout) fs prefix.prefix ≡ Ok prefix.files) from.1 prefix.made)))
+      rw same.1 (few_groups (limits_of layout) start prefix.files prefix.prefix few (rw (from.0, from.1) at prefix.made))
 
   pub disk_failed : (result : Answer) (new : TotalsPart) → Recovers last.totals result new
-      → (result ≡ answer.Refused code.Failure 0) × Rises last.totals.failures new.failures
+      → (result ≡ Refused Failure 0) × Rises last.totals.failures new.failures
   disk_failed result new h =
       let failed = law_recovers layout start sequence first last steps run is result new h in (
         failed.0,
@@ -160,18 +124,3 @@ module _ (layout : Layout) (start : List PlainFile) (sequence : ℕ) (first last
           | inr rises ↦ rises
         ],
       )
-
--- ---- a new counter
-
-pub leaves_one : {D P : Type 0} (bound : DiskGhosts D) (peripherals : Ghosts P) (entries : List Entry) (disk : D) (counter : Counter D P)
-    → Begins peripherals entries disk counter → bound.honest disk → IsAtRest (bound.state disk) → IsBytes (bound.state disk).reading
-    → (standing : Standing) × Leaves bound counter.totals (standing ∷ [])
-leaves_one {D = D} bound peripherals entries disk counter begins honest rest bytes =
-    let one = some_standing (bound.state disk).reading bytes in (
-      one.0,
-      subst (λ (v : TotalsView D). Leaves bound v (one.0 ∷ [])) (sym begins.totals) (record {
-        honest = honest;
-        leaves = λ left may. inl (subst (StandsFor one.0) (sym (rest_leaves (bound.state disk) left rest may)) one.1);
-        is_settled = refl;
-      }),
-    )

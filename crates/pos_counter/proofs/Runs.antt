@@ -13,10 +13,9 @@ pub steps_push : {P : Type 0} (peripherals : Ghosts P) (qs : List (Request (Unit
     (r : Response P) → length rs ≡ length qs
     → steps_of peripherals (qs ++ q ∷ []) (rs ++ r ∷ []) ≡ steps_of peripherals qs rs ++ (request_of peripherals q, response_of peripherals r) ∷ []
 steps_push peripherals [] [] q r same = refl
-steps_push peripherals [] (s ∷ rs) q r same = cc
-steps_push peripherals (p ∷ qs) [] q r same = cc
 steps_push peripherals (p ∷ qs) (s ∷ rs) q r same =
     ap (λ steps. (request_of peripherals p, response_of peripherals s) ∷ steps) (steps_push peripherals qs rs q r (omega arith))
+steps_push peripherals qs rs q r same = cc
 
 -- one run after another
 unfoldable pub run_append : (a b c : Machine) (steps more : List (machine.Request × machine.Response)) → Run a steps b → Run b more c → Run a (steps ++ more) c

@@ -1,39 +1,14 @@
 -- What a counter serves by a step of its machine.
 use Rattle.pos_store.proofs.Passing.{stays}
-use Rattle.pos_counter.proofs.Common.{AreDevicesSound, Counter, DiskGhosts, Ghosts, IsCounterSound, IsSettled, IsSound, IsStep, IsStepBeside, Leaves, List}
-use Rattle.pos_counter.proofs.Common.{Machine, MayLeave, Request, Response, Serves, Spared, SparesDisk, Standing, Step, Stepped, Totals, TotalsPart, TotalsView}
-use Rattle.pos_counter.proofs.Common.{[], ap, arith, inl, machine, part_of, part_with, refl, settled, subst, sym, ℕ, ◌∙◌, ◌≡◌}
-use Rattle.pos_disk.specs.Keeps.{KeepsDisk}
+use Rattle.pos_counter.proofs.Common.{AreDevicesSound, Counter, DiskGhosts, Ghosts, IsCounterSound, IsSettled, IsSound, IsStep, IsStepBeside, List, MayLeave}
+use Rattle.pos_counter.proofs.Common.{Request, Response, Serves, Spared, Standing, Step, Totals, TotalsPart, TotalsView, [], ap, ap₂, arith, inl, machine}
+use Rattle.pos_counter.proofs.Common.{part_with, refl, settled, subst, sym, ℕ, ◌∙◌, ◌≡◌}
 use Rattle.pos_counter.proofs.Leaving.{settled_twice}
 use Rattle.pos_counter.proofs.Steps.{step_sound}
-
--- a disk that isn't touched is as it was
-pub kept_disk : {D : Type 0} (bound : DiskGhosts D) (disk : D) → KeepsDisk bound disk disk
-kept_disk bound disk = record { size = refl; honest = (λ h. h, λ h. h); later = λ h. omega arith }
 
 -- what is left now is left at this very moment
 abbrev pub OnlyNow : {D : Type 0} → DiskGhosts D → D → Type 0
 OnlyNow bound disk = (bytes : List ℕ) → bound.honest disk → (bound.state disk).left_since (bound.state disk).moment bytes → MayLeave (bound.state disk) bytes
-
--- totals on the same disk
-pub same_view : {D : Type 0} (old new : TotalsView D) (totals : Totals) → new.disk ≡ old.disk → new.totals ≡ totals
-    → new ≡ record { disk = old.disk; totals = totals }
-same_view {D = D} old new totals d t =
-    ap (λ (x : D). let v : TotalsView D = record { disk = x; totals = new.totals } in v) d
-    ∙ ap (λ (x : Totals). let v : TotalsView D = record { disk = old.disk; totals = x } in v) t
-
--- a step in which the disk has no part, over totals that know the same files
-arranges_stepped : {D : Type 0} (bound : DiskGhosts D) (view : TotalsView D) (totals : Totals) (old new : TotalsPart → Machine) (q : Request)
-    (r : Response) (left : List Standing) → OnlyNow bound view.disk
-    → settled totals.layout totals.mode left ≡ settled view.totals.layout view.totals.mode left → Leaves bound view left
-    → Step (old (part_of bound view left)) q r (new (part_of bound (record { disk = view.disk; totals = totals }) left))
-    → Stepped bound left old view q r new (record { disk = view.disk; totals = totals })
-arranges_stepped bound view totals old new q r left only same leaves step = record {
-  after = left;
-  leaves = record { honest = leaves.honest; leaves = leaves.leaves; is_settled = leaves.is_settled ∙ sym same };
-  step = step;
-  any_moment = (stays (bound.state view.disk) left (λ bytes since. only bytes leaves.honest since) leaves.leaves).any_moment;
-}
 
 -- a counter over the same machine is sound
 pub same_sound : {D P : Type 0} (peripherals : Ghosts P) (old new : Counter D P)
@@ -53,11 +28,14 @@ still_sound peripherals old new q r one other sound devices step = record {
   devices = devices;
 }
 
-pub beside_sound : {D P : Type 0} (peripherals : Ghosts P) (old new : Counter D P) (q : Request) (r : Response) → IsStepBeside peripherals old q r new
-    → IsCounterSound peripherals old → AreDevicesSound peripherals new.devices → IsCounterSound peripherals new
-beside_sound peripherals old new q r beside sound devices =
+-- a step in which the totals have no part, and what a sound counter is behind it
+pub steps_beside : {D P : Type 0} (peripherals : Ghosts P) (old new : Counter D P) (q : Request) (r : Response) → IsCounterSound peripherals old
+    → AreDevicesSound peripherals new.devices → new.totals ≡ old.totals
+    → ((part : TotalsPart) → Step (machine peripherals old part) q r (machine peripherals new part))
+    → record { step : IsStepBeside peripherals old q r new; sound : IsCounterSound peripherals new }
+steps_beside peripherals old new q r sound devices totals step =
     let part = part_with old.totals.totals [] 0 in
-    still_sound peripherals old new q r part part sound devices (beside.step part)
+    record { step = record { step = step; totals = totals }; sound = still_sound peripherals old new q r part part sound devices (step part) }
 
 module _ {D P : Type 0} (bound : DiskGhosts D) (peripherals : Ghosts P) where
   -- a step in which the disk has no part, over totals that know the same files, is one for all that the disk may leave
@@ -67,22 +45,24 @@ module _ {D P : Type 0} (bound : DiskGhosts D) (peripherals : Ghosts P) where
       → ((left : List Standing) (failures : ℕ) → IsSettled old.totals.totals left → Step (machine peripherals old (part_with old.totals.totals left failures))
       q r (machine peripherals new (part_with totals left failures))) → IsStep bound peripherals old q r new
   quiet_step old new q r totals only disk is same step = record {
-    steps = λ left leaves. subst (λ (v : TotalsView D). Stepped bound left (machine peripherals old) old.totals q r (machine peripherals new) v) (sym view)
-        (arranges_stepped bound old.totals totals (machine peripherals old) (machine peripherals new) q r left only (same left) leaves
-        (step left (bound.state old.totals.disk).failures leaves.is_settled));
+    steps = λ left leaves. rw view (record {
+      after = left;
+      leaves = record { honest = leaves.honest; leaves = leaves.leaves; is_settled = leaves.is_settled ∙ sym (same left) };
+      step = step left (bound.state old.totals.disk).failures leaves.is_settled;
+      any_moment = (stays (bound.state old.totals.disk) left (λ bytes since. only bytes leaves.honest since) leaves.leaves).any_moment;
+    });
     spared = λ left failures spares. anyhow left failures;
     otherwise = λ left failures. inl (anyhow left failures);
     unchanged = λ undone was is. disk;
-    kept = subst (λ (d : D). KeepsDisk bound old.totals.disk d) (sym disk) (kept_disk bound old.totals.disk);
+    kept = rw disk (record { size = refl; honest = (λ h. h, λ h. h); later = λ h. omega arith });
   }
     where
       view : new.totals ≡ record { disk = old.totals.disk; totals = totals }
-      view = same_view old.totals new.totals totals disk is
+      view = ap₂ (λ x y. let v : TotalsView D = record { disk = x; totals = y } in v) disk is
 
       anyhow : (left : List Standing) (failures : ℕ)
           → Spared left failures (machine peripherals old) old.totals q r (machine peripherals new) new.totals
-      anyhow left failures = subst (λ (v : TotalsView D). Spared left failures (machine peripherals old) old.totals q r (machine peripherals new) v)
-          (sym view) (record { disk = refl; step = λ so. step left failures so; is_settled = λ so. so ∙ sym (same left) })
+      anyhow left failures = rw view (record { disk = refl; step = λ so. step left failures so; is_settled = λ so. so ∙ sym (same left) })
 
   -- and what a sound counter serves
   pub quiet_serves : (old new : Counter D P) (q : Request) (r : Response) (totals : Totals) → OnlyNow bound old.totals.disk
@@ -112,14 +92,5 @@ module _ {D P : Type 0} (bound : DiskGhosts D) (peripherals : Ghosts P) where
       → new.totals ≡ old.totals → AreDevicesSound peripherals new.devices
       → ((part : TotalsPart) → Step (machine peripherals old part) q r (machine peripherals new part)) → Serves bound peripherals old q r new
   stays_serves old only sound new q r totals devices step =
-      let beside : IsStepBeside peripherals old q r new = record { step = step; totals = totals } in
-      record { step = beside_is_step old new q r only beside; sound = beside_sound peripherals old new q r beside sound devices }
-
-  -- a counter is sound behind a request that spares the disk
-  pub spared_sound : (old new : Counter D P) (q : Request) (r : Response) → IsStep bound peripherals old q r new → ((m : Machine) → SparesDisk m q)
-      → IsCounterSound peripherals old → AreDevicesSound peripherals new.devices → IsCounterSound peripherals new
-  spared_sound old new q r step spares sound devices =
-      let was = old.totals.totals in
-      let left = settled was.layout was.mode [] in
-      still_sound peripherals old new q r (part_with was left 0) (part_with new.totals.totals left 0) sound devices
-      ((step.spared left 0 (spares _)).step (settled_twice was.layout [] was.mode))
+      let both = steps_beside peripherals old new q r sound devices totals step in
+      record { step = beside_is_step old new q r only both.step; sound = both.sound }

@@ -1,29 +1,17 @@
 -- What keeps a machine sound: each control stays at its device, and each device of its kind.
-use Rattle.pos_counter.proofs.Common.{All, All-cons, All-map, All-nil, Answer, Bool, Call, CarriesOut, Category, Change, Control, Decided, Deed, Device}
-use Rattle.pos_counter.proofs.Common.{DeviceDoes, Does, Effect, Err, Hardware, HasItsDevice, HasItsKind, IfSome, Input, IsAttached, IsDetached, IsInRange}
-use Rattle.pos_counter.proofs.Common.{IsPlaceOn, IsSound, IsTrue, Kind, List, Machine, MatchOption, MatchOption-at_some, MatchResult, NoMemory, None, Ok}
-use Rattle.pos_counter.proofs.Common.{OnHardware, Option, Place, Property, Result, SameHardware, Signs, Some, Value, WorksAt, [], after_release, after_set, ap}
-use Rattle.pos_counter.proofs.Common.{arith, changed, cond, cond_both, cursor_after, device_at, device_deed, device_rows, due_request_at, false, false≢true}
-use Rattle.pos_counter.proofs.Common.{first_refusal, found_at, get_or_from_slice_get, has_open, inl, inr, is_none, is_open_at, is_place, is_some, kind_in}
-use Rattle.pos_counter.proofs.Common.{kind_of, length-set, option_map, origin, outcome, refl, serves, set, slice_get, slice_get-map, slice_get_within, subst}
-use Rattle.pos_counter.proofs.Common.{suc, sym, takes, told, true, with_control, zero, ◌||◌, ℕ, ◌∙◌, ◌∷◌, ◌≡◌}
-use Rattle.std.proofs.Common.{scan}
-use Rattle.std.proofs.lemmas.Bool.{eq-eqb}
-use Rattle.std.proofs.lemmas.List.Elements.{All-get_or, All-set, All-weaker}
-use Rattle.std.specs.Prelude.{slice_set}
-use Rattle.pos_service.specs.Calls.{place_found}
-use Rattle.pos_service.specs.Categories.{is_exclusive}
-use Rattle.pos_service.specs.Controls.{all_listening, if_listening, listens, queued, read, stopped}
-use Rattle.pos_service.specs.Deeds.{ChangesOne, Follows, Ordered, Queued, id_rows}
-use Rattle.pos_service.specs.Events.{EventList}
-use Rattle.pos_service.specs.Hardware.{TakesIn, reaction}
-use Rattle.pos_service.specs.Peripherals.{signs_of}
-use Rattle.pos_service.specs.PrinterCalls.{DueRequest, WorksOn, after_work}
+use Rattle.pos_counter.proofs.Common.{All, All-cons, All-get_or, All-map, All-nil, All-set, All-weaker, Answer, Call, CarriesOut, Category, Change, Changes}
+use Rattle.pos_counter.proofs.Common.{ChangesOne, Control, Decided, Deed, Device, DeviceDoes, Does, DueRequest, Effect, Err, Follows, Gives, Hardware}
+use Rattle.pos_counter.proofs.Common.{HasItsDevice, HasItsKind, IfSome, Input, IsAttached, IsDetached, IsInRange, IsPlaceOn, IsSound, IsTrue, List, Machine}
+use Rattle.pos_counter.proofs.Common.{MatchOption, MatchOption-at_some, MatchResult, NoMemory, None, Ok, OnHardware, Option, Ordered, Place, Property, Queued}
+use Rattle.pos_counter.proofs.Common.{Queues, Result, SameHardware, Signs, Some, TakesIn, Value, WorksAt, WorksOn, [], after_release, after_set, after_work}
+use Rattle.pos_counter.proofs.Common.{all_listening, ap, arith, changed, cond_both, cursor_after, device_at, device_deed, device_rows, due_request_at, eq-eqb}
+use Rattle.pos_counter.proofs.Common.{false, false≢true, first_refusal, found_at, get_or_from_slice_get, has_open, id_rows, if_listening, inl, inr}
+use Rattle.pos_counter.proofs.Common.{is_exclusive, is_none, is_open_at, is_place, is_some, kind_in, kind_of, length-set, listens, option_map, or_parts}
+use Rattle.pos_counter.proofs.Common.{or_right, origin, place_found, queued, reaction, read, refl, serves, set, signs_of, slice_get, slice_get-map}
+use Rattle.pos_counter.proofs.Common.{slice_get_within, slice_set, stopped, subst, suc, sym, takes, true, with_control, zero, ◌||◌, ℕ, ◌∙◌, ◌∷◌, ◌≡◌}
 use Rattle.pos_service.specs.Statuses.{heard_signs}
-use Rattle.pos_service.specs.declared.category.Category.TheVariants as category
 use Rattle.pos_service.specs.declared.deed.Change.TheVariants as change
-use Rattle.pos_service.specs.declared.deed.Deed.TheVariants as deed
-use Rattle.pos_service.specs.declared.finding.Finding.TheVariants as finding
+use Rattle.pos_service.specs.declared.finding.Finding.{Finding}
 use Rattle.pos_service.specs.declared.input.Input.TheVariants as input
 use Rattle.pos_service.specs.declared.input.Taken.TheVariants as taken
 use Rattle.pos_service.specs.declared.input.Taken.{Taken}
@@ -32,8 +20,7 @@ use Rattle.pos_service.specs.declared.order.Reply.TheVariants as reply
 use Rattle.pos_service.specs.declared.order.Reply.{Reply}
 use Rattle.pos_service.specs.declared.scan.Scan.{Scan}
 use Rattle.pos_service.specs.declared.worked.Worked.{Worked as WorkResult}
-use Rattle.pos_counter.proofs.Cursors.{NoneApplies, place_opened, place_set}
-use Rattle.pos_counter.proofs.Deeds.{DeedStaysOn, StaysOn, deed_called}
+use Rattle.pos_counter.proofs.Cursors.{DeedStaysOn, NoneApplies, StaysOn, deed_called, place_opened, place_set}
 use Rattle.pos_counter.proofs.Lifts.{match_cases}
 
 -- the device is there, and serves a control of the category whose cursor is at a place
@@ -50,11 +37,10 @@ moved_seat : (ds : List Device) (category : Category) (was now : Place) (device 
     → (IsPlaceOn (kind_in (device_at ds device)) was → IsPlaceOn (kind_in (device_at ds device)) now) → Seat ds category was device
     → Seat ds category now device
 moved_seat ds category was now None moves h = tt
-moved_seat ds category was now (Some i) moves h = by (slice_get ds i) moves h
-  where
-    by : (o : Option Device) → (IsPlaceOn (kind_in o) was → IsPlaceOn (kind_in o) now) → Served category was o → Served category now o
-    by None moves h = h
-    by (Some d) moves h = (h.0, h.1, moves h.2)
+moved_seat ds category was now (Some i) moves h = elim (match_cases (slice_get ds i) _ _ h) [
+  | inl x ↦ absurd x.1
+  | inr x ↦ rw x.1 (x.2.0, x.2.1, (rw x.1 at moves) x.2.2)
+]
 
 -- what all have, the one at a place has
 all_at : {A : Type 0} (P : A → Type 0) (xs : List A) (n : ℕ) (x : A) → slice_get xs n ≡ Some x → All P xs → P x
@@ -78,17 +64,16 @@ pub found_seat : (ds : List Device) (category : Category) (place : Option ℕ) �
 found_seat ds category None kinds = tt
 found_seat ds category (Some i) kinds = there (slice_get ds i) refl
   where
-    pick : (d : Device) → slice_get ds i ≡ Some d → (served attached : Bool) → serves category d.kind ≡ served
-        → (is_none d.kind || is_some d.hardware) ≡ attached
-        → Seat ds category origin (place_found (cond served (cond attached (finding.At i) finding.Vacant) finding.NotThere))
-    pick d e true true s a = subst (Served category origin) (sym e) (s, a, place_opened d.kind (all_at HasItsKind ds i d e kinds).0)
-    pick d e true false s a = tt
-    pick d e false true s a = tt
-    pick d e false false s a = tt
+    seat : Finding → Type 0
+    seat found = Seat ds category origin (place_found found)
 
-    there : (o : Option Device) → slice_get ds i ≡ o → Seat ds category origin (place_found (found_at category (Some i) o))
+    there : (o : Option Device) → slice_get ds i ≡ o → seat (found_at category (Some i) o)
     there None e = tt
-    there (Some d) e = pick d e (serves category d.kind) (is_none d.kind || is_some d.hardware) refl refl
+    there (Some d) e =
+        cond_both (serves category d.kind) _ _ seat
+        (λ serves. cond_both (is_none d.kind || is_some d.hardware) _ _ seat
+        (λ attached. rw e (serves, attached, place_opened d.kind (all_at HasItsKind ds i d e kinds).0)) (λ vacant. tt))
+        (λ other. tt)
 
 -- a change of controls that keeps each at its device
 abbrev KeepsSeats : List Device → (Control → Control) → Type 0
@@ -102,11 +87,7 @@ all_listening_keep ds place change cs keeps all =
     (λ c h. cond_both (listens place c) (change c) c (HasItsDevice ds) (λ on. keeps c h) (λ off. h)) cs all)
 
 read_keeps : (ds : List Device) (scan : Scan) → KeepsSeats ds (read scan)
-read_keeps ds scan c h = by c.list.in_error _ _
-  where
-    by : (failed enabled : Bool) (list : EventList) → HasItsDevice ds (cond failed c (record c { enabled = enabled; list = list }))
-    by true enabled list = h
-    by false enabled list = h
+read_keeps ds scan c h = cond_both c.list.in_error _ _ (HasItsDevice ds) (λ failed. h) (λ reads. h)
 
 reaction_keeps : (ds : List Device) (i : Input) (t : Taken) (was is : Signs) → KeepsSeats ds (reaction i t was is)
 reaction_keeps ds i taken.Quiet was is c h = h
@@ -120,15 +101,7 @@ served_with : (ds : List Device) (i k : ℕ) (d : Device) (now : Option Hardware
     → Served category cursor (slice_get (set ds i (record d { hardware = now })) k)
 served_with [] i k d now category cursor is stands h = absurd h
 served_with (x ∷ ds) zero zero d now category cursor is stands h =
-    let same : x ≡ d = cc in (
-      subst (λ (y : Device). serves category y.kind ≡ true) same h.0,
-      ap (λ b. is_none d.kind || b) (stands refl) ∙ or_true (is_none d.kind),
-      subst (λ (y : Device). IsPlaceOn y.kind cursor) same h.2,
-    )
-  where
-    or_true : (b : Bool) → (b || true) ≡ true
-    or_true true = refl
-    or_true false = refl
+    let same : x ≡ d = cc in (rw same at h.0, or_right (is_none d.kind) (is_some now) (stands refl), rw same at h.2)
 served_with (x ∷ ds) zero (suc k) d now category cursor is stands h = h
 served_with (x ∷ ds) (suc i) zero d now category cursor is stands h = h
 served_with (x ∷ ds) (suc i) (suc k) d now category cursor is stands h = served_with ds i k d now category cursor is (λ e. stands (ap suc e)) h
@@ -167,12 +140,8 @@ pub on_hardware_sound : (m m' : Machine) (at : Option ℕ) (Does : ℕ → Effec
     → Keeps m.devices before m.controls after new) → OnHardware m at Does m' → IsSound m → IsSound m'
 on_hardware_sound m m' at Does keeps o s =
     let here : HasItsKind o.device = all_at HasItsKind m.devices o.place o.device o.is_device s.kinds in
-    let kind : o.device.kind ≡ Some o.before.kind =
-    subst (λ (st : Option Hardware). IfSome st (λ hardware. o.device.kind ≡ Some hardware.kind)) o.is_attached here.1 in
-    let stands : StandsAt m.devices at o.before = record {
-      kind = ap (λ p. kind_in (device_at m.devices p)) o.is_at ∙ ap kind_in o.is_device ∙ kind;
-      range = subst (λ (k : Option Kind). IfSome k IsInRange) kind here.0;
-    } in
+    let kind : o.device.kind ≡ Some o.before.kind = rw o.is_attached at here.1 in
+    let stands : StandsAt m.devices at o.before = record { kind = rw (o.is_at, o.is_device, kind); range = rw kind at here.0 } in
     let kept = keeps o.place o.before o.controls o.after stands o.does in
     rw o.machine (hardware_sound m o.controls o.place o.device (Some o.after) o.is_device (kind ∙ ap Some (sym kept.kind))
     (All-weaker (HasItsDevice m.devices) (HasItsDevice (set m.devices o.place (record o.device { hardware = Some o.after })))
@@ -241,7 +210,7 @@ changes_keep ds what number c old new at stays h all =
 deed_keeps : (ds : List Device) (d : Deed) (r : Answer) (number place : ℕ) (c : Control) (old : List Control) (before : Hardware) (new : List Control)
     (after : Hardware) → slice_get old number ≡ Some c → DeedStaysOn (kind_in (device_at ds c.device)) c.cursor.place d
     → CarriesOut d number place r old before new after → Keeps ds before old after new
-deed_keeps ds (deed.Gives given what) r number place c old before new after at stays h =
+deed_keeps ds (Gives given what) r number place c old before new after at stays h =
     let told = ordered_keeps ds given place h.said old before h.heard after h.ordered in
     record { kind = told.kind; seats = λ all. by h.said h.ordered h.follows (told.seats all) }
   where
@@ -255,11 +224,11 @@ deed_keeps ds (deed.Gives given what) r number place c old before new after at s
         (cond_both (listens place c) (signs c) c (λ g. StaysOn (kind_in (device_at ds g.device)) g.cursor.place what) (λ on. stays) (λ off. stays))
         follows all
     by said ordered same all = rw same all
-deed_keeps ds (deed.Changes what) r number place c old before new after at stays h = record {
+deed_keeps ds (Changes what) r number place c old before new after at stays h = record {
   kind = ap (λ (s : Hardware). s.kind) h.hardware;
   seats = changes_keep ds what number c old new at stays h.controls;
 }
-deed_keeps ds (deed.Queues given) r number place c old before new after at stays h =
+deed_keeps ds (Queues given) r number place c old before new after at stays h =
     elim (match_cases (first_refusal (id_rows c)) _ _
     (MatchOption-at_some ⊥ (λ control. Decided (id_rows control) r (SameHardware old before new after)
     (Queued given number r old before new after)) c at h).outcome) [
@@ -304,9 +273,7 @@ device_keeps k m asked r n place c before new after at served allowed stands h =
   where
     stays : (d : Deed) → device_deed k (kind_of m c) c asked ≡ Some d → DeedStaysOn (kind_of m c) c.cursor.place d
     stays d is =
-        subst (λ at. DeedStaysOn at c.cursor.place d) (sym stands.kind)
-        (deed_called k before.kind c asked d (subst (λ at. serves k at ≡ true) stands.kind served) stands.range
-        (subst (λ at. NoneApplies (device_rows k at c asked)) stands.kind allowed) (subst (λ at. device_deed k at c asked ≡ Some d) stands.kind is))
+        rw stands.kind (deed_called k before.kind c asked d (rw stands.kind at served) stands.range (rw stands.kind at allowed) (rw stands.kind at is))
 
 -- an open control's category serves its device
 pub served_by : (ds : List Device) (c : Control) (before : Hardware) → StandsAt ds c.device before → HasItsDevice ds c
@@ -316,11 +283,7 @@ served_by ds c before stands h = by c.device stands.kind h
     by : (o : Option ℕ) → kind_in (device_at ds o) ≡ Some before.kind → Seat ds c.category c.cursor.place o
         → serves c.category (kind_in (device_at ds o)) ≡ true
     by None kind h = absurd cc
-    by (Some i) kind h = there (slice_get ds i) h
-      where
-        there : (o : Option Device) → Served c.category c.cursor.place o → serves c.category (kind_in o) ≡ true
-        there None h = absurd h
-        there (Some d) h = h.0
+    by (Some i) kind h = elim (match_cases (slice_get ds i) _ _ h) [ inl x ↦ absurd x.1 | inr x ↦ rw x.1 x.2.0 ]
 
 -- a control with a property set to what it takes has its device
 pub set_seat : (ds : List Device) (s : Signs) (c : Control) (p : Property) (v : Value) → takes (kind_in (device_at ds c.device)) p v ≡ true
@@ -344,14 +307,10 @@ seats_elsewhere : (ds : List Device) (i : ℕ) (d : Device) (cs : List Control) 
     → All (HasItsDevice ds) cs → All (HasItsDevice (set ds i (record d { hardware = None }))) cs
 seats_elsewhere ds i d [] is none all = All-nil (HasItsDevice (set ds i (record d { hardware = None })))
 seats_elsewhere ds i d (c ∷ cs) is none all =
-    let each = neither (has_open i c) (is_open_at i cs) none in
+    let each = or_parts (has_open i c) (is_open_at i cs) none in
     All-cons (HasItsDevice (set ds i (record d { hardware = None }))) c cs
     (seat_with ds i d None is c (λ e. absurd (false≢true (sym each.0 ∙ ap (is_place i) e ∙ eq-eqb i i refl))) (all 0 c (omega arith)))
     (seats_elsewhere ds i d cs is each.1 (λ k e lt. all (suc k) e (omega arith)))
-  where
-    neither : (a b : Bool) → (a || b) ≡ false → (a ≡ false) × (b ≡ false)
-    neither true b h = cc
-    neither false b h = (refl, h)
 
 -- a device that no control has open may lose its peripheral
 pub detached_sound : (m m' : Machine) (name : List ℕ) (hardware : Hardware) → IsDetached m name hardware m' → IsSound m → IsSound m'

@@ -1,11 +1,9 @@
 -- Requests that spare the disk are steps whatever the disk is.
 use Rattle.pos_counter.proofs.Common.{◌&&◌, AllSpare, Answer, AsksNothing, Call, CallOf, Category, ChangesTotalsAlone, Control, Counter, DiskGhosts, Ghosts}
-use Rattle.pos_counter.proofs.Common.{IsRun, IsSettled, IsSome, List, Machine, None, Nothing, Option, Request, Response, Run, RunSparing, RunsAnyhow, Some}
-use Rattle.pos_counter.proofs.Common.{Spared, SparesDisk, Standing, Step, StepSparing, TotalsPart, [], ap, changes_asked, false, file_call, first_refusal, inl}
-use Rattle.pos_counter.proofs.Common.{inr, is_enabling, is_ready, is_some, is_totals, machine_of_counter, not, part_with, refl, refusals, settled, slice_get}
-use Rattle.pos_counter.proofs.Common.{subst, sym, ℕ, ◌∙◌, ◌∷◌, ◌≡◌, ◌⊎◌, ⊎_elim}
-use Rattle.pos_service.specs.declared.call.Call.TheVariants as call
-use Rattle.pos_service.specs.declared.category.Category.TheVariants as category
+use Rattle.pos_counter.proofs.Common.{HardTotals, IsRun, IsSettled, IsSome, List, Machine, None, Nothing, Option, Request, Response, Run, RunSparing}
+use Rattle.pos_counter.proofs.Common.{RunsAnyhow, Set, Some, Spared, SparesDisk, Standing, Step, StepSparing, TotalsPart, [], ap, changes_asked, false}
+use Rattle.pos_counter.proofs.Common.{file_call, first_refusal, inl, inr, is_enabling, is_ready, is_some, is_totals, machine_of_counter, not, part_with, refl}
+use Rattle.pos_counter.proofs.Common.{refusals, settled, slice_get, subst, sym, ℕ, ◌∙◌, ◌∷◌, ◌≡◌, ◌⊎◌, ⊎_elim}
 use Rattle.pos_counter.proofs.Leaving.{settled_twice}
 use Rattle.pos_counter.proofs.Lifts.{match_weaker}
 use Rattle.pos_counter.proofs.Steps.{none_of_totals, own_of}
@@ -62,18 +60,18 @@ runs_anyhow bound peripherals failures a c (s ∷ steps) left is run =
 -- ---- calls of other categories
 
 -- another category is not Hard Totals'
-not_totals : (k : Category) → (k ≡ category.HardTotals → ⊥) → is_totals k ≡ false
-not_totals category.HardTotals other = absurd (other refl)
+not_totals : (k : Category) → (k ≡ HardTotals → ⊥) → is_totals k ≡ false
+not_totals HardTotals other = absurd (other refl)
 not_totals k other = refl
 
 -- a call that asks nothing of the files, and recovers nothing, asks nothing of the disk
 asks_none : (part : TotalsPart) (n : ℕ) (c : Control) (asked : Call) → is_totals c.category ≡ false → file_call asked ≡ Nothing → AsksNothing part n c asked
-asks_none part n c (call.Set p v) other none =
+asks_none part n c (Set p v) other none =
     subst (λ b. (b && is_some c.device && not c.enabled && is_enabling p v && not (is_ready part.totals.mode)) ≡ false) (sym other) refl
 asks_none part n c asked other none = ap (changes_asked part.totals n) none
 
 -- a call of another category spares the disk
-pub spares_elsewhere : (m : Machine) (n : ℕ) (c : Control) (asked : Call) → slice_get m.controls n ≡ Some c → (c.category ≡ category.HardTotals → ⊥)
+pub spares_elsewhere : (m : Machine) (n : ℕ) (c : Control) (asked : Call) → slice_get m.controls n ≡ Some c → (c.category ≡ HardTotals → ⊥)
     → SparesDisk m (CallOf n asked)
 spares_elsewhere m n c asked found other = rw found (by (first_refusal (refusals m n c asked)) refl)
   where

@@ -1,32 +1,19 @@
 -- What each step of the machine leaves: a sound machine, and the files of the totals as its event says.
-use Rattle.pos_counter.specs.Steps.{Deliver, Delivered}
-use Rattle.pos_counter.proofs.Common.{◌+◌, ◌++◌, All-push, Answer, Answered, Arranges, Asks, Bool, Call, CallOf, Called, Category, CategoryDoes, Commits}
-use Rattle.pos_counter.proofs.Common.{Control, Does, Effect, File, FileCall, Hardware, HasItsDevice, History, IsAttached, IsDetached}
-use Rattle.pos_counter.proofs.Common.{IsOneGroup, IsOneOf, IsSettled, IsSound, IsUndone, Layout, List, Machine, Makes, MatchBool, MatchOption, Mode, None}
-use Rattle.pos_counter.proofs.Common.{Nothing, NothingDone, Off, Ok, OnHardware, Option, OutOfMemory, PlainFile, Property, Ready, Recovered, Recovers, Request}
-use Rattle.pos_counter.proofs.Common.{Response, Sets, SetsByRecovery, Some, Standing, Stands, Step, Totals, TotalsDo, TotalsPart, Value, WorkOn, Worked, []}
-use Rattle.pos_counter.proofs.Common.{after_release, after_set, and_parts, ap, asks_recovery, category_rows, changes_asked, changes_of, claimed, claimed_by}
-use Rattle.pos_counter.proofs.Common.{closed, cond_both, dropped, event_between, event_of, false, file_call, files_of, first_refusal, get_or, has_call}
-use Rattle.pos_counter.proofs.Common.{history_with, holder_of, in_doubt, inl, inr, is_common, is_none, is_own, is_ready, is_totals, kind_of, left_after, length}
-use Rattle.pos_counter.proofs.Common.{length-set, limits_of, map, needs_of, new_control, not, numbered, outcome_of_all, place_of, plain, recovers, refl}
-use Rattle.pos_counter.proofs.Common.{refusals, released, released_by, serves, set, settled, signs_at, slice_get, stored, subst, sym, table, takes, true}
+use Rattle.pos_counter.proofs.Common.{◌+◌, ◌++◌, All-push, Answer, Answered, Arranges, Asks, Bool, Call, CallOf, Called, Category, CategoryDoes, Claim, Close}
+use Rattle.pos_counter.proofs.Common.{Control, Deliver, Delivered, Does, DoesTogether, Done, Effect, Failure, File, FileCall, Get, HardTotals, Hardware}
+use Rattle.pos_counter.proofs.Common.{HasItsDevice, History, IsAttached, IsDetached, IsOneGroup, IsOneOf, IsSettled, IsSound, IsUndone, Layout, List, Machine}
+use Rattle.pos_counter.proofs.Common.{MatchBool, Mode, None, Nothing, NothingDone, Off, Ok, OnHardware, Open, Option, OutOfMemory, PlainFile, Property, Ready}
+use Rattle.pos_counter.proofs.Common.{Recovered, Recovers, Refused, Release, Request, Response, Set, Sets, SetsByRecovery, Some, Standing, Stands, Step, Totals}
+use Rattle.pos_counter.proofs.Common.{TotalsChange, TotalsDo, TotalsPart, Value, WorkOn, Worked, [], after_disk_fault, after_release, after_set, and_parts, ap}
+use Rattle.pos_counter.proofs.Common.{arith, asks_recovery, category_rows, changes_asked, changes_of, claimed, claimed_by, closed, delivered, dropped}
+use Rattle.pos_counter.proofs.Common.{event_between, event_of, false, file_call, files_after_all, files_of, first_refusal, has_call, history_with, holder_of}
+use Rattle.pos_counter.proofs.Common.{in_doubt, inl, inr, is_category, is_common, is_none, is_ready, is_totals, kind_of, left_after, length, length-set}
+use Rattle.pos_counter.proofs.Common.{limits_of, map, needs_of, new_control, next_sequences, not, numbered, outcome_of_all, place_of, plain, recovers, refl}
+use Rattle.pos_counter.proofs.Common.{refusals, released, released_by, row_of, serves, settled, signs_at, slice_get, stored, subst, sym, table, takes, true}
 use Rattle.pos_counter.proofs.Common.{with_control, with_place, with_totals, ℕ, ◌∙◌, ◌∷◌, ◌≡◌}
-use Rattle.pos_dir.specs.declared.change.Change.TheVariants as file
-use Rattle.pos_service.specs.Calls.{row_of}
-use Rattle.pos_service.specs.Categories.{is_category}
-use Rattle.pos_service.specs.Controls.{delivered}
-use Rattle.pos_service.specs.declared.answer.Answer.TheVariants as answer
-use Rattle.pos_service.specs.declared.call.Call.TheVariants as call
-use Rattle.pos_service.specs.declared.category.Category.TheVariants as category
-use Rattle.pos_service.specs.declared.code.Code.TheVariants as code
-use Rattle.pos_service.specs.declared.deed.Change.TheVariants as change
-use Rattle.pos_service.specs.declared.order.Reply.TheVariants as reply
-use Rattle.pos_service.specs.declared.request.Response.TheVariants as response
 use Rattle.pos_totals.specs.Groups.{group_of}
-use Rattle.pos_totals.specs.HardTotals.{Change, after_disk_fault, next_sequences}
-use Rattle.pos_totals.specs.TotalsChanges.{DoesTogether, files_after_all}
 use Rattle.pos_counter.proofs.Cursors.{NoneApplies, none_applies, unless_not}
-use Rattle.pos_counter.proofs.FileCalls.{Buffers, Comes, Groups, Stays, puts_comes}
+use Rattle.pos_counter.proofs.FileCalls.{Comes, Groups, Stays, puts_comes}
 use Rattle.pos_counter.proofs.Hardware.{own_call}
 use Rattle.pos_counter.proofs.Leaving.{Rest, arranged_rest, kept_left, rest_settled, same_rest, settles, without_rest}
 use Rattle.pos_counter.proofs.Lifts.{decided_cases, match_cases}
@@ -37,20 +24,20 @@ use Rattle.pos_counter.proofs.Sound.{served_by, set_seat, takes_keeps, with_cont
 -- ---- what happens to the files
 
 -- what changes, a response and the modes say is what happens, and what is left is settled
-abbrev Told : List Change → TotalsPart → Response → TotalsPart → Type 0
+abbrev Told : List TotalsChange → TotalsPart → Response → TotalsPart → Type 0
 Told changes old response new =
     Happens old (event_between changes old.totals.mode response new.totals.mode) new × IsSettled new.totals new.left
 
 -- nothing is done to files that stay, where no change is acknowledged
-nothing : (early late : Mode) (changes : List Change) (response : Response) → stored late ≡ stored early
+nothing : (early late : Mode) (changes : List TotalsChange) (response : Response) → stored late ≡ stored early
     → ((changes ≡ [] → ⊥) → IsUndone response) → event_between changes early response late ≡ NothingDone
-nothing (Ready files sequence) (Ready others next) (change ∷ changes) (Answered (answer.Done given)) same undone = absurd (undone (λ none. cc))
+nothing (Ready files sequence) (Ready others next) (change ∷ changes) (Answered (Done given)) same undone = absurd (undone (λ none. cc))
 nothing (Ready files sequence) (Ready others next) changes response same undone = refl
 nothing Off Off [] response same undone = refl
 nothing Off Off (change ∷ changes) response same undone = refl
 nothing early late changes response same undone = absurd cc
 
-rests : (changes : List Change) (old new : TotalsPart) (response : Response) → ((changes ≡ [] → ⊥) → IsUndone response)
+rests : (changes : List TotalsChange) (old new : TotalsPart) (response : Response) → ((changes ≡ [] → ⊥) → IsUndone response)
     → IsSettled old.totals old.left → Rest old new → Told changes old response new
 rests changes old new response undone is h = (
   subst (λ event. Happens old event new) (sym (nothing old.totals.mode new.totals.mode changes response h.mode undone)) h,
@@ -66,16 +53,9 @@ with_some layout files (n ∷ sequences) left (inr is) = with_some layout files 
 
 -- changes that are put on the disk as one group, in which it may fail
 module _ (old new : TotalsPart) (is : IsSettled old.totals old.left) where
-  -- totals that are as they were, but for their transactions
-  kept : (changes : List Change) (transactions : List (Option (List Change))) → new.left ≡ left_after old changes new.totals.mode
-      → new.totals ≡ record old.totals { transactions = transactions } → Rest old new
-  kept changes transactions left same =
-      let mode = ap (λ (t : Totals). t.mode) same in
-      record { layout = ap (λ (t : Totals). t.layout) same; mode = ap stored mode; left = left ∙ ap (left_after old changes) mode ∙ kept_left changes old is }
-
-  module _ (change : Change) (others : List Change) (transactions : List (Option (List Change)))
+  module _ (change : TotalsChange) (others : List TotalsChange) (transactions : List (Option (List TotalsChange)))
       (group : IsOneGroup old.totals (change ∷ others)) (left : new.left ≡ left_after old (change ∷ others) new.totals.mode) where
-    abbrev all : List Change
+    abbrev all : List TotalsChange
     all = change ∷ others
 
     settles_so : new.totals.layout ≡ old.totals.layout → IsSettled new.totals new.left
@@ -90,10 +70,10 @@ module _ (old new : TotalsPart) (is : IsSettled old.totals old.left) where
         ≡ Ok (plain (files_after_all old.totals.next (files_of mode) all))) ready group
 
     done_told : (given : Value) → DoesTogether (record old.totals { transactions = transactions }) all new.totals
-        → Told all old (Answered (answer.Done given)) new
+        → Told all old (Answered (Done given)) new
     done_told given h = by old.totals.mode refl
       where
-        by : (m : Mode) → old.totals.mode ≡ m → Told all old (Answered (answer.Done given)) new
+        by : (m : Mode) → old.totals.mode ≡ m → Told all old (Answered (Done given)) new
         by Off off = absurd (rw off at h.follows)
         by (Ready files sequence) ready =
             let now = files_after_all old.totals.next files all in
@@ -103,7 +83,7 @@ module _ (old new : TotalsPart) (is : IsSettled old.totals old.left) where
               settles_so layout,
             )
 
-    failed_told : (result : Answer) → result ≡ answer.Refused code.Failure 0
+    failed_told : (result : Answer) → result ≡ Refused Failure 0
         → new.totals ≡ after_disk_fault (record old.totals { transactions = transactions }) → Told all old (Answered result) new
     failed_told result failed same = by old.totals.mode refl
       where
@@ -137,29 +117,28 @@ module _ (old new : TotalsPart) (is : IsSettled old.totals old.left) where
               settles_so layout,
             )
 
-  comes_told : (P : Type 0) (changes : List Change) (result : Answer) → IsOneGroup old.totals changes
-      → new.left ≡ left_after old changes new.totals.mode → Comes P old.totals changes result new.totals → Told changes old (Answered result) new
-  comes_told P changes result group left (Stays undone same) =
-      rests changes old new (Answered result) (λ some. undone) is (kept changes old.totals.transactions left same)
-  comes_told P changes result group left (Buffers transactions none same) =
-      rests changes old new (Answered result) (λ some. absurd (some none)) is (kept changes transactions left same)
-  comes_told P changes result group left (Groups change others some transactions given (inl done)) =
-      rw (some, done.0) (done_told change others transactions (subst (IsOneGroup old.totals) some group)
-      (left ∙ ap (λ cs. left_after old cs new.totals.mode) some) given done.1)
-  comes_told P changes result group left (Groups change others some transactions given (inr failed)) =
-      rw some (failed_told change others transactions (subst (IsOneGroup old.totals) some group)
-      (left ∙ ap (λ cs. left_after old cs new.totals.mode) some) result failed.0 failed.2)
+  comes_told : (P : Type 0) (changes : List TotalsChange) (result : Answer) → IsOneGroup old.totals changes
+      → new.left ≡ left_after old changes new.totals.mode → Comes P old.totals result new.totals changes → Told changes old (Answered result) new
+  comes_told P changes result group left (Stays transactions undone same) =
+      let mode = ap (λ (t : Totals). t.mode) same in
+      rests changes old new (Answered result) undone is (record {
+        layout = ap (λ (t : Totals). t.layout) same;
+        mode = ap stored mode;
+        left = left ∙ ap (left_after old changes) mode ∙ kept_left changes old is;
+      })
+  comes_told P changes result group left (Groups change others transactions given (inl done)) =
+      rw done.0 (done_told change others transactions group left given done.1)
+  comes_told P changes result group left (Groups change others transactions given (inr failed)) =
+      failed_told change others transactions group left result failed.0 failed.2
 
 files_told : (asked : FileCall) (old new : TotalsPart) (n : ℕ) (result : Answer) → IsSettled old.totals old.left
     → TotalsDo asked old n result new → Told (changes_asked old.totals n asked) old (Answered result) new
 files_told (Asks question) old new n result is h = rests [] old new (Answered result) (λ some. absurd (some refl)) is (rw h.1 (same_rest old))
-files_told (Makes change) old new n result is h =
-    comes_told old new is _ _ result h.group h.left (puts_comes (Makes change) _ old.totals n result new.totals h.does)
 files_told (Arranges arrangement) old new n result is h =
     rests [] old new (Answered result) (λ some. absurd (some refl)) is (rw h.1 (arranged_rest old n arrangement))
-files_told Commits old new n result is h =
-    comes_told old new is _ _ result h.group h.left (puts_comes Commits _ old.totals n result new.totals h.does)
 files_told Nothing old new n result is h = absurd h
+files_told asked old new n result is h =
+    comes_told old new is _ _ result h.group h.left (puts_comes asked _ old.totals n result new.totals h.does)
 
 -- numbered files are what they were
 pub plain_numbered : (next : ℕ) (files : List PlainFile) → plain (numbered next files) ≡ files
@@ -197,11 +176,11 @@ pub record Beside (old new : Machine) : Type 0 where
   pub rest : Rest old.totals new.totals
 
 -- What a step leaves.
-record StepLeaves (changes : List Change) (old : Machine) (response : Response) (new : Machine) : Type 0 where
+record StepLeaves (changes : List TotalsChange) (old : Machine) (response : Response) (new : Machine) : Type 0 where
   pub sound : IsSound old → IsSound new
   pub told : IsSettled old.totals.totals old.totals.left → Told changes old.totals response new.totals
 
-beside_leaves : (changes : List Change) (old new : Machine) (response : Response) → ((changes ≡ [] → ⊥) → IsUndone response) → Beside old new
+beside_leaves : (changes : List TotalsChange) (old new : Machine) (response : Response) → ((changes ≡ [] → ⊥) → IsUndone response) → Beside old new
     → StepLeaves changes old response new
 beside_leaves changes old new response undone b =
     record { sound = b.sound; told = λ is. rests changes old.totals new.totals response undone is b.rest }
@@ -244,11 +223,6 @@ made_beside old new category h = rw h (record {
   rest = record { layout = refl; mode = refl; left = refl };
 })
 
-one_changes : {P : Type 0} {R : Control → Type 0} (old new : Machine) (n : ℕ) → MatchOption (slice_get old.controls n) P R → (P → Beside old new)
-    → ((c : Control) → slice_get old.controls n ≡ Some c → R c → Beside old new) → Beside old new
-one_changes old new n h same other =
-    elim (match_cases (slice_get old.controls n) _ _ h) [ inl x ↦ same x.1 | inr x ↦ other x.0 x.1 x.2 ]
-
 attached_beside : (old new : Machine) (name : List ℕ) (hardware : Hardware) → IsAttached old name hardware new → Beside old new
 attached_beside old new name hardware h = record { sound = attached_sound old new name hardware h; rest = rw h.machine (same_rest old.totals) }
 
@@ -258,40 +232,34 @@ detached_beside old new name hardware h = record { sound = detached_sound old ne
 -- ---- calls
 
 length_released : (cl : List (Option ℕ)) (o : Option ℕ) (n : ℕ) → length (released_by cl o n) ≡ length cl
-length_released cl None n = refl
-length_released cl (Some place) n = cond_both (is_own n (get_or cl place None)) (set cl place None) cl (λ claims. length claims ≡ length cl)
-    (λ own. length-set cl place None) (λ other. refl)
-
-length_claimed : (cl : List (Option ℕ)) (o : Option ℕ) (n : ℕ) → length (claimed_by cl o n) ≡ length cl
-length_claimed cl None n = refl
-length_claimed cl (Some place) n = length-set cl place (Some n)
+length_released cl o n = grind (arith, length-set {A = Option ℕ})
 
 -- what a control's claim, its release and its end leave
 claimed_beside : (k : Category) (m : Machine) (n : ℕ) (c : Control) → Beside m (claimed k m n c)
-claimed_beside category.HardTotals m n c = totals_beside m _ (record { layout = refl; mode = refl; left = refl })
-claimed_beside k m n c = claims_beside m (claimed_by m.claims c.device n) (length_claimed m.claims c.device n)
+claimed_beside HardTotals m n c = totals_beside m _ (record { layout = refl; mode = refl; left = refl })
+claimed_beside k m n c = claims_beside m (claimed_by m.claims c.device n) (grind (arith, length-set {A = Option ℕ}))
 
 released_beside : (k : Category) (m : Machine) (n : ℕ) (c : Control) → Beside m (released k m n c)
-released_beside category.HardTotals m n c = totals_beside m _ (record { layout = refl; mode = refl; left = refl })
+released_beside HardTotals m n c = totals_beside m _ (record { layout = refl; mode = refl; left = refl })
 released_beside k m n c = claims_beside m (released_by m.claims c.device n) (length_released m.claims c.device n)
 
 dropped_beside : (k : Category) (m : Machine) (n : ℕ) (c : Control) → Beside m (dropped k m n c)
-dropped_beside category.HardTotals m n c = totals_beside m _ (without_rest m.totals n)
+dropped_beside HardTotals m n c = totals_beside m _ (without_rest m.totals n)
 dropped_beside k m n c = claims_beside m (released_by m.claims c.device n) (length_released m.claims c.device n)
 
 -- a call that totals don't have asks nothing of them
-asks_nothing : (own : Call) → has_call category.HardTotals own ≡ false → file_call own ≡ Nothing
-asks_nothing (call.Open name) other = refl
+asks_nothing : (own : Call) → has_call HardTotals own ≡ false → file_call own ≡ Nothing
+asks_nothing (Open name) other = refl
 asks_nothing own other = cc
 
 -- nor does a call of another category, or one that all have
 pub none_of_totals : (k : Category) (asked : Call) → is_totals k ≡ false → (is_common asked ≡ false → has_call k asked ≡ true) → file_call asked ≡ Nothing
 none_of_totals k asked other has = asks_nothing asked (by (row_of asked).category k other has)
   where
-    by : (o : Option Category) (k : Category) → is_totals k ≡ false → (is_none o ≡ false → is_category o k ≡ true) → is_category o category.HardTotals ≡ false
+    by : (o : Option Category) (k : Category) → is_totals k ≡ false → (is_none o ≡ false → is_category o k ≡ true) → is_category o HardTotals ≡ false
     by None k other is = refl
-    by (Some category.HardTotals) category.HardTotals other is = cc
-    by (Some category.HardTotals) k other is = absurd (let no = is refl in cc)
+    by (Some HardTotals) HardTotals other is = cc
+    by (Some HardTotals) k other is = absurd (let no = is refl in cc)
     by (Some c) k other is = refl
 
 -- a call of a category's own that nothing refuses is one of its control's category
@@ -306,9 +274,8 @@ module _ (m m' : Machine) (n : ℕ) (c : Control) (r : Answer) (at : slice_get m
   unasked : Beside m m' → StepLeaves [] m (Answered r) m'
   unasked b = beside_leaves [] m m' (Answered r) (λ some. absurd (some refl)) b
 
-  set_leaves : (p : Property) (v : Value) (b : Bool) → takes (kind_of m c) p v ≡ true → recovers m.totals c p v ≡ b
-      → MatchBool b (SetsByRecovery m n c p v r m') (Sets m n c p v r m') → StepLeaves [] m (Answered r) m'
-  set_leaves p v b may = by b
+  set_leaves : (p : Property) (v : Value) → takes (kind_of m c) p v ≡ true → Does m n c (Set p v) r m' → StepLeaves [] m (Answered r) m'
+  set_leaves p v may = by (recovers m.totals c p v) refl
     where
       now : Control
       now = after_set (signs_at m c) c p v
@@ -328,7 +295,7 @@ module _ (m m' : Machine) (n : ℕ) (c : Control) (r : Answer) (at : slice_get m
   own_leaves : (k : Category) (own : Call) → (IsSound m → (before : Hardware) → StandsAt m.devices c.device before → serves k (kind_of m c) ≡ true)
       → NoneApplies (category_rows k m n c own) → has_call k own ≡ true → CategoryDoes k m n c own r m'
       → StepLeaves (changes_asked m.totals.totals n (file_call own)) m (Answered r) m'
-  own_leaves category.HardTotals own served allowed has h = record {
+  own_leaves HardTotals own served allowed has h = record {
     sound = λ s. subst IsSound (sym h.1) (other_totals m m'.totals s);
     told = λ is. files_told (file_call own) m.totals m'.totals n r is h.0;
   }
@@ -344,23 +311,23 @@ module _ (m m' : Machine) (n : ℕ) (c : Control) (r : Answer) (at : slice_get m
   -- what a call leaves that nothing refuses
   does_leaves : (q : Call) → NoneApplies (refusals m n c q) → (is_common q ≡ false → has_call c.category q ≡ true) → Does m n c q r m'
       → StepLeaves (changes_asked m.totals.totals n (file_call q)) m (Answered r) m'
-  does_leaves (call.Open name) none has h =
+  does_leaves (Open name) none has h =
       unasked (rw h.1 (control_beside m n _ (λ s. found_seat m.devices c.category (place_of m.devices name) s.kinds)))
-  does_leaves call.Close none has h =
+  does_leaves Close none has h =
       unasked (rw h.1 (beside_then m _ _ (control_beside m n (closed c) (λ s. tt)) (dropped_beside c.category (with_control m n (closed c)) n c)))
-  does_leaves (call.Claim timeout) none has h = unasked (rw h.1 (claimed_beside c.category m n c))
-  does_leaves call.Release none has h =
+  does_leaves (Claim timeout) none has h = unasked (rw h.1 (claimed_beside c.category m n c))
+  does_leaves Release none has h =
       let after = after_release c.category c in
       unasked (rw h.1 (beside_then m _ _ (control_beside m n after (λ s. released_seat m.devices c.category c (seated m n c s at)))
       (released_beside c.category (with_control m n after) n c)))
-  does_leaves (call.Set p v) none has h =
-      set_leaves p v (recovers m.totals c p v) (unless_not (takes (kind_of m c) p v) none.1.1.1.1.1.0) refl h
-  does_leaves (call.Get p) none has h = unasked (same_beside m m' h.1)
+  does_leaves (Set p v) none has h =
+      set_leaves p v (unless_not (takes (kind_of m c) p v) none.1.1.1.1.1.0) h
+  does_leaves (Get p) none has h = unasked (same_beside m m' h.1)
   does_leaves own none has h =
       own_leaves c.category own (λ s before stands. served_by m.devices c before stands (seated m n c s at)) none.1.1.1.1.1 (has refl) h
 
   called_leaves : (q : Call) → Called m n c q r m' → StepLeaves (changes_asked m.totals.totals n (file_call q)) m (Answered r) m'
-  called_leaves q h = elim (decided_cases (refusals m n c q) r _ _ h) [
+  called_leaves q h = elim (decided_cases h) [
     | inl x ↦ does_leaves q (none_applies (refusals m n c q) x.0) (λ own. own_of m n c q own x.0) x.1
     | inr x ↦ beside_leaves _ m m' (Answered r) (λ some. x.0) (same_beside m m' x.1)
   ]
@@ -381,8 +348,10 @@ step_leaves old new r (CallOf n asked) h = absurd h
 step_leaves old new (Worked result) (WorkOn name) h = beside_leaves [] old new (Worked result) (λ some. absurd (some refl))
     (hardware_beside old new _ _ h (λ place before cs after stands does. works_keep old.devices _ place (Ok result) old.controls before cs after does))
 step_leaves old new (Delivered event) (Deliver n reply) h = beside_leaves [] old new (Delivered event) (λ some. absurd (some refl))
-    (one_changes old new n h (λ none. same_beside old new none.1)
-    (λ c found is. rw is.1 (control_beside old n (delivered reply c) (λ s. seated old n c s found))))
+    (elim (match_cases (slice_get old.controls n) _ _ h) [
+      | inl x ↦ same_beside old new x.1.1
+      | inr x ↦ rw x.2.1 (control_beside old n (delivered reply x.0) (λ s. seated old n x.0 s x.1))
+    ])
 step_leaves old new r q h = beside_leaves [] old new r (λ some. absurd (some refl))
     (search (same_beside, made_beside, attached_beside, detached_beside, hardware_beside, takes_keeps))
 

@@ -1,56 +1,48 @@
 -- A call of the totals' own as a step of the machine.
-use Rattle.pos_counter.proofs.Common.{Answer, AsksNothing, Call, CallOf, CallsFiles, CategoryDoes, Control, Counter, DiskGhosts, Err, FilesCalled, Ghosts}
-use Rattle.pos_counter.proofs.Common.{IsCounterSound, IsReady, IsUndone, List, Machine, Mode, NoMemory, Off, Ok, Ready, Result, Serves, Some, SparesDisk}
-use Rattle.pos_counter.proofs.Common.{SparesFiles, Standing, Step, TotalsPart, TotalsView, TurnsOff, [], answered, ap, category_rows, changes_asked}
-use Rattle.pos_counter.proofs.Common.{controls_of, false, file_call, file_rows, first_refusal, inl, inr, is_common, machine, outcome, part_of, part_with, refl}
-use Rattle.pos_counter.proofs.Common.{refusals, slice_get, subst, sym, ℕ, ◌∙◌, ◌≡◌}
-use Rattle.pos_service.specs.declared.answer.Answer.TheVariants as answer
-use Rattle.pos_service.specs.declared.call.Call.TheVariants as call
-use Rattle.pos_service.specs.declared.category.Category.TheVariants as category
-use Rattle.pos_totals.specs.Changes.{IsDone}
+use Rattle.pos_counter.proofs.Common.{Answer, AsksNothing, Call, CallOf, CallsFiles, CategoryDoes, Control, Counter, DiskGhosts, Done, Err, FilesCalled, Ghosts}
+use Rattle.pos_counter.proofs.Common.{HardTotals, IsCounterSound, IsDone, IsReady, IsUndone, List, Machine, Mode, NoMemory, Off, Ok, Ready, Refused, Result}
+use Rattle.pos_counter.proofs.Common.{Serves, Set, Some, SparesDisk, SparesFiles, Standing, Step, TotalsPart, TotalsView, TurnsOff, [], answered, ap}
+use Rattle.pos_counter.proofs.Common.{category_rows, changes_asked, controls_of, false, file_call, file_rows, first_refusal, inl, inr, is_common, machine}
+use Rattle.pos_counter.proofs.Common.{part_of, part_with, refl, refusals, slice_get, subst, sym, ℕ, ◌∙◌, ◌≡◌}
 use Rattle.pos_counter.proofs.Hardware.{IsLet, let_refusals, own_call}
 use Rattle.pos_counter.proofs.Lifts.{decided_step}
 use Rattle.pos_counter.proofs.Serving.{OnlyNow, quiet_serves}
 
--- behind the check of an open control of Hard Totals, the totals' refusals decide
-totals_refusals : (m : Machine) (n : ℕ) (c : Control) (asked : Call) → is_common asked ≡ false → c.category ≡ category.HardTotals → IsLet m n c asked
-    → first_refusal (refusals m n c asked) ≡ first_refusal (file_rows m.totals.totals n (file_call asked))
-totals_refusals m n c asked own is lets = let_refusals m n c asked own lets ∙ ap (λ k. first_refusal (category_rows k m n c asked)) is
+module _ (m : Machine) (n : ℕ) (c : Control) (asked : Call) (own : is_common asked ≡ false) (found : slice_get m.controls n ≡ Some c)
+    (is : c.category ≡ HardTotals) (lets : IsLet m n c asked) where
+  -- behind the check of an open control of Hard Totals, the totals' refusals decide
+  totals_refusals : first_refusal (refusals m n c asked) ≡ first_refusal (file_rows m.totals.totals n (file_call asked))
+  totals_refusals = let_refusals m n c asked own lets ∙ ap (λ k. first_refusal (category_rows k m n c asked)) is
 
--- what the totals do with a call on an enabled control is a step
-called_step : (m : Machine) (part : TotalsPart) (n : ℕ) (c : Control) (asked : Call) (outcome : Result Answer NoMemory) → is_common asked ≡ false
-    → slice_get m.controls n ≡ Some c → c.category ≡ category.HardTotals → IsLet m n c asked
-    → FilesCalled n asked m.totals outcome part → Step m (CallOf n asked) (answered outcome) (record m { totals = part })
-called_step m part n c asked (Ok result) own at is lets h =
-    decided_step m (record m { totals = part }) n c asked result _ _ _ at (totals_refusals m n c asked own is lets)
-    (ap (λ (p : TotalsPart). let o : Machine = record m { totals = p } in o))
-    (λ does. (own_call m n c asked own).does result (record m { totals = part })
-    (subst (λ k. CategoryDoes k m n c asked result (record m { totals = part })) (sym is) (does, refl))) h
-called_step m part n c asked (Err want) own found is lets h =
-    rw found (
-      (own_call m n c asked own).takes h.0,
-      totals_refusals m n c asked own is lets ∙ h.1,
-      ap (λ (p : TotalsPart). let o : Machine = record m { totals = p } in o) h.2,
-    )
+  -- what the totals do with a call on an enabled control is a step
+  called_step : (part : TotalsPart) (outcome : Result Answer NoMemory) → FilesCalled n asked m.totals outcome part
+      → Step m (CallOf n asked) (answered outcome) (record m { totals = part })
+  called_step part (Ok result) h =
+      decided_step m (record m { totals = part }) n c asked result _ _ _ found totals_refusals
+      (ap (λ (p : TotalsPart). let o : Machine = record m { totals = p } in o))
+      (λ does. (own_call m n c asked own).does result (record m { totals = part })
+      (subst (λ k. CategoryDoes k m n c asked result (record m { totals = part })) (sym is) (does, refl))) h
+  called_step part (Err want) h = rw found (
+    (own_call m n c asked own).takes h.0,
+    totals_refusals ∙ h.1,
+    ap (λ (p : TotalsPart). let o : Machine = record m { totals = p } in o) h.2,
+  )
 
--- a call of the totals' own that asks nothing of the disk has no changes
-asks_no_change : (part : TotalsPart) (n : ℕ) (c : Control) (asked : Call) → is_common asked ≡ false → AsksNothing part n c asked
-    → changes_asked part.totals n (file_call asked) ≡ []
-asks_no_change part n c (call.Set p v) own asks = cc
-asks_no_change part n c asked own asks = asks
-
--- behind its control's check, it leaves the disk alone exactly where the totals do
-spares_own : (m : Machine) (n : ℕ) (c : Control) (asked : Call) → is_common asked ≡ false → slice_get m.controls n ≡ Some c
-    → c.category ≡ category.HardTotals → IsLet m n c asked → SparesDisk m (CallOf n asked) → SparesFiles m.totals.totals n (file_call asked)
-spares_own m n c asked own found is lets spares = elim (rw found at spares) [
-  | inl refused ↦ inl (rw (totals_refusals m n c asked own is lets) at refused)
-  | inr asks ↦ inr (asks_no_change m.totals n c asked own asks)
-]
+  -- behind its control's check, it leaves the disk alone exactly where the totals do
+  spares_own : SparesDisk m (CallOf n asked) → SparesFiles m.totals.totals n (file_call asked)
+  spares_own spares = elim (rw found at spares) [
+    | inl refused ↦ inl (rw totals_refusals at refused)
+    | inr asks ↦ inr (by asked own asks)
+  ]
+    where
+      by : (a : Call) → is_common a ≡ false → AsksNothing m.totals n c a → changes_asked m.totals.totals n (file_call a) ≡ []
+      by (Set p v) own asks = cc
+      by a own asks = asks
 
 -- what isn't answered to be done wasn't done
 not_done : (outcome : Result Answer NoMemory) → IsUndone (answered outcome) → IsDone outcome → ⊥
-not_done (Ok (answer.Done given)) undone done = undone
-not_done (Ok (answer.Refused k x)) undone done = done
+not_done (Ok (Done given)) undone done = undone
+not_done (Ok (Refused k x)) undone done = done
 not_done (Err want) undone done = done
 
 -- a disk that a call has touched in which the totals stay ready
@@ -61,15 +53,15 @@ still_ready old (Ready files sequence) turns ready = turns
 -- a call of the totals' own that its control may make
 pub files_serve : {D P : Type 0} (bound : DiskGhosts D) (peripherals : Ghosts P) (old : Counter D P) (now : TotalsView D) (n : ℕ) (c : Control)
     (asked : Call) (outcome : Result Answer NoMemory)
-    → is_common asked ≡ false → slice_get (controls_of old.controls.items) n ≡ Some c → c.category ≡ category.HardTotals
+    → is_common asked ≡ false → slice_get (controls_of old.controls.items) n ≡ Some c → c.category ≡ HardTotals
     → ((left : List Standing) (failures : ℕ) → IsLet (machine peripherals old (part_with old.totals.totals left failures)) n c asked)
     → OnlyNow bound old.totals.disk → CallsFiles bound old.totals n asked outcome now → IsCounterSound peripherals old
     → Serves bound peripherals old (CallOf n asked) (answered outcome) (record old { totals = now })
 files_serve bound peripherals old now n c asked outcome own at is lets only (inl quiet) sound =
     quiet_serves bound peripherals old (record old { totals = now }) (CallOf n asked) (answered outcome) now.totals only quiet.disk refl quiet.is_settled
     sound sound.devices
-    (λ left failures so. called_step (machine peripherals old (part_with old.totals.totals left failures)) (part_with now.totals left failures) n c asked
-    outcome own at is (lets left failures) (quiet.answer left failures so))
+    (λ left failures so. called_step (machine peripherals old (part_with old.totals.totals left failures)) n c asked own at is (lets left failures)
+    (part_with now.totals left failures) outcome (quiet.answer left failures so))
 files_serve bound peripherals old now n c asked outcome own found is lets only (inr puts) sound = record {
   step = record {
     steps = λ left leaves.
@@ -77,8 +69,8 @@ files_serve bound peripherals old now n c asked outcome own found is lets only (
         record {
           after = f.after;
           leaves = f.leaves;
-          step = called_step (machine peripherals old (part_of bound old.totals left)) (part_of bound now f.after) n c asked outcome own found is
-              (lets left (bound.state old.totals.disk).failures) f.answer;
+          step = called_step (machine peripherals old (part_of bound old.totals left)) n c asked own found is
+              (lets left (bound.state old.totals.disk).failures) (part_of bound now f.after) outcome f.answer;
           any_moment = f.any_moment;
         };
     spared = λ left failures spares.

@@ -1,7 +1,5 @@
 -- A crash of a counter's disk leaves a prefix of the history.
-use Rattle.pos_service.specs.declared.request.Request.TheVariants as request
-use Rattle.pos_service.specs.declared.request.Response.TheVariants as response
-use Rattle.pos_counter.proofs.PrefixCounters.{has_begun, keeps_prefix, keeps_prefixes}
+use Rattle.pos_counter.proofs.PrefixRuns.{has_begun, keeps_prefix, keeps_prefixes}
 use Rattle.pos_counter.proofs.Runs.{runs_from}
 use Rattle.pos_counter.proofs.Serving.{beside_is_step}
 use Rattle.pos_counter.proofs.laws.crash_leaves_a_prefix.Goals as goal
@@ -10,16 +8,13 @@ pub returns-clause-begins : goal.returns-clause-begins
 returns-clause-begins g c layout start sequence is = has_begun g.D.Disk _ layout start sequence c.args.counter.now is
 
 pub returns-clause-call : goal.returns-clause-call
-returns-clause-call g c layout start sequence steps old past request response step =
-    keeps_prefix g.D.Disk _ layout start sequence steps old c.args.counter.now past request response step
+returns-clause-call g c layout start sequence steps old = keeps_prefix g.D.Disk _ layout start sequence steps old c.args.counter.now
 
 pub returns-clause-list : goal.returns-clause-list
-returns-clause-list g c layout start sequence steps more old past run =
-    keeps_prefixes g.D.Disk _ layout start sequence steps more old c.args.counter.now past run
+returns-clause-list g c layout start sequence steps more old = keeps_prefixes g.D.Disk _ layout start sequence steps more old c.args.counter.now
 
 pub returns-clause-moments : goal.returns-clause-moments
-returns-clause-moments g c left steps old leaves run =
-    runs_from g.D.Disk _ old c.args.counter.now steps left (λ disk bytes honest since. g.met.D.Disk.only_now disk bytes honest since) leaves run
+returns-clause-moments g c left steps old = runs_from g.D.Disk _ old c.args.counter.now steps left g.met.D.Disk.only_now
 
 pub returns-clause-beside : goal.returns-clause-beside
 returns-clause-beside g c old request response step =

@@ -1,5 +1,6 @@
 -- What an enabling finds where a crash has left a disk that stands for some files.
-use Rattle.pos_counter.proofs.Reopening.{disk_failed, few_stand, finds_them}
+use Rattle.pos_counter.proofs.Common.{limits_of}
+use Rattle.pos_counter.proofs.Reopening.{disk_failed, few_applied, finds_them}
 use Rattle.pos_counter.proofs.laws.enabling_finds_the_files.Goals as goal
 
 pub returns-clause-finds : goal.returns-clause-finds
@@ -10,4 +11,5 @@ pub returns-clause-failed : goal.returns-clause-failed
 returns-clause-failed c layout start sequence first last steps run is few next = disk_failed layout start sequence first last steps run is few next
 
 pub returns-clause-few : goal.returns-clause-few
-returns-clause-few c = few_stand
+returns-clause-few c layout files sequence bytes is =
+    few_applied (limits_of layout) is.base files is.texts is.directory.count is.applies

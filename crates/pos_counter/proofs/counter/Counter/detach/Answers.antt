@@ -1,18 +1,14 @@
-use Rattle.pos_counter.proofs.Common.{refl, registered}
-use Rattle.pos_counter.proofs.Exchanging.{detach_step}
-use Rattle.pos_counter.proofs.Serving.{beside_sound}
+use Rattle.pos_counter.proofs.Common.{arith, refl, registered, rules}
+use Rattle.std.proofs.lemmas.Grind.{common_steps}
+use Rattle.pos_counter.proofs.DeviceLists.{detach_step}
+use Rattle.pos_counter.proofs.Serving.{steps_beside}
 use Rattle.pos_counter.proofs.counter.Counter.detach.Goals as goal
 
-pub returns-clause-step : goal.returns-clause-step
-returns-clause-step g c =
+pub returns : goal.returns
+returns g c =
     let old = c.args.self.now in
-    record {
-      step = λ part. detach_step old.controls.items (registered g.P.Peripheral old.devices.registry) (registered g.P.Peripheral c.detach.new.self)
-          old.devices.totals c.args.name.now old.claims part g.P.Peripheral.state c.is_open-is_open.result c.detach.result
-          (rw c.deref.ensures.value at c.is_open-is_open.ensures) c.detach.ensures.detaches;
-      totals = refl;
-    }
-
-pub returns-clause-sound : goal.returns-clause-sound
-returns-clause-sound g c =
-    beside_sound g.P.Peripheral c.args.self.now _ _ _ (returns-clause-step g c) c.requires.sound (record { registry = c.detach.ensures.sound })
+    let both = steps_beside g.P.Peripheral old _ _ _ c.requires.sound (record { registry = c.detach.ensures.sound }) refl
+    (λ part. detach_step old.controls.items (registered g.P.Peripheral old.devices.registry) (registered g.P.Peripheral c.detach.new.self)
+    old.devices.totals c.args.name.now old.claims part g.P.Peripheral.state c.is_open-is_open.result c.detach.result
+    (rw c.deref.ensures.value at c.is_open-is_open.ensures) c.detach.ensures.detaches) in
+    record { step = both.step; parked = first_of (search rules, grind (arith, common_steps)); sound = both.sound }

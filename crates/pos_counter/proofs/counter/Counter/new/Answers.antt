@@ -1,7 +1,6 @@
-use Rattle.pos_counter.proofs.Common.{Device, IsSound, KeptControl, List, None, Option, [], ap, devices_in, length, machine_with, profile_devices, refl}
-use Rattle.pos_counter.proofs.Common.{registered, replicate, subst, sym, ℕ, ◌∙◌, ◌≡◌}
-use Rattle.std.proofs.lemmas.List.{length-replicate}
-use Rattle.pos_counter.proofs.Beginning.{begins_sound, count_devices}
+use Rattle.pos_counter.proofs.Common.{All-nil, Device, HasItsDevice, IsSound, KeptControl, List, None, Option, [], ap, devices_in, length, length-replicate}
+use Rattle.pos_counter.proofs.Common.{machine_with, profile_devices, refl, registered, replicate, subst, sym, ℕ, ◌∙◌, ◌≡◌}
+use Rattle.pos_counter.proofs.DeviceLists.{count_devices, kinds_hold}
 use Rattle.pos_counter.proofs.counter.Counter.new.Goals as goal
 
 pub returns-in-Ok-new-clause-begins : goal.returns-in-Ok-new-clause-begins
@@ -28,6 +27,10 @@ returns-in-Ok-new-clause-sound g c =
     record {
       machine = λ part. subst (λ (hs : List KeptControl). IsSound (machine_with hs c.in-Ok.claims (devices_in g.P.Peripheral devices) part))
           (sym c.new-in-Ok-new.ensures.items)
-          (begins_sound (registered g.P.Peripheral devices.registry) devices.totals c.in-Ok.claims part sound.registry.kinds sound.registry.served covers);
+          (record {
+            kinds = kinds_hold (registered g.P.Peripheral devices.registry) devices.totals sound.registry.kinds sound.registry.served;
+            places = All-nil (HasItsDevice (devices_in g.P.Peripheral devices));
+            covers = covers;
+          });
       devices = sound;
     }

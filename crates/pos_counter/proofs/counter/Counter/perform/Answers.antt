@@ -1,8 +1,6 @@
 use Rattle.pos_counter.proofs.Common.{◌++◌, All, All-nil, All-push, HandsOut, IsRun, List, OffersInService, [], ap, append-nil, append_assoc, arith, length}
-use Rattle.pos_counter.proofs.Common.{length_push, refl, request_of, response_of, reverse, rules, steps_of, subst, suc, sym, ◌∙◌, ◌∷◌, ◌≡◌}
-use Rattle.std.proofs.lemmas.List.{nil_from_length, reverse-append, reverse-reverse}
-use Rattle.pos_service.specs.declared.request.Request.TheVariants as request
-use Rattle.pos_service.specs.declared.request.Response.TheVariants as response
+use Rattle.pos_counter.proofs.Common.{length_push, nil_from_length, refl, request_of, response_of, reverse, reverse-append, reverse-reverse, rules, steps_of}
+use Rattle.pos_counter.proofs.Common.{subst, suc, sym, ◌∙◌, ◌∷◌, ◌≡◌}
 use Rattle.pos_counter.proofs.Runs.{runs_more, steps_push}
 use Rattle.pos_counter.proofs.counter.Counter.perform.Goals as goal
 
@@ -59,19 +57,17 @@ loop-request-preserved g c =
       },
     )
 
-pub returns-clause-run : goal.returns-clause-run
-returns-clause-run g c =
+pub returns : goal.returns
+returns g c =
     let (done, before) = c.loop-request.invariant in
     let empty : c.loop-request.waiting.items ≡ [] = nil_from_length _ (search rules) in
     let all = before.all ∙ ap (λ xs. done ++ reverse xs) empty ∙ append-nil done in
-    subst (λ qs. IsRun g.D.Disk g.P.Peripheral c.args.self.now (steps_of g.P.Peripheral qs c.loop-request.responses.items) c.loop-request.self)
-    (sym all) before.run
-
-pub returns-clause-whole : goal.returns-clause-whole
-returns-clause-whole g c =
-    let (done, before) = c.loop-request.invariant in
-    let empty : c.loop-request.waiting.items ≡ [] = nil_from_length _ (search rules) in
-    before.whole ∙ ap length (sym (before.all ∙ ap (λ xs. done ++ reverse xs) empty ∙ append-nil done))
-
-pub returns-clause-handed_out : goal.returns-clause-handed_out
-returns-clause-handed_out g c = c.loop-request.invariant.1.handed_out
+    record {
+      run = subst (λ qs. IsRun g.D.Disk g.P.Peripheral c.args.self.now (steps_of g.P.Peripheral qs c.loop-request.responses.items) c.loop-request.self)
+          (sym all) before.run;
+      whole = before.whole ∙ ap length (sym all);
+      handed_out = before.handed_out;
+      handed_back = tt;
+      unchanged = tt;
+      sound = before.sound;
+    }

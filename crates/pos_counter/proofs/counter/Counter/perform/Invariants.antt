@@ -1,5 +1,4 @@
-use Rattle.pos_counter.proofs.Common.{◌++◌, All, HandsOut, IsCounterSound, IsRun, List, OffersInService, length, reverse, steps_of, ℕ, ◌≡◌, ◌≤◌}
-use Rattle.std.specs.Prelude.{vec_capacity}
+use Rattle.pos_counter.proofs.Common.{◌++◌, All, HandsOut, IsCounterSound, IsRun, List, OffersInService, length, reverse, steps_of, vec_capacity, ℕ, ◌≡◌, ◌≤◌}
 use Rattle.pos_service.specs.declared.request.Request.{Request}
 use Rattle.pos_counter.proofs.counter.Counter.perform.Given as goal
 

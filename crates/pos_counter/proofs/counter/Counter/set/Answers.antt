@@ -1,4 +1,4 @@
-use Rattle.pos_counter.proofs.Common.{part_with, plain, refl, sym, ◌∙◌}
+use Rattle.pos_counter.proofs.Common.{part_with, refl, sym, ◌∙◌}
 use Rattle.pos_counter.proofs.Lifts.{kept_at, kept_same}
 use Rattle.pos_counter.proofs.Recovering.{plain_set}
 use Rattle.pos_counter.proofs.Serving.{quiet_serves}

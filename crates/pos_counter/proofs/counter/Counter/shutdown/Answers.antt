@@ -1,5 +1,5 @@
 use Rattle.pos_counter.proofs.Common.{All, IfSome, Registered, ap, device_of, map, registered, subst, sym, true, ◌∙◌, ◌≡◌}
-use Rattle.pos_counter.proofs.Parking.{all_parked, devices_stay}
+use Rattle.pos_counter.proofs.DeviceLists.{all_parked, devices_stay}
 use Rattle.pos_counter.proofs.counter.Counter.shutdown.Goals as goal
 
 pub returns-clause-entries : goal.returns-clause-entries

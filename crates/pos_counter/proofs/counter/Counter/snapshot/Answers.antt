@@ -1,11 +1,11 @@
-use Rattle.pos_counter.proofs.Common.{ap, is_some, machine, refl, sym}
+use Rattle.pos_counter.proofs.Common.{None, ap, is_some, machine, refl, sym}
 use Rattle.pos_counter.proofs.DeviceLists.{found_under_name}
-use Rattle.pos_counter.proofs.Hardware.{unnamed}
+use Rattle.pos_counter.proofs.Hardware.{named}
 use Rattle.pos_counter.proofs.counter.Counter.snapshot.Goals as goal
 
 pub returns-in_default : goal.returns-in_default
 returns-in_default g c = record {
-  step = λ part. (unnamed (machine g.P.Peripheral c.args.self.now part) c.args.device.now c.in_default.ensures, refl);
+  step = λ part. (named (machine g.P.Peripheral c.args.self.now part) c.args.device.now None c.in_default.ensures, refl);
   totals = refl;
 }
 
