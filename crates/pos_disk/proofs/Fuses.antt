@@ -1,10 +1,9 @@
 -- A disk whose failures are counted by the fuse over it.
-use Rattle.std.proofs.Common.{◌≡◌, inl, inr, ⊎_elim, ℕ, ◌+◌, ◌≤◌, ◌<◌, ◌^◌, List, arith, Ok, Err}
-use Rattle.std.proofs.lemmas.Bool.{cases_lt, cases_Bool}
-use Rattle.pos_disk.specs.State.{DiskState, Answer, Elapses, Rises, HasCause, Reads, Writes, Syncs}
-use Rattle.pos_disk.specs.Fuse.{Fuse, counted, is_blown, failures_after, after_call, with_failures, fuse_state, FuseReads, FuseWrites, FuseSyncs}
-use Rattle.pos_disk.proofs.Moments.{elapses_none}
+use Rattle.pos_disk.proofs.Common.{Answer, DiskState, Elapses, Err, Fuse, FuseReads, FuseSyncs, FuseWrites, HasCause, List, Ok, Reads, Rises, Syncs, Writes}
+use Rattle.pos_disk.proofs.Common.{after_call, arith, cases_Bool, cases_lt, counted, failures_after, fuse_state, inl, inr, is_blown, with_failures, ℕ, ⊎_elim}
+use Rattle.pos_disk.proofs.Common.{◌+◌, ◌<◌, ◌^◌, ◌≡◌, ◌≤◌}
 use Rattle.pos_disk.specs.declared.device.Disk.{Ghosts}
+use Rattle.pos_disk.proofs.Moments.{elapses_none}
 
 counts : (f : ℕ) → f < 2 ^ 64 → (f ≤ counted f) × ((counted f < 2 ^ 64) × Rises f (counted f))
 counts f fits = elim (cases_lt (f + 1) (2 ^ 64)) [

@@ -1,8 +1,6 @@
 -- How a run of disk calls goes on.
-use Rattle.std.proofs.Common.{◌≡◌, inl, inr, ⊎_elim, ℕ, List, length, get_or, ◌∙◌, ap, arith, Result}
-use Rattle.std.proofs.lemmas.List.{ext_get_or}
-use Rattle.pos_disk.specs.State.{DiskState, IsAtRest, MayLeave, Elapses, Reads, Syncs, LeavesOnly, Watches}
-use Rattle.pos_disk.specs.declared.device.DiskFault.{DiskFault}
+use Rattle.pos_disk.proofs.Common.{DiskFault, DiskState, Elapses, IsAtRest, LeavesOnly, List, MayLeave, Reads, Result, Syncs, Watches, ap, arith, ext_get_or}
+use Rattle.pos_disk.proofs.Common.{get_or, inl, inr, length, ℕ, ⊎_elim, ◌∙◌, ◌≡◌}
 
 -- no call
 pub elapses_none : (disk : DiskState) → Elapses disk disk

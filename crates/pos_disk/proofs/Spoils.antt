@@ -1,11 +1,8 @@
 -- Several calls that may leave any bytes within one range, which is loose afterwards.
-use Rattle.std.proofs.Common.{◌≡◌, inl, ⊎_elim, ℕ, ◌+◌, ◌-◌, ◌≤◌, ◌/◌, List, length, take, get_or, sym, ◌∙◌, ap, arith, Result, Ok, Err, OnOk}
-use Rattle.std.proofs.lemmas.Bool.{cases_lt}
-use Rattle.std.proofs.lemmas.List.{length-take-le, ext_get_or}
-use Rattle.pos_disk.specs.State.{DiskState, MayLeave, Rises, HasCause, Reads, Writes, splice, part}
-use Rattle.pos_disk.specs.Fuse.{Spoils, Loosens, PutsHalf}
-use Rattle.pos_disk.specs.declared.device.DiskFault.{DiskFault}
-use Rattle.pos_disk.proofs.Bytes.{in_range, length-splice, spliced_within, splice_elsewhere, length-part, get_or-part}
+use Rattle.pos_disk.proofs.Common.{DiskFault, DiskState, Err, HasCause, List, Loosens, MayLeave, Ok, OnOk, PutsHalf, Reads, Result, Rises, Spoils, Writes, ap}
+use Rattle.pos_disk.proofs.Common.{arith, cases_lt, ext_get_or, get_or, inl, length, length-take-le, part, splice, sym, take, ℕ, ⊎_elim, ◌+◌, ◌-◌, ◌/◌, ◌∙◌}
+use Rattle.pos_disk.proofs.Common.{◌≡◌, ◌≤◌}
+use Rattle.pos_disk.proofs.Bytes.{get_or-part, in_range, length-part, length-splice, splice_elsewhere, spliced_within}
 
 -- a read spoils nothing
 pub spoils_read : {T : Type 0} (old new : DiskState) (place : ℕ) (out : List ℕ) (result : Result T DiskFault) (at : ℕ)

@@ -1,4 +1,4 @@
-use Rattle.std.proofs.Common.{rules, ◌≡◌, ◌+◌, ◌≤◌, ◌-◌, ◌/◌, length, arith}
+use Rattle.pos_disk.proofs.Common.{arith, length, rules, ◌+◌, ◌-◌, ◌/◌, ◌≡◌, ◌≤◌}
 use Rattle.pos_disk.proofs.Spoils.{puts_half}
 use Rattle.pos_disk.proofs.fuse.put_half.Goals as goal
 

@@ -1,4 +1,4 @@
-use Rattle.std.proofs.Common.{rules}
+use Rattle.pos_disk.proofs.Common.{rules}
 use Rattle.pos_disk.proofs.Fuses.{fuse_syncs}
 use Rattle.pos_disk.proofs.fuse.FuseDiskDisk.sync.Goals as goal
 

@@ -1,4 +1,4 @@
-use Rattle.std.proofs.Common.{rules}
+use Rattle.pos_disk.proofs.Common.{rules}
 use Rattle.pos_disk.proofs.Fuses.{fuse_writes}
 use Rattle.pos_disk.proofs.fuse.FuseDiskDisk.write.Goals as goal
 
