@@ -1,19 +1,17 @@
 -- The words of specifications and of the standard library that the proofs of this crate cite, passed on from one place.
 pub use Rattle.std.proofs.Common.{Bool, Err, List, Ok, OnOk, Result, [], ap, append_assoc, arith, cond, drop, false, get_or, inl, inr, length, length-append}
-pub use Rattle.std.proofs.Common.{refl, replicate, rules, subst, suc, sym, take, true, zero, ℕ, ⊎_elim, ◌++◌, ◌+◌, ◌-◌, ◌/◌, ◌<◌, ◌==◌, ◌^◌, ◌↔◌, ◌∙◌, ◌∷◌, ◌≡◌}
-pub use Rattle.std.proofs.Common.{◌≤◌, ◌⊎◌}
-pub use Rattle.std.proofs.lemmas.Bool.{cases_Bool, cases_lt}
+pub use Rattle.std.proofs.Common.{refl, replicate, rules, subst, suc, sym, take, true, zero, ℕ, ⊎_elim, ◌++◌, ◌+◌, ◌-◌, ◌<◌, ◌==◌, ◌^◌, ◌↔◌, ◌∙◌, ◌∷◌, ◌≡◌, ◌≤◌}
+pub use Rattle.std.proofs.Common.{◌⊎◌}
+pub use Rattle.std.proofs.lemmas.Bool.{cases_lt}
 pub use Rattle.std.proofs.lemmas.Bool.Decides.{nat_tests}
 pub use Rattle.std.proofs.lemmas.Grind.{common_steps, elements}
 pub use Rattle.std.proofs.lemmas.List.{drop-map, drop-take, drop_at, ext_get_or, get_or-append_right, get_or_append_left, get_or_default, length-map}
-pub use Rattle.std.proofs.lemmas.List.{length-replicate, length-take-le, map-append, take_at}
+pub use Rattle.std.proofs.lemmas.List.{length-replicate, map-append, take_at}
 pub use Rattle.std.specs.List.{list_any, take-map}
-pub use Rattle.pos_disk.specs.Fuse.{Fuse, FuseReads, FuseSyncs, FuseWrites, Loosens, PutsHalf, Spoils, after_call, counted, failures_after, fuse_state}
-pub use Rattle.pos_disk.specs.Fuse.{is_blown, with_failures}
+pub use Rattle.pos_disk.specs.Fuse.{Loosens, Spoils}
 pub use Rattle.pos_disk.specs.Memory.{LeftAt, LeftSince, Memory, Moment, choose, filled, fresh, state_of, synced, written}
 pub use Rattle.pos_disk.specs.Stamps.{IsKept, IsSaved, loose_by, memory_of, moment_of}
-pub use Rattle.pos_disk.specs.State.{Answer, DiskState, Elapses, HasCause, InRange, IsAtRest, LeavesOnly, MayLeave, Reads, Rises, Syncs, Watches, Writes, part}
-pub use Rattle.pos_disk.specs.State.{splice}
+pub use Rattle.pos_disk.specs.State.{DiskState, Elapses, HasCause, InRange, IsAtRest, LeavesOnly, MayLeave, Reads, Rises, Syncs, Watches, Writes, part, splice}
 pub use Rattle.pos_disk.specs.declared.device.DiskFault.{DiskFault}
 pub use base.Logic.{SProp, emp, ent, fst∗, via}
 pub use contract.Monad.{Fun}

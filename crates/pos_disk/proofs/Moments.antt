@@ -2,10 +2,6 @@
 use Rattle.pos_disk.proofs.Common.{DiskFault, DiskState, Elapses, IsAtRest, LeavesOnly, List, MayLeave, Reads, Result, Syncs, Watches, ap, arith, ext_get_or}
 use Rattle.pos_disk.proofs.Common.{get_or, inl, inr, length, ℕ, ⊎_elim, ◌∙◌, ◌≡◌}
 
--- no call
-pub elapses_none : (disk : DiskState) → Elapses disk disk
-elapses_none disk = record { later = omega arith; keeps = λ t c le left. left; nothing_else = λ t c le left. inl left }
-
 -- before the first call
 pub started : (disk : DiskState) (P : List ℕ → Type 0) → ((c : List ℕ) → disk.left_since disk.moment c → P c) → LeavesOnly disk disk P
 started disk P here = record { later = omega arith; each = here; before = λ t c le left. inl left }
