@@ -1,9 +1,5 @@
-use Rattle.std.proofs.Common.{◌≡◌, false, arith, rules}
+use Rattle.pos_image.proofs.Common.{CrashClosing, SameBut, arith, false, followed_by, is_open, rules, start, weaker, ◌≡◌}
 use Rattle.std.proofs.lemmas.Grind.{common_steps}
-use Rattle.pos_disk.specs.Within.{SameBut}
-use Rattle.pos_disk.proofs.Moments.{followed_by, weaker}
-use Rattle.pos_image.specs.DiskCalls.{CrashClosing}
-use Rattle.pos_image.specs.Layout.{is_open, start}
 use Rattle.pos_image.proofs.Staged.{closing_stages, writing_stages}
 use Rattle.pos_image.proofs.disk_calls.place_image.Goals as goal
 

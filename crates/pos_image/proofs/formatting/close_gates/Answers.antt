@@ -1,10 +1,7 @@
-use Rattle.std.proofs.Common.{◌≡◌, ◌≤◌, ◌<◌, ◌+◌, ℕ, inl, inr, length, get_or, arith, rules}
-use Rattle.std.proofs.lemmas.Bool.{cases_lt}
+use Rattle.pos_image.proofs.Common.{GATES, SameBut, arith, cases_lt, get_or, inl, inr, length, rules, ℕ, ◌+◌, ◌<◌, ◌≡◌, ◌≤◌}
 use Rattle.std.proofs.lemmas.List.Elements.{All-get_or}
-use Rattle.pos_disk.specs.Within.{SameBut}
-use Rattle.pos_image.specs.declared.formatting.TheConstants.{GATES}
-use Rattle.pos_image.proofs.NewDisk.{stays_closed}
 use Rattle.pos_image.proofs.Changes.{written_gate}
+use Rattle.pos_image.proofs.NewDisk.{stays_closed}
 use Rattle.pos_image.proofs.Staged.{where_ok}
 use Rattle.pos_image.proofs.formatting.close_gates.Goals as goal
 

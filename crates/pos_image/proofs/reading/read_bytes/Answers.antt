@@ -1,4 +1,4 @@
-use Rattle.pos_disk.proofs.Moments.{watches_read}
+use Rattle.pos_image.proofs.Common.{watches_read}
 use Rattle.pos_image.proofs.reading.read_bytes.Goals as goal
 
 pub returns-clause-watches : goal.returns-clause-watches
