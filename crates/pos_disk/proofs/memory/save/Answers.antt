@@ -1,4 +1,4 @@
-use Rattle.pos_disk.proofs.Common.{arith, false, sym, ◌+◌, ◌-◌, ◌∙◌, ◌≡◌}
+use Rattle.pos_disk.proofs.Common.{arith, sym, ◌+◌, ◌-◌, ◌∙◌, ◌≡◌}
 use Rattle.pos_disk.proofs.Written.{saved_at_once}
 use Rattle.pos_disk.proofs.memory.save.Goals as goal
 
