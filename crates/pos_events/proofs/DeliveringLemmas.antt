@@ -1,6 +1,6 @@
 -- Which event of a queue's list may be delivered, and what is left.
 use Rattle.pos_events.proofs.Common.{All, All-append, All-cons, All-head, All-nil, All-tail, All-take, Bool, Data, Enqueued, EventList, Fits, IsSome, List}
-use Rattle.pos_events.proofs.Common.{None, Option, Other, Scan, Some, Told, [], after_reply, ap, append-nil, append_assoc, arith, before_first, delivered, drop}
+use Rattle.pos_events.proofs.Common.{None, Option, Other, Scan, Some, [], after_reply, ap, append-nil, append_assoc, arith, before_first, delivered, drop}
 use Rattle.pos_events.proofs.Common.{drop-drop, events_in, false, first_told, input_error, is_waiting, lead, left_by, map, one_less, option_map, refl, split}
 use Rattle.pos_events.proofs.Common.{suc, take, take-add, take-append-drop, told_event, true, waiting_in, weave, with_input_data, without_first, ℕ, ◌++◌, ◌+◌}
 use Rattle.pos_events.proofs.Common.{◌-◌, ◌<◌, ◌∷◌, ◌≡◌, ◌≢◌}
@@ -8,7 +8,6 @@ use Rattle.pos_events.specs.Waiting.{first_waiting}
 use Rattle.pos_service.specs.declared.event.ErrorReply.{ErrorReply}
 use Rattle.std.specs.Option.{option_to_list}
 use Rattle.pos_service.specs.declared.event.Locus.TheVariants as locus
-use Rattle.pos_service.specs.declared.event.Event.TheVariants as event
 use Rattle.pos_events.specs.declared.queue.delivering.Waiting.TheVariants as waiting
 
 -- it waits
@@ -24,9 +23,6 @@ pub all_wait : (scans : List Scan) (in_error : Bool) → All IsWaiting (waiting_
 all_wait scans false = scans_wait scans
 all_wait scans true = All-append IsWaiting (map Data scans) (input_error locus.Input ∷ []) (scans_wait scans)
     (All-cons IsWaiting (input_error locus.Input) [] refl (All-nil IsWaiting))
-
-told_goes : (event : Told) → is_waiting (told_event event) ≡ false
-told_goes event = grind arith
 
 -- a list whose first events wait
 split_behind : (front rest : List Enqueued) (event : Enqueued) → All IsWaiting front → is_waiting event ≡ false
@@ -66,14 +62,14 @@ deliverable_woven : (waiting : List Enqueued) (others : List Other) → All IsWa
 deliverable_woven waiting [] w = rw (split_none waiting w)
 deliverable_woven waiting (other ∷ others) w =
     rw (split_behind (take other.before waiting) (weave (drop other.before waiting) others) (told_event other.event)
-    (All-take IsWaiting other.before waiting w) (told_goes other.event))
+    (All-take IsWaiting other.before waiting w) (grind arith))
 
 left_woven : (waiting : List Enqueued) (others : List Other) → All IsWaiting waiting
     → left_by false (weave waiting others) ≡ weave waiting (without_first others)
 left_woven waiting [] w = rw (split_none waiting w) (append-nil waiting)
 left_woven waiting (other ∷ others) w =
     rw (split_behind (take other.before waiting) (weave (drop other.before waiting) others) (told_event other.event)
-    (All-take IsWaiting other.before waiting w) (told_goes other.event)) (weave_lead waiting others other.before)
+    (All-take IsWaiting other.before waiting w) (grind arith)) (weave_lead waiting others other.before)
 
 pub deliverable_told : (input_data in_error : Bool) (scans : List Scan) (others : List Other)
     → (split false (events_in input_data (waiting_in scans in_error) others)).deliverable ≡ option_map told_event (first_told others)

@@ -1,7 +1,7 @@
 -- The records that a span begins with, as they are read.
 use Rattle.pos_log.proofs.Common.{AllByRecursion, BeginsWith, HasLength, HoldsSome, IsShort, List, [], ap, append-nil, arith, drop, drop-drop, false, get_or}
 use Rattle.pos_log.proofs.Common.{get_or-drop, length, length-append, length-drop, nat_eq, nat_tests, part, record_spelling, refl, spelling, suc, sym, take}
-use Rattle.pos_log.proofs.Common.{take-append-drop, take_at, ℕ, ◌++◌, ◌+◌, ◌<◌, ◌∙◌, ◌∷◌, ◌≡◌}
+use Rattle.pos_log.proofs.Common.{take-append-drop, take_at, ℕ, ◌++◌, ◌<◌, ◌∙◌, ◌∷◌, ◌≡◌}
 use Rattle.pos_log.proofs.Unique.{others_follow, span_split}
 
 -- nothing has been read yet

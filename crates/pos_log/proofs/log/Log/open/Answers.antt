@@ -1,4 +1,4 @@
-use Rattle.pos_log.proofs.Common.{View, ap, arith, layout_of, log_of, log_place, log_size, places, span_length, ◌-◌, ◌≡◌}
+use Rattle.pos_log.proofs.Common.{ap, arith, layout_of, log_of, log_place, log_size, places, span_length, ◌-◌, ◌≡◌}
 use Rattle.pos_log.proofs.Parsing.{whole_read}
 use Rattle.pos_log.proofs.log.Log.open.Given.{Over}
 use Rattle.pos_log.proofs.log.Log.open.Goals.{After-read_records}
@@ -32,16 +32,3 @@ pub returns-in-Ok-read_records-clause-records : goal.returns-in-Ok-read_records-
 returns-in-Ok-read_records-clause-records g c honest =
     let here = (goal.at.returns-in-Ok-read_records-clause-records g c).After-read_records in
     rw (read_is g here honest) at c.in-Ok-read_records.ensures.held
-
-pub returns-in-Ok-read_records-clause-ready : goal.returns-in-Ok-read_records-clause-ready
-returns-in-Ok-read_records-clause-ready g c =
-    let here = (goal.at.returns-in-Ok-read_records-clause-ready g c).After-read_records in
-    record {
-      images = c.in-Ok-log_read.ensures.ready c.requires;
-      records = λ honest.
-          let was = c.log_read.ensures.keeps.honest.1 honest in
-          let place = ap (λ (im : View g.row.D.Denot). log_place (layout_of im.slot)) c.log_read.ensures.same in
-          let from = from_is g here in
-          let held = rw (read_is g here was, ← (c.log_read.ensures.any_moment was).reading) at c.in-Ok-read_records.ensures.held in
-          (_, held, omega (arith, place, from, c.in-Ok-read_records.ensures.end));
-    }
