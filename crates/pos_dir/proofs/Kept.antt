@@ -48,7 +48,15 @@ are_distinct-remove : (files : List File) (i : ℕ) → are_distinct files ≡ t
 are_distinct-remove [] i distinct = simp (take-nil, drop-nil)
 are_distinct-remove (f ∷ files) zero distinct = grind (arith, nat_tests)
 are_distinct-remove (f ∷ files) (suc i) distinct =
-    grind (arith, nat_tests, free files f.name, free (remove files i) f.name, list_all-remove (λ x. not (bytes_eq x.name f.name)) files i, are_distinct-remove files i)
+    grind (
+      arith,
+      nat_tests,
+      free files f.name,
+      free (remove files i) f.name,
+      list_all-remove
+          (λ x. not (bytes_eq x.name f.name)) files i,
+      are_distinct-remove files i,
+    )
 
 -- a file with a new name
 are_distinct-set : (files : List File) (i : ℕ) (file : File) → are_distinct files ≡ true → has_name files file.name ≡ false
@@ -56,7 +64,16 @@ are_distinct-set : (files : List File) (i : ℕ) (file : File) → are_distinct 
 are_distinct-set [] i file distinct new = refl
 are_distinct-set (f ∷ files) zero file distinct new = grind (arith, nat_tests)
 are_distinct-set (f ∷ files) (suc i) file distinct new =
-    grind (arith, nat_tests, free files f.name, free (set files i file) f.name, list_all-set (λ x. not (bytes_eq x.name f.name)) files i file, are_distinct-set files i file, differs f.name file.name)
+    grind (
+      arith,
+      nat_tests,
+      free files f.name,
+      free (set files i file) f.name,
+      list_all-set
+          (λ x. not (bytes_eq x.name f.name)) files i file,
+      are_distinct-set files i file,
+      differs f.name file.name,
+    )
 
 -- a file with the name that it had
 has_name-same : (files : List File) (i : ℕ) (old new : File) (name : List ℕ) → slice_get files i ≡ Some old → new.name ≡ old.name

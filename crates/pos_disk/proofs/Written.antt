@@ -47,8 +47,8 @@ module _ (bytes saved stamps : List ℕ) (stamp at n : ℕ) (kept : IsKept bytes
       let was = settled_at bytes saved stamps stamp kept.stamps_length kept.saved_length in
       ext_get_or 0 _ _ (length_now ∙ size ∙ sym (length_settled bytes saved stamps stamp kept.stamps_length kept.saved_length)) (λ i inside.
       let here = in_range at n i in
-      let elsewhere = splice_elsewhere bytes new at i in
-      grind (arith, nat_tests, settled i, was i, length_now, size, here, inside_bears i, outside_same i, save.saved i, save.kept i, save.elsewhere i, elsewhere))
+      let rest = splice_elsewhere bytes new at i in
+      grind (arith, nat_tests, settled i, was i, length_now, size, here, inside_bears i, outside_same i, save.saved i, save.kept i, save.elsewhere i, rest))
 
   -- and the disk is the one that was written to
   pub is_written : (past : List Moment)

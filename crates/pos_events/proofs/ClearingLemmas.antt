@@ -61,7 +61,8 @@ errors_woven waiting (other ∷ others) count k =
     let kept = errors_woven (drop n waiting) others 0 (All-drop IsKept n waiting k) in
     let front = all_stay (take n waiting) (All-take IsKept n waiting k) in
     let around = filter-append is_kept (take n waiting) (told_event other.event ∷ rest) in
-    rw (regroup waiting others count other.before (told_event other.event)) (grind (arith, around, filter-append is_kept (take n waiting) rest, deleted, front, kept))
+    rw (regroup waiting others count other.before (told_event other.event))
+    (grind (arith, around, filter-append is_kept (take n waiting) rest, deleted, front, kept))
 
 -- EL_INPUT_DATA stays
 input_data_stays : (events : List Enqueued) → filter is_kept (with_input_data events) ≡ with_input_data (filter is_kept events)
@@ -71,7 +72,8 @@ input_data_stays (event ∷ events) = grind (arith, input_data_stays events)
 stays : (in_error : Bool) (scans : List Scan) (others : List Other)
     → filter is_kept (weave (waiting_in scans in_error) others) ≡ weave (waiting_in scans in_error) (without_errors 0 others)
 stays in_error scans others =
-    errors_woven (waiting_in scans in_error) others 0 (All-weaker IsWaiting IsKept (λ event w. grind arith) (waiting_in scans in_error) (all_wait scans in_error))
+    errors_woven (waiting_in scans in_error) others 0
+    (All-weaker IsWaiting IsKept (λ event w. grind arith) (waiting_in scans in_error) (all_wait scans in_error))
 
 pub errors_deleted : (input_data in_error : Bool) (scans : List Scan) (others after : List Other) → after ≡ without_errors 0 others
     → list_of input_data in_error scans after ≡ output_cleared (list_of input_data in_error scans others)

@@ -77,7 +77,8 @@ module _ {D : Type 0} (bound : Ghosts D) (images : View D) (tail : ℕ) (group :
 
       there : bound.honest images.disk → part (place + 1) (5 + length group) (log_of (bound.state disk).reading) ≡ text_behind_gate group
       there honest =
-          rw (← (text_length group), put honest) (part-splice (log_of old.reading) (text_behind_gate group) (place + 1) (omega (arith, in_span honest, text_length group)))
+          rw (← (text_length group), put honest) (part-splice (log_of old.reading) (text_behind_gate group) (place + 1)
+          (omega (arith, in_span honest, text_length group)))
 
       -- and of the second
       all_moments : bound.honest images.disk → IsKept (bound.state end)

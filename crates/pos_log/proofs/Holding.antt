@@ -22,7 +22,13 @@ record_here : (place : ℕ) (span group : List ℕ) → get_or span place 0 ≡ 
 record_here place span group byte length_is group_is fits =
     let front = drop-cons span place 0 (omega arith) in
     let gate_is : part place 1 span ≡ 165 ∷ [] = rw (front, byte) in
-    rw (part_in_two place 1 (4 + length group) (place + 1) span refl, part_in_two (place + 1) 4 (length group) (place + 5) span (omega arith), gate_is, length_is)
+    rw (
+      part_in_two place 1 (4 + length group) (place + 1) span refl,
+      part_in_two (place + 1) 4 (length group) (place + 5) span
+          (omega arith),
+      gate_is,
+      length_is,
+    )
     (ap (λ (l : List ℕ). 165 ∷ (to_be_bytes w32 (length group) ++ l)) group_is)
 
 -- one record more

@@ -18,4 +18,5 @@ returns-then-size-room g c = λ files same.
 pub returns : goal.returns
 returns g c = λ files same.
     rw c.push.ensures.items
-    (create_made c.args.limits c.args.outlines.now.items files (record { name = c.args.name; size = c.args.size }) same (grind arith) (grind arith) (grind arith))
+    (create_made c.args.limits c.args.outlines.now.items files (record { name = c.args.name; size = c.args.size }) same (grind arith) (grind arith)
+    (grind arith))

@@ -12,14 +12,16 @@ IsBehind slot old new = IsRun (start slot + 1) (slot_size (layout_of slot) - 1) 
 first_run : (g : Over) (c : After-write g) → g.D.Disk.honest c.args.disk.now
     → IsBehind c.args.slot (g.D.Disk.state c.args.disk.now) (g.D.Disk.state c.write.new.self)
 first_run g c honest =
-    run_write (omega (arith, c.start-at.ensures)) (omega (arith, places c.args.slot, c.start-at.ensures, ap length c.head_of.ensures)) (c.write.ensures.writes honest)
+    run_write (omega (arith, c.start-at.ensures)) (omega (arith, places c.args.slot, c.start-at.ensures, ap length c.head_of.ensures))
+    (c.write.ensures.writes honest)
     (run_start (c.requires.at_rest honest) (λ f left. g.met.D.Disk.only_now c.args.disk.now f honest left))
 
 second_run : (g : Over) (c : After-write-2 g) → g.D.Disk.honest c.args.disk.now
     → IsBehind c.args.slot (g.D.Disk.state c.args.disk.now) (g.D.Disk.state c.write.new.self)
     → IsBehind c.args.slot (g.D.Disk.state c.args.disk.now) (g.D.Disk.state c.write-2.new.self)
 second_run g c honest run =
-    run_write (omega (arith, c.start-at.ensures)) (omega (arith, places c.args.slot, c.start-at.ensures, c.requires.short)) (c.write-2.ensures.writes (c.write.ensures.honest.0 honest)) run
+    run_write (omega (arith, c.start-at.ensures)) (omega (arith, places c.args.slot, c.start-at.ensures, c.requires.short))
+    (c.write-2.ensures.writes (c.write.ensures.honest.0 honest)) run
 
 third_run : (g : Over) (c : After-write-3 g) → g.D.Disk.honest c.args.disk.now
     → IsBehind c.args.slot (g.D.Disk.state c.args.disk.now) (g.D.Disk.state c.write-2.new.self)
@@ -27,7 +29,8 @@ third_run : (g : Over) (c : After-write-3 g) → g.D.Disk.honest c.args.disk.now
 third_run g c honest run =
     let here = places c.args.slot in
     let log_is = c.log.ensures ∙ ap log_place c.layout.ensures in
-    run_write (omega (arith, c.start-at.ensures)) (omega (arith, c.start-at.ensures)) (c.write-3.ensures.writes (c.write-2.ensures.honest.0 (c.write.ensures.honest.0 honest))) run
+    run_write (omega (arith, c.start-at.ensures)) (omega (arith, c.start-at.ensures))
+    (c.write-3.ensures.writes (c.write-2.ensures.honest.0 (c.write.ensures.honest.0 honest))) run
 
 pub returns-in_err-write-clause-any_moment : goal.returns-in_err-write-clause-any_moment
 returns-in_err-write-clause-any_moment g c honest = (first_run g (goal.at.returns-in_err-write-clause-any_moment g c).After-write honest).moments

@@ -25,7 +25,8 @@ loop-preserved c =
       | in-Some+else-not-is_error w ↦
           let other = w.in-Some.other in
           rw (w.self-is, w.before-is) record {
-            removing = removing_error start rest items _ (get_or start c.loop.counter other) other c.loop.before (next other) w.in-Some.ensures.items (grind arith);
+            removing = removing_error start rest items _ (get_or start c.loop.counter other) other c.loop.before (next other) w.in-Some.ensures.items
+                (grind arith);
             len = omega (arith, w.in-Some.ensures.len);
             capacity = grind arith;
             behind = c.loop.invariant.behind;
