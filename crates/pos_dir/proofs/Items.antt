@@ -1,14 +1,8 @@
 -- Items read one behind the other, and the loops that read them.
-use Rattle.std.proofs.Common.{◌≡◌, ℕ, zero, suc, ◌+◌, ◌-◌, ◌≤◌, List, [], ◌∷◌, ◌++◌, length, Option, Some, None, refl, sym, ap, subst, ◌∙◌, append_assoc}
-use Rattle.std.proofs.Common.{arith, ◌<◌, ◌^◌, Bool, true, cond}
-use Rattle.std.specs.Int.{w16, to_be_bytes}
-use Rattle.std.specs.List.{flat_map, AllByRecursion}
-use Rattle.std.specs.Prelude.{IsSome, IfSome}
-use Rattle.std.proofs.lemmas.Bool.{false≢true}
-use Rattle.std.proofs.lemmas.List.{append-nil}
-use Rattle.pos_dir.specs.Fields.{◌>>=◌, number_at}
-use Rattle.pos_dir.specs.Reading.{items_at, is_end}
-use Rattle.pos_dir.proofs.Readers.{IsBytes, IsReader, Takes, Takes-then, bind_some, passed, some_is, u16_reads}
+use Rattle.pos_dir.proofs.Common.{AllByRecursion, Bool, File, List, None, Option, Some, [], ap, append-nil, append_assoc, arith, cond, end_within, flat_map}
+use Rattle.pos_dir.proofs.Common.{is_end, items_at, leb, length, nat_tests, number_at, option_map, refl, subst, suc, sum_by-cons, to_be_bytes, true, w16, zero}
+use Rattle.pos_dir.proofs.Common.{ℕ, ◌++◌, ◌+◌, ◌-◌, ◌<◌, ◌>>=◌, ◌^◌, ◌∙◌, ◌∷◌, ◌≡◌, ◌≤◌}
+use Rattle.pos_dir.proofs.Readers.{IsBytes, IsReader, bind_some, passed, step, u16_reads}
 
 -- an item before those that were read
 abbrev pub with_first : {A : Type 0} → A → Option (List A × List ℕ) → Option (List A × List ℕ)
@@ -23,20 +17,18 @@ with_front front read = read >>= λ others. Some (front ++ others.0, others.1)
 module _ {A : Type 0} {read : List ℕ → Option (A × List ℕ)} {spell : A → List ℕ} {Fits : A → Type 0} (reads : IsReader read spell Fits) where
   -- items that were read are spelled so, one behind the other
   pub items_take : (count : ℕ) (bytes : List ℕ) (xs : List A) (rest : List ℕ) → IsBytes bytes → items_at read count bytes ≡ Some (xs, rest)
-      → Takes bytes (flat_map spell xs) rest × (length xs ≡ count) × AllByRecursion Fits xs
+      → (bytes ≡ flat_map spell xs ++ rest) × (length xs ≡ count) × AllByRecursion Fits xs
   unfolding items_at
   items_take zero bytes xs rest fits e =
-      subst (λ (y : List A × List ℕ). Takes bytes (flat_map spell y.0) y.1 × (length y.0 ≡ 0) × AllByRecursion Fits y.0)
-      (some_is ([], bytes) (xs, rest) e) (record { parts = refl; rest_fits = fits }, refl, tt)
-  items_take (suc count) bytes xs rest fits e =
-      let a = bind_some (read bytes) (λ first. items_at read count first.1 >>= λ others. Some (first.0 ∷ others.0, others.1)) (xs, rest) e in
-      let b = bind_some (items_at read count a.0.1) (λ others. Some (a.0.0 ∷ others.0, others.1)) (xs, rest) a.2 in
-      let first = reads.takes bytes a.0.0 a.0.1 fits a.1 in
-      let second = items_take count a.0.1 b.0.0 b.0.1 first.0.rest_fits b.1 in
-      let joined = Takes-then bytes (spell a.0.0) a.0.1 (flat_map spell b.0.0) b.0.1 first.0 second.0 in
-      subst (λ (y : List A × List ℕ). Takes bytes (flat_map spell y.0) y.1 × (length y.0 ≡ suc count) × AllByRecursion Fits y.0)
-      (some_is (a.0.0 ∷ b.0.0, b.0.1) (xs, rest) b.2)
-      (joined, ap suc second.1, (first.1, second.2))
+      let none : [] ≡ xs = grind arith in
+      rw (← none) (grind arith, refl, tt)
+  items_take (suc count) bytes xs rest fits e = step reads bytes fits e (λ first.
+      let others = bind_some (items_at read count first.rest) _ (xs, rest) first.on in
+      let second = items_take count first.rest others.0.0 others.0.1 first.bytes_left others.1 in
+      let all : first.x ∷ others.0.0 ≡ xs = grind (arith, others.2) in
+      let left : others.0.1 ≡ rest = grind (arith, others.2) in
+      subst (λ (ys : List A). (bytes ≡ flat_map spell ys ++ rest) × (length ys ≡ suc count) × AllByRecursion Fits ys) all
+      (cc (append_assoc (spell first.x) (flat_map spell others.0.0) others.0.1), ap suc second.1, (first.fits, second.2)))
 
   -- items that are spelled one behind the other are read
   pub items_again : (xs : List A) (rest : List ℕ) → AllByRecursion Fits xs → items_at read (length xs) (flat_map spell xs ++ rest) ≡ Some (xs, rest)
@@ -61,21 +53,17 @@ module _ {A : Type 0} {read : List ℕ → Option (A × List ℕ)} {spell : A �
   pub counted_take : ((x : List A × List ℕ) → keeps x ≡ true → is_end x.1 ≡ true) → (bytes : List ℕ) (xs : List A) → IsBytes bytes
       → counted read keeps bytes ≡ Some xs
       → (keeps (xs, []) ≡ true) × AllByRecursion Fits xs × (length xs < 2 ^ 16) × (bytes ≡ to_be_bytes w16 (length xs) ++ flat_map spell xs)
-  counted_take ends bytes xs fits e =
-      let a = bind_some (number_at w16 bytes) (λ count. items_at read count.0 count.1 >>= λ x. cond (keeps x) (Some x.0) None) xs e in
-      let b = bind_some (items_at read a.0.0 a.0.1) (λ x. cond (keeps x) (Some x.0) None) xs a.2 in
-      let g = passed (keeps b.0) b.0.0 xs b.2 in
-      let none = ended b.0.1 (ends b.0 g.0) in
-      let first = u16_reads.takes bytes a.0.0 a.0.1 fits a.1 in
-      let second = items_take reads a.0.0 a.0.1 b.0.0 b.0.1 first.0.rest_fits b.1 in
-      let parts = (Takes-then bytes (to_be_bytes w16 a.0.0) a.0.1 (flat_map spell b.0.0) b.0.1 first.0 second.0).parts in
+  counted_take ends bytes xs fits e = step u16_reads bytes fits e (λ count.
+      let items = bind_some (items_at read count.x count.rest) _ xs count.on in
+      let g = passed (keeps items.0) items.0.0 xs items.2 in
+      let none = ended items.0.1 (ends items.0 g.0) in
+      let second = items_take reads count.x count.rest items.0.0 items.0.1 count.bytes_left items.1 in
       rw (← g.1) (
-        subst (λ (r : List ℕ). keeps (b.0.0, r) ≡ true) none g.0,
+        subst (λ (r : List ℕ). keeps (items.0.0, r) ≡ true) none g.0,
         second.2,
-        omega (arith, first.1, second.1),
-        parts ∙ ap (λ (r : List ℕ). (to_be_bytes w16 a.0.0 ++ flat_map spell b.0.0) ++ r) none ∙ append-nil (to_be_bytes w16 a.0.0 ++ flat_map spell b.0.0)
-            ∙ ap (λ (k : ℕ). to_be_bytes w16 k ++ flat_map spell b.0.0) (sym second.1),
-      )
+        omega (arith, count.fits, second.1),
+        cc (append-nil (flat_map spell items.0.0)),
+      ))
 
   -- and what is spelled so is read
   pub counted_again : (xs : List A) → length xs < 2 ^ 16 → AllByRecursion Fits xs → keeps (xs, []) ≡ true
@@ -88,30 +76,41 @@ module _ {A : Type 0} {read : List ℕ → Option (A × List ℕ)} {spell : A �
 pub length_items : {A : Type 0} (read : List ℕ → Option (A × List ℕ)) (count : ℕ) (bytes : List ℕ) (x : List A × List ℕ)
     → items_at read count bytes ≡ Some x → length x.0 ≡ count
 unfolding items_at
-length_items {A = A} read zero bytes x e = ap (λ (y : List A × List ℕ). length y.0) (sym (some_is ([], bytes) x e))
-length_items {A = A} read (suc count) bytes x e =
-    let a = bind_some (read bytes) (λ first. items_at read count first.1 >>= λ others. Some (first.0 ∷ others.0, others.1)) x e in
-    let b = bind_some (items_at read count a.0.1) (λ others. Some (a.0.0 ∷ others.0, others.1)) x a.2 in
-    ap (λ (y : List A × List ℕ). length y.0) (sym (some_is (a.0.0 ∷ b.0.0, b.0.1) x b.2)) ∙ ap suc (length_items read count a.0.1 b.0 b.1)
+length_items read zero bytes x e = grind arith
+length_items read (suc count) bytes x e =
+    let a = bind_some (read bytes) _ x e in
+    let b = bind_some (items_at read count a.0.1) _ x a.2 in
+    grind (arith, b.2, length_items read count a.0.1 b.0 b.1)
+
+-- one more item behind those that were read
+pub items_push : {A : Type 0} (read : List ℕ → Option (A × List ℕ)) (count : ℕ) (bytes : List ℕ) (xs : List A) (rest : List ℕ) (x : A) (after : List ℕ)
+    → items_at read count bytes ≡ Some (xs, rest) → read rest ≡ Some (x, after) → items_at read (suc count) bytes ≡ Some (xs ++ x ∷ [], after)
+unfolding items_at
+items_push read zero bytes xs rest x after e more =
+    let none : [] ≡ xs = grind arith in
+    let same : bytes ≡ rest = grind arith in
+    rw (same, ← none, more) refl
+items_push read (suc count) bytes xs rest x after e more =
+    let a = bind_some (read bytes) _ (xs, rest) e in
+    let b = bind_some (items_at read count a.0.1) _ (xs, rest) a.2 in
+    let next = items_push read count a.0.1 b.0.0 b.0.1 x after b.1 (grind (arith, b.2)) in
+    grind (arith, a.1, b.2, next)
+
+-- where the bytes behind items are told, some items were read
+pub some_read : {A : Type 0} (read : Option (List A × List ℕ)) (end : List ℕ) → Some end ≡ option_map (λ x. x.1) read
+    → (items : List A) × (read ≡ Some (items, end))
+some_read None end at = absurd cc
+some_read (Some x) end at = (x.0, grind arith)
 
 -- ---- a loop over a count
 
--- an item that is read is the first of those to come
-pub one_more : {A : Type 0} (read : List ℕ → Option (A × List ℕ)) (count i : ℕ) (bytes : List ℕ) (x : A) (after : List ℕ) → i < count
-    → read bytes ≡ Some (x, after)
-    → items_at read (count - i) bytes ≡ with_first x (items_at read (count - (i + 1)) after)
+-- the next item is the first of those to come
+pub items_next : {A : Type 0} (read : List ℕ → Option (A × List ℕ)) (count i : ℕ) (bytes : List ℕ) → i < count
+    → items_at read (count - i) bytes ≡ (read bytes >>= λ first. with_first first.0 (items_at read (count - (i + 1)) first.1))
 unfolding items_at
-one_more read count i bytes x after lt e =
+items_next read count i bytes lt =
     let k : count - i ≡ suc (count - (i + 1)) = omega arith in
-    rw (k, e) refl
-
--- where no item is read, none are
-pub none_more : {A : Type 0} (read : List ℕ → Option (A × List ℕ)) (count i : ℕ) (bytes : List ℕ) → i < count → read bytes ≡ None
-    → items_at read (count - i) bytes ≡ None
-unfolding items_at
-none_more read count i bytes lt e =
-    let k : count - i ≡ suc (count - (i + 1)) = omega arith in
-    rw (k, e) refl
+    rw k refl
 
 -- at the count nothing is to come
 pub no_more : {A : Type 0} (read : List ℕ → Option (A × List ℕ)) (count i : ℕ) (bytes : List ℕ) → count ≤ i → items_at read (count - i) bytes ≡ Some ([], bytes)
@@ -126,36 +125,8 @@ pub front-first : {A : Type 0} (front : List A) (x : A) (read : Option (List A �
 front-first front x None = refl
 front-first {A = A} front x (Some others) = ap (λ (xs : List A). Some (xs, others.1)) (simp append_assoc)
 
--- ---- a loop that keeps what it read
-
--- one more item is kept in front of those that are left to read
-pub kept_more : {A : Type 0} (read : List ℕ → Option (A × List ℕ)) (front : List A) (count i : ℕ) (bytes : List ℕ) (x : A) (after : List ℕ)
-    (total : Option (List A × List ℕ)) → i < count → Some (x, after) ≡ read bytes
-    → with_front front (items_at read (count - i) bytes) ≡ total → with_front (front ++ x ∷ []) (items_at read (count - (i + 1)) after) ≡ total
-kept_more read front count i bytes x after total lt e so_far =
-    sym (front-first front x (items_at read (count - (i + 1)) after)) ∙ ap (with_front front) (sym (one_more read count i bytes x after lt (sym e))) ∙ so_far
-
-not_none : {X : Type 0} (o : Option X) → (None ≡ o → ⊥) → IsSome o
-not_none None never = absurd (never refl)
-not_none (Some x) never = refl
-
--- where some items are to be read, the next is
-pub must_read : {A : Type 0} (read : List ℕ → Option (A × List ℕ)) (front : List A) (count i : ℕ) (bytes : List ℕ) (total : Option (List A × List ℕ))
-    → i < count
-    → with_front front (items_at read (count - i) bytes) ≡ total → IsSome total → IsSome (read bytes)
-must_read {A = A} read front count i bytes total lt so_far some = not_none (read bytes) (λ e.
-    let none : with_front front (items_at read (count - i) bytes) ≡ None = ap (with_front front) (none_more read count i bytes lt (sym e)) in
-    let never : IsSome {T = List A × List ℕ} None = subst (λ (o : Option (List A × List ℕ)). IsSome o) (sym so_far ∙ none) some in
-    false≢true never)
-
--- where none is left to read, those that were kept are all
-pub kept_all : {A : Type 0} (read : List ℕ → Option (A × List ℕ)) (front : List A) (count i : ℕ) (bytes : List ℕ) (total : Option (List A × List ℕ)) → count ≤ i
-    → with_front front (items_at read (count - i) bytes) ≡ total → IfSome total (λ x. front ≡ x.0)
-kept_all {A = A} read front count i bytes total le so_far =
-    let all : with_front front (items_at read (count - i) bytes) ≡ Some (front ++ [], bytes) = ap (with_front front) (no_more read count i bytes le) in
-    subst (λ (o : Option (List A × List ℕ)). IfSome o (λ x. front ≡ x.0)) (sym all ∙ so_far) (sym (append-nil front))
-
--- items equal to those that were read are these
-pub same_items : {A : Type 0} (read : Option (List A × List ℕ)) (xs ys : List A) (rest : List ℕ) → IfSome read (λ x. xs ≡ x.0)
-    → read ≡ Some (ys, rest) → xs ≡ ys
-same_items {A = A} read xs ys rest all e = subst (λ (o : Option (List A × List ℕ)). IfSome o (λ x. xs ≡ x.0)) e all
+-- a file takes room from those behind it
+pub end_first : (room : ℕ) (file : File) (read : Option (List File × List ℕ))
+    → end_within room (with_first file read) ≡ cond (leb (length file.bytes) room) (end_within (room - length file.bytes) read) None
+end_first room file None = grind (arith, nat_tests)
+end_first room file (Some x) = grind (arith, nat_tests, sum_by-cons (λ (f : File). length f.bytes) file x.0)

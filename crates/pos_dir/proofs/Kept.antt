@@ -1,82 +1,17 @@
 -- A change that is applicable leaves the files of a directory.
-use Rattle.std.proofs.Common.{◌≡◌, ℕ, zero, suc, ◌+◌, ◌<◌, ◌≤◌, Bool, true, false, List, [], ◌∷◌, ◌++◌, length, drop, get_or, set}
-use Rattle.std.proofs.Common.{Some, Result, Ok, Err, refl, sym, ap, ◌∙◌, arith, length-append}
-use Rattle.std.specs.Prelude.{slice_get, remove}
-use Rattle.std.specs.List.{list_all, AllByRecursion}
-use Rattle.std.proofs.lemmas.List.Elements.{All-from_recursion}
-use Rattle.std.specs.Str.{bytes_eq}
-use Rattle.std.proofs.lemmas.Bool.Decides.{nat_tests}
-use Rattle.std.proofs.lemmas.List.{at_drop_more, length-set}
-use Rattle.std.proofs.Math.Seq.{take-nil, drop-nil}
+use Rattle.pos_dir.proofs.Common.{AllByRecursion, Bool, Change, DirectoryFault, Err, File, IsChange, IsDirectory, Limits, List, Ok, Result, Shape, Some, []}
+use Rattle.pos_dir.proofs.Common.{and_then, ap, are_distinct, arith, at_drop_more, bytes_eq, drop, drop-nil, false, get_or, get_or_from_slice_get, has_name}
+use Rattle.pos_dir.proofs.Common.{is_name, length, length-append, length-set, list_all, nat_tests, not, outcome, outcome_of_all, refl, remove, set, slice_get}
+use Rattle.pos_dir.proofs.Common.{slice_get_within, suc, sum_by-remove, sum_by-set, sum_by_push, sym, take-nil, total_size, true, zero, ℕ, ◌++◌, ◌+◌, ◌<◌, ◌∙◌}
+use Rattle.pos_dir.proofs.Common.{◌∷◌, ◌≡◌, ◌≤◌}
 use Rattle.std.proofs.lemmas.List.Edits.{length-remove}
-use Rattle.std.proofs.lemmas.List.Folds.{list_all-append}
-use Rattle.std.proofs.lemmas.List.Sums.{sum_by_push, sum_by-set, sum_by-remove}
-use Rattle.std.proofs.lemmas.Option.{slice_get_within, get_or_from_slice_get}
+use Rattle.std.proofs.lemmas.List.Elements.{All-from_recursion}
+use Rattle.std.proofs.lemmas.List.Folds.{list_all-append, list_any-append}
 use Rattle.std.proofs.lemmas.Slice.Eq.{bytes_eq-Decides}
-use Rattle.pos_dir.specs.declared.file.File.{File}
-use Rattle.pos_dir.specs.declared.limits.Limits.{Limits}
-use Rattle.pos_dir.specs.declared.change.Change.{Change}
-use Rattle.pos_dir.specs.declared.fault.DirectoryFault.{DirectoryFault}
-use Rattle.pos_dir.specs.Files.{is_name, has_name, are_distinct, total_size, IsDirectory}
-use Rattle.pos_dir.specs.Changes.{outcome, and_then, outcome_of_all, IsChange}
 use Rattle.pos_dir.proofs.Outcomes.{Makes, makes}
 use Rattle.pos_dir.proofs.Outcomes.Makes.{Adds, Removes, Renames, Rewrites}
 
--- ---- names
-
-differs : (a b : List ℕ) → bytes_eq a b ≡ false → bytes_eq b a ≡ false
-differs a b h = grind (arith, nat_tests, bytes_eq-Decides a b, bytes_eq-Decides b a)
-
-has_name-append : (files : List File) (file : File) (name : List ℕ) → has_name files name ≡ false → bytes_eq file.name name ≡ false
-    → has_name (files ++ file ∷ []) name ≡ false
-has_name-append [] file name old new = grind (arith, nat_tests)
-has_name-append (f ∷ files) file name old new = grind (arith, nat_tests, has_name-append files file name)
-
-pub are_distinct-append : (files : List File) (file : File) → are_distinct files ≡ true → has_name files file.name ≡ false
-    → are_distinct (files ++ file ∷ []) ≡ true
-are_distinct-append [] file distinct new = refl
-are_distinct-append (f ∷ files) file distinct new =
-    grind (arith, nat_tests, are_distinct-append files file, has_name-append files file f.name, differs f.name file.name)
-
-has_name-remove : (files : List File) (i : ℕ) (name : List ℕ) → has_name files name ≡ false → has_name (remove files i) name ≡ false
-has_name-remove [] i name old = simp (take-nil, drop-nil)
-has_name-remove (f ∷ files) zero name old = grind (arith, nat_tests)
-has_name-remove (f ∷ files) (suc i) name old = grind (arith, nat_tests, has_name-remove files i name)
-
-are_distinct-remove : (files : List File) (i : ℕ) → are_distinct files ≡ true → are_distinct (remove files i) ≡ true
-are_distinct-remove [] i distinct = simp (take-nil, drop-nil)
-are_distinct-remove (f ∷ files) zero distinct = grind (arith, nat_tests)
-are_distinct-remove (f ∷ files) (suc i) distinct = grind (arith, nat_tests, has_name-remove files i f.name, are_distinct-remove files i)
-
-has_name-set : (files : List File) (i : ℕ) (file : File) (name : List ℕ) → has_name files name ≡ false → bytes_eq file.name name ≡ false
-    → has_name (set files i file) name ≡ false
-has_name-set [] i file name old new = refl
-has_name-set (f ∷ files) zero file name old new = grind (arith, nat_tests)
-has_name-set (f ∷ files) (suc i) file name old new = grind (arith, nat_tests, has_name-set files i file name)
-
--- a file with a new name
-are_distinct-set : (files : List File) (i : ℕ) (file : File) → are_distinct files ≡ true → has_name files file.name ≡ false
-    → are_distinct (set files i file) ≡ true
-are_distinct-set [] i file distinct new = refl
-are_distinct-set (f ∷ files) zero file distinct new = grind (arith, nat_tests)
-are_distinct-set (f ∷ files) (suc i) file distinct new =
-    grind (arith, nat_tests, are_distinct-set files i file, has_name-set files i file f.name, differs f.name file.name)
-
--- a file with the name that it had
-has_name-same : (files : List File) (i : ℕ) (old new : File) (name : List ℕ) → slice_get files i ≡ Some old → new.name ≡ old.name
-    → has_name (set files i new) name ≡ has_name files name
-has_name-same [] i old new name at same = refl
-has_name-same (f ∷ files) zero old new name at same = cc
-has_name-same (f ∷ files) (suc i) old new name at same = cc (has_name-same files i old new name at same)
-
-are_distinct-same : (files : List File) (i : ℕ) (old new : File) → slice_get files i ≡ Some old → new.name ≡ old.name
-    → are_distinct (set files i new) ≡ are_distinct files
-are_distinct-same [] i old new at same = refl
-are_distinct-same (f ∷ files) zero old new at same = cc
-are_distinct-same (f ∷ files) (suc i) old new at same =
-    rw (has_name-same files i old new f.name at same, are_distinct-same files i old new at same) refl
-
--- ---- names that are good
+-- ---- a test of all files
 
 list_all-remove : (p : File → Bool) (files : List File) (i : ℕ) → list_all p files ≡ true → list_all p (remove files i) ≡ true
 list_all-remove p [] i good = simp (take-nil, drop-nil)
@@ -93,6 +28,67 @@ list_all-at p [] i file at good = absurd cc
 list_all-at p (f ∷ files) zero file at good = grind (arith, nat_tests)
 list_all-at p (f ∷ files) (suc i) file at good = grind (arith, nat_tests, list_all-at p files i file at)
 
+-- ---- names
+
+-- no file has the name where each has another
+free : (files : List File) (name : List ℕ) → not (has_name files name) ≡ list_all (λ file. not (bytes_eq file.name name)) files
+free [] name = refl
+free (f ∷ files) name = grind (arith, nat_tests, free files name)
+
+differs : (a b : List ℕ) → bytes_eq a b ≡ false → bytes_eq b a ≡ false
+differs a b h = grind (arith, nat_tests, bytes_eq-Decides a b, bytes_eq-Decides b a)
+
+pub are_distinct-append : (files : List File) (file : File) → are_distinct files ≡ true → has_name files file.name ≡ false
+    → are_distinct (files ++ file ∷ []) ≡ true
+are_distinct-append [] file distinct new = refl
+are_distinct-append (f ∷ files) file distinct new =
+    grind (arith, nat_tests, are_distinct-append files file, list_any-append (λ (x : File). bytes_eq x.name f.name) files, differs f.name file.name)
+
+are_distinct-remove : (files : List File) (i : ℕ) → are_distinct files ≡ true → are_distinct (remove files i) ≡ true
+are_distinct-remove [] i distinct = simp (take-nil, drop-nil)
+are_distinct-remove (f ∷ files) zero distinct = grind (arith, nat_tests)
+are_distinct-remove (f ∷ files) (suc i) distinct =
+    grind (
+      arith,
+      nat_tests,
+      free files f.name,
+      free (remove files i) f.name,
+      list_all-remove
+          (λ x. not (bytes_eq x.name f.name)) files i,
+      are_distinct-remove files i,
+    )
+
+-- a file with a new name
+are_distinct-set : (files : List File) (i : ℕ) (file : File) → are_distinct files ≡ true → has_name files file.name ≡ false
+    → are_distinct (set files i file) ≡ true
+are_distinct-set [] i file distinct new = refl
+are_distinct-set (f ∷ files) zero file distinct new = grind (arith, nat_tests)
+are_distinct-set (f ∷ files) (suc i) file distinct new =
+    grind (
+      arith,
+      nat_tests,
+      free files f.name,
+      free (set files i file) f.name,
+      list_all-set
+          (λ x. not (bytes_eq x.name f.name)) files i file,
+      are_distinct-set files i file,
+      differs f.name file.name,
+    )
+
+-- a file with the name that it had
+has_name-same : (files : List File) (i : ℕ) (old new : File) (name : List ℕ) → slice_get files i ≡ Some old → new.name ≡ old.name
+    → has_name (set files i new) name ≡ has_name files name
+has_name-same [] i old new name at same = refl
+has_name-same (f ∷ files) zero old new name at same = cc
+has_name-same (f ∷ files) (suc i) old new name at same = cc (has_name-same files i old new name at same)
+
+are_distinct-same : (files : List File) (i : ℕ) (old new : File) → slice_get files i ≡ Some old → new.name ≡ old.name
+    → are_distinct (set files i new) ≡ are_distinct files
+are_distinct-same [] i old new at same = refl
+are_distinct-same (f ∷ files) zero old new at same = cc
+are_distinct-same (f ∷ files) (suc i) old new at same =
+    rw (has_name-same files i old new f.name at same, are_distinct-same files i old new at same) refl
+
 -- ---- a file that keeps its size
 
 total_size-set : (files : List File) (i : ℕ) (old new : File) → slice_get files i ≡ Some old → length new.bytes ≡ length old.bytes
@@ -105,16 +101,6 @@ total_size-set files i old new at same =
 
 total_size-remove : (files : List File) (i : ℕ) (old : File) → slice_get files i ≡ Some old → total_size (remove files i) ≤ total_size files
 total_size-remove files i old at = omega (arith, sum_by-remove (λ (x : File). length x.bytes) files i old (slice_get_within files i old at))
-
--- a file in the place of another: with its name and size
-replaced : (limits : Limits) (files : List File) (i : ℕ) (old new : File) → IsDirectory limits files → slice_get files i ≡ Some old
-    → new.name ≡ old.name → length new.bytes ≡ length old.bytes → IsDirectory limits (set files i new)
-replaced limits files i old new was at name size = record {
-  count = omega (arith, length-set files i new, was.count);
-  size = omega (arith, total_size-set files i old new at size, was.size);
-  named = list_all-set (λ file. is_name file.name) files i new was.named (ap is_name name ∙ list_all-at (λ file. is_name file.name) files i old at was.named);
-  distinct = are_distinct-same files i old new at name ∙ was.distinct;
-}
 
 -- ---- each change
 
@@ -138,7 +124,13 @@ made_directory limits files next change was takes (Renames i old file at good ne
   named = list_all-set (λ x. is_name x.name) files i file was.named (good takes.flawless);
   distinct = are_distinct-set files i file was.distinct new;
 })
-made_directory limits files next change was takes (Rewrites i old file at name size e) = rw (← e) (replaced limits files i old file was at name size)
+made_directory limits files next change was takes (Rewrites i old file at shape e) = rw (← e) (record {
+  count = omega (arith, length-set files i file, was.count);
+  size = omega (arith, total_size-set files i old file at (ap (λ (s : Shape). s.size) shape), was.size);
+  named = list_all-set (λ x. is_name x.name) files i file was.named
+      (ap (λ (s : Shape). is_name s.name) shape ∙ list_all-at (λ x. is_name x.name) files i old at was.named);
+  distinct = are_distinct-same files i old file at (ap (λ (s : Shape). s.name) shape) ∙ was.distinct;
+})
 
 -- A change that a group takes and that is applicable leaves the files of a directory.
 pub changed : (limits : Limits) (files next : List File) (change : Change) → IsDirectory limits files → IsChange change
@@ -165,7 +157,7 @@ few_made : (limits : Limits) (files next : List File) (change : Change) → leng
 few_made limits files next change was (Adds file good new few small e) = rw (← e) (omega (arith, length-append files (file ∷ []), few))
 few_made limits files next change was (Removes i old at e) = rw (← e) (omega (arith, length-remove files i (slice_get_within files i old at), was))
 few_made limits files next change was (Renames i old file at good new size e) = rw (← e) (omega (arith, length-set files i file, was))
-few_made limits files next change was (Rewrites i old file at name size e) = rw (← e) (omega (arith, length-set files i file, was))
+few_made limits files next change was (Rewrites i old file at shape e) = rw (← e) (omega (arith, length-set files i file, was))
 
 -- Changes that are applicable leave no more files than the limits allow.
 pub few_after_all : (limits : Limits) (files next : List File) (changes : List Change) → length files ≤ limits.files

@@ -1,10 +1,10 @@
+pub mod Common
 pub mod Outcomes
 pub mod Kept
 pub mod Readers
 pub mod Items
 pub mod Directories
 pub mod Groups
-pub mod Loops
 pub mod Outlined
 pub mod Applied
 pub mod Passing

@@ -1,11 +1,6 @@
 -- Bytes written over others, and parts of bytes.
-use Rattle.std.proofs.Common.{◌≡◌, ◌⊎◌, ℕ, ◌+◌, ◌-◌, ◌≤◌, ◌<◌, List, length, drop, get_or, arith}
-use Rattle.std.proofs.Common.{append_assoc}
-use Rattle.std.proofs.lemmas.Bool.{cases_lt}
-use Rattle.std.proofs.lemmas.List.{take_at, drop_at, get_or-append_right, get_or_append_left}
-use Rattle.std.proofs.lemmas.List.{drop-take}
-use Rattle.std.proofs.lemmas.Grind.{common_steps, elements}
-use Rattle.pos_disk.specs.State.{InRange, splice, part}
+use Rattle.pos_disk.proofs.Common.{InRange, List, append_assoc, arith, cases_lt, common_steps, drop, drop-take, drop_at, elements, get_or, get_or-append_right}
+use Rattle.pos_disk.proofs.Common.{get_or_append_left, length, part, splice, take_at, ℕ, ◌+◌, ◌-◌, ◌<◌, ◌≡◌, ◌≤◌, ◌⊎◌}
 
 -- place i is in the range or not
 pub in_range : (at n i : ℕ) → InRange at n i ⊎ (¬ (InRange at n i))

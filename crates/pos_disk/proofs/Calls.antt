@@ -1,13 +1,9 @@
 -- What the calls of a disk in memory do, in the terms of every disk.
-use Rattle.std.proofs.Common.{◌≡◌, ◌⊎◌, inl, inr, ⊎_elim, ℕ, ◌+◌, ◌≤◌, ◌<◌, List, [], ◌∷◌, ◌++◌, true, false, length, replicate, get_or, refl}
-use Rattle.std.proofs.Common.{◌∙◌, arith, length-append, Ok}
+use Rattle.pos_disk.proofs.Common.{Elapses, HasCause, InRange, LeftAt, LeftSince, List, Memory, Moment, Ok, Syncs, Writes, [], arith, cases_lt, common_steps}
+use Rattle.pos_disk.proofs.Common.{false, get_or, get_or_append_left, get_or_default, inl, inr, length, length-append, length-replicate, refl, replicate}
+use Rattle.pos_disk.proofs.Common.{splice, state_of, synced, true, written, ℕ, ⊎_elim, ◌++◌, ◌+◌, ◌<◌, ◌∙◌, ◌∷◌, ◌≡◌, ◌≤◌, ◌⊎◌}
 use Rattle.std.proofs.Math.Seq.{get_or-append_seam}
-use Rattle.std.proofs.lemmas.Bool.{cases_lt}
-use Rattle.std.proofs.lemmas.List.{get_or_append_left, get_or_default, length-replicate}
-use Rattle.std.proofs.lemmas.Grind.{common_steps}
-use Rattle.pos_disk.specs.State.{InRange, Elapses, HasCause, Writes, Syncs, splice}
-use Rattle.pos_disk.specs.Memory.{Moment, Memory, LeftAt, LeftSince, state_of, written, synced}
-use Rattle.pos_disk.proofs.Bytes.{in_range, length-splice, spliced_within, spliced_elsewhere}
+use Rattle.pos_disk.proofs.Bytes.{in_range, length-splice, spliced_elsewhere, spliced_within}
 
 -- one moment more has gone by
 module _ (past : List Moment) (present next : Moment) where

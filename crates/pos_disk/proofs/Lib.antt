@@ -1,6 +1,6 @@
+pub mod Common
 pub mod Bytes
 mod Calls
-mod Fuses
 pub mod Moments
 pub mod Spoils
 mod Stamps

@@ -1,12 +1,6 @@
 -- How a run of disk calls goes on.
-use Rattle.std.proofs.Common.{◌≡◌, inl, inr, ⊎_elim, ℕ, List, length, get_or, ◌∙◌, ap, arith, Result}
-use Rattle.std.proofs.lemmas.List.{ext_get_or}
-use Rattle.pos_disk.specs.State.{DiskState, IsAtRest, MayLeave, Elapses, Reads, Syncs, LeavesOnly, Watches}
-use Rattle.pos_disk.specs.declared.device.DiskFault.{DiskFault}
-
--- no call
-pub elapses_none : (disk : DiskState) → Elapses disk disk
-elapses_none disk = record { later = omega arith; keeps = λ t c le left. left; nothing_else = λ t c le left. inl left }
+use Rattle.pos_disk.proofs.Common.{DiskFault, DiskState, Elapses, IsAtRest, LeavesOnly, List, MayLeave, Reads, Result, Syncs, Watches, ap, arith, ext_get_or}
+use Rattle.pos_disk.proofs.Common.{get_or, inl, inr, length, ℕ, ⊎_elim, ◌∙◌, ◌≡◌}
 
 -- before the first call
 pub started : (disk : DiskState) (P : List ℕ → Type 0) → ((c : List ℕ) → disk.left_since disk.moment c → P c) → LeavesOnly disk disk P

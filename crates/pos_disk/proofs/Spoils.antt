@@ -1,11 +1,7 @@
 -- Several calls that may leave any bytes within one range, which is loose afterwards.
-use Rattle.std.proofs.Common.{◌≡◌, inl, ⊎_elim, ℕ, ◌+◌, ◌-◌, ◌≤◌, ◌/◌, List, length, take, get_or, sym, ◌∙◌, ap, arith, Result, Ok, Err, OnOk}
-use Rattle.std.proofs.lemmas.Bool.{cases_lt}
-use Rattle.std.proofs.lemmas.List.{length-take-le, ext_get_or}
-use Rattle.pos_disk.specs.State.{DiskState, MayLeave, Rises, HasCause, Reads, Writes, splice, part}
-use Rattle.pos_disk.specs.Fuse.{Spoils, Loosens, PutsHalf}
-use Rattle.pos_disk.specs.declared.device.DiskFault.{DiskFault}
-use Rattle.pos_disk.proofs.Bytes.{in_range, length-splice, spliced_within, splice_elsewhere, length-part, get_or-part}
+use Rattle.pos_disk.proofs.Common.{DiskFault, DiskState, Err, HasCause, List, Loosens, MayLeave, Ok, OnOk, Reads, Result, Rises, Spoils, Writes, ap, arith}
+use Rattle.pos_disk.proofs.Common.{cases_lt, ext_get_or, get_or, inl, length, part, splice, sym, ℕ, ⊎_elim, ◌+◌, ◌-◌, ◌∙◌, ◌≡◌, ◌≤◌}
+use Rattle.pos_disk.proofs.Bytes.{get_or-part, in_range, length-part, length-splice, splice_elsewhere, spliced_within}
 
 -- a read spoils nothing
 pub spoils_read : {T : Type 0} (old new : DiskState) (place : ℕ) (out : List ℕ) (result : Result T DiskFault) (at : ℕ)
@@ -79,20 +75,3 @@ module _ {T : Type 0} (old mid read new : DiskState) (at n : ℕ) (out : List �
             let same = splice-part mid.reading (at + n) (length out) (omega (arith, one, fits)) in
             cc (written, reads.reading, is_read, same, so_far.kept halves.0);
       }
-
--- half of the bytes, and then the rest of the places
-pub puts_half : {T : Type 0} (old mid new : DiskState) (at : ℕ) (bytes : List ℕ) (result : Result T DiskFault) → at + length bytes ≤ length old.reading
-    → Writes old mid at (take (length bytes / 2) bytes) result → Loosens mid new (at + length bytes / 2) (length bytes - length bytes / 2)
-    → PutsHalf old new at bytes
-puts_half old mid new at bytes result fits writes rest =
-    let half = length bytes / 2 in
-    let short : length (take half bytes) ≡ half = length-take-le half bytes (omega arith) in
-    let front : Spoils old mid at half = rw (← short) (spoils_write old mid at (take half bytes) result writes) in
-    let whole : length bytes ≡ half + (length bytes - half) = omega arith in
-    record {
-      spoils = rw whole (spoils_on old mid new at half (length bytes - half) front rest.spoils);
-      later = omega (arith, writes.cause.later, rest.later);
-      half = λ no_failure.
-          let steps = steady old.failures mid.failures new.failures writes.cause.later rest.later no_failure in
-          rest.kept steps.1 ∙ succeeded old mid result _ writes.cause steps.0 writes.written;
-    }

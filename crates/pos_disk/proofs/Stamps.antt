@@ -1,11 +1,6 @@
 -- The stamps of a disk in memory, and its saved bytes.
-use Rattle.std.proofs.lemmas.Bool.Decides.{nat_tests}
-use Rattle.std.proofs.Common.{◌≡◌, ℕ, zero, suc, ◌<◌, List, [], ◌∷◌, Bool, true, false, cond, ◌==◌, length, replicate, get_or, refl, ◌∙◌, ap}
-use Rattle.std.proofs.Common.{arith}
-use Rattle.std.proofs.lemmas.List.{length-map, ext_get_or}
-use Rattle.std.proofs.lemmas.Grind.{common_steps}
-use Rattle.pos_disk.specs.Memory.{Moment, choose, fresh, LeftAt}
-use Rattle.pos_disk.specs.Stamps.{loose_by, memory_of, IsSaved}
+use Rattle.pos_disk.proofs.Common.{Bool, IsSaved, LeftAt, List, Moment, [], ap, arith, choose, common_steps, cond, ext_get_or, false, fresh, get_or, length}
+use Rattle.pos_disk.proofs.Common.{length-map, loose_by, memory_of, nat_tests, refl, replicate, suc, true, zero, ℕ, ◌<◌, ◌==◌, ◌∙◌, ◌∷◌, ◌≡◌}
 
 -- a place is loose where it bears the present stamp
 pub loose_is : (stamp : ℕ) (stamps : List ℕ) (i : ℕ) → i < length stamps → get_or (loose_by stamp stamps) i false ≡ (get_or stamps i 0 == stamp)
@@ -28,6 +23,16 @@ choose_at (true ∷ loose) (x ∷ xs) (y ∷ ys) (suc i) long same = choose_at l
 choose_at (false ∷ loose) (x ∷ xs) (y ∷ ys) (suc i) long same = choose_at loose xs ys i (omega arith) (omega arith)
 choose_at loose xs ys i long same = absurd (omega arith)
 
+-- so where each place bears a stamp, those that bear the present one have their saved bytes
+module _ (bytes saved stamps : List ℕ) (stamp : ℕ) (long : length stamps ≡ length bytes) (same : length saved ≡ length bytes) where
+  pub length_settled : length (choose (loose_by stamp stamps) saved bytes) ≡ length bytes
+  length_settled = length-choose (loose_by stamp stamps) saved bytes (length-map stamps (λ s. s == stamp) ∙ long) same
+
+  pub settled_at : (i : ℕ) → i < length bytes
+      → get_or (choose (loose_by stamp stamps) saved bytes) i 0 ≡ cond (get_or stamps i 0 == stamp) (get_or saved i 0) (get_or bytes i 0)
+  settled_at i inside =
+      rw (← loose_is stamp stamps i (omega (arith, long))) (choose_at (loose_by stamp stamps) saved bytes i (length-map stamps (λ s. s == stamp) ∙ long) same)
+
 -- a crash may leave whatever is chosen at the loose places
 pub choose_left : (moment : Moment) (xs : List ℕ) → length moment.loose ≡ length moment.reading → length xs ≡ length moment.reading
     → LeftAt moment (choose moment.loose xs moment.reading)
@@ -41,16 +46,8 @@ module _ (bytes stamps old new : List ℕ) (stamp : ℕ) (long : length stamps �
   -- saving all places gives the bytes at the last sync
   pub saved_all : IsSaved stamps stamp bytes 0 (length bytes) old new → new ≡ choose (loose_by stamp stamps) old bytes
   saved_all saved =
-      let loose_long : length (loose_by stamp stamps) ≡ length bytes = length-map stamps (λ s. s == stamp) ∙ long in
-      ext_get_or 0 new _ (omega (arith, saved.same_length, same, length-choose _ old bytes loose_long same)) (λ i inside.
-      grind (
-        arith,
-        nat_tests,
-        choose_at (loose_by stamp stamps) old bytes i loose_long same,
-        loose_is stamp stamps i (omega (arith, saved.same_length)),
-        saved.saved i,
-        saved.kept i,
-      ))
+      ext_get_or 0 new _ (omega (arith, saved.same_length, same, length_settled bytes old stamps stamp long same)) (λ i inside.
+      grind (arith, nat_tests, settled_at bytes old stamps stamp long same i, saved))
 
 -- a byte is chosen from either of two equal lists
 pub choose_same : (loose : List Bool) (ys : List ℕ) → length loose ≡ length ys → choose loose ys ys ≡ ys
@@ -63,18 +60,16 @@ none_bear stamp (s ∷ stamps) earlier =
     let other : (s == stamp) ≡ false = let below : s < stamp = earlier 0 in grind (arith, nat_tests) in
     ap (λ (b : Bool). b ∷ loose_by stamp stamps) other ∙ ap (λ (l : List Bool). false ∷ l) (none_bear stamp stamps (λ i. earlier (suc i)))
 
-choose_none : (xs ys : List ℕ) → length xs ≡ length ys → choose (replicate (length ys) false) xs ys ≡ ys
-choose_none [] [] same = refl
-choose_none (x ∷ xs) (y ∷ ys) same = ap (λ (zs : List ℕ). y ∷ zs) (choose_none xs ys (omega arith))
-choose_none xs ys same = absurd (omega arith)
-
 -- under a stamp that no place bears, the disk is at rest
 pub memory_fresh : (bytes saved stamps : List ℕ) (stamp : ℕ) (past : List Moment) → length saved ≡ length bytes → length stamps ≡ length bytes
     → ((i : ℕ) → get_or stamps i 0 < stamp)
     → memory_of bytes saved stamps stamp past ≡ record (fresh bytes) { past = past }
 memory_fresh bytes saved stamps stamp past saved_long long earlier =
     let none : loose_by stamp stamps ≡ replicate (length bytes) false = rw (← long) (none_bear stamp stamps earlier) in
-    rw (none, choose_none saved bytes saved_long)
+    let size = length_settled bytes saved stamps stamp long saved_long in
+    let settled : choose (loose_by stamp stamps) saved bytes ≡ bytes = ext_get_or 0 _ bytes size (λ i inside.
+    grind (arith, nat_tests, earlier i, settled_at bytes saved stamps stamp long saved_long i (omega (arith, size)))) in
+    rw (settled, none)
 
 -- cleared stamps are below 1
 pub zeros : (n i : ℕ) → get_or (replicate n 0) i 0 < 1

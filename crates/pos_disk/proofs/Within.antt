@@ -1,10 +1,9 @@
 -- A run of writes that stay within one range.
-use Rattle.std.proofs.Common.{◌≡◌, ⊎_elim, ℕ, ◌+◌, ◌≤◌, List, length, refl, ◌∙◌, arith, Result}
-use Rattle.pos_disk.specs.State.{DiskState, InRange, MayLeave, Elapses, LeavesOnly, Writes, Syncs, splice, part}
-use Rattle.pos_disk.proofs.Bytes.{length-splice, splice_elsewhere, same_part}
+use Rattle.pos_disk.proofs.Common.{DiskFault, DiskState, Elapses, InRange, LeavesOnly, List, MayLeave, Result, Syncs, Writes, arith, length, part, refl, splice}
+use Rattle.pos_disk.proofs.Common.{ℕ, ⊎_elim, ◌+◌, ◌∙◌, ◌≡◌, ◌≤◌}
+use Rattle.pos_disk.specs.Within.{IsWithin, SameBut}
+use Rattle.pos_disk.proofs.Bytes.{length-splice, same_part, splice_elsewhere}
 use Rattle.pos_disk.proofs.Moments.{goes_on}
-use Rattle.pos_disk.specs.declared.device.DiskFault.{DiskFault}
-use Rattle.pos_disk.specs.Within.{SameBut, IsWithin}
 
 -- bytes differ nowhere from themselves
 pub unchanged : (bytes : List ℕ) (at n : ℕ) → SameBut at n bytes bytes

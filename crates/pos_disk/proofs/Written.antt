@@ -1,17 +1,10 @@
 -- What a write does to a disk in memory.
-use Rattle.std.proofs.lemmas.Bool.Decides.{nat_tests}
-use Rattle.std.proofs.Common.{◌≡◌, ℕ, zero, suc, ◌+◌, ◌-◌, ◌≤◌, ◌<◌, List, [], ◌∷◌, ◌++◌, true, false, ◌==◌, length}
-use Rattle.std.proofs.Common.{replicate, get_or, refl, sym, ◌∙◌, arith}
-use Rattle.std.proofs.lemmas.List.{length-map, length-replicate, map-append, ext_get_or, drop-map}
-use Rattle.std.specs.List.{take-map}
-use Rattle.std.specs.List.{list_any}
+use Rattle.pos_disk.proofs.Common.{InRange, IsKept, IsSaved, List, Moment, [], arith, choose, common_steps, drop-map, ext_get_or, false, get_or, length}
+use Rattle.pos_disk.proofs.Common.{length-replicate, list_any, loose_by, map-append, memory_of, moment_of, nat_tests, part, refl, replicate, splice, suc, sym}
+use Rattle.pos_disk.proofs.Common.{take-map, true, written, zero, ℕ, ◌++◌, ◌+◌, ◌-◌, ◌==◌, ◌∙◌, ◌∷◌, ◌≡◌, ◌≤◌}
 use Rattle.std.proofs.lemmas.List.Folds.{list_any_at}
-use Rattle.pos_disk.specs.State.{InRange, splice, part}
-use Rattle.pos_disk.specs.Memory.{Moment, choose, written}
-use Rattle.pos_disk.specs.Stamps.{loose_by, moment_of, memory_of, IsKept, IsSaved}
-use Rattle.pos_disk.proofs.Bytes.{in_range, length-splice, spliced_within, splice_elsewhere, length-part, get_or-part}
-use Rattle.pos_disk.proofs.Stamps.{loose_is, length-choose, choose_at}
-use Rattle.std.proofs.lemmas.Grind.{common_steps}
+use Rattle.pos_disk.proofs.Bytes.{get_or-part, in_range, length-part, length-splice, splice_elsewhere, spliced_within}
+use Rattle.pos_disk.proofs.Stamps.{length_settled, settled_at}
 
 all_bear : (stamp n : ℕ) → loose_by stamp (replicate n stamp) ≡ replicate n true
 all_bear stamp zero = refl
@@ -47,30 +40,15 @@ module _ (bytes saved stamps : List ℕ) (stamp at n : ℕ) (kept : IsKept bytes
   stays_settled : choose (loose_by stamp (splice stamps at (replicate n stamp))) saved' (splice bytes at new) ≡ choose (loose_by stamp stamps) saved bytes
   stays_settled =
       let now = splice bytes at new in
-      let stamps_now = splice stamps at (replicate n stamp) in
-      let L = loose_by stamp stamps in
-      let L' = loose_by stamp stamps_now in
       let after = still_kept in
-      let L_long : length L ≡ length bytes = length-map stamps (λ s. s == stamp) ∙ kept.stamps_length in
-      let L'_long : length L' ≡ length now = length-map stamps_now (λ s. s == stamp) ∙ after.stamps_length in
-      let size = length-choose L' saved' now L'_long after.saved_length ∙ length-splice bytes new at (omega (arith, long)) in
-      ext_get_or 0 (choose L' saved' now) (choose L saved bytes) (size ∙ sym (length-choose L saved bytes L_long kept.saved_length)) (λ i inside.
-      let below : i < length bytes = omega (arith, inside, size) in
-      grind (
-        arith,
-        nat_tests,
-        choose_at L' saved' now i L'_long after.saved_length,
-        choose_at L saved bytes i L_long kept.saved_length,
-        loose_is stamp stamps_now i (omega (arith, after.stamps_length, size, below)),
-        loose_is stamp stamps i (omega (arith, kept.stamps_length, below)),
-        in_range at n i,
-        inside_bears i,
-        outside_same i,
-        save.saved i,
-        save.kept i,
-        save.elsewhere i,
-        splice_elsewhere bytes new at i,
-      ))
+      let size = length-splice bytes new at (omega (arith, long)) in
+      let settled = settled_at now saved' (splice stamps at (replicate n stamp)) stamp after.stamps_length after.saved_length in
+      let length_now = length_settled now saved' _ stamp after.stamps_length after.saved_length in
+      let was = settled_at bytes saved stamps stamp kept.stamps_length kept.saved_length in
+      ext_get_or 0 _ _ (length_now ∙ size ∙ sym (length_settled bytes saved stamps stamp kept.stamps_length kept.saved_length)) (λ i inside.
+      let here = in_range at n i in
+      let rest = splice_elsewhere bytes new at i in
+      grind (arith, nat_tests, settled i, was i, length_now, size, here, inside_bears i, outside_same i, save.saved i, save.kept i, save.elsewhere i, rest))
 
   -- and the disk is the one that was written to
   pub is_written : (past : List Moment)

@@ -1,15 +1,8 @@
 -- What a deletion does to the list of a queue.
-use Rattle.std.proofs.Common.{◌≡◌, inl, inr, ℕ, ◌+◌, Bool, true, false, not, List, [], ◌∷◌, ◌++◌, take, drop, All, refl, arith}
-use Rattle.std.specs.List.{filter}
-use Rattle.std.proofs.lemmas.Bool.{cases_Bool}
-use Rattle.std.proofs.Math.Seq.{take-nil, drop-nil}
-use Rattle.std.proofs.lemmas.List.{take-append-drop}
-use Rattle.std.proofs.lemmas.List.Elements.{filter-append, All-head, All-tail, All-take, All-drop, All-weaker}
-use Rattle.pos_service.specs.declared.scan.Scan.{Scan}
-use Rattle.pos_service.specs.Events.{Enqueued, is_waiting, is_output_error, with_input_data, input_cleared, output_cleared}
-use Rattle.pos_events.specs.declared.others.Other.{Other}
-use Rattle.pos_events.specs.declared.told.Told.{Told}
-use Rattle.pos_events.specs.QueueParts.{waiting_in, told_event, weave, events_in, list_of, tolds, is_error, without_errors}
+use Rattle.pos_events.proofs.Common.{All, All-drop, All-head, All-tail, All-take, All-weaker, Bool, Enqueued, List, Other, Scan, [], arith, drop, drop-nil}
+use Rattle.pos_events.proofs.Common.{events_in, false, filter, filter-append, input_cleared, is_output_error, is_waiting, list_of, not, output_cleared, refl}
+use Rattle.pos_events.proofs.Common.{take, take-append-drop, take-nil, told_event, tolds, true, waiting_in, weave, with_input_data, without_errors, ℕ, ◌++◌}
+use Rattle.pos_events.proofs.Common.{◌+◌, ◌∷◌, ◌≡◌}
 use Rattle.pos_events.proofs.DeliveringLemmas.{IsWaiting, all_wait, regroup}
 
 -- the test of an event that stays when input is deleted, and when output is
@@ -29,19 +22,12 @@ none_told : (events : List Enqueued) → All IsWaiting events → filter is_told
 none_told [] w = refl
 none_told (event ∷ events) w = rw (All-head IsWaiting event events w, none_told events (All-tail IsWaiting event events w))
 
-told_filtered : (event : Told) (events : List Enqueued) → filter is_told (told_event event ∷ events) ≡ told_event event ∷ filter is_told events
-told_filtered event events = grind arith
-
 weave_filtered : (waiting : List Enqueued) (others : List Other) → All IsWaiting waiting → filter is_told (weave waiting others) ≡ tolds others
 weave_filtered waiting [] w = none_told waiting w
 weave_filtered waiting (other ∷ others) w =
-    rw (
-      filter-append is_told (take other.before waiting) (told_event other.event ∷ weave (drop other.before waiting) others),
-      none_told (take other.before waiting) (All-take IsWaiting other.before waiting w),
-      told_filtered other.event
-          (weave (drop other.before waiting) others),
-      weave_filtered (drop other.before waiting) others (All-drop IsWaiting other.before waiting w),
-    )
+    let front = none_told (take other.before waiting) (All-take IsWaiting other.before waiting w) in
+    let rest = weave_filtered (drop other.before waiting) others (All-drop IsWaiting other.before waiting w) in
+    rw (filter-append, front) (grind (arith, rest))
 
 input_data_filtered : (events : List Enqueued) → filter is_told (with_input_data events) ≡ filter is_told events
 input_data_filtered [] = refl
@@ -60,15 +46,9 @@ input_deleted input_data in_error scans none others after e same = rw (e, only_t
 abbrev IsKept : Enqueued → Type 0
 IsKept event = is_kept event ≡ true
 
-waits_and_stays : (event : Enqueued) → IsWaiting event → IsKept event
-waits_and_stays event w = grind arith
-
 all_stay : (events : List Enqueued) → All IsKept events → filter is_kept events ≡ events
 all_stay [] k = refl
 all_stay (event ∷ events) k = rw (All-head IsKept event events k, all_stay events (All-tail IsKept event events k))
-
-error_goes : (event : Told) → is_error event ≡ is_output_error (told_event event)
-error_goes event = grind arith
 
 -- the list without errors of output, when so many waiting events stand before the others besides
 errors_woven : (waiting : List Enqueued) (others : List Other) (count : ℕ) → All IsKept waiting
@@ -80,16 +60,9 @@ errors_woven waiting (other ∷ others) count k =
     let deleted = errors_woven waiting others n k in
     let kept = errors_woven (drop n waiting) others 0 (All-drop IsKept n waiting k) in
     let front = all_stay (take n waiting) (All-take IsKept n waiting k) in
-    rw (regroup waiting others count other.before (told_event other.event)) (elim (cases_Bool (is_error other.event)) [
-      | inl e ↦ rw (
-        e,
-        filter-append is_kept (take n waiting) (told_event other.event ∷ rest),
-        ← error_goes other.event,
-        e,
-        ← filter-append is_kept (take n waiting) rest,
-      ) deleted
-      | inr e ↦ rw (e, filter-append is_kept (take n waiting) (told_event other.event ∷ rest), ← error_goes other.event, e, front, kept)
-    ])
+    let around = filter-append is_kept (take n waiting) (told_event other.event ∷ rest) in
+    rw (regroup waiting others count other.before (told_event other.event))
+    (grind (arith, around, filter-append is_kept (take n waiting) rest, deleted, front, kept))
 
 -- EL_INPUT_DATA stays
 input_data_stays : (events : List Enqueued) → filter is_kept (with_input_data events) ≡ with_input_data (filter is_kept events)
@@ -99,7 +72,8 @@ input_data_stays (event ∷ events) = grind (arith, input_data_stays events)
 stays : (in_error : Bool) (scans : List Scan) (others : List Other)
     → filter is_kept (weave (waiting_in scans in_error) others) ≡ weave (waiting_in scans in_error) (without_errors 0 others)
 stays in_error scans others =
-    errors_woven (waiting_in scans in_error) others 0 (All-weaker IsWaiting IsKept waits_and_stays (waiting_in scans in_error) (all_wait scans in_error))
+    errors_woven (waiting_in scans in_error) others 0
+    (All-weaker IsWaiting IsKept (λ event w. grind arith) (waiting_in scans in_error) (all_wait scans in_error))
 
 pub errors_deleted : (input_data in_error : Bool) (scans : List Scan) (others after : List Other) → after ≡ without_errors 0 others
     → list_of input_data in_error scans after ≡ output_cleared (list_of input_data in_error scans others)

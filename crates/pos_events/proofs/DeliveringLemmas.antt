@@ -1,23 +1,14 @@
 -- Which event of a queue's list may be delivered, and what is left.
-use Rattle.std.proofs.Common.{suc, ◌≡◌, ℕ, ◌+◌, ◌-◌, ◌≢◌, ◌<◌, Bool, true, false, List, [], ◌∷◌, ◌++◌, Option, Some, None, IsSome, option_map, map, take}
-use Rattle.std.proofs.Common.{drop, All, refl, ap, arith, append_assoc}
-use Rattle.std.proofs.lemmas.List.{append-nil, take-append-drop, drop-drop}
-use Rattle.std.proofs.lemmas.List.Elements.{All-nil, All-cons, All-take, All-append, All-head, All-tail}
-use Rattle.std.specs.Option.{option_to_list}
-use Rattle.std.proofs.Math.Seq.{take-add}
-use Rattle.pos_service.specs.declared.scan.Scan.{Scan}
-use Rattle.pos_service.specs.declared.event.Locus.TheVariants as locus
-use Rattle.pos_service.specs.declared.event.ErrorReply.{ErrorReply}
-use Rattle.pos_service.specs.Events.{EventList, Enqueued, Data, input_error, is_waiting, with_input_data, split, left_by, after_reply}
-use Rattle.pos_service.specs.Events.{clears_input, input_cleared, delivered}
-use Rattle.pos_service.specs.declared.event.Event.TheVariants as event
-use Rattle.pos_events.specs.declared.delivery.Delivery.{Delivery}
-use Rattle.pos_events.specs.Queue.{delivery_of}
-use Rattle.pos_events.specs.declared.queue.delivering.Waiting.TheVariants as waiting
+use Rattle.pos_events.proofs.Common.{All, All-append, All-cons, All-head, All-nil, All-tail, All-take, Bool, Data, Enqueued, EventList, Fits, IsSome, List}
+use Rattle.pos_events.proofs.Common.{None, Option, Other, Scan, Some, [], after_reply, ap, append-nil, append_assoc, arith, before_first, delivered, drop}
+use Rattle.pos_events.proofs.Common.{drop-drop, events_in, false, first_told, input_error, is_waiting, lead, left_by, map, one_less, option_map, refl, split}
+use Rattle.pos_events.proofs.Common.{suc, take, take-add, take-append-drop, told_event, true, waiting_in, weave, with_input_data, without_first, ℕ, ◌++◌, ◌+◌}
+use Rattle.pos_events.proofs.Common.{◌-◌, ◌<◌, ◌∷◌, ◌≡◌, ◌≢◌}
 use Rattle.pos_events.specs.Waiting.{first_waiting}
-use Rattle.pos_events.specs.declared.others.Other.{Other}
-use Rattle.pos_events.specs.declared.told.Told.{Told}
-use Rattle.pos_events.specs.QueueParts.{waiting_in, told_event, weave, events_in, before_first, lead, one_less, first_told, without_first, list_of, Fits}
+use Rattle.pos_service.specs.declared.event.ErrorReply.{ErrorReply}
+use Rattle.std.specs.Option.{option_to_list}
+use Rattle.pos_service.specs.declared.event.Locus.TheVariants as locus
+use Rattle.pos_events.specs.declared.queue.delivering.Waiting.TheVariants as waiting
 
 -- it waits
 abbrev pub IsWaiting : Enqueued → Type 0
@@ -32,9 +23,6 @@ pub all_wait : (scans : List Scan) (in_error : Bool) → All IsWaiting (waiting_
 all_wait scans false = scans_wait scans
 all_wait scans true = All-append IsWaiting (map Data scans) (input_error locus.Input ∷ []) (scans_wait scans)
     (All-cons IsWaiting (input_error locus.Input) [] refl (All-nil IsWaiting))
-
-told_goes : (event : Told) → is_waiting (told_event event) ≡ false
-told_goes event = grind arith
 
 -- a list whose first events wait
 split_behind : (front rest : List Enqueued) (event : Enqueued) → All IsWaiting front → is_waiting event ≡ false
@@ -74,14 +62,14 @@ deliverable_woven : (waiting : List Enqueued) (others : List Other) → All IsWa
 deliverable_woven waiting [] w = rw (split_none waiting w)
 deliverable_woven waiting (other ∷ others) w =
     rw (split_behind (take other.before waiting) (weave (drop other.before waiting) others) (told_event other.event)
-    (All-take IsWaiting other.before waiting w) (told_goes other.event))
+    (All-take IsWaiting other.before waiting w) (grind arith))
 
 left_woven : (waiting : List Enqueued) (others : List Other) → All IsWaiting waiting
     → left_by false (weave waiting others) ≡ weave waiting (without_first others)
 left_woven waiting [] w = rw (split_none waiting w) (append-nil waiting)
 left_woven waiting (other ∷ others) w =
     rw (split_behind (take other.before waiting) (weave (drop other.before waiting) others) (told_event other.event)
-    (All-take IsWaiting other.before waiting w) (told_goes other.event)) (weave_lead waiting others other.before)
+    (All-take IsWaiting other.before waiting w) (grind arith)) (weave_lead waiting others other.before)
 
 pub deliverable_told : (input_data in_error : Bool) (scans : List Scan) (others : List Other)
     → (split false (events_in input_data (waiting_in scans in_error) others)).deliverable ≡ option_map told_event (first_told others)
@@ -110,13 +98,6 @@ first_waits event waiting (other ∷ others) behind some =
     let rest : drop other.before (event ∷ waiting) ≡ drop (other.before - 1) waiting = ap (λ n. drop n (event ∷ waiting)) next in
     rw (first, rest)
 
--- what the kind of the first waiting event tells of the parts
-pub is_input_data : (input_data no_scans : Bool) → first_waiting input_data no_scans ≡ waiting.InputData → input_data ≡ true
-is_input_data input_data no_scans e = grind arith
-
-pub is_scan : (input_data no_scans : Bool) → first_waiting input_data no_scans ≡ waiting.Data → (input_data ≡ false) × (no_scans ≡ false)
-is_scan input_data no_scans e = grind arith
-
 waiting_first : (scan : Scan) (scans : List Scan) (in_error : Bool) → waiting_in (scan ∷ scans) in_error ≡ Data scan ∷ waiting_in scans in_error
 waiting_first scan scans in_error = grind arith
 
@@ -124,14 +105,9 @@ waiting_first scan scans in_error = grind arith
 pub first_is_input_data : (input_data in_error no_scans : Bool) (scans : List Scan) (others : List Other) (behind count : ℕ)
     → Fits input_data in_error scans others behind → first_waiting input_data no_scans ≡ waiting.InputData → count ≡ before_first others behind → count ≢ 0
     → events_in input_data (waiting_in scans in_error) others ≡ input_error locus.InputData ∷ events_in false (waiting_in scans in_error) others
-first_is_input_data input_data in_error no_scans [] others behind count fits kind is some =
-    let held = fits.held (is_input_data input_data no_scans kind) in absurd (omega arith)
+first_is_input_data input_data in_error no_scans [] others behind count fits kind is some = grind (arith, fits.held)
 first_is_input_data input_data in_error no_scans (scan ∷ scans) others behind count fits kind is some =
-    rw (
-      is_input_data input_data no_scans kind,
-      waiting_first,
-      first_waits (Data scan) (waiting_in scans in_error) others behind (omega arith),
-    )
+    grind (arith, waiting_first scan scans in_error, first_waits (Data scan) (waiting_in scans in_error) others behind)
 
 -- a DataEvent is the first
 pub first_is_data : (input_data in_error : Bool) (scan : Scan) (scans rest : List Scan) (others : List Other) (behind count : ℕ) → input_data ≡ false
@@ -139,18 +115,6 @@ pub first_is_data : (input_data in_error : Bool) (scan : Scan) (scans rest : Lis
     → events_in input_data (waiting_in scans in_error) others ≡ Data scan ∷ weave (waiting_in rest in_error) (one_less others)
 first_is_data input_data in_error scan scans rest others behind count e s is some =
     rw (e, s, waiting_first) (first_waits (Data scan) (waiting_in rest in_error) others behind (omega arith))
-
--- what is left of a list when its first event has been delivered
-abbrev pub after_first : ErrorReply → EventList → EventList
-after_first answer list = after_reply (split true list.events).deliverable answer (record list { events = left_by true list.events })
-
-pub kept_after_input_data : (answer : ErrorReply) (list : EventList) (rest : List Enqueued) → list.events ≡ input_error locus.InputData ∷ rest
-    → clears_input locus.InputData answer ≡ false → after_first answer list ≡ record list { events = rest }
-kept_after_input_data answer list rest e r = rw (e, r)
-
-pub cleared_after_input_data : (answer : ErrorReply) (list : EventList) (rest : List Enqueued) → list.events ≡ input_error locus.InputData ∷ rest
-    → clears_input locus.InputData answer ≡ true → after_first answer list ≡ input_cleared list
-cleared_after_input_data answer list rest e r = rw (e, r)
 
 -- while data events aren't enabled, an event that doesn't wait is delivered, and no reply changes the others
 pub delivered_told : (data_enabled frozen : Bool) (answer : ErrorReply) (list : EventList) → frozen ≡ false → data_enabled ≡ false
@@ -162,14 +126,3 @@ pub popped_scan : (popped : Option Scan) (scans rest : List Scan) → IsSome pop
     → (scan : Scan) × (popped ≡ Some scan) × (scans ≡ scan ∷ rest)
 popped_scan None scans rest some e = cc
 popped_scan (Some scan) scans rest some e = (scan, refl, e)
-
--- a DataEvent is delivered with its scan
-pub data_event : (popped : Option Scan) (list : EventList) (scan : Scan) (rest : List Enqueued) → popped ≡ Some scan → list.events ≡ Data scan ∷ rest
-    → ◌≡◌ {A = Option Delivery} (Some (record { event = event.Data; scan = popped })) (option_map delivery_of (split true list.events).deliverable)
-data_event popped list scan rest p e = rw (p, e)
-
-pub data_rest : (answer : ErrorReply) (input_data in_error : Bool) (scan : Scan) (scans rest : List Scan) (others after : List Other)
-    (behind count : ℕ) (list : EventList) → list ≡ list_of input_data in_error scans others → input_data ≡ false → scans ≡ scan ∷ rest
-    → after ≡ one_less others → count ≡ before_first others behind → count ≢ 0 → list_of input_data in_error rest after ≡ after_first answer list
-data_rest answer input_data in_error scan scans rest others after behind count list l d s a is some =
-    rw (l, a, d, first_is_data false in_error scan scans rest others behind count refl s is some)

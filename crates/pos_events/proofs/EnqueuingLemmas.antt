@@ -1,20 +1,10 @@
 -- What one more event does to the list of a queue.
-use Rattle.std.proofs.Common.{◌≡◌, ℕ, ◌+◌, ◌≤◌, Bool, true, false, not, ◌==◌, List, [], ◌∷◌, ◌++◌, length, map, drop, refl, arith, append_assoc}
-use Rattle.std.proofs.Common.{length-drop}
-use Rattle.std.proofs.Math.Seq.{take-nil, drop-nil}
-use Rattle.std.proofs.lemmas.Bool.Decides.{nat_tests}
-use Rattle.std.proofs.lemmas.List.{take_all, drop_all, take-append-le, drop-append-le, length-map, map-append}
-use Rattle.pos_service.specs.declared.scan.Scan.{Scan}
+use Rattle.pos_events.proofs.Common.{Bool, Data, Enqueued, Fits, List, Other, Scan, Told, [], all_before, append_assoc, arith, drop, drop-append-le, drop-nil}
+use Rattle.pos_events.proofs.Common.{drop_all, events_in, false, input_error, input_failed, is_data, length, length-drop, length-map, list_of, map, map-append}
+use Rattle.pos_events.proofs.Common.{nat_tests, not, refl, scanned, take-append-le, take-nil, take_all, told_event, true, weave, with_input_data, ℕ, ◌++◌, ◌+◌}
+use Rattle.pos_events.proofs.Common.{◌==◌, ◌∷◌, ◌≡◌, ◌≤◌}
+use Rattle.pos_events.proofs.OthersLemmas.{all_before-append}
 use Rattle.pos_service.specs.declared.event.Locus.TheVariants as locus
-use Rattle.pos_service.specs.Events.{Enqueued, Data, input_error, is_data, with_input_data, scanned, input_failed}
-use Rattle.pos_events.specs.declared.others.Other.{Other}
-use Rattle.pos_events.specs.declared.told.Told.{Told}
-use Rattle.pos_events.specs.QueueParts.{told_event, weave, events_in, all_before, list_of, Fits}
-
--- one more of the others adds what stands before it
-pub all_before_push : (others : List Other) (other : Other) → all_before (others ++ other ∷ []) ≡ all_before others + other.before
-all_before_push [] other = omega arith
-all_before_push (first ∷ others) other = omega (arith, all_before_push others other)
 
 -- an event that doesn't wait, behind the others
 weave_push : (waiting : List Enqueued) (others : List Other) (other : Other) → all_before others + other.before ≡ length waiting
@@ -29,12 +19,8 @@ weave_more : (waiting : List Enqueued) (others : List Other) (event : Enqueued) 
     → weave (waiting ++ event ∷ []) others ≡ weave waiting others ++ event ∷ []
 weave_more waiting [] event h = refl
 weave_more waiting (first ∷ others) event h =
-    rw (
-      take-append-le first.before waiting (event ∷ []) (omega arith),
-      drop-append-le first.before waiting (event ∷ []) (omega arith),
-      weave_more (drop first.before waiting) others event (omega (arith, length-drop first.before waiting)),
-      append_assoc,
-    )
+    let less : first.before ≤ length waiting = omega arith in
+    rw (take-append-le, drop-append-le, weave_more (drop first.before waiting) others event (omega (arith, length-drop first.before waiting)), append_assoc)
 
 -- an event that is no DataEvent, behind the others
 with_input_data_push : (events : List Enqueued) (event : Enqueued) → is_data event ≡ false
@@ -54,12 +40,8 @@ events_push true waiting others other e =
 pub fits_push : (input_data in_error : Bool) (scans : List Scan) (others : List Other) (behind : ℕ) (event : Told)
     → Fits input_data in_error scans others behind → Fits input_data in_error scans (others ++ record { before = behind; event = event } ∷ []) 0
 fits_push input_data in_error scans others behind event fits =
-    record {
-      counted = let c = fits.counted in omega
-          (arith, all_before_push others (record { before = behind; event = event }));
-      error = fits.error;
-      held = fits.held;
-    }
+    let last : Other = record { before = behind; event = event } in
+    record { counted = omega (arith, fits.counted, all_before-append others (last ∷ [])); error = fits.error; held = fits.held }
 
 -- one more scan, outside the input error state
 pub one_more_scan : (input_data in_error : Bool) (scans : List Scan) (others : List Other) (behind : ℕ) (scan : Scan)
@@ -68,8 +50,7 @@ pub one_more_scan : (input_data in_error : Bool) (scans : List Scan) (others : L
 one_more_scan input_data true scans others behind scan fits none = cc
 one_more_scan true false scans others behind scan fits none = cc (fits.error refl)
 one_more_scan false false scans others behind scan fits none =
-    let counted = fits.counted in
-    rw (map-append Data scans (scan ∷ []), weave_more (map Data scans) others (Data scan) (omega (arith, length-map scans Data)))
+    rw (map-append, weave_more (map Data scans) others (Data scan) (omega (arith, fits.counted, length-map scans Data)))
 
 -- without scans, EL_INPUT_DATA has no place
 no_place : (others : List Other) → with_input_data (weave [] others) ≡ weave [] others
@@ -83,12 +64,10 @@ failed : (input_data some : Bool) (scans : List Scan) (others : List Other) (beh
     ≡ with_input_data (events_in input_data (map Data scans) others) ++ input_error locus.Input ∷ []
 failed true some scans others behind fits e = cc (fits.error refl)
 failed false some [] others behind fits e =
-    let counted = fits.counted in
-    rw (e, no_place others) (weave_more [] others (input_error locus.Input) (omega arith))
+    rw (e, no_place others) (weave_more [] others (input_error locus.Input) (omega (arith, fits.counted)))
 failed false some (scan ∷ scans) others behind fits e =
     let some_scan : (length (scan ∷ scans) == 0) ≡ false = grind (arith, nat_tests) in
-    let counted = fits.counted in
-    rw (e, some_scan, weave_more (map Data (scan ∷ scans)) others (input_error locus.Input) (omega (arith, length-map (scan ∷ scans) Data)))
+    rw (e, some_scan, weave_more (map Data (scan ∷ scans)) others (input_error locus.Input) (omega (arith, fits.counted, length-map (scan ∷ scans) Data)))
     (with_input_data_push (weave (map Data (scan ∷ scans)) others) (input_error locus.Input) refl)
 
 pub one_more_error : (input_data in_error no_scans : Bool) (count : ℕ) (scans : List Scan) (others : List Other) (behind : ℕ)

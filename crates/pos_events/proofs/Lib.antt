@@ -1,3 +1,4 @@
+pub mod Common
 pub mod OthersLemmas
 pub mod EnqueuingLemmas
 pub mod ReadingLemmas

@@ -1,10 +1,7 @@
 -- What the loops over the events that don't wait keep.
-use Rattle.std.proofs.Common.{◌≡◌, ℕ, ◌+◌, ◌<◌, ◌≤◌, true, false, List, [], ◌∷◌, ◌++◌, length, take, get_or, set, sym, ap, ◌∙◌, arith, append_assoc}
-use Rattle.std.proofs.Common.{length-append}
-use Rattle.std.proofs.lemmas.List.{map-set, set-get_or, get_or-map, take_more_set}
-use Rattle.pos_service.specs.Events.{Enqueued}
-use Rattle.pos_events.specs.declared.others.Other.{Other}
-use Rattle.pos_events.specs.QueueParts.{told_event, all_before, tolds, is_error, without_errors}
+use Rattle.pos_events.proofs.Common.{Enqueued, List, Other, [], all_before, ap, append_assoc, arith, false, get_or, get_or-map, is_error, length, length-append}
+use Rattle.pos_events.proofs.Common.{map-set, set, set-get_or, sym, take, take_more_set, told_event, tolds, true, without_errors, ℕ, ◌++◌, ◌+◌, ◌<◌, ◌∙◌, ◌∷◌}
+use Rattle.pos_events.proofs.Common.{◌≡◌, ◌≤◌}
 
 -- what stands before two parts
 pub all_before-append : (others more : List Other) → all_before (others ++ more) ≡ all_before others + all_before more
@@ -35,30 +32,19 @@ pub record Removing (start rest : List Other) (carried : ℕ) (now : List Other)
 pub removing_kept : (start rest now more : List Other) (first other : Other) (carried : ℕ) → Removing start (first ∷ rest) carried now
     → now ≡ other ∷ more → is_error other.event ≡ false → Removing start rest 0 (more ++ record { before = carried + other.before; event = other.event } ∷ [])
 removing_kept start rest now more first other carried r e stays =
-    let both : other ∷ more ≡ first ∷ (rest ++ r.done) = sym e ∙ r.parts in
-    let is_first : other ≡ first = cc in
-    let is_rest : more ≡ rest ++ r.done = cc in
     let kept : Other = record { before = carried + other.before; event = other.event } in
     record {
       done = r.done ++ kept ∷ [];
-      parts = rw (is_rest, append_assoc);
-      same = rw append_assoc (rw (← is_first, stays) at r.same);
-      counted = let c = r.counted in omega (arith, all_before-append r.done (kept ∷ []), ap (λ (o : Other). o.before) is_first);
+      parts = grind (arith, r.parts, append_assoc rest r.done (kept ∷ []));
+      same = grind (arith, r.same, r.parts, append_assoc r.done (kept ∷ []) (without_errors 0 rest));
+      counted = grind (arith, r.counted, r.parts, all_before-append r.done (kept ∷ []));
     }
 
 -- the next is deleted
 pub removing_error : (start rest now more : List Other) (first other : Other) (carried : ℕ) → Removing start (first ∷ rest) carried now
     → now ≡ other ∷ more → is_error other.event ≡ true → Removing start rest (carried + other.before) more
 removing_error start rest now more first other carried r e goes =
-    let both : other ∷ more ≡ first ∷ (rest ++ r.done) = sym e ∙ r.parts in
-    let is_first : other ≡ first = cc in
-    let is_rest : more ≡ rest ++ r.done = cc in
-    record {
-      done = r.done;
-      parts = is_rest;
-      same = rw (← is_first, goes) at r.same;
-      counted = let c = r.counted in omega (arith, ap (λ (o : Other). o.before) is_first);
-    }
+    record { done = r.done; parts = grind (arith, r.parts); same = grind (arith, r.same, r.parts); counted = grind (arith, r.counted, r.parts) }
 
 -- while some are to be looked at, there are some
 pub removing_some : (start rest now : List Other) (carried : ℕ) → Removing start rest carried now → length rest ≤ length now

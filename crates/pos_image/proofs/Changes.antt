@@ -1,19 +1,9 @@
 -- What each change of the images leaves.
-use Rattle.std.proofs.Common.{◌≡◌, inl, inr, ℕ, ◌+◌, ◌-◌, ◌≤◌, ◌<◌, ◌^◌, List, [], ◌∷◌, length, get_or, ap, ◌∙◌, arith, true, false, nat_eq, Some}
-use Rattle.std.proofs.lemmas.Bool.{cases_Bool}
-use Rattle.pos_disk.specs.State.{LeavesOnly, splice}
-use Rattle.pos_disk.proofs.Moments.{weaker, rest_leaves}
-use Rattle.pos_disk.proofs.Bytes.{spliced_within}
-use Rattle.pos_disk.proofs.Within.{spliced_same}
-use Rattle.pos_disk.specs.declared.device.Disk.{Ghosts}
-use Rattle.pos_disk.specs.Within.{SameBut}
-use Rattle.pos_image.specs.Layout.{start, layout_of, longest, log_place, is_open, length_at}
-use Rattle.pos_image.specs.DiskCalls.{Stages}
-use Rattle.pos_image.specs.Slots.{IsCurrent, IsPrepared, HasFields}
-use Rattle.pos_image.specs.Standing.{log_of, HasImage, HasNewImage}
-use Rattle.pos_image.specs.Images.{View, Prepared, IsSound, IsReady, HasPrepared, IsBeside, HasEither, next_of, prepared_or, image_of}
-use Rattle.pos_image.specs.declared.slot.Slot.{Slot}
-use Rattle.pos_image.proofs.Current.{published, shut_stages, published_log}
+use Rattle.pos_image.proofs.Common.{Ghosts, HasEither, HasFields, HasImage, HasNewImage, HasPrepared, IsBeside, IsCurrent, IsPrepared, IsReady, IsSound}
+use Rattle.pos_image.proofs.Common.{LeavesOnly, List, Prepared, SameBut, Slot, Some, Stages, View, [], ap, arith, cases_Bool, false, get_or, image_of, inl, inr}
+use Rattle.pos_image.proofs.Common.{is_open, layout_of, length, length_at, log_of, log_place, longest, nat_eq, next_of, prepared_or, rest_leaves, splice}
+use Rattle.pos_image.proofs.Common.{spliced_same, spliced_within, start, true, weaker, ℕ, ◌+◌, ◌-◌, ◌<◌, ◌^◌, ◌∙◌, ◌∷◌, ◌≡◌, ◌≤◌}
+use Rattle.pos_image.proofs.Current.{published, published_log, shut_stages}
 use Rattle.pos_image.proofs.Logs.{image_here, kept_image, new_image}
 use Rattle.pos_image.proofs.Places.{beside_apart}
 

@@ -1,21 +1,10 @@
 -- The current image, and what changes of the other slots leave of it.
-use Rattle.std.proofs.Common.{◌≡◌, inl, inr, ℕ, ◌+◌, ◌≤◌, ◌<◌, List, length, get_or, refl, sym, ap, ◌∙◌, arith, true, false}
-use Rattle.std.specs.Int.{w32, w64, from_be_bytes}
-use Rattle.std.proofs.lemmas.Bool.{le-ltb, le-leb}
-use Rattle.std.proofs.lemmas.Bool.Decides.{nat_tests}
-use Rattle.pos_disk.specs.State.{InRange, part}
-use Rattle.pos_disk.proofs.Within.{wider, kept_part}
-use Rattle.pos_disk.specs.Within.{SameBut}
-use Rattle.pos_image.specs.Images.{Prepared, HasPrepared}
-use Rattle.pos_image.specs.Layout.{start, other, first_of, layout_of, longest, log_place}
-use Rattle.pos_image.specs.Layout.{layout_on, is_open, sequence_at, length_at, body_at}
-use Rattle.pos_image.specs.DiskCalls.{Stages}
-use Rattle.pos_image.specs.Slots.{IsCurrent, IsPrepared, IsFound}
-use Rattle.pos_image.specs.Standing.{ShowsImage, image_on, image_in, current_on, is_tied, is_marked}
+use Rattle.pos_image.proofs.Common.{First, Fourth, HasPrepared, InRange, IsCurrent, IsFound, IsPrepared, List, Prepared, SameBut, Second, ShowsImage, Slot}
+use Rattle.pos_image.proofs.Common.{Stages, Third, ap, arith, body_at, current_on, false, first_of, from_be_bytes, get_or, image_in, image_on, inl, inr}
+use Rattle.pos_image.proofs.Common.{is_marked, is_open, is_tied, kept_part, layout_of, layout_on, le-leb, le-ltb, length, length_at, log_place, longest}
+use Rattle.pos_image.proofs.Common.{nat_tests, other, part, refl, sequence_at, start, sym, true, w32, w64, wider, ℕ, ◌+◌, ◌<◌, ◌∙◌, ◌≡◌, ◌≤◌}
 use Rattle.pos_image.specs.declared.layout.Layout.TheVariants.{Layout1, Layout2}
-use Rattle.pos_image.specs.declared.slot.Slot.{Slot}
-use Rattle.pos_image.specs.declared.slot.Slot.TheVariants.{Third, Fourth}
-use Rattle.pos_image.proofs.Places.{IsApart, places, other_other, same_layout, same_or_apart, beside_apart}
+use Rattle.pos_image.proofs.Places.{IsApart, beside_apart, other_other, places, same_or_apart}
 
 -- a gate outside the range is as it was
 pub kept_gate : {old new : List ℕ} {at n : ℕ} → SameBut at n old new → (i : ℕ) → ¬ (InRange at n i) → is_open new i ≡ is_open old i
@@ -128,6 +117,7 @@ shut_stages {target = target} same shut =
 -- and open, the new image is the current one
 pub published : {slot : Slot} {it : Prepared} {old new body : List ℕ} {sequence : ℕ} → IsCurrent old slot body sequence → HasPrepared old slot sequence it
     → SameBut (start it.slot) 1 old new → is_open new (start it.slot) ≡ true → IsCurrent new it.slot it.body it.sequence
+unfolding layout_on
 published {slot = slot} {it = it} {old = old} {new = new} {sequence = sequence} current prepared same opened =
     let was : HasBody old it.slot it.body it.sequence = assumption in
     let has = kept_body same current.whole (omega arith) was in
@@ -135,14 +125,7 @@ published {slot = slot} {it = it} {old = old} {new = new} {sequence = sequence} 
     λ s apart. let here = places s in let there = places it.slot in kept_head same s current.whole (omega arith) in
     record {
       whole = omega arith;
-      layout_is = elim prepared.beside [
-        | inl next ↦ layout_stays old new it.slot (current.layout_is ∙ sym (ap layout_of next.0 ∙ same_layout slot)) opened
-            (λ first s later now. elim (same_or_apart s it.slot) [
-              | inl is ↦ let also = ap layout_of is in absurd (cc (also, first, later))
-              | inr apart ↦ sym (kept s apart).0 ∙ now
-            ])
-        | inr later ↦ second_layout new it.slot (ap layout_of later.1) opened ∙ sym (ap layout_of later.1)
-      ];
+      layout_is = grind (arith, prepared.beside, current.layout_is, kept First, kept Second, kept Third, kept Fourth);
       gate = opened;
       sequence_is = has.sequence_is;
       fits = has.fits;

@@ -1,13 +1,7 @@
 -- The fields of an image in a slot.
-use Rattle.std.proofs.Common.{◌≡◌, ℕ, ◌+◌, ◌≤◌, ◌<◌, ◌^◌, List, ◌++◌, length, nat_eq, sym, ap, ◌∙◌, arith}
-use Rattle.std.specs.Int.{w32, w64, from_be_bytes}
+use Rattle.pos_image.proofs.Common.{HasFields, HasHead, Head, List, ap, arith, big_bytes, body_at, from_be_bytes, get_or-part, length, length_at, nat_eq, part}
+use Rattle.pos_image.proofs.Common.{part-part, sequence_at, sym, w32, w64, ℕ, ◌++◌, ◌+◌, ◌<◌, ◌^◌, ◌∙◌, ◌≡◌, ◌≤◌}
 use Rattle.std.proofs.lemmas.Nat.{from_be_bytes-to_be_bytes_4, from_be_bytes-to_be_bytes_8}
-use Rattle.byteorder.specs.Endian.{big_bytes}
-use Rattle.pos_disk.specs.State.{part}
-use Rattle.pos_disk.proofs.Bytes.{get_or-part, part-part}
-use Rattle.pos_image.specs.Layout.{sequence_at, length_at, body_at}
-use Rattle.pos_image.specs.Slots.{HasFields, HasHead}
-use Rattle.pos_image.specs.declared.reading.Head.{Head}
 
 -- a head and a body behind the gate of a slot
 pub fields : (bytes body : List ℕ) (at sequence : ℕ) → at + 13 ≤ length bytes → length body < 2 ^ 32 → sequence < 2 ^ 64

@@ -1,13 +1,7 @@
 -- The log span of the current slot.
-use Rattle.std.proofs.Common.{◌≡◌, ℕ, ◌+◌, List, get_or, refl, sym, ap, ◌∙◌, arith}
-use Rattle.pos_disk.proofs.Bytes.{get_or-part}
-use Rattle.pos_image.specs.Layout.{start, layout_of, log_place, log_size}
-use Rattle.pos_image.specs.Slots.{IsCurrent}
-use Rattle.pos_image.specs.Standing.{log_of, log_in, HasImage, HasNewImage}
-use Rattle.pos_image.specs.DiskCalls.{Stages}
-use Rattle.pos_image.specs.declared.slot.Slot.{Slot}
-use Rattle.pos_disk.proofs.Within.{kept_part}
-use Rattle.pos_image.proofs.Current.{stage_current, current_chosen, current_stands}
+use Rattle.pos_image.proofs.Common.{HasImage, HasNewImage, IsCurrent, List, Slot, Stages, ap, arith, get_or, get_or-part, kept_part, layout_of, log_in, log_of}
+use Rattle.pos_image.proofs.Common.{log_place, log_size, refl, start, sym, ℕ, ◌+◌, ◌∙◌, ◌≡◌}
+use Rattle.pos_image.proofs.Current.{current_chosen, current_stands, stage_current}
 use Rattle.pos_image.proofs.Places.{IsApart, places}
 
 -- the log lies behind the current image

@@ -1,14 +1,6 @@
 -- What formatting leaves.
-use Rattle.std.proofs.Common.{◌≡◌, ℕ, ◌≤◌, List, [], ◌∷◌, length, get_or, ap, ◌∙◌, arith, true, false, nat_eq}
-use Rattle.std.proofs.lemmas.Bool.{cases_lt}
-use Rattle.pos_disk.specs.State.{part, splice}
-use Rattle.pos_disk.proofs.Bytes.{part-part, part-splice}
-use Rattle.pos_image.specs.NewDisk.{HasClosedGates, no_files}
-use Rattle.pos_disk.specs.Within.{SameBut}
-use Rattle.pos_image.specs.Layout.{is_open}
-use Rattle.pos_image.specs.Slots.{IsCurrent, HasFields}
-use Rattle.pos_image.specs.Standing.{IsNewDisk}
-use Rattle.pos_image.specs.declared.slot.Slot.TheVariants.{First}
+use Rattle.pos_image.proofs.Common.{First, GATES, HasClosedGates, HasFields, IsCurrent, IsNewDisk, List, SameBut, [], ap, arith, cases_lt, false, get_or}
+use Rattle.pos_image.proofs.Common.{is_open, length, nat_eq, no_files, part, part-part, part-splice, splice, true, ℕ, ◌<◌, ◌∙◌, ◌∷◌, ◌≡◌, ◌≤◌}
 use Rattle.pos_image.proofs.Changes.{opened_gate}
 use Rattle.pos_image.proofs.Current.{HasBody, first_here, kept_body}
 use Rattle.pos_image.proofs.Fields.{fields}
@@ -18,7 +10,7 @@ use Rattle.pos_image.proofs.Logs.{new_image}
 pub stays_closed : (old new : List ℕ) (at place : ℕ) → SameBut at 1 old new → get_or new at 0 ≡ 0 → get_or old place 0 ≡ 0 → get_or new place 0 ≡ 0
 stays_closed old new at place same shut was = grind (arith, same.elsewhere place, cases_lt place at, cases_lt at place)
 
-module _ (closed mid new : List ℕ) (large : 327680 ≤ length closed) (gates : HasClosedGates closed)
+module _ (closed mid new : List ℕ) (large : 327680 ≤ length closed) (gates : (k : ℕ) → k < 6 → get_or closed (get_or GATES k 0) 0 ≡ 0)
     (image : mid ≡ splice closed 1 (0 ∷ 0 ∷ 0 ∷ 0 ∷ 0 ∷ 0 ∷ 0 ∷ 1 ∷ 0 ∷ 0 ∷ 0 ∷ 2 ∷ 0 ∷ 0 ∷ [])) (same : SameBut 1 14 closed mid)
     (gate : new ≡ splice mid 0 (165 ∷ [])) where
   long : 327680 ≤ length mid
@@ -41,11 +33,11 @@ module _ (closed mid new : List ℕ) (large : 327680 ≤ length closed) (gates :
   -- the closed gates stay so
   still_closed : HasClosedGates new
   still_closed = record {
-    first_log = stays 16384 (omega arith) gates.first_log;
-    second = stays 32768 (omega arith) gates.second;
-    second_log = stays 49152 (omega arith) gates.second_log;
-    third = stays 65536 (omega arith) gates.third;
-    fourth = stays 196608 (omega arith) gates.fourth;
+    first_log = stays 16384 (omega arith) (gates 1 (omega arith));
+    second = stays 32768 (omega arith) (gates 2 (omega arith));
+    second_log = stays 49152 (omega arith) (gates 3 (omega arith));
+    third = stays 65536 (omega arith) (gates 4 (omega arith));
+    fourth = stays 196608 (omega arith) (gates 5 (omega arith));
   }
 
   -- the first slot has the body of no files and sequence 1

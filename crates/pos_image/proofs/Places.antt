@@ -1,10 +1,6 @@
 -- Where slots and their fields lie.
-use Rattle.std.proofs.Common.{◌≡◌, ◌⊎◌, ℕ, ◌+◌, ◌≤◌, ◌<◌, arith}
-use Rattle.pos_image.specs.Images.{Prepared, IsBeside}
-use Rattle.pos_image.specs.Layout.{start, other, layout_of, slot_size, longest, log_place, log_size}
-use Rattle.pos_image.specs.declared.layout.Layout.{Layout}
-use Rattle.pos_image.specs.declared.slot.Slot.{Slot}
-use Rattle.pos_image.specs.declared.slot.Slot.TheVariants.{First, Second, Third, Fourth}
+use Rattle.pos_image.proofs.Common.{First, Fourth, IsBeside, Layout, Prepared, Second, Slot, Third, arith, layout_of, log_place, log_size, longest, other}
+use Rattle.pos_image.proofs.Common.{slot_size, start, ℕ, ◌+◌, ◌<◌, ◌≡◌, ◌≤◌, ◌⊎◌}
 
 -- In a slot the log follows the longest body, up to the end of the slot, which is on the disk.
 pub record HasPlaces (slot : Slot) : Type 0 where

@@ -1,13 +1,7 @@
 -- The bytes on which no image is found.
-use Rattle.std.proofs.Common.{◌≡◌, ℕ, ◌<◌, ◌≤◌, List, length, sym, ◌∙◌, arith, true, false, nat_eq}
-use Rattle.std.proofs.lemmas.Bool.{le-ltb, lt-leb, lt-ltb}
-use Rattle.std.proofs.lemmas.Bool.Decides.{nat_tests}
-use Rattle.pos_image.specs.Layout.{start, other, first_of, layout_of, layout_on, longest, is_open, sequence_at, length_at}
-use Rattle.pos_image.specs.Slots.{HasHeads}
-use Rattle.pos_image.specs.Standing.{NoImage, DamagedImage, image_on}
-use Rattle.pos_image.specs.declared.layout.Layout.{Layout}
-use Rattle.pos_image.specs.declared.reading.Head.{Head}
-use Rattle.pos_image.specs.declared.slot.Slot.{Slot}
+use Rattle.pos_image.proofs.Common.{DamagedImage, HasHeads, Head, Layout, List, NoImage, Slot, arith, false, first_of, image_on, is_open, layout_of, layout_on}
+use Rattle.pos_image.proofs.Common.{le-ltb, length, length_at, longest, lt-leb, lt-ltb, nat_eq, nat_tests, other, sequence_at, start, sym, true, ℕ, ◌<◌, ◌∙◌}
+use Rattle.pos_image.proofs.Common.{◌≡◌, ◌≤◌}
 use Rattle.pos_image.proofs.Current.{chosen, chosen_stands, marked}
 use Rattle.pos_image.proofs.Places.{other_other, same_layout}
 

@@ -1,27 +1,15 @@
 -- What the calls of a log leave of the images, and of the log span.
-use Rattle.std.proofs.Common.{◌≡◌, ◌↔◌, inl, inr, ⊎_elim, ℕ, ◌+◌, ◌-◌, ◌≤◌, ◌<◌, ◌^◌, List, length, get_or, sym, ap, ◌∙◌, refl, arith, Option}
-use Rattle.std.proofs.Common.{Some, None, Result, Ok, Err, OnOk}
-use Rattle.std.specs.Prelude.{⊤, MatchOption}
-use Rattle.std.proofs.lemmas.Bool.{cases_lt, le-ltb}
+use Rattle.pos_image.proofs.Common.{DiskFault, DiskState, Err, Ghosts, HasPrepared, InRange, IsCurrent, IsHeld, IsReady, IsWithin, IsWritable, KeepsImage}
+use Rattle.pos_image.proofs.Common.{Layout, LeavesOnly, List, MatchOption, MayLeave, None, Ok, OnOk, Option, Prepared, Result, SameBut, ShowsImage, Slot, Some}
+use Rattle.pos_image.proofs.Common.{Syncs, View, Watches, Writes, WritesSpan, ap, arith, cases_lt, current_on, get_or, get_or-part, goes_on, image_on, in_range}
+use Rattle.pos_image.proofs.Common.{inl, inr, layout_of, le-ltb, leaves_within, length, length-part, length-splice, log_of, log_place, log_size, part}
+use Rattle.pos_image.proofs.Common.{part-part, refl, slot_size, span_of, splice, splice_elsewhere, spliced_within, start, started, sym, weaker, within_here}
+use Rattle.pos_image.proofs.Common.{within_write, ℕ, ⊎_elim, ⊤, ◌+◌, ◌-◌, ◌<◌, ◌^◌, ◌↔◌, ◌∙◌, ◌≡◌, ◌≤◌}
 use Rattle.std.proofs.lemmas.List.{ext_get_or, get_or_past}
-use Rattle.pos_disk.specs.State.{DiskState, InRange, MayLeave, LeavesOnly, Writes, Syncs, Watches, splice, part}
-use Rattle.pos_disk.specs.Within.{SameBut, IsWithin}
-use Rattle.pos_disk.specs.declared.device.Disk.{Ghosts}
-use Rattle.pos_disk.specs.declared.device.DiskFault.{DiskFault}
-use Rattle.pos_disk.proofs.Bytes.{in_range, length-splice, spliced_within, splice_elsewhere, length-part, get_or-part, part-part}
-use Rattle.pos_disk.proofs.Moments.{started, goes_on, weaker}
-use Rattle.pos_disk.proofs.Within.{within_here, leaves_within, within_write}
-use Rattle.pos_image.specs.Images.{View, Prepared, IsReady, HasPrepared}
-use Rattle.pos_image.specs.Layout.{start, layout_of, slot_size, log_place, log_size}
-use Rattle.pos_image.specs.Slots.{IsCurrent}
-use Rattle.pos_image.specs.Spans.{span_of, KeepsImage, IsHeld, IsWritable, WritesSpan}
-use Rattle.pos_image.specs.Standing.{ShowsImage, image_on, log_of, current_on}
-use Rattle.pos_image.specs.declared.layout.Layout.{Layout}
-use Rattle.pos_image.specs.declared.slot.Slot.{Slot}
 use Rattle.pos_image.proofs.Changes.{ready}
-use Rattle.pos_image.proofs.Current.{HasBody, OpensNone, kept_head, kept_body, kept_away, current_stands}
+use Rattle.pos_image.proofs.Current.{HasBody, OpensNone, current_stands, kept_away, kept_body, kept_head}
 use Rattle.pos_image.proofs.Logs.{log_here}
-use Rattle.pos_image.proofs.Places.{places, same_or_apart, beside_apart}
+use Rattle.pos_image.proofs.Places.{beside_apart, places, same_or_apart}
 use Rattle.pos_image.proofs.Refused.{short_stands}
 use Rattle.pos_image.proofs.Staged.{so_ok}
 
@@ -193,12 +181,6 @@ pub writable : {D : Type 0} (bound : Ghosts D) (images : View D) → 327680 ≤ 
     → (bound.honest images.disk → IsHeld (bound.state images.disk) images) → IsWritable bound images
 writable bound images large counted held =
     let leaves = λ (honest : bound.honest images.disk). keeps_image images (bound.state images.disk) (held honest) in assumption
-
--- as are those that are ready
-pub ready_writable : {D : Type 0} (bound : Ghosts D) (images : View D) → IsReady bound images → IsWritable bound images
-ready_writable bound images is = writable bound images is.large is.counted (λ honest.
-    let sound = is.sound honest in
-    record { loose = λ i loose. absurd (sound.at_rest i loose); current = sound.current; prepared = sound.prepared })
 
 -- writable images are ready after a sync
 pub synced : {D : Type 0} (bound : Ghosts D) (images : View D) (disk : D) (result : Result (Unit {0}) DiskFault) → IsWritable bound images

@@ -1,19 +1,8 @@
 -- What the steps of a change leave.
-use Rattle.std.proofs.Common.{◌≡◌, inl, inr, ℕ, ◌+◌, ◌-◌, ◌≤◌, ◌<◌, ◌^◌, List, [], ◌∷◌, ◌++◌, length, ap, ◌∙◌, arith, Result}
-use Rattle.std.proofs.Common.{Ok, Err, false, OnOk}
-use Rattle.std.proofs.lemmas.Bool.{cases_Bool}
-use Rattle.std.specs.Prelude.{if◌then◌else◌}
-use Rattle.pos_disk.specs.State.{DiskState, IsAtRest, MayLeave, LeavesOnly, Writes, Syncs, splice, part}
-use Rattle.pos_disk.specs.Within.{SameBut, IsWithin}
-use Rattle.pos_disk.specs.declared.device.DiskFault.{DiskFault}
-use Rattle.pos_disk.proofs.Bytes.{part-splice}
-use Rattle.pos_disk.proofs.Moments.{started}
-use Rattle.pos_disk.proofs.Within.{wider, same_on, spliced_same, kept_part, within_here, leaves_within, within_goes_on, within_write, within_sync}
-use Rattle.byteorder.specs.Endian.{big_bytes}
-use Rattle.pos_image.specs.Layout.{is_open, start, layout_of, longest, log_place, slot_size}
-use Rattle.pos_image.specs.Slots.{HasFields}
-use Rattle.pos_image.specs.DiskCalls.{Stages}
-use Rattle.pos_image.specs.declared.slot.Slot.{Slot}
+use Rattle.pos_image.proofs.Common.{DiskFault, DiskState, Err, HasFields, IsAtRest, IsWithin, LeavesOnly, List, MayLeave, Ok, OnOk, Result, SameBut, Slot}
+use Rattle.pos_image.proofs.Common.{Stages, Syncs, Writes, [], ap, arith, big_bytes, false, if◌then◌else◌, is_open, kept_part, layout_of, leaves_within, length}
+use Rattle.pos_image.proofs.Common.{log_place, longest, part, part-splice, same_on, slot_size, splice, spliced_same, start, started, wider, within_goes_on}
+use Rattle.pos_image.proofs.Common.{within_here, within_sync, within_write, ℕ, ◌++◌, ◌+◌, ◌-◌, ◌<◌, ◌^◌, ◌∙◌, ◌∷◌, ◌≡◌, ◌≤◌}
 use Rattle.pos_image.proofs.Current.{kept_gate}
 use Rattle.pos_image.proofs.Fields.{fields}
 use Rattle.pos_image.proofs.Places.{places}
@@ -53,15 +42,11 @@ so_ok (Err e) P Q to holds = tt
 pub closing_stages : (slot : Slot) (old c : List ℕ) → SameBut (start slot) (if is_open old (start slot) then 1 else 0) old c → Stages slot old c
 closing_stages slot old c same =
     let here = places slot in
-    elim (cases_Bool (is_open old (start slot))) [
-      | inl opened ↦
-          let one : SameBut (start slot) 1 old c = rw opened at same in
-          record { same = wider (omega arith) (omega arith) one; behind = λ _. (opened, one) }
-      | inr shut ↦
-          let none : SameBut (start slot) 0 old c = rw shut at same in
-          let kept = kept_gate none (start slot) (omega arith) in
-          record { same = wider (omega arith) (omega arith) none; behind = λ opened. absurd (cc (kept, shut, opened)) }
-    ]
+    let none = same.elsewhere (start slot) in
+    record {
+      same = record { same_length = same.same_length; elsewhere = λ i outside. grind (arith, same.elsewhere i, here) };
+      behind = λ opened. (grind (arith, none), record { same_length = same.same_length; elsewhere = λ i outside. grind (arith, same.elsewhere i) });
+    }
 
 -- and while an image is written behind it
 pub writing_stages : (slot : Slot) (old mid c : List ℕ) → SameBut (start slot) 1 old mid → is_open mid (start slot) ≡ false

@@ -1,25 +1,14 @@
 -- What an append did, by what its two steps did.
-use Rattle.std.proofs.Common.{◌≡◌, inl, inr, ⊎_elim, ℕ, ◌+◌, ◌-◌, ◌≤◌, ◌<◌, ◌^◌, List, [], ◌∷◌, ◌++◌, length, refl, sym, ap, ◌∙◌, arith, rules, Ok, Err}
-use Rattle.pos_disk.specs.State.{DiskState, LeavesOnly, Rises, HasNotFailed, part}
+use Rattle.pos_log.proofs.Common.{Appends, CountsFaults, DiskState, Err, Ghosts, HasNotFailed, HoldsMore, HoldsRecords, IsLogReady, IsReady, KeepsRecords}
+use Rattle.pos_log.proofs.Common.{KeepsSpan, LeavesOnly, List, Ok, PutsBytes, Rises, SameBut, View, [], ap, arith, followed_by, inl, layout_of, length, log_of}
+use Rattle.pos_log.proofs.Common.{log_over, log_place, part, part-splice, places, rules, slot_size, span_length, spelling, spliced_same, tail_of}
+use Rattle.pos_log.proofs.Common.{text_behind_gate, weaker, wider, ℕ, ⊎_elim, ◌++◌, ◌+◌, ◌-◌, ◌<◌, ◌^◌, ◌∙◌, ◌∷◌, ◌≡◌, ◌≤◌}
 use Rattle.pos_disk.specs.Keeps.{KeepsDisk}
-use Rattle.pos_disk.specs.Within.{SameBut}
-use Rattle.pos_disk.specs.declared.device.Disk.{Ghosts}
-use Rattle.pos_disk.proofs.Bytes.{part-splice}
-use Rattle.pos_disk.proofs.Moments.{weaker, followed_by}
-use Rattle.pos_disk.proofs.Within.{wider, spliced_same}
-use Rattle.pos_image.specs.Images.{View, IsReady, CountsFaults}
-use Rattle.pos_image.specs.Layout.{layout_of, slot_size, log_place}
-use Rattle.pos_image.specs.Standing.{log_of}
 use Rattle.pos_image.proofs.Changes.{opened_gate}
-use Rattle.pos_image.proofs.Places.{places}
-use Rattle.pos_image.proofs.Spanned.{span_length}
-use Rattle.pos_log.specs.Records.{spelling, tail_of, text_behind_gate, HoldsRecords, HoldsMore}
-use Rattle.pos_log.specs.Writing.{KeepsSpan, PutsBytes}
-use Rattle.pos_log.specs.Logs.{log_over, IsLogReady, KeepsRecords, Appends}
-use Rattle.pos_log.specs.declared.fault.LogFault.TheVariants as fault
-use Rattle.pos_log.proofs.Holding.{kept_records, either_more, opened_more, spelling_length}
+use Rattle.pos_log.proofs.Holding.{either_more, kept_records, opened_more, spelling_length}
 use Rattle.pos_log.proofs.LaidOut.{text_length}
 use Rattle.pos_log.proofs.Unique.{one_log}
+use Rattle.pos_log.specs.declared.fault.LogFault.TheVariants as fault
 
 -- What a write into the log span and its sync did to the disk, whatever they answered.
 pub record WritesThrough {D : Type 0} (bound : Ghosts D) (images : View D) (disk : D) (at : ℕ) (bytes : List ℕ) (end : D) : Type 0 where
@@ -59,18 +48,9 @@ module _ {D : Type 0} (bound : Ghosts D) (images : View D) (tail : ℕ) (group :
   failed : (end : D) (now : View D) → now ≡ record images { disk = end } → (bound.honest images.disk → IsKept (bound.state end))
       → KeepsDisk bound images.disk end → (bound.honest images.disk → Rises old.failures (bound.state end).failures)
       → Appends bound (log_over images tail) group (Err fault.Device) (log_over now tail)
-  failed end now is moments keeps rises = rw is record {
-    ready = tt;
-    appended = tt;
-    records = λ honest. tt;
-    any_moment = moments;
-    full = ((λ e. absurd cc), (λ over. absurd (omega arith)));
-    unchanged = λ err. inl refl;
-    failed = λ e. refl;
-    device = λ honest e. rises honest;
-    counts = λ honest. inl refl;
-    keeps = keeps;
-  }
+  failed end now is moments keeps rises =
+      let small : slot_size (layout_of images.slot) < tail + 6 + length group → ⊥ = λ over. omega arith in
+      rw is (search (rules, moments, keeps, rises, small))
 
   module _ (disk : D) (puts : WritesThrough bound images images.disk (place + 1) (text_behind_gate group) disk) where
     -- at any moment of the first step
@@ -97,10 +77,8 @@ module _ {D : Type 0} (bound : Ghosts D) (images : View D) (tail : ℕ) (group :
 
       there : bound.honest images.disk → part (place + 1) (5 + length group) (log_of (bound.state disk).reading) ≡ text_behind_gate group
       there honest =
-          let long = text_length group in
-          ap (λ (n : ℕ). part (place + 1) n (log_of (bound.state disk).reading)) (sym long)
-          ∙ ap (part (place + 1) (length (text_behind_gate group))) (put honest)
-          ∙ part-splice (log_of old.reading) (text_behind_gate group) (place + 1) (omega (arith, in_span honest))
+          rw (← (text_length group), put honest) (part-splice (log_of old.reading) (text_behind_gate group) (place + 1)
+          (omega (arith, in_span honest, text_length group)))
 
       -- and of the second
       all_moments : bound.honest images.disk → IsKept (bound.state end)
@@ -129,21 +107,14 @@ module _ {D : Type 0} (bound : Ghosts D) (images : View D) (tail : ℕ) (group :
         pub appended : (now : View D) (behind : ℕ) → now ≡ record images { disk = end } → behind ≡ tail + 5 + length group → IsReady bound now
             → (bound.honest images.disk → HasNotFailed old (bound.state disk)) → (bound.honest disk → HasNotFailed (bound.state disk) (bound.state end))
             → Appends bound (log_over images tail) group (Ok tt) (log_over now behind)
-        appended now behind is behind_is is_ready first second = rw (is, behind_is) record {
-          ready = record {
-            images = rw is at is_ready;
-            records = λ honest.
-                let was = both_keep.honest.1 honest in
-                let found = ready.records was in
-                (found.0 ++ group ∷ [], more was found.0 found.1, omega (arith, found.2, spelling_length found.0 group));
-          };
-          appended = refl;
-          records = more;
-          any_moment = all_moments;
-          full = ((λ e. absurd cc), (λ over. absurd (omega arith)));
-          unchanged = λ err. absurd cc;
-          failed = λ e. absurd cc;
-          device = λ honest e. absurd cc;
-          counts = λ honest. inr (second (puts.keeps.honest.0 honest) ∙ first honest);
-          keeps = both_keep;
-        }
+        appended now behind is behind_is is_ready first second =
+            let ready : IsLogReady bound (log_over (record images { disk = end }) (tail + 5 + length group)) = record {
+              images = rw is at is_ready;
+              records = λ honest.
+                  let was = both_keep.honest.1 honest in
+                  let found = ready.records was in
+                  (found.0 ++ group ∷ [], more was found.0 found.1, omega (arith, found.2, spelling_length found.0 group));
+            } in
+            let counts = λ (honest : bound.honest images.disk). second (puts.keeps.honest.0 honest) ∙ first honest in
+            let small : slot_size (layout_of images.slot) < tail + 6 + length group → ⊥ = λ over. omega arith in
+            rw (is, behind_is) (search (rules, ready, more, all_moments, counts, both_keep, small))

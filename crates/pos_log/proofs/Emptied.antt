@@ -1,16 +1,9 @@
 -- What a new image in the place of the old one did to the log.
-use Rattle.std.proofs.Common.{◌≡◌, ⊎_elim, inl, inr, ℕ, List, [], ap, ◌∙◌, refl, arith, nat_eq, rules, Ok, Err}
-use Rattle.pos_disk.specs.State.{DiskState, LeavesOnly}
-use Rattle.pos_disk.proofs.Moments.{weaker}
-use Rattle.pos_disk.specs.declared.device.Disk.{Ghosts}
-use Rattle.pos_image.specs.Images.{View, Prepared, HasEither}
-use Rattle.pos_image.specs.Layout.{layout_of, log_place}
-use Rattle.pos_image.specs.Standing.{HasNewImage}
+use Rattle.pos_log.proofs.Common.{DiskState, Err, Ghosts, HasEither, HasNewImage, HasNoRecords, HasOldOrNew, IsLogReady, LeavesOnly, List, Ok, Prepared, Renews}
+use Rattle.pos_log.proofs.Common.{View, [], ap, arith, image_length, inl, inr, layout_of, log_over, log_place, log_some, nat_eq, refl, rules, weaker, ℕ, ⊎_elim}
+use Rattle.pos_log.proofs.Common.{◌∙◌, ◌≡◌}
 use Rattle.pos_image.specs.declared.fault.ImageFault.{ImageFault}
 use Rattle.pos_image.specs.declared.layout.Layout.{Layout}
-use Rattle.pos_image.proofs.Places.{log_some}
-use Rattle.pos_image.proofs.Spanned.{image_length}
-use Rattle.pos_log.specs.Logs.{HasNoRecords, HasOldOrNew, IsLogReady, Renews, log_over}
 use Rattle.pos_log.specs.Renewing.{Replaces}
 
 -- a new image has no records

@@ -1,20 +1,11 @@
 -- What an append leaves of the records.
-use Rattle.std.proofs.Common.{◌≡◌, ◌⊎◌, inl, inr, ℕ, ◌+◌, ◌^◌, ◌≤◌, ◌<◌, List, [], ◌∷◌, ◌++◌, length, get_or, take, drop, refl, sym, ap, ◌∙◌, arith, true}
-use Rattle.std.proofs.Common.{false, nat_eq, length-append, drop-cons}
-use Rattle.std.specs.Int.{w32, to_be_bytes}
-use Rattle.std.specs.List.{AllByRecursion}
-use Rattle.std.proofs.Math.Seq.{take-add}
-use Rattle.std.proofs.lemmas.Bool.{cases_Bool}
-use Rattle.std.proofs.lemmas.Bool.Decides.{nat_tests}
-use Rattle.std.proofs.lemmas.List.{append-nil, drop-drop, take_at, get_or-append-add}
-use Rattle.std.proofs.lemmas.Grind.{common_steps, flat_map-append}
-use Rattle.pos_disk.specs.State.{part}
-use Rattle.pos_disk.specs.Within.{SameBut}
-use Rattle.pos_disk.proofs.Bytes.{length-part, get_or-part, part-part}
-use Rattle.pos_disk.proofs.Within.{wider, same_on, kept_part}
-use Rattle.pos_image.specs.Layout.{is_open}
+use Rattle.pos_log.proofs.Common.{AllByRecursion, BeginsWith, HasLength, HoldsRecords, IsShort, List, SameBut, [], ap, append-nil, arith, cases_Bool, drop}
+use Rattle.pos_log.proofs.Common.{drop-cons, drop-drop, false, get_or, get_or-append-add, get_or-part, inl, inr, is_open, kept_part, length, length-append}
+use Rattle.pos_log.proofs.Common.{length-part, nat_eq, nat_tests, part, part-part, record_spelling, refl, same_on, spelling, sym, take, take_at}
+use Rattle.pos_log.proofs.Common.{text_behind_gate, to_be_bytes, true, w32, wider, ℕ, ◌++◌, ◌+◌, ◌<◌, ◌^◌, ◌∙◌, ◌∷◌, ◌≡◌, ◌≤◌, ◌⊎◌}
 use Rattle.pos_image.proofs.Current.{kept_gate}
-use Rattle.pos_log.specs.Records.{record_spelling, text_behind_gate, spelling, IsShort, HasLength, BeginsWith, HoldsRecords}
+use Rattle.std.proofs.Math.Seq.{take-add}
+use Rattle.std.proofs.lemmas.Grind.{common_steps, flat_map-append}
 
 -- a part in two
 part_in_two : (at n m place : ℕ) (bytes : List ℕ) → place ≡ at + n → part at (n + m) bytes ≡ part at n bytes ++ part place m bytes
@@ -31,13 +22,18 @@ record_here : (place : ℕ) (span group : List ℕ) → get_or span place 0 ≡ 
 record_here place span group byte length_is group_is fits =
     let front = drop-cons span place 0 (omega arith) in
     let gate_is : part place 1 span ≡ 165 ∷ [] = rw (front, byte) in
-    part_in_two place 1 (4 + length group) (place + 1) span refl ∙ ap (λ (l : List ℕ). l ++ part (place + 1) (4 + length group) span) gate_is
-    ∙ ap (λ (l : List ℕ). 165 ∷ l) (part_in_two (place + 1) 4 (length group) (place + 5) span (omega arith) ∙ rw (length_is, group_is))
+    rw (
+      part_in_two place 1 (4 + length group) (place + 1) span refl,
+      part_in_two (place + 1) 4 (length group) (place + 5) span
+          (omega arith),
+      gate_is,
+      length_is,
+    )
+    (ap (λ (l : List ℕ). 165 ∷ (to_be_bytes w32 (length group) ++ l)) group_is)
 
 -- one record more
 pub spelling_more : (groups : List (List ℕ)) (group : List ℕ) → spelling (groups ++ group ∷ []) ≡ spelling groups ++ record_spelling group
-spelling_more groups group = flat_map-append record_spelling groups (group ∷ [])
-    ∙ ap (λ (l : List ℕ). spelling groups ++ l) (append-nil (record_spelling group))
+spelling_more groups group = rw (flat_map-append record_spelling groups (group ∷ []), append-nil (record_spelling group))
 
 -- and so long
 pub spelling_length : (groups : List (List ℕ)) (group : List ℕ) → length (spelling (groups ++ group ∷ [])) ≡ length (spelling groups) + 5 + length group
@@ -61,9 +57,7 @@ begins_more groups at n span group begins gate has is =
     record {
       short = all_more groups group begins.short (omega arith);
       end_is = omega arith;
-      front = ap (λ (k : ℕ). take k span) total ∙ take-add at (1 + (4 + length group)) span
-          ∙ ap (λ (l : List ℕ). l ++ part at (1 + (4 + length group)) span) begins.front
-          ∙ ap (λ (l : List ℕ). spelling groups ++ l) here ∙ sym (spelling_more groups group);
+      front = rw (total, take-add at (1 + (4 + length group)) span, begins.front, here) (sym (spelling_more groups group));
       inside = omega arith;
     }
 

@@ -1,9 +1,6 @@
 -- What stands behind the gate of a record, as it is laid out.
-use Rattle.std.proofs.Common.{◌≡◌, ℕ, ◌+◌, ◌<◌, List, [], ◌∷◌, ◌++◌, length, take, drop, sym, ap, ◌∙◌, arith, append_assoc, length-append}
-use Rattle.std.specs.Prelude.{slice_set}
-use Rattle.std.specs.Int.{w32, to_be_bytes}
-use Rattle.std.proofs.lemmas.List.{take_at}
-use Rattle.pos_log.specs.Records.{text_behind_gate}
+use Rattle.pos_log.proofs.Common.{List, [], append_assoc, arith, drop, length, length-append, slice_set, take, take_at, text_behind_gate, to_be_bytes, w32, ℕ}
+use Rattle.pos_log.proofs.Common.{◌++◌, ◌+◌, ◌<◌, ◌∷◌, ◌≡◌}
 
 -- the text is so long
 pub text_length : (group : List ℕ) → length (text_behind_gate group) ≡ 5 + length group
@@ -14,10 +11,7 @@ pub laid_out : (head body behind group : List ℕ) → head ≡ to_be_bytes w32 
     → take (5 + length group) (head ++ (body ++ slice_set behind 0 0)) ≡ text_behind_gate group
 laid_out head body [] group head_is body_is some = absurd (omega (arith, some))
 laid_out head body (first ∷ behind) group head_is body_is some =
-    ap (λ (l : List ℕ). take (5 + length group) (l ++ (body ++ 0 ∷ behind))) head_is
-    ∙ ap (λ (l : List ℕ). take (5 + length group) (to_be_bytes w32 (length group) ++ (l ++ 0 ∷ behind))) body_is
-    ∙ ap (λ (l : List ℕ). take (5 + length group) (to_be_bytes w32 (length group) ++ l)) (sym (append_assoc group (0 ∷ []) behind))
-    ∙ take_at (text_behind_gate group) behind (5 + length group) (text_length group)
+    rw (head_is, body_is, ← (append_assoc group (0 ∷ []) behind)) (take_at (text_behind_gate group) behind (5 + length group) (text_length group))
 
 -- a slice that is put back whole
 pub put_back : (len : ℕ) (new items : List ℕ) → len ≡ length items → length new ≡ length items → take len (new ++ drop (length new) items) ≡ new

@@ -1,3 +1,4 @@
+pub mod Common
 mod Appending
 pub mod Deciding
 pub mod Emptied

@@ -1,12 +1,7 @@
 -- A write into the log span, up to its sync.
-use Rattle.std.proofs.Common.{◌≡◌, ⊎_elim, ℕ, List, length, ◌∙◌, Result}
-use Rattle.pos_disk.specs.State.{DiskState, LeavesOnly}
-use Rattle.pos_disk.proofs.Moments.{weaker, followed_by}
-use Rattle.pos_image.specs.Layout.{layout_of}
-use Rattle.pos_image.specs.Standing.{ShowsImage, log_of}
-use Rattle.pos_image.specs.Images.{View, IsSound}
-use Rattle.pos_image.specs.Spans.{span_of, MayHold, KeepsImage, WritesSpan}
-use Rattle.pos_log.specs.Writing.{KeepsSpan}
+use Rattle.pos_log.proofs.Common.{DiskState, IsSound, KeepsSpan, LeavesOnly, List, Result, ShowsImage, View, followed_by, layout_of, length, log_of, weaker, ℕ}
+use Rattle.pos_log.proofs.Common.{⊎_elim, ◌∙◌, ◌≡◌}
+use Rattle.pos_image.specs.Spans.{KeepsImage, MayHold, WritesSpan, span_of}
 
 module _ {D : Type 0} (images : View D) (at : ℕ) (bytes : List ℕ) {T E : Type 0} (result : Result T E) (old mid : DiskState) (sound : IsSound old images)
     (writes : WritesSpan (span_of images old) (span_of images mid) at bytes result) where

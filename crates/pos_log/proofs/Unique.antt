@@ -1,10 +1,7 @@
 -- A span holds the records of one list of groups.
-use Rattle.std.proofs.Common.{◌≡◌, ℕ, suc, List, [], ◌∷◌, ◌++◌, length, get_or, take, drop, refl, sym, ap, ◌∙◌, append_assoc, drop-cons, false, true, nat_eq}
-use Rattle.std.specs.Int.{w32, to_be_bytes, from_be_bytes}
-use Rattle.std.specs.List.{AllByRecursion}
-use Rattle.std.proofs.lemmas.List.{take_at, drop_at, take-append-drop, append-nil}
-use Rattle.std.proofs.lemmas.Nat.{from_be_bytes-to_be_bytes_4}
-use Rattle.pos_log.specs.Records.{record_spelling, spelling, IsShort, HoldsRecords}
+use Rattle.pos_log.proofs.Common.{AllByRecursion, HoldsRecords, IsShort, List, [], ap, append-nil, append_assoc, arith, drop, drop-cons, drop_at, false}
+use Rattle.pos_log.proofs.Common.{from_be_bytes, from_be_bytes-to_be_bytes_4, get_or, length, nat_eq, nat_tests, record_spelling, refl, spelling, suc, sym}
+use Rattle.pos_log.proofs.Common.{take, take-append-drop, take_at, to_be_bytes, w32, ℕ, ◌++◌, ◌∙◌, ◌∷◌, ◌≡◌}
 
 -- two records that begin one text are the same
 pub same_head : (a b x y : List ℕ) → IsShort a → IsShort b → record_spelling a ++ x ≡ record_spelling b ++ y → (a ≡ b) × (x ≡ y)
@@ -12,16 +9,8 @@ same_head a b x y sa sb is =
     let lens : to_be_bytes w32 (length a) ≡ to_be_bytes w32 (length b) = ap (λ (l : List ℕ). take 4 (drop 1 l)) is in
     let long : length a ≡ length b =
     sym (from_be_bytes-to_be_bytes_4 (length a) sa) ∙ ap (from_be_bytes w32) lens ∙ from_be_bytes-to_be_bytes_4 (length b) sb in
-    let rest : a ++ x ≡ b ++ y = ap (drop 5) is in (
-      sym (take_at a x (length a) refl) ∙ ap (take (length a)) rest ∙ take_at b y (length a) (sym long),
-      sym (drop_at a x (length a) refl) ∙ ap (drop (length a)) rest ∙ drop_at b y (length a) (sym long),
-    )
-
--- 0xA5 is an open gate
-pub shut_differs : (gate : ℕ) → 165 ≡ gate → nat_eq gate 165 ≡ false → ⊥
-shut_differs gate is shut =
-    let same : true ≡ nat_eq gate 165 = ap (λ (b : ℕ). nat_eq b 165) is in
-    absurd (cc (same, shut))
+    let rest : a ++ x ≡ b ++ y = ap (drop 5) is in
+    (cc (take_at a x (length a) refl, take_at b y (length a) (sym long)), cc (drop_at a x (length a) refl, drop_at b y (length a) (sym long)))
 
 -- Records at the front of a text are among those that it holds up to a closed gate; the others follow.
 abbrev pub Follow : List (List ℕ) → List (List ℕ) → List ℕ → List ℕ → Type 0
@@ -31,7 +20,7 @@ Follow groups all rest behind =
 pub others_follow : (groups all : List (List ℕ)) (rest : List ℕ) (gate : ℕ) (behind : List ℕ) → AllByRecursion IsShort groups → AllByRecursion IsShort all
     → spelling groups ++ rest ≡ spelling all ++ gate ∷ behind → nat_eq gate 165 ≡ false → Follow groups all rest (gate ∷ behind)
 others_follow [] all rest gate behind short short_all is shut = (all, refl, is, short_all)
-others_follow (group ∷ groups) [] rest gate behind short short_all is shut = absurd (shut_differs gate (ap (λ (l : List ℕ). get_or l 0 0) is) shut)
+others_follow (group ∷ groups) [] rest gate behind short short_all is shut = absurd (grind (arith, nat_tests, ap (λ (l : List ℕ). get_or l 0 0) is))
 others_follow (group ∷ groups) (one ∷ all) rest gate behind short short_all is shut =
     let apart = sym (append_assoc (record_spelling group) (spelling groups) rest) ∙ is ∙ append_assoc (record_spelling one) (spelling all) (gate ∷ behind) in
     let first = same_head group one (spelling groups ++ rest) (spelling all ++ gate ∷ behind) short.0 short_all.0 apart in
@@ -42,15 +31,12 @@ others_follow (group ∷ groups) (one ∷ all) rest gate behind short short_all 
 pub span_split : (groups : List (List ℕ)) (span : List ℕ) → HoldsRecords groups span
     → span ≡ spelling groups ++ get_or span (length (spelling groups)) 0 ∷ drop (suc (length (spelling groups))) span
 span_split groups span holds =
-    let inside = holds.inside in
-    sym (take-append-drop (length (spelling groups)) span)
-    ∙ ap (λ (l : List ℕ). l ++ drop (length (spelling groups)) span) holds.front
-    ∙ ap (λ (l : List ℕ). spelling groups ++ l) (drop-cons span (length (spelling groups)) 0 inside)
+    cc (take-append-drop (length (spelling groups)) span, holds.front, drop-cons span (length (spelling groups)) 0 holds.inside)
 
 none_follow : (groups all others : List (List ℕ)) (gate : ℕ) (rest behind : List ℕ) → all ≡ groups ++ others
     → gate ∷ rest ≡ spelling others ++ behind → nat_eq gate 165 ≡ false → groups ≡ all
 none_follow groups all [] gate rest behind is text shut = sym (is ∙ append-nil groups)
-none_follow groups all (one ∷ others) gate rest behind is text shut = absurd (shut_differs gate (sym (ap (λ (l : List ℕ). get_or l 0 0) text)) shut)
+none_follow groups all (one ∷ others) gate rest behind is text shut = absurd (grind (arith, nat_tests, ap (λ (l : List ℕ). get_or l 0 0) text))
 
 -- so it holds one list of records
 pub one_log : (groups all : List (List ℕ)) (span : List ℕ) → HoldsRecords groups span → HoldsRecords all span → groups ≡ all

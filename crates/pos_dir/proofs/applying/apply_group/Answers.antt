@@ -1,4 +1,4 @@
-use Rattle.std.proofs.lemmas.Result.{err_from_is_err_and}
+use Rattle.pos_dir.proofs.Common.{err_from_is_err_and}
 use Rattle.pos_dir.proofs.Applied.{not_applicable}
 use Rattle.pos_dir.proofs.applying.apply_group.Goals as goal
 

@@ -1,8 +1,5 @@
-use Rattle.std.proofs.Common.{◌≡◌, ◌≤◌, drop, vec_capacity}
-use Rattle.std.specs.List.{flat_map}
+use Rattle.pos_dir.proofs.Common.{drop, flat_map, outcome_of_all, supplies_of, vec_capacity, ◌≡◌, ◌≤◌}
 use Rattle.std.specs.Vec.Iter.{into_iter_items}
-use Rattle.pos_dir.specs.Changes.{outcome_of_all}
-use Rattle.pos_dir.specs.Supplies.{supplies_of}
 use Rattle.pos_dir.proofs.applying.carry_out.Given as goal
 
 abbrev pub invariant-loop-change : goal.invariant-loop-change

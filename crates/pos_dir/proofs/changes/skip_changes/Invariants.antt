@@ -1,7 +1,4 @@
-use Rattle.std.proofs.Common.{◌≡◌, ◌-◌}
-use Rattle.std.specs.Option.{option_map}
-use Rattle.pos_dir.specs.ChangeTexts.{change_at}
-use Rattle.pos_dir.specs.Reading.{items_at}
+use Rattle.pos_dir.proofs.Common.{change_at, items_at, option_map, ◌-◌, ◌≡◌}
 use Rattle.pos_dir.proofs.changes.skip_changes.Given as goal
 
 abbrev pub invariant-loop : goal.invariant-loop

@@ -1,5 +1,4 @@
-use Rattle.std.proofs.Common.{◌≡◌, ◌-◌}
-use Rattle.pos_dir.specs.Reading.{items_at}
+use Rattle.pos_dir.proofs.Common.{items_at, ◌-◌, ◌≡◌}
 use Rattle.pos_dir.proofs.Items.{with_front}
 use Rattle.pos_dir.proofs.collecting.collect_items.Given as goal
 

@@ -1,5 +1,4 @@
-use Rattle.std.proofs.Common.{◌≡◌, ◌-◌}
-use Rattle.pos_dir.specs.Reading.{file_at, items_at, end_within}
+use Rattle.pos_dir.proofs.Common.{end_within, file_at, items_at, ◌-◌, ◌≡◌}
 use Rattle.pos_dir.proofs.files.skip_files.Given as goal
 
 abbrev pub invariant-loop : goal.invariant-loop

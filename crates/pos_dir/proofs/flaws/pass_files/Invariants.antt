@@ -1,7 +1,4 @@
-use Rattle.std.proofs.Common.{◌≡◌, ◌+◌, List, length, Some, true}
-use Rattle.pos_dir.specs.declared.file.File.{File}
-use Rattle.pos_dir.specs.Files.{are_distinct, total_size}
-use Rattle.pos_dir.specs.Reading.{file_at, items_at}
+use Rattle.pos_dir.proofs.Common.{File, List, Some, are_distinct, file_at, items_at, length, total_size, true, ◌+◌, ◌≡◌}
 use Rattle.pos_dir.proofs.flaws.pass_files.Given as goal
 
 abbrev pub invariant-loop-i : goal.invariant-loop-i

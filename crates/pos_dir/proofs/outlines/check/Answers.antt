@@ -1,8 +1,4 @@
-use Rattle.std.proofs.Common.{ℕ, List, Option, ap, ◌∙◌}
-use Rattle.std.specs.Prelude.{slice_get}
-use Rattle.std.specs.Option.{option_map}
-use Rattle.pos_dir.specs.declared.outlines.Outline.{Outline}
-use Rattle.pos_dir.specs.Outlines.{answer_by_size}
+use Rattle.pos_dir.proofs.Common.{List, Option, Outline, answer_by_size, ap, option_map, slice_get, ℕ, ◌∙◌}
 use Rattle.pos_dir.proofs.Outlined.{answered_by_outline}
 use Rattle.pos_dir.proofs.outlines.check.Goals as goal
 

@@ -1,5 +1,4 @@
-use Rattle.std.proofs.Common.{ℕ, Option, sym, ap, ◌∙◌}
-use Rattle.pos_dir.specs.Outlines.{answer_by_size}
+use Rattle.pos_dir.proofs.Common.{Option, answer_by_size, ap, sym, ℕ, ◌∙◌}
 use Rattle.pos_dir.proofs.Outlined.{answered_by_file}
 use Rattle.pos_dir.proofs.outlines.check_alone.Goals as goal
 

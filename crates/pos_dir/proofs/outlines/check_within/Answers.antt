@@ -1,9 +1,6 @@
-use Rattle.std.proofs.Common.{drop, rules}
-use Rattle.std.specs.List.{AllByRecursion}
-use Rattle.std.proofs.lemmas.Result.{err_from_is_err_and}
-use Rattle.pos_dir.specs.Changes.{IsChange, outcome_of_all}
+use Rattle.pos_dir.proofs.Common.{AllByRecursion, IsChange, drop, err_from_is_err_and, outcome_of_all, rules}
 use Rattle.pos_dir.proofs.Kept.{takes_change}
-use Rattle.pos_dir.proofs.Outlined.{stage_room, stage_on, stage_stops}
+use Rattle.pos_dir.proofs.Outlined.{stage_on, stage_room, stage_stops}
 use Rattle.pos_dir.proofs.outlines.check_within.Goals as goal
 
 pub check-requires : goal.check-requires

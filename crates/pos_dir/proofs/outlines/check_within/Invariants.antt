@@ -1,5 +1,4 @@
-use Rattle.std.proofs.Common.{drop}
-use Rattle.pos_dir.specs.Changes.{outcome_of_all}
+use Rattle.pos_dir.proofs.Common.{drop, outcome_of_all}
 use Rattle.pos_dir.proofs.Outlined.{IsStage}
 use Rattle.pos_dir.proofs.outlines.check_within.Given as goal
 

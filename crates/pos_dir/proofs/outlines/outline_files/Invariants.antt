@@ -1,5 +1,4 @@
-use Rattle.std.proofs.Common.{take}
-use Rattle.pos_dir.specs.Outlines.{AreOutlines}
+use Rattle.pos_dir.proofs.Common.{AreOutlines, take}
 use Rattle.pos_dir.proofs.outlines.outline_files.Given as goal
 
 abbrev pub invariant-loop-file : goal.invariant-loop-file

@@ -1,13 +1,5 @@
-use Rattle.std.proofs.Common.{◌≡◌, refl, rules, sym, subst, arith, List, []}
-use Rattle.std.proofs.lemmas.Result.{err_from_is_err_and}
-use Rattle.pos_dir.specs.declared.file.File.{File}
-use Rattle.pos_dir.specs.Files.{IsDirectory}
-use Rattle.pos_dir.specs.Spelling.{spelling}
-use Rattle.pos_dir.specs.Reading.{file_at, items_at}
-use Rattle.pos_dir.proofs.Items.{same_items}
-use Rattle.pos_dir.proofs.Readers.{IsBytes}
+use Rattle.pos_dir.proofs.Common.{arith, err_from_is_err_and, refl, rules}
 use Rattle.pos_dir.proofs.Directories.{directory_takes, no_body}
-use Rattle.pos_dir.proofs.reading.decode.Goals.{In_ok-files}
 use Rattle.pos_dir.proofs.reading.decode.Goals as goal
 
 pub returns-in_default : goal.returns-in_default
@@ -21,24 +13,14 @@ returns-in_err-files c =
     let p = err_from_is_err_and c.from_residual.result c.from_residual.ensures.1 in
     rw (p.1, p.2, c.in_err-files.ensures) (found.0, takes.0, takes.1)
 
--- the files that were copied are those that the bytes spell
-copied : (c : In_ok-files) → IsBytes c.args.bytes.now
-    → IsDirectory c.args.limits c.in_ok-files.files.items × (c.args.bytes.now ≡ spelling c.in_ok-files.files.items)
-copied c fits =
-    let found = c.in-Some.ensures in
-    let same = same_items (items_at file_at c.in-Some.count c.in-Some.rest.now) c.in_ok-files.files.items found.0 [] c.in_ok-files.ensures found.2 in
-    subst (λ (files : List File). IsDirectory c.args.limits files × (c.args.bytes.now ≡ spelling files)) (sym same)
-    (directory_takes c.args.limits c.args.bytes.now found.0 fits found.1)
-
 pub invariant_of-result : goal.invariant_of-result
 invariant_of-result c = record {
   few = c.requires;
   writable = record { files = omega (arith, c.requires); bytes = search rules };
-  directory =
-      (copied (goal.at.invariant_of-result c).In_ok-files (λ i. omega (arith, c.type_inv.bytes i))).0;
+  directory = (directory_takes c.args.limits c.args.bytes.now c.in_ok-files.files.items (λ i. omega (arith, c.type_inv.bytes i)) (grind arith)).0;
 }
 
 pub returns : goal.returns
 returns c =
-    let is = copied (goal.at.returns c).In_ok-files (λ i. omega (arith, c.type_inv.bytes i)) in
-    (refl, is.0, is.1)
+    let takes = directory_takes c.args.limits c.args.bytes.now c.in_ok-files.files.items (λ i. omega (arith, c.type_inv.bytes i)) (grind arith) in
+    (refl, takes.0, takes.1)

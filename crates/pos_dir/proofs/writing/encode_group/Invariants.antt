@@ -1,7 +1,4 @@
-use Rattle.std.proofs.Common.{◌≡◌, ◌+◌, ◌≤◌, ◌++◌, length, take, drop, vec_len, vec_capacity}
-use Rattle.std.specs.Int.{w16, to_be_bytes}
-use Rattle.std.specs.List.{flat_map}
-use Rattle.pos_dir.specs.ChangeTexts.{change_spelling}
+use Rattle.pos_dir.proofs.Common.{change_spelling, drop, flat_map, length, take, to_be_bytes, vec_capacity, vec_len, w16, ◌++◌, ◌+◌, ◌≡◌, ◌≤◌}
 use Rattle.pos_dir.proofs.writing.encode_group.Given as goal
 
 abbrev pub invariant-loop-change : goal.invariant-loop-change

@@ -1,7 +1,4 @@
-use Rattle.std.proofs.Common.{◌≡◌, ◌≤◌, ◌*◌, length, take}
-use Rattle.std.specs.List.{flat_map}
-use Rattle.pos_dir.specs.ChangeTexts.{change_spelling}
-use Rattle.pos_dir.specs.Spelling.{change_limit}
+use Rattle.pos_dir.proofs.Common.{change_limit, change_spelling, flat_map, length, take, ◌*◌, ◌≡◌, ◌≤◌}
 use Rattle.pos_dir.proofs.writing.measure_changes.Given as goal
 
 abbrev pub invariant-loop-change : goal.invariant-loop-change

@@ -1,7 +1,4 @@
-use Rattle.std.proofs.Common.{◌≤◌, ◌++◌, ◌∙◌, length, ap, arith}
-use Rattle.std.specs.Int.{w16, to_be_bytes}
-use Rattle.pos_dir.specs.Files.{DirectoryView}
-use Rattle.pos_dir.specs.Spelling.{spelling, body_limit}
+use Rattle.pos_dir.proofs.Common.{DirectoryView, ap, arith, body_limit, length, spelling, to_be_bytes, w16, ◌++◌, ◌∙◌, ◌≤◌}
 use Rattle.pos_dir.proofs.writing.put_directory.Goals as goal
 
 pub loop-file-init : goal.loop-file-init

@@ -1,4 +1,4 @@
-use Rattle.std.proofs.Common.{rules, ◌≡◌, ◌≤◌, ◌+◌, ◌-◌, length, ◌∙◌, arith}
+use Rattle.pos_disk.proofs.Common.{arith, length, rules, ◌+◌, ◌-◌, ◌∙◌, ◌≡◌, ◌≤◌}
 use Rattle.pos_disk.proofs.Spoils.{loosens_on}
 use Rattle.pos_disk.proofs.fuse.loosen.Goals as goal
 

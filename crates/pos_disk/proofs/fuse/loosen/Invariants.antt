@@ -1,5 +1,4 @@
-use Rattle.std.proofs.Common.{◌≡◌, ◌≤◌, ◌-◌, ◌↔◌}
-use Rattle.pos_disk.specs.Fuse.{Loosens}
+use Rattle.pos_disk.proofs.Common.{Loosens, ◌-◌, ◌↔◌, ◌≡◌, ◌≤◌}
 use Rattle.pos_disk.proofs.fuse.loosen.Given as goal
 
 abbrev pub invariant-loop-place : goal.invariant-loop-place

@@ -1,5 +1,4 @@
-use Rattle.std.proofs.Common.{◌≡◌, ◌==◌, take}
-use Rattle.std.specs.List.{list_any}
+use Rattle.pos_disk.proofs.Common.{list_any, take, ◌==◌, ◌≡◌}
 use Rattle.pos_disk.proofs.memory.is_any_loose.Given as goal
 
 abbrev pub invariant-loop-one : goal.invariant-loop-one

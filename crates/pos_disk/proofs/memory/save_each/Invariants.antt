@@ -1,5 +1,4 @@
-use Rattle.std.proofs.Common.{◌≤◌, ◌-◌}
-use Rattle.pos_disk.specs.Stamps.{IsSaved}
+use Rattle.pos_disk.proofs.Common.{IsSaved, ◌-◌, ◌≤◌}
 use Rattle.pos_disk.proofs.memory.save_each.Given as goal
 
 abbrev pub invariant-loop-place : goal.invariant-loop-place

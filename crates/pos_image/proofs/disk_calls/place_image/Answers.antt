@@ -1,9 +1,5 @@
-use Rattle.std.proofs.Common.{◌≡◌, false, arith, rules}
+use Rattle.pos_image.proofs.Common.{CrashClosing, SameBut, arith, false, followed_by, is_open, rules, start, weaker, ◌≡◌}
 use Rattle.std.proofs.lemmas.Grind.{common_steps}
-use Rattle.pos_disk.specs.Within.{SameBut}
-use Rattle.pos_disk.proofs.Moments.{followed_by, weaker}
-use Rattle.pos_image.specs.DiskCalls.{CrashClosing}
-use Rattle.pos_image.specs.Layout.{is_open, start}
 use Rattle.pos_image.proofs.Staged.{closing_stages, writing_stages}
 use Rattle.pos_image.proofs.disk_calls.place_image.Goals as goal
 
@@ -12,7 +8,8 @@ use Rattle.pos_image.proofs.disk_calls.place_image.Goals as goal
 pub returns-in_err-close_gate-clause-any_moment : goal.returns-in_err-close_gate-clause-any_moment
 returns-in_err-close_gate-clause-any_moment g c honest =
     let s0 = g.D.Disk.state c.args.disk.now in
-    let closing : CrashClosing (start c.args.slot) s0 (g.D.Disk.state c.close_gate.new.disk) = first_of (search rules, grind (arith, common_steps)) in
+    let closing : CrashClosing (start c.args.slot) s0 (g.D.Disk.state c.close_gate.new.disk) = first_of
+    (search rules, grind (arith, common_steps) steps 300000) in
     weaker s0 _ _ _ (closing_stages c.args.slot s0.reading) closing
 
 pub returns-clause-any_moment : goal.returns-clause-any_moment
@@ -20,9 +17,9 @@ returns-clause-any_moment g c honest =
     let s0 = g.D.Disk.state c.args.disk.now in
     let s1 = g.D.Disk.state c.close_gate.new.disk in
     let slot = c.args.slot in
-    let closing : CrashClosing (start slot) s0 s1 = first_of (search rules, grind (arith, common_steps)) in
-    let same : SameBut (start slot) 1 s0.reading s1.reading = first_of (search rules, grind (arith, common_steps)) in
-    let shut : is_open s1.reading (start slot) ≡ false = first_of (search rules, grind (arith, common_steps)) in
+    let closing : CrashClosing (start slot) s0 s1 = first_of (search rules, grind (arith, common_steps) steps 300000) in
+    let same : SameBut (start slot) 1 s0.reading s1.reading = first_of (search rules, grind (arith, common_steps) steps 300000) in
+    let shut : is_open s1.reading (start slot) ≡ false = first_of (search rules, grind (arith, common_steps) steps 300000) in
     let honest1 : g.D.Disk.honest c.close_gate.new.disk = search rules in
     followed_by s0 s1 _ _ (weaker s0 s1 _ _ (closing_stages slot s0.reading) closing)
     (weaker s1 _ _ _ (λ f after. writing_stages slot s0.reading s1.reading f same shut after) (c.write_image.ensures.any_moment honest1))

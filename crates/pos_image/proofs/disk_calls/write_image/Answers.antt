@@ -1,9 +1,6 @@
-use Rattle.std.proofs.Common.{◌+◌, ◌-◌, length, ◌∙◌, ap, arith}
-use Rattle.pos_disk.specs.State.{DiskState}
-use Rattle.pos_image.specs.Layout.{start, layout_of, log_place, slot_size}
-use Rattle.pos_image.specs.declared.slot.Slot.{Slot}
+use Rattle.pos_image.proofs.Common.{DiskState, Slot, ap, arith, layout_of, length, log_place, slot_size, start, ◌+◌, ◌-◌, ◌∙◌}
 use Rattle.pos_image.proofs.Places.{places}
-use Rattle.pos_image.proofs.Staged.{IsRun, run_start, run_write, run_sync, fields_written, where_ok}
+use Rattle.pos_image.proofs.Staged.{IsRun, fields_written, run_start, run_sync, run_write, where_ok}
 use Rattle.pos_image.proofs.disk_calls.write_image.Given.{Over}
 use Rattle.pos_image.proofs.disk_calls.write_image.Goals.{After-write, After-write-2, After-write-3}
 use Rattle.pos_image.proofs.disk_calls.write_image.Goals as goal
@@ -15,28 +12,25 @@ IsBehind slot old new = IsRun (start slot + 1) (slot_size (layout_of slot) - 1) 
 first_run : (g : Over) (c : After-write g) → g.D.Disk.honest c.args.disk.now
     → IsBehind c.args.slot (g.D.Disk.state c.args.disk.now) (g.D.Disk.state c.write.new.self)
 first_run g c honest =
-    let here = places c.args.slot in
-    let at = c.start-at.ensures in
-    let long = ap length c.head_of.ensures in
-    run_write (omega arith) (omega arith) (c.write.ensures.writes honest)
+    run_write (omega (arith, c.start-at.ensures)) (omega (arith, places c.args.slot, c.start-at.ensures, ap length c.head_of.ensures))
+    (c.write.ensures.writes honest)
     (run_start (c.requires.at_rest honest) (λ f left. g.met.D.Disk.only_now c.args.disk.now f honest left))
 
 second_run : (g : Over) (c : After-write-2 g) → g.D.Disk.honest c.args.disk.now
     → IsBehind c.args.slot (g.D.Disk.state c.args.disk.now) (g.D.Disk.state c.write.new.self)
     → IsBehind c.args.slot (g.D.Disk.state c.args.disk.now) (g.D.Disk.state c.write-2.new.self)
 second_run g c honest run =
-    let here = places c.args.slot in
-    let at = c.start-at.ensures in
-    run_write (omega arith) (omega (arith, c.requires.short)) (c.write-2.ensures.writes (c.write.ensures.honest.0 honest)) run
+    run_write (omega (arith, c.start-at.ensures)) (omega (arith, places c.args.slot, c.start-at.ensures, c.requires.short))
+    (c.write-2.ensures.writes (c.write.ensures.honest.0 honest)) run
 
 third_run : (g : Over) (c : After-write-3 g) → g.D.Disk.honest c.args.disk.now
     → IsBehind c.args.slot (g.D.Disk.state c.args.disk.now) (g.D.Disk.state c.write-2.new.self)
     → IsBehind c.args.slot (g.D.Disk.state c.args.disk.now) (g.D.Disk.state c.write-3.new.self)
 third_run g c honest run =
     let here = places c.args.slot in
-    let at = c.start-at.ensures in
     let log_is = c.log.ensures ∙ ap log_place c.layout.ensures in
-    run_write (omega arith) (omega arith) (c.write-3.ensures.writes (c.write-2.ensures.honest.0 (c.write.ensures.honest.0 honest))) run
+    run_write (omega (arith, c.start-at.ensures)) (omega (arith, c.start-at.ensures))
+    (c.write-3.ensures.writes (c.write-2.ensures.honest.0 (c.write.ensures.honest.0 honest))) run
 
 pub returns-in_err-write-clause-any_moment : goal.returns-in_err-write-clause-any_moment
 returns-in_err-write-clause-any_moment g c honest = (first_run g (goal.at.returns-in_err-write-clause-any_moment g c).After-write honest).moments

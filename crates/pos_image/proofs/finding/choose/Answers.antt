@@ -1,9 +1,6 @@
-use Rattle.std.proofs.Common.{◌≡◌, ◌<◌, ap, ◌∙◌, arith}
-use Rattle.pos_image.specs.Layout.{first_of, layout_of, longest, other}
-use Rattle.pos_image.specs.declared.reading.Head.{Head}
-use Rattle.pos_image.specs.declared.slot.Slot.{Slot}
-use Rattle.pos_image.proofs.Refused.{none_found, tie_found, first_long, second_long}
-use Rattle.pos_image.proofs.finding.choose.Goals.{in-true-true, in-true-true-2, in-true-false, in-false-true}
+use Rattle.pos_image.proofs.Common.{Head, Slot, ap, arith, first_of, layout_of, longest, other, ◌<◌, ◌∙◌, ◌≡◌}
+use Rattle.pos_image.proofs.Refused.{first_long, none_found, second_long, tie_found}
+use Rattle.pos_image.proofs.finding.choose.Goals.{in-false-true, in-true-false, in-true-true, in-true-true-2}
 use Rattle.pos_image.proofs.finding.choose.Goals as goal
 
 pub returns-in-false-false-clause-unformatted : goal.returns-in-false-false-clause-unformatted

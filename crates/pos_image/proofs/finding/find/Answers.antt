@@ -1,7 +1,4 @@
-use Rattle.std.proofs.Common.{◌+◌, ℕ, List, ap, ◌∙◌}
-use Rattle.pos_disk.specs.State.{Watches, part}
-use Rattle.pos_disk.proofs.Moments.{watches_sync, watches_on}
-use Rattle.pos_image.specs.Layout.{start}
+use Rattle.pos_image.proofs.Common.{List, Watches, ap, part, start, watches_on, watches_sync, ℕ, ◌+◌, ◌∙◌}
 use Rattle.pos_image.proofs.Current.{found_current}
 use Rattle.pos_image.proofs.finding.find.Given.{Over}
 use Rattle.pos_image.proofs.finding.find.Goals.{After-read_body}

@@ -1,11 +1,7 @@
-use Rattle.std.proofs.Common.{◌≡◌, ◌≤◌, ◌<◌, ◌+◌, ℕ, inl, inr, length, get_or, arith, rules}
-use Rattle.std.proofs.lemmas.Bool.{cases_lt}
+use Rattle.pos_image.proofs.Common.{GATES, SameBut, arith, cases_lt, get_or, inl, inr, length, rules, ℕ, ◌+◌, ◌<◌, ◌≡◌, ◌≤◌}
 use Rattle.std.proofs.lemmas.List.Elements.{All-get_or}
-use Rattle.pos_disk.specs.Within.{SameBut}
-use Rattle.pos_image.specs.declared.formatting.TheConstants.{GATES}
-use Rattle.pos_image.proofs.NewDisk.{stays_closed}
 use Rattle.pos_image.proofs.Changes.{written_gate}
-use Rattle.pos_image.proofs.Staged.{where_ok}
+use Rattle.pos_image.proofs.NewDisk.{stays_closed}
 use Rattle.pos_image.proofs.formatting.close_gates.Goals as goal
 
 gates_low : (k : ℕ) → k < 6 → get_or GATES k 0 ≤ 196608
@@ -34,9 +30,3 @@ loop-at-preserved g c = record {
   rest = search rules;
   counts = search rules;
 }
-
-pub returns-clause-closed : goal.returns-clause-closed
-returns-clause-closed g c honest =
-    let now = c.loop-at.invariant.honest.0 honest in
-    where_ok c.sync.result _ (λ k less.
-    rw (c.sync.ensures.syncs now).reading (c.loop-at.invariant.closed honest k (omega (arith, less, c.loop-at-test.false))))

@@ -1,5 +1,4 @@
-use Rattle.std.proofs.Common.{◌↔◌, ◌≡◌, ◌<◌, ℕ, get_or}
-use Rattle.pos_image.specs.NewDisk.{KeepsRest}
+use Rattle.pos_image.proofs.Common.{KeepsRest, get_or, ℕ, ◌<◌, ◌↔◌, ◌≡◌}
 use Rattle.pos_image.proofs.formatting.close_gates.Given as goal
 
 abbrev pub invariant-loop-at : goal.invariant-loop-at

@@ -1,5 +1,4 @@
-use Rattle.std.proofs.Common.{ℕ, List, subst, arith}
-use Rattle.pos_image.specs.Slots.{HasHead}
+use Rattle.pos_image.proofs.Common.{HasHead, List, arith, subst, ℕ}
 use Rattle.pos_image.proofs.Fields.{head_here}
 use Rattle.pos_image.proofs.reading.read_head.Goals as goal
 

@@ -1,28 +1,18 @@
-use Rattle.std.proofs.Common.{◌≤◌, ◌≡◌, ℕ, List, length, refl, ◌∙◌, arith}
-use Rattle.pos_image.specs.declared.slot.Slot.TheVariants.{Third, Fourth}
+use Rattle.pos_image.proofs.Common.{Fourth, Third, arith, length, refl, ◌∙◌, ◌≡◌, ◌≤◌}
 use Rattle.pos_image.proofs.Current.{first_here, second_layout}
 use Rattle.pos_image.proofs.reading.read_heads.Given.{Over}
-use Rattle.pos_image.proofs.reading.read_heads.Goals.{After-read_head-2, then-third-via-then-third, then-third-via-else-third+then-fourth}
+use Rattle.pos_image.proofs.reading.read_heads.Goals.{After-read_head-2, then-third-via-else-third+then-fourth, then-third-via-then-third}
 use Rattle.pos_image.proofs.reading.read_heads.Goals as goal
 
 module _ (g : Over) (c : After-read_head-2 g) (honest : g.D.Disk.honest c.args.disk.now) where
-  abbrev bytes : List ℕ
-  bytes = (g.D.Disk.state c.args.disk.now).reading
-
-  whole : 327680 ≤ length bytes
-  whole = let size = g.met.D.Disk.whole c.args.disk.now honest in let large = c.requires.large in omega (arith, size, large)
+  whole : 327680 ≤ length (g.D.Disk.state c.args.disk.now).reading
+  whole = omega (arith, g.met.D.Disk.whole c.args.disk.now honest, c.requires.large)
 
   honest1 : g.D.Disk.honest c.read_head.new.disk
   honest1 = c.read_head.ensures.keeps.honest.0 honest
 
-  same1 : (g.D.Disk.state c.read_head.new.disk).reading ≡ bytes
+  same1 : (g.D.Disk.state c.read_head.new.disk).reading ≡ (g.D.Disk.state c.args.disk.now).reading
   same1 = (c.read_head.ensures.watches honest).reading
-
-  honest2 : g.D.Disk.honest c.read_head-2.new.disk
-  honest2 = c.read_head-2.ensures.keeps.honest.0 honest1
-
-  same2 : (g.D.Disk.state c.read_head-2.new.disk).reading ≡ bytes
-  same2 = (c.read_head-2.ensures.watches honest1).reading ∙ same1
 
 pub returns-then-third-clause-heads : goal.returns-then-third-clause-heads
 returns-then-third-clause-heads g c honest =
@@ -32,8 +22,8 @@ returns-then-third-clause-heads g c honest =
     record {
       whole = whole g here honest;
       layout_is = elim c.then-third.branch [
-        | then-third-via-then-third w ↦ second_layout (bytes g here honest) Third refl (third.gate ∙ w.if-third.true)
-        | then-third-via-else-third+then-fourth w ↦ second_layout (bytes g here honest) Fourth refl (fourth.gate ∙ w.if-fourth.true)
+        | then-third-via-then-third w ↦ second_layout _ Third refl (third.gate ∙ w.if-third.true)
+        | then-third-via-else-third+then-fourth w ↦ second_layout _ Fourth refl (fourth.gate ∙ w.if-fourth.true)
       ];
       at_first = third;
       at_second = fourth;
@@ -44,11 +34,12 @@ returns-clause-heads g c honest =
     let here = (goal.at.returns-clause-heads g c).After-read_head-2 in
     let third = c.in_ok-third.ensures.head honest in
     let fourth = rw (same1 g here honest) at (c.in_ok-fourth.ensures.head (honest1 g here honest)) in
-    let honest3 = c.read_head-3.ensures.keeps.honest.0 (honest2 g here honest) in
-    let same3 = (c.read_head-3.ensures.watches (honest2 g here honest)).reading ∙ same2 g here honest in
+    let honest2 = c.read_head-2.ensures.keeps.honest.0 (honest1 g here honest) in
+    let same2 = (c.read_head-2.ensures.watches (honest1 g here honest)).reading ∙ same1 g here honest in
+    let same3 = (c.read_head-3.ensures.watches honest2).reading ∙ same2 in
     record {
       whole = whole g here honest;
-      layout_is = first_here (bytes g here honest) (third.gate ∙ c.if-third.false) (fourth.gate ∙ c.if-fourth.false);
-      at_first = rw (same2 g here honest) at (c.in_ok-first.ensures.head (honest2 g here honest));
-      at_second = rw same3 at (c.in_ok-second.ensures.head honest3);
+      layout_is = first_here _ (third.gate ∙ c.if-third.false) (fourth.gate ∙ c.if-fourth.false);
+      at_first = rw same2 at (c.in_ok-first.ensures.head honest2);
+      at_second = rw same3 at (c.in_ok-second.ensures.head (c.read_head-3.ensures.keeps.honest.0 honest2));
     }

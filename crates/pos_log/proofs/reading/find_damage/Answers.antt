@@ -1,6 +1,5 @@
-use Rattle.std.proofs.Common.{◌+◌, ◌++◌, ◌∷◌, [], refl, rules}
-use Rattle.pos_disk.specs.State.{part}
-use Rattle.pos_log.proofs.Holding.{open_byte, begins_more}
+use Rattle.pos_log.proofs.Common.{[], part, refl, rules, ◌++◌, ◌+◌, ◌∷◌}
+use Rattle.pos_log.proofs.Holding.{begins_more, open_byte}
 use Rattle.pos_log.proofs.reading.find_damage.Goals as goal
 
 pub loop-length-preserved : goal.loop-length-preserved

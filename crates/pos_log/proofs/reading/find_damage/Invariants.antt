@@ -1,5 +1,4 @@
-use Rattle.std.proofs.Common.{◌-◌, ℕ, List, length}
-use Rattle.pos_log.specs.Records.{BeginsWith}
+use Rattle.pos_log.proofs.Common.{BeginsWith, List, length, ℕ, ◌-◌}
 use Rattle.pos_log.proofs.reading.find_damage.Given as goal
 
 abbrev pub invariant-loop-length : goal.invariant-loop-length

@@ -1,8 +1,6 @@
-use Rattle.std.proofs.Common.{◌≡◌, ◌+◌, ◌-◌, ℕ, [], ◌∷◌, ◌++◌, map, cond, Bool, true, not, Vec, Global, ap, ◌∙◌, arith, rules}
+use Rattle.pos_log.proofs.Common.{Bool, Global, Vec, [], ap, arith, cond, map, map-append, not, part, rules, true, ℕ, ◌++◌, ◌+◌, ◌-◌, ◌∙◌, ◌∷◌, ◌≡◌}
 use Rattle.std.specs.Result.{is_ok}
-use Rattle.std.proofs.lemmas.List.{map-append}
-use Rattle.pos_disk.specs.State.{part}
-use Rattle.pos_log.proofs.Holding.{open_byte, begins_more}
+use Rattle.pos_log.proofs.Holding.{begins_more, open_byte}
 use Rattle.pos_log.proofs.Parsing.{none_held}
 use Rattle.pos_log.proofs.reading.read_records.Goals as goal
 

@@ -1,4 +1,4 @@
-use Rattle.std.proofs.Common.{rules}
+use Rattle.pos_log.proofs.Common.{rules}
 use Rattle.pos_log.proofs.renewing.renew_images.Goals as goal
 
 pub returns-clause-replaces : goal.returns-clause-replaces

@@ -1,5 +1,4 @@
-use Rattle.std.proofs.Common.{◌+◌, ◌++◌, length, take, ap, ◌∙◌, arith, rules}
-use Rattle.std.specs.Prelude.{slice_set}
+use Rattle.pos_log.proofs.Common.{ap, arith, length, rules, slice_set, take, ◌++◌, ◌+◌, ◌∙◌}
 use Rattle.pos_log.proofs.LaidOut.{laid_out, put_back}
 use Rattle.pos_log.proofs.writing.lay_out_record.Goals as goal
 

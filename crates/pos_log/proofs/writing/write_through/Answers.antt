@@ -1,5 +1,4 @@
-use Rattle.std.proofs.Common.{◌-◌}
-use Rattle.pos_image.specs.Layout.{layout_of, log_place}
+use Rattle.pos_log.proofs.Common.{layout_of, log_place, ◌-◌}
 use Rattle.pos_log.proofs.Spanning.{sync_moments}
 use Rattle.pos_log.proofs.writing.write_through.Goals as goal
 

@@ -1,36 +1,20 @@
 -- The empty body makes a value of no bytes, with the moments that its clause names.
-use Rattle.std.proofs.Common.{◌<◌, ◌^◌, [], ◌∷◌, ◌++◌, refl, length}
-use seplogic.Ra.Ura.{Ura}
-use mir.Syntax.{named}
-use mir.Val.{Val, vptr, vstruct, vnil}
-use base.Logic.{SProp, ent, emp, via, fst∗}
-use base.Fml.{Fml}
-use prog.Memory.{Memory}
-use prog.Routine.{Routine}
-use prog.Wp.{Calls, Loops, WpFn, Tables}
-use types.Logic.{Logic}
-use contract.Lifetimes.{Lfts, Shares}
-use contract.Monad.{Fun}
-use contract.Running.{tables, tables_of}
-use sound.WpLaws.{WpFn-mono}
-use types.Kit.{‵, raw, ◌$◌, ◌∵◌, !, qed, move, suffices, done}
-use types.Run.{no_more, returns, enter}
-use types.Part.{agg}
-use types.ByLocal.{alloc_all, pass_all, free_all, look_at, sets}
-use denote.Builtin.{u8, u32}
-use denote.Exit.{yes}
-use denote.RattleType.{owns}
-use denote.Ref.{shr_vals, shr_Tells}
-use denote.Shadow.{pure_i}
-use denote.Signature.{plain, types_at}
-use denote.Slice.{slice_val, shr_slice_vals, shr_slice_Tells}
-use denote.Triple.Entry.{on_entry, alive, Args}
-use denote.Triple.Spec.{Meets, triple_of}
-use denote.Triple.Table.{entered}
-use denote.Triple.Walked.{says, stay_none_ref, stay_none_slice, Stays, walk_of, Walks, ends_at, walked, Goes-none_ref, Goes-none_slice, walk_Meets}
-use Rattle.pos_disk.specs.Stamps.{moment_of}
-use Rattle.pos_disk.specs.contracts.past.Past as past
+use Rattle.pos_disk.proofs.Common.{ !, Args, Calls, Fun, Goes-none_ref, Goes-none_slice, Logic, Loops, Meets, Routine, SProp, Stays, Tables, Ura, Val, Walks}
+use Rattle.pos_disk.proofs.Common.{WpFn, WpFn-mono, [], agg, alive, alloc_all, done, emp, ends_at, ent, enter, entered, free_all, fst∗, length, look_at}
+use Rattle.pos_disk.proofs.Common.{moment_of, move, no_more, on_entry, owns, pass_all, pure_i, qed, raw, refl, returns, says, sets, stay_none_ref}
+use Rattle.pos_disk.proofs.Common.{stay_none_slice, suffices, tables, tables_of, triple_of, via, vnil, vptr, vstruct, walk_Meets, walk_of, walked, ‵, ◌$◌, ◌++◌}
+use Rattle.pos_disk.proofs.Common.{◌<◌, ◌^◌, ◌∵◌, ◌∷◌}
 use Rattle.pos_disk.specs.contracts.past.Past.and.Key.{name as key}
+use base.Fml.{Fml}
+use contract.Lifetimes.{Lfts, Shares}
+use denote.Builtin.{u32, u8}
+use denote.Exit.{yes}
+use denote.Ref.{shr_Tells, shr_vals}
+use denote.Signature.{plain, types_at}
+use denote.Slice.{shr_slice_Tells, shr_slice_vals, slice_val}
+use mir.Syntax.{named}
+use prog.Memory.{Memory}
+use Rattle.pos_disk.specs.contracts.past.Past as past
 use Rattle.pos_disk.specs.contracts.past.Past.and as f
 use Rattle.pos_disk.proofs.past.Past.and.Statement as stated
 use Rattle.pos_disk.proofs.past.Past.and.Code as code

@@ -1,26 +1,9 @@
-use mathlib.Core.Path.{refl}
-use mathlib.Core.List.{[], ◌∷◌}
-use seplogic.Ra.Ura.{Ura}
-use mir.Val.{vstruct, vnil}
-use base.Logic.{SProp, ent, emp, via, fst∗}
-use prog.Memory.{Memory}
-use prog.Routine.{Routine}
-use prog.Wp.{Calls, Loops, WpFn, Tables}
-use types.Logic.{Logic}
-use contract.Monad.{Fun}
-use contract.Running.{tables, tables_of}
-use sound.WpLaws.{WpFn-mono}
-use types.Kit.{‵, raw, ◌$◌, ◌∵◌, !, qed, move, suffices, done}
-use types.Run.{no_more, returns, enter}
-use types.Part.{agg}
-use types.ByLocal.{alloc_all, pass_all, free_all, look_at, sets}
-use denote.RattleType.{owns}
-use denote.Shadow.{pure_i}
-use denote.Triple.Entry.{on_entry, alive}
-use denote.Triple.Spec.{Meets, triple_of}
-use denote.Triple.Table.{entered}
-use denote.Triple.Walked.{says, Stays, walk_of, Walks, ends_at, walked, walk_Meets}
+use Rattle.pos_disk.proofs.Common.{ !, Calls, Fun, Logic, Loops, Meets, Routine, SProp, Stays, Tables, Ura, Walks, WpFn, WpFn-mono, [], agg, alive, alloc_all}
+use Rattle.pos_disk.proofs.Common.{done, emp, ends_at, ent, enter, entered, free_all, fst∗, look_at, move, no_more, on_entry, owns, pass_all, pure_i, qed, raw}
+use Rattle.pos_disk.proofs.Common.{refl, returns, says, sets, suffices, tables, tables_of, triple_of, via, vnil, vstruct, walk_Meets, walk_of, walked, ‵, ◌$◌}
+use Rattle.pos_disk.proofs.Common.{◌∵◌, ◌∷◌}
 use Rattle.pos_disk.specs.contracts.past.Past.new.Key.{name as key}
+use prog.Memory.{Memory}
 use Rattle.pos_disk.specs.contracts.past.Past.new as f
 use Rattle.pos_disk.proofs.past.Past.new.Statement as stated
 use Rattle.pos_disk.proofs.past.Past.new.Code as code

@@ -1,5 +1,5 @@
-use Rattle.std.proofs.Common.{◌<◌, length, refl, ap, ◌∙◌, arith}
-use Rattle.pos_events.proofs.OthersLemmas.{tolds_set, none_more}
+use Rattle.pos_events.proofs.Common.{ap, arith, length, refl, ◌<◌, ◌∙◌}
+use Rattle.pos_events.proofs.OthersLemmas.{none_more, tolds_set}
 use Rattle.pos_events.proofs.others.Others.forget_waiting.Goals as goal
 
 pub loop-i-preserved : goal.loop-i-preserved

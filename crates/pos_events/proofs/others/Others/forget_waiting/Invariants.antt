@@ -1,6 +1,4 @@
-use Rattle.std.proofs.Common.{◌≡◌, take}
-use Rattle.std.specs.VecDeque.{deque_len, deque_capacity}
-use Rattle.pos_events.specs.QueueParts.{all_before, tolds}
+use Rattle.pos_events.proofs.Common.{all_before, deque_capacity, deque_len, take, tolds, ◌≡◌}
 use Rattle.pos_events.proofs.others.Others.forget_waiting.Given as goal
 
 -- the events are as they were, and before the first ones nothing waits

@@ -1,5 +1,4 @@
-use Rattle.std.proofs.Common.{◌≡◌, ◌≤◌, drop}
-use Rattle.std.specs.VecDeque.{deque_len, deque_capacity}
+use Rattle.pos_events.proofs.Common.{deque_capacity, deque_len, drop, ◌≡◌, ◌≤◌}
 use Rattle.pos_events.proofs.OthersLemmas.{Removing}
 use Rattle.pos_events.proofs.others.Others.remove_errors.Given as goal
 

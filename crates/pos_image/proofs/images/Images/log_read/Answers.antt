@@ -1,7 +1,5 @@
-use Rattle.std.proofs.Common.{◌+◌, ℕ, length, ap, ◌∙◌, arith}
-use Rattle.pos_disk.specs.State.{Watches, part}
-use Rattle.pos_disk.proofs.Moments.{watches_read}
-use Rattle.pos_image.proofs.Spanned.{span_part, writable, looked_held}
+use Rattle.pos_image.proofs.Common.{Watches, ap, arith, length, part, watches_read, ℕ, ◌+◌, ◌∙◌}
+use Rattle.pos_image.proofs.Spanned.{looked_held, span_part, writable}
 use Rattle.pos_image.proofs.images.Images.log_read.Given.{Over}
 use Rattle.pos_image.proofs.images.Images.log_read.Goals.{After-read}
 use Rattle.pos_image.proofs.images.Images.log_read.Goals as goal

@@ -1,7 +1,4 @@
-use Rattle.std.proofs.Common.{rules}
-use Rattle.pos_disk.specs.State.{LeavesOnly}
-use Rattle.pos_disk.proofs.Moments.{watches_sync}
-use Rattle.pos_image.specs.Spans.{KeepsImage, span_of}
+use Rattle.pos_image.proofs.Common.{KeepsImage, LeavesOnly, rules, span_of, watches_sync}
 use Rattle.pos_image.proofs.Spanned.{synced, watched_image}
 use Rattle.pos_image.proofs.images.Images.log_sync.Given.{Over}
 use Rattle.pos_image.proofs.images.Images.log_sync.Goals.{After-sync}

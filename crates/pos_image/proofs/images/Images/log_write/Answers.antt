@@ -1,10 +1,6 @@
-use Rattle.std.proofs.Common.{◌+◌, ℕ, List, length, arith, rules}
-use Rattle.pos_disk.specs.State.{DiskState, MayLeave, LeavesOnly, Writes}
-use Rattle.pos_image.specs.Found.{prepared_image}
-use Rattle.pos_image.specs.Images.{View, images_of}
-use Rattle.pos_image.specs.Layout.{start, layout_of}
-use Rattle.pos_image.specs.Spans.{IsInSpan, IsWritable, KeepsImage, span_of}
-use Rattle.pos_image.proofs.Spanned.{writable, write_held, writes_span, write_moments}
+use Rattle.pos_image.proofs.Common.{DiskState, IsInSpan, IsWritable, KeepsImage, LeavesOnly, List, MayLeave, View, Writes, arith, images_of, layout_of, length}
+use Rattle.pos_image.proofs.Common.{prepared_image, rules, span_of, start, ℕ, ◌+◌}
+use Rattle.pos_image.proofs.Spanned.{writable, write_held, write_moments, writes_span}
 use Rattle.pos_image.proofs.images.Images.log_write.Given.{Over}
 use Rattle.pos_image.proofs.images.Images.log_write.Goals.{After-write}
 use Rattle.pos_image.proofs.images.Images.log_write.Goals as goal

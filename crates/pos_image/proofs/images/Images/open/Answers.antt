@@ -1,4 +1,4 @@
-use Rattle.std.proofs.Common.{refl, arith}
+use Rattle.pos_image.proofs.Common.{arith, refl}
 use Rattle.pos_image.proofs.Changes.{ready}
 use Rattle.pos_image.proofs.Current.{current_stands}
 use Rattle.pos_image.proofs.Refused.{short_stands}

@@ -1,11 +1,6 @@
-use Rattle.std.proofs.Common.{◌≡◌, [], ◌∷◌, Some, sym, ◌∙◌, ap, arith, true}
-use Rattle.pos_disk.specs.State.{LeavesOnly, splice}
-use Rattle.pos_disk.specs.Within.{SameBut}
-use Rattle.pos_image.specs.Layout.{start, is_open}
-use Rattle.pos_image.specs.Found.{prepared_image}
-use Rattle.pos_image.specs.Images.{Prepared, IsReady, HasEither, image_of, images_of, next_of}
-use Rattle.pos_image.specs.Standing.{log_of}
-use Rattle.pos_image.proofs.Changes.{ready, opened_gate, publish_leaves, opened_current, opened_new}
+use Rattle.pos_image.proofs.Common.{HasEither, IsReady, LeavesOnly, Prepared, SameBut, Some, [], ap, arith, image_of, images_of, is_open, log_of, next_of}
+use Rattle.pos_image.proofs.Common.{prepared_image, splice, start, sym, true, ◌∙◌, ◌∷◌, ◌≡◌}
+use Rattle.pos_image.proofs.Changes.{opened_current, opened_gate, opened_new, publish_leaves, ready}
 use Rattle.pos_image.proofs.Places.{places}
 use Rattle.pos_image.proofs.images.Images.publish.Given.{Over}
 use Rattle.pos_image.proofs.images.Images.publish.Goals.{After-write_through}

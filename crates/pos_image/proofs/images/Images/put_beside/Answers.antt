@@ -1,10 +1,6 @@
-use Rattle.std.proofs.Common.{◌≡◌, arith, rules, Some}
-use Rattle.pos_disk.specs.State.{LeavesOnly}
-use Rattle.pos_image.specs.Layout.{layout_of}
-use Rattle.pos_image.specs.Found.{prepared_image}
-use Rattle.pos_image.specs.Images.{Prepared, IsReady, IsBeside, image_of, images_of}
-use Rattle.pos_image.specs.Standing.{HasImage, log_of}
-use Rattle.pos_image.proofs.Changes.{ready, beside_leaves, placed}
+use Rattle.pos_image.proofs.Common.{HasImage, IsBeside, IsReady, LeavesOnly, Prepared, Some, arith, image_of, images_of, layout_of, log_of, prepared_image}
+use Rattle.pos_image.proofs.Common.{rules, ◌≡◌}
+use Rattle.pos_image.proofs.Changes.{beside_leaves, placed, ready}
 use Rattle.pos_image.proofs.Current.{stage_current}
 use Rattle.pos_image.proofs.Logs.{kept_image}
 use Rattle.pos_image.proofs.Places.{beside_apart}

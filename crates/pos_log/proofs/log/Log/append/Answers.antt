@@ -1,10 +1,6 @@
-use Rattle.std.proofs.Common.{◌≡◌, ◌+◌, ◌-◌, ◌≤◌, [], ◌∷◌, length, take, ap, ◌∙◌, arith, rules}
-use Rattle.std.proofs.lemmas.Bool.{leb-true}
-use Rattle.pos_image.specs.Images.{View}
-use Rattle.pos_image.specs.Layout.{layout_of, log_place, slot_size}
-use Rattle.pos_log.specs.Records.{end_of, text_behind_gate}
-use Rattle.pos_log.specs.Logs.{log_over, IsLogReady}
-use Rattle.pos_log.proofs.Appending.{WritesThrough, failed_put, failed_open, appended, never_failed}
+use Rattle.pos_log.proofs.Common.{IsLogReady, View, [], ap, arith, end_of, layout_of, leb-true, length, log_over, log_place, rules, slot_size, take}
+use Rattle.pos_log.proofs.Common.{text_behind_gate, ◌+◌, ◌-◌, ◌∙◌, ◌∷◌, ◌≡◌, ◌≤◌}
+use Rattle.pos_log.proofs.Appending.{WritesThrough, appended, failed_open, failed_put, never_failed}
 use Rattle.pos_log.proofs.log.Log.append.Given.{Over}
 use Rattle.pos_log.proofs.log.Log.append.Goals.{After-write_through, After-write_through-2}
 use Rattle.pos_log.proofs.log.Log.append.Goals as goal

@@ -1,6 +1,5 @@
-use Rattle.std.proofs.Common.{ap}
-use Rattle.pos_image.specs.Images.{migrated_image}
-use Rattle.pos_log.proofs.Emptied.{renewed, not_renewed}
+use Rattle.pos_log.proofs.Common.{ap, migrated_image}
+use Rattle.pos_log.proofs.Emptied.{not_renewed, renewed}
 use Rattle.pos_log.proofs.log.Log.migrate.Goals as goal
 
 pub returns-in-Err-clause-migrates : goal.returns-in-Err-clause-migrates

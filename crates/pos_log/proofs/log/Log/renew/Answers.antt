@@ -1,7 +1,5 @@
-use Rattle.std.proofs.Common.{ap}
-use Rattle.pos_image.specs.Images.{next_image}
-use Rattle.pos_image.proofs.Places.{same_layout}
-use Rattle.pos_log.proofs.Emptied.{renewed, not_renewed}
+use Rattle.pos_log.proofs.Common.{ap, next_image, same_layout}
+use Rattle.pos_log.proofs.Emptied.{not_renewed, renewed}
 use Rattle.pos_log.proofs.log.Log.renew.Goals as goal
 
 pub returns-in-Err-clause-renews : goal.returns-in-Err-clause-renews
