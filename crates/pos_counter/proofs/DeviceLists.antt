@@ -110,11 +110,11 @@ served_kind d was served is = sym
     (subst (λ (o : Option PeripheralState). IfSome o (λ state. (state.is_parked ≡ false) × (state.kind ≡ d.kind))) is served).1
 
 -- what stands at a place serves a device there, and is of its kind
-registered_at : (list : List Registered) (place : ℕ) (was : PeripheralState) → AllByRecursion IsServed list → standing_at list place ≡ Some was
+served_at : (list : List Registered) (place : ℕ) (was : PeripheralState) → AllByRecursion IsServed list → standing_at list place ≡ Some was
     → (d : Registered) × (slice_get list place ≡ Some d) × (d.peripheral ≡ Some was) × (d.kind ≡ was.kind)
-registered_at [] place was served is = absurd cc
-registered_at (d ∷ list) zero was served is = (d, refl, is, served_kind d was served.0 is)
-registered_at (d ∷ list) (suc place) was served is = registered_at list place was served.1 is
+served_at [] place was served is = absurd cc
+served_at (d ∷ list) zero was served is = (d, refl, is, served_kind d was served.0 is)
+served_at (d ∷ list) (suc place) was served is = served_at list place was served.1 is
 
 -- what is done with what serves a device
 pub done_there : {hs gs : List KeptControl} (list new : List Registered) (totals : Option (List ℕ)) (place : ℕ) (was now : PeripheralState)
@@ -122,7 +122,7 @@ pub done_there : {hs gs : List KeptControl} (list new : List Registered) (totals
     → Does (controls_of hs) (hardware_of was) (controls_of gs) (hardware_of now)
     → IsDoneAt (devices_of list totals) place Does hs gs (devices_of new totals)
 done_there list new totals place was now Does served stands is does =
-    let there = registered_at list place was served stands in
+    let there = served_at list place was served stands in
     record {
       device = device_of there.0;
       before = hardware_of was;
