@@ -1,5 +1,6 @@
 -- The names of a script's controls (docs/CONSOLE.md, "Lines").
-use Rattle.std.specs.Prelude.{ℕ, List, [], ◌∷◌, Option, Some, None, bytes_eq, map, if◌then◌else◌}
+use Rattle.std.specs.Prelude.{ℕ, List, Option, bytes_eq, map}
+use Rattle.std.specs.Map.{lookup}
 use Rattle.indexmap.specs.IndexMap.{spare}
 use Rattle.pos_run.specs.declared.names.Names.{Names}
 
@@ -9,8 +10,7 @@ ControlNames = List (List ℕ × ℕ)
 
 -- the number of the control with a name
 abbrev pub number_named : ControlNames → List ℕ → Option ℕ
-number_named [] name = None
-number_named (named ∷ names) name = if bytes_eq name named.0 then Some named.1 else number_named names name
+number_named names name = lookup (bytes_eq name) names
 
 -- the controls with their numbers, in the order in which they were made
 abbrev pub names_of : Names → ControlNames
