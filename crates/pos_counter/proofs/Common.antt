@@ -88,7 +88,7 @@ pub use Rattle.pos_counter.specs.Prefixes.{StandsForSome, StartsWith, moved_with
 pub use Rattle.pos_counter.specs.Reopening.{FindsThem, HasCause, HasThem, enabling}
 pub use Rattle.pos_counter.specs.Responses.{HandsOut, OffersInService, answered, attached, detached, request_of, response_of, steps_of}
 pub use Rattle.pos_counter.specs.Sparing.{AllSpare, RunSparing, StepSparing}
-pub use Rattle.pos_counter.specs.Steps.{Answered, Attach, CallOf, Called, CategoryDoes, Deliver, Delivered, Detach, DeviceDoes, Does, FindsFit, FindsWork}
+pub use Rattle.pos_counter.specs.Steps.{Answered, Attach, CallOf, Called, CategoryDoes, Delivered, Detach, DeviceDoes, Does, FindsFit, FindsWork}
 pub use Rattle.pos_counter.specs.Steps.{HasItsDevice, HasItsKind, IsAttached, IsDetached, IsPlaceOn, IsSound, OnHardware, OutOfMemory, Request, Response, Run}
 pub use Rattle.pos_counter.specs.Steps.{Sets, SetsByRecovery, Step, WorkOn, Worked, category_rows, claimed, device_deed, device_rows, dropped, facts_of}
 pub use Rattle.pos_counter.specs.Steps.{has_open, is_open_at, is_place, is_taken, most_controls, refusals, released, takes_memory}

@@ -1,6 +1,6 @@
 -- What each step of the machine leaves: a sound machine, and the files of the totals as its event says.
 use Rattle.pos_counter.proofs.Common.{◌+◌, ◌++◌, All-push, Answer, Answered, Arranges, Asks, Bool, Call, CallOf, Called, Category, CategoryDoes, Claim, Close}
-use Rattle.pos_counter.proofs.Common.{Control, Deliver, Delivered, Does, DoesTogether, Done, Effect, Failure, File, FileCall, Get, HardTotals, Hardware}
+use Rattle.pos_counter.proofs.Common.{Control, Delivered, Does, DoesTogether, Done, Effect, Failure, File, FileCall, Get, HardTotals, Hardware}
 use Rattle.pos_counter.proofs.Common.{HasItsDevice, History, IsAttached, IsDetached, IsOneGroup, IsOneOf, IsSettled, IsSound, IsUndone, Layout, List, Machine}
 use Rattle.pos_counter.proofs.Common.{MatchBool, Mode, None, Nothing, NothingDone, Off, Ok, OnHardware, Open, Option, OutOfMemory, PlainFile, Property, Ready}
 use Rattle.pos_counter.proofs.Common.{Recovered, Recovers, Refused, Release, Request, Response, Set, Sets, SetsByRecovery, Some, Standing, Stands, Step, Totals}
@@ -20,6 +20,7 @@ use Rattle.pos_counter.proofs.Lifts.{decided_cases, match_cases}
 use Rattle.pos_counter.proofs.Prefixes.{AreAround, Fits, Happens, fits_next}
 use Rattle.pos_counter.proofs.Sound.{Keeps, StandsAt, attached_sound, detached_sound, device_keeps, found_seat, on_hardware_sound, released_seat, seated}
 use Rattle.pos_counter.proofs.Sound.{served_by, set_seat, takes_keeps, with_control_sound, works_keep}
+use Rattle.pos_counter.specs.Steps.{Deliver}
 
 -- ---- what happens to the files
 

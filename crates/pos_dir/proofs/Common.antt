@@ -19,7 +19,7 @@ pub use Rattle.std.specs.Result.{result_err}
 pub use Rattle.std.specs.Str.{bytes_eq}
 pub use Rattle.pos_dir.specs.Calls.{Applies}
 pub use Rattle.pos_dir.specs.ChangeTexts.{change_spelling}
-unfoldable pub use Rattle.pos_dir.specs.ChangeTexts.{change_at, create_at, delete_at, fields_at, rename_at, set_all_at, write_at}
+unfoldable pub use Rattle.pos_dir.specs.ChangeTexts.{change_at, fields_at}
 pub use Rattle.pos_dir.specs.Changes.{IsChange, IsGroup, and_then, fault_of, flaw_of, least_size_of, outcome, outcome_of_all, splice, with_file, write_limit}
 pub use Rattle.pos_dir.specs.Fields.{byte_at, name_spelling, number_at, part_at, text_spelling, ◌>>=◌}
 unfoldable pub use Rattle.pos_dir.specs.Fields.{name_at, text_at}
@@ -30,7 +30,6 @@ unfoldable pub use Rattle.pos_dir.specs.Reading.{directory_at, file_at, group_at
 pub use Rattle.pos_dir.specs.Spelling.{body_limit, change_limit, file_spelling, group_spelling, spelling}
 pub use Rattle.pos_dir.specs.Supplies.{supplies_of}
 pub use Rattle.pos_dir.specs.declared.change.Change.{Change}
-pub use Rattle.pos_dir.specs.declared.change.Change.TheVariants.{Create, Delete, Rename, SetAll, Write}
 pub use Rattle.pos_dir.specs.declared.fault.DirectoryFault.{DirectoryFault}
 pub use Rattle.pos_dir.specs.declared.fault.DirectoryFault.TheVariants.{NoMemory, Range}
 pub use Rattle.pos_dir.specs.declared.file.File.{File}

@@ -1,10 +1,11 @@
 -- What each change makes of the files. The other proofs go by what is made, and not by which change it is.
-use Rattle.pos_dir.proofs.Common.{Change, Create, Delete, DirectoryFault, Err, File, Limits, List, NoMemory, None, Ok, Option, Range, Rename, Result, SetAll}
-use Rattle.pos_dir.proofs.Common.{Some, Write, [], answer_by_size, arith, cond, false, flaw_of, has_name, is_name, least_size_of, length, length-append}
+use Rattle.pos_dir.proofs.Common.{Change, DirectoryFault, Err, File, Limits, List, NoMemory, None, Ok, Option, Range, Result}
+use Rattle.pos_dir.proofs.Common.{Some, [], answer_by_size, arith, cond, false, flaw_of, has_name, is_name, least_size_of, length, length-append}
 use Rattle.pos_dir.proofs.Common.{length-drop, length-replicate, length-take, map, nat_le, nat_tests, option_map, outcome, refl, remove, replicate, set}
 use Rattle.pos_dir.proofs.Common.{shape_of_file, size_in, slice_get, slice_set, splice, subst, suc, sym, total_size, true, with_file, zero, ℕ, ◌++◌, ◌+◌, ◌<◌}
 use Rattle.pos_dir.proofs.Common.{◌∙◌, ◌∷◌, ◌≡◌, ◌≤◌}
 use Rattle.pos_dir.proofs.Readers.{some_is}
+use Rattle.pos_dir.specs.declared.change.Change.TheVariants.{Create, Delete, Rename, SetAll, Write}
 
 -- the file that a lookup that led to Ok found
 found : (o : Option File) (f : File → Result (List File) DirectoryFault) (y : List File) → with_file o f ≡ Ok y → (x : File) × (o ≡ Some x) × (f x ≡ Ok y)

@@ -1,12 +1,13 @@
 -- A check over names and sizes answers as the change of the files that have them.
-use Rattle.pos_dir.proofs.Common.{Agrees, AreOutlines, Bool, Change, Checks, Create, Delete, DirectoryFault, Err, File, IsChange, IsDirectory, Limits, List, Ok}
-use Rattle.pos_dir.proofs.Common.{Outline, Rename, Result, Shape, Some, [], answer_by_size, ap, arith, bytes_eq, drop, drop-map, false, get_or, has_name}
+use Rattle.pos_dir.proofs.Common.{Agrees, AreOutlines, Bool, Change, Checks, DirectoryFault, Err, File, IsChange, IsDirectory, Limits, List, Ok}
+use Rattle.pos_dir.proofs.Common.{Outline, Result, Shape, Some, [], answer_by_size, ap, arith, bytes_eq, drop, drop-map, false, get_or, has_name}
 use Rattle.pos_dir.proofs.Common.{insert, is_named, least_size_of, length, length-map, length-replicate, list_any, map, map-append, map-set, map_push}
 use Rattle.pos_dir.proofs.Common.{nat_tests, option_map, outcome, outcome_of_all, refl, remove, replicate, result_err, set, shape_of, shape_of_file, size_in}
 use Rattle.pos_dir.proofs.Common.{slice_get, slice_get-get_or, slice_get-map, slice_get_within, slice_set, suc, sum_by, sum_by-cons, sym, take-map, total_size}
 use Rattle.pos_dir.proofs.Common.{zero, ℕ, ◌++◌, ◌+◌, ◌<◌, ◌||◌, ◌∙◌, ◌∷◌, ◌≡◌, ◌≤◌}
 use Rattle.pos_dir.proofs.Kept.{changed, goes_on, stops}
 use Rattle.pos_dir.proofs.Outcomes.{KeepsShapes, answered}
+use Rattle.pos_dir.specs.declared.change.Change.TheVariants.{Create, Delete, Rename}
 
 -- ---- lists seen by another function
 

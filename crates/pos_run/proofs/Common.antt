@@ -3,7 +3,7 @@ pub use Rattle.pos_counter.proofs.Runs.{machine_runs, one_beside, one_step, runs
 pub use Rattle.pos_counter.specs.Counters.{IsCounterSound, IsRun, IsStep, IsStepBeside, machine}
 pub use Rattle.pos_counter.specs.Machine.{Device, Machine, device_at, hardware_in, hardware_named, kind_in, kind_named, machine_with, place_from, place_of}
 pub use Rattle.pos_counter.specs.Machine.{with_standing}
-pub use Rattle.pos_counter.specs.Steps.{Answered, Attach, Attached, CallOf, Deliver, Delivered, Detach, Detached, Full, InputTo, Made, NewControl, NoDevice}
+pub use Rattle.pos_counter.specs.Steps.{Answered, Attach, Attached, CallOf, Delivered, Detach, Detached, Full, InputTo, Made, NewControl, NoDevice}
 pub use Rattle.pos_counter.specs.Steps.{NotAttached, NotDetached, OutOfMemory, Request, Response, Run, Shown, Snapshot, Step, TakenIn, WorkOn, Worked}
 pub use Rattle.pos_counter.specs.Steps.{WrongInput}
 pub use Rattle.pos_counter.specs.Totals.{TotalsPart}

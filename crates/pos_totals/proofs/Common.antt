@@ -28,7 +28,7 @@ pub use Rattle.pos_totals.specs.Buffers.{Buffers, FitsEach, HaveBuffers, IsBuffe
 pub use Rattle.pos_totals.specs.Buffers.{with_buffered}
 pub use Rattle.pos_totals.specs.Changes.{Changes, CommitsBuffer, HasFailed, IsDone, IsOneGroup, PutsGroup, before_or_after, in_doubt, settled}
 pub use Rattle.pos_totals.specs.Checks.{ChecksAt, EndsBuffer, FindsFile, Gathers, IsSeen, LetsThroughAt, PutsBuffer, answer_of, change_of, file_of, files_in}
-pub use Rattle.pos_totals.specs.Edits.{FileEdit, SetAll, Write, edit_change, edit_in, edit_of, edited, fits}
+pub use Rattle.pos_totals.specs.Edits.{FileEdit, edit_change, edit_in, edit_of, edited, fits}
 pub use Rattle.pos_totals.specs.Groups.{file_change, group_of, index_of}
 pub use Rattle.pos_totals.specs.HardTotals.{Change, Create, Delete, Edit, File, IsAmong, Mode, Off, Ready, Rename, Totals, changes_in, files_of, last_number}
 pub use Rattle.pos_totals.specs.HardTotals.{next_sequences, totals_limits, transaction_at, with_files, with_transaction, without_transactions}

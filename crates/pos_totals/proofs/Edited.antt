@@ -1,9 +1,10 @@
 -- What an edit does to its file, to the directory, and to the handles.
-use Rattle.pos_totals.proofs.Common.{FileChange, FileEdit, HasPlace, Limits, List, Ok, PlainFile, SetAll, Some, Tag, Write, arith, cond-true, drop, edit_change}
+use Rattle.pos_totals.proofs.Common.{FileChange, FileEdit, HasPlace, Limits, List, Ok, PlainFile, Some, Tag, arith, cond-true, drop, edit_change}
 use Rattle.pos_totals.proofs.Common.{edit_in, edited, false, fits, following, given_after, is_range, is_some, lacks, leb-true, length, length-append}
 use Rattle.pos_totals.proofs.Common.{length-drop, length-replicate, length-take, nat_abs, nat_le, negsuc, outcome, pos, refl, slice_get, slice_set, take, true}
 use Rattle.pos_totals.proofs.Common.{value_after, ℕ, ℤ, ◌++◌, ◌+◌, ◌≡◌}
 use Rattle.pos_service.specs.declared.answer.Value.TheVariants as value
+use Rattle.pos_totals.specs.Edits.{SetAll, Write}
 
 range_end : (size : ℕ) (offset : ℤ) (count : ℕ) → is_range size offset (pos count) ≡ true → nat_le (nat_abs offset + count) size ≡ true
 range_end size (pos offset) count fits = fits

@@ -1,6 +1,7 @@
-use Rattle.pos_run.proofs.Common.{Deliver, Delivered, IsRun, names_of, one_beside, refl, session_with}
+use Rattle.pos_run.proofs.Common.{Delivered, IsRun, names_of, one_beside, refl, session_with}
 use Rattle.pos_run.proofs.Sessions.{asks_none, asks_request}
 use Rattle.pos_run.proofs.session.deliver_event.Goals as goal
+use Rattle.pos_counter.specs.Steps.{Deliver}
 
 pub returns-in-Some-clause-asks : goal.returns-in-Some-clause-asks
 returns-in-Some-clause-asks g c = λ spares.
