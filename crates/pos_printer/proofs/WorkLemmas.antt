@@ -34,17 +34,6 @@ pub works : (at : Option ℕ) (holder place : ℕ) (outcome : Result Worked NoMe
     (λ want. SameHardware old before new after) → WorksAt at place outcome old before new after
 works at holder place outcome old new before after request is printer found h = rw (is, printer, found) h
 
-none_of : {A B : Type 0} (f : A → B) (o : Option A) (P : Type 0) (Q : B → Type 0) → is_some o ≡ false → P → MatchOption (option_map f o) P Q
-none_of f None P Q none p = p
-none_of f (Some x) P Q none p = absurd (true≢false none)
-
--- there is none
-pub idles : (at : Option ℕ) (holder place : ℕ) (old : List Control) (before : Hardware) → at ≡ Some holder → is_printer before.kind ≡ true
-    → is_some (option_and_then (first_request place) (slice_get old holder)) ≡ false → WorksAt at place (Ok worked.Idle) old before old before
-idles at holder place old before is printer none =
-    rw (is, printer) (none_of (due_request holder) (option_and_then (first_request place) (slice_get old holder)) _ _ none
-    (refl, record { controls = refl; hardware = refl }))
-
 -- the request to do is the one that is done
 of_request : (o : Option (ℕ × Order)) (id i : ℕ) (old new : List Control) (control : Control)
     → option_map (λ (request : ℕ × Order). request.0) o ≡ Some id → new ≡ slice_set old i (completed id control)

@@ -213,15 +213,3 @@ plain_byte b h = grind (arith, nat_tests)
 pub plain_no_feed : (bytes : List ℕ) → are_plain bytes ≡ true → have_no_feed bytes ≡ true
 plain_no_feed [] h = refl
 plain_no_feed (b ∷ bs) h = rw (plain_byte b (front_true (is_plain b) (are_plain bs) h)) (plain_no_feed bs (back_true (is_plain b) (are_plain bs) h))
-
-whole_cases : (t : Bool) (bytes : List ℕ) → eqb (get_or bytes (length bytes - 1) 0) 13 ≡ t → are_plain bytes ≡ true
-    → cond t (take (length bytes - 1) bytes) bytes ≡ bytes
-whole_cases false bytes is h = refl
-whole_cases true [] is h = refl
-whole_cases true (b ∷ bs) is h =
-    let last : get_or (b ∷ bs) (length (b ∷ bs) - 1) 0 ≡ 13 = grind (arith, nat_tests) in
-    absurd (true≢false (sym h ∙ list_all_at is_plain (b ∷ bs) (length (b ∷ bs) - 1) 0 (omega arith) (ap is_plain last)))
-
--- plain bytes have no carriage return at their end
-pub plain_whole : (bytes : List ℕ) → are_plain bytes ≡ true → without_cr bytes ≡ bytes
-plain_whole bytes h = whole_cases (eqb (get_or bytes (length bytes - 1) 0) 13) bytes refl h

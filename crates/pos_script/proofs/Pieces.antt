@@ -43,10 +43,6 @@ front_end c text i le h =
     h ∙ ap (λ xs. front_onto (take i text) (pieces c xs)) (drop_all i text le) ∙ front_onto_nil (take i text) [] ∙ ap (λ xs. xs ∷ []) (take_all i text le)
 
 -- there is always a piece
-lines_of_more : (line : List ℕ) (ps : List (List ℕ)) → 0 < length ps → lines_in (line ∷ ps) ≡ without_cr line ∷ lines_in ps
-lines_of_more line [] lt = absurd (omega (arith, lt))
-lines_of_more line (p ∷ ps) lt = refl
-
 onto_first_some : (b : ℕ) (ps : List (List ℕ)) → 0 < length (onto_first b ps)
 onto_first_some b [] = omega arith
 onto_first_some b (p ∷ ps) = omega arith
@@ -58,13 +54,3 @@ cond_some false xs ys h k = k
 pub some_piece : (c : ℕ) (text : List ℕ) → 0 < length (pieces c text)
 some_piece c [] = omega arith
 some_piece c (b ∷ bs) = cond_some (eqb b c) _ _ (omega arith) (onto_first_some b (pieces c bs))
-
-pub line_then : (text line rest : List ℕ) → pieces 10 text ≡ line ∷ pieces 10 rest → lines_of text ≡ without_cr line ∷ lines_of rest
-line_then text line rest e = ap lines_in e ∙ lines_of_more line (pieces 10 rest) (some_piece 10 rest)
-
-pub last_line : (text : List ℕ) → 0 < length text → pieces 10 text ≡ text ∷ [] → lines_of text ≡ text ∷ []
-last_line [] lt e = absurd (omega (arith, lt))
-last_line (b ∷ bs) lt e = ap lines_in e
-
-pub match_at : {A : Type 0} (o : Option A) (a : A) (P : Type 0) (R : A → Type 0) → o ≡ Some a → MatchOption o P R → R a
-match_at o a P R e m = subst (λ x. MatchOption x P R) e m

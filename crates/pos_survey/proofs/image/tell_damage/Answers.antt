@@ -12,12 +12,3 @@ returns c bytes heads is = (
     ap (λ (k : ℕ). k + 9) (c.start.ensures ∙ ap start (c.current_slot.ensures bytes heads)),
   ),
 )
-
-pub returns-then-is_tied : goal.returns-then-is_tied
-returns-then-is_tied c bytes heads is = (
-  damaged_stands bytes is,
-  (
-    sym (c.is_tied.ensures bytes heads) ∙ c.if-is_tied.true,
-    ap (λ (k : ℕ). k + 1) (c.start-at.ensures ∙ ap start (c.other.ensures ∙ ap other (c.first.ensures ∙ ap first_of (sym heads.layout_is)))),
-  ),
-)
