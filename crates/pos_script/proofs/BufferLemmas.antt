@@ -4,7 +4,7 @@ use Rattle.std.proofs.Common.{subst, refl, arith, ◌&&◌, ◌||◌, append-nil
 use Rattle.std.specs.Prelude.{MatchBool}
 use Rattle.std.proofs.lemmas.List.{drop_more, get_or-append-add, length-take, take_all, take_rest}
 use Rattle.std.proofs.Math.Seq.{take-append-add}
-use Rattle.std.proofs.lemmas.List.Folds.{list_all-append, list_all_at}
+use Rattle.std.proofs.lemmas.List.Folds.{list_all-append}
 use Rattle.std.proofs.lemmas.Bool.Decides.{nat_tests}
 use Rattle.pos_script.specs.declared.line_buffer.EndedLine.TheVariants as ended
 use Rattle.pos_script.specs.declared.line_buffer.Line.{Line}

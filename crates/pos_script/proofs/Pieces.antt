@@ -1,9 +1,8 @@
 -- Pieces of a text, and its lines and words.
-use Rattle.std.proofs.Common.{◌≡◌, ◌++◌, ◌∷◌, ℕ, ◌+◌, ◌<◌, ◌≤◌, List, [], Bool, true, false, cond, eqb, get_or, take, drop, length, ap, sym, ◌∙◌, subst, refl}
+use Rattle.std.proofs.Common.{◌≡◌, ◌++◌, ◌∷◌, ℕ, ◌+◌, ◌<◌, ◌≤◌, List, [], Bool, true, false, cond, eqb, get_or, take, drop, length, ap, sym, ◌∙◌, refl}
 use Rattle.std.proofs.Common.{arith}
-use Rattle.std.specs.Prelude.{MatchOption, Option, Some}
 use Rattle.std.proofs.lemmas.List.{drop_more, take_more, drop_all, take_all}
-use Rattle.pos_script.specs.Lines.{onto_first, pieces, lines_in, lines_of, without_cr}
+use Rattle.pos_script.specs.Lines.{onto_first, pieces}
 
 -- a text before the first of some pieces
 abbrev pub front_onto : List ℕ → List (List ℕ) → List (List ℕ)

@@ -1,9 +1,5 @@
 -- The records behind the current image.
-use Rattle.std.proofs.Common.{◌≡◌, ◌≤◌, ◌+◌, ℕ, List, length, drop, ap, ◌∙◌, arith, length-take}
-use Rattle.pos_image.specs.Layout.{length_at, body_at, start}
-use Rattle.pos_image.proofs.Places.{places}
-use Rattle.pos_image.specs.Slots.{IsCurrent}
-use Rattle.pos_image.specs.declared.slot.Slot.{Slot}
+use Rattle.std.proofs.Common.{◌≡◌, ℕ, List, ◌∙◌}
 use Rattle.pos_image.specs.declared.layout.Layout.{Layout}
 use Rattle.pos_log.specs.Records.{HoldsRecords, tail_of}
 use Rattle.pos_log.proofs.Unique.{one_log}

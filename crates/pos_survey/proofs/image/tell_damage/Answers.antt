@@ -1,5 +1,5 @@
 use Rattle.std.proofs.Common.{◌+◌, ℕ, sym, ◌∙◌, ap}
-use Rattle.pos_image.specs.Layout.{start, other, first_of}
+use Rattle.pos_image.specs.Layout.{start}
 use Rattle.pos_store.proofs.Recovered.{damaged_stands}
 use Rattle.pos_survey.proofs.Heads.{long_body}
 use Rattle.pos_survey.proofs.image.tell_damage.Goals as goal
