@@ -43,12 +43,10 @@ front_end c text i le h =
 
 -- there is always a piece
 onto_first_some : (b : ℕ) (ps : List (List ℕ)) → 0 < length (onto_first b ps)
-onto_first_some b [] = omega arith
-onto_first_some b (p ∷ ps) = omega arith
+onto_first_some b ps = grind arith
 
 cond_some : (t : Bool) (xs ys : List (List ℕ)) → 0 < length xs → 0 < length ys → 0 < length (cond t xs ys)
-cond_some true xs ys h k = h
-cond_some false xs ys h k = k
+cond_some t xs ys h k = grind arith
 
 pub some_piece : (c : ℕ) (text : List ℕ) → 0 < length (pieces c text)
 some_piece c [] = omega arith
