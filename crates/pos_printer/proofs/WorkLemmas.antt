@@ -1,5 +1,5 @@
 -- Work on the request of the control that holds a printer.
-use Rattle.std.proofs.Common.{◌≡◌, ◌∙◌, ℕ, ◌<◌, ◌≤◌, Bool, true, false, cond, List, All, Ok, get_or, set, length, ap, arith, refl, subst, sym}
+use Rattle.std.proofs.Common.{◌≡◌, ◌∙◌, ℕ, ◌<◌, ◌≤◌, Bool, true, cond, List, All, Ok, get_or, set, length, ap, arith, refl, subst, sym}
 use Rattle.std.proofs.lemmas.List.{length-map, map-set}
 use Rattle.std.proofs.lemmas.Option.{get_or_from_slice_get, slice_get-get_or, slice_get-map, slice_get_within, MatchOption-at_some}
 use Rattle.std.proofs.lemmas.Bool.{false≢true}
@@ -82,8 +82,7 @@ pub first_is : (place holder : ℕ) (request : ℕ × Order) (cs : List Control)
 first_is place holder request cs f = rw f.there f.first
 
 first_of : (b : Bool) (o : Option (ℕ × Order)) (request : ℕ × Order) → cond b o None ≡ Some request → (o ≡ Some request) × (b ≡ true)
-first_of true o request is = (is, refl)
-first_of false o request is = absurd cc
+first_of b o request is = grind arith
 
 same_first : (b : Bool) (place : ℕ) (u v : Signs) (x : Control) → first_request place (cond b (heard_signs u v x) x) ≡ first_request place x
 same_first b place u v x = grind arith
@@ -187,11 +186,7 @@ undone_said : (said : Reply) → (said ≡ reply.Done → ⊥) → (id holder : 
     → result ≡ worked.Failed (code_by said) (extended_by said)
     → MatchOption (slice_get old holder) ⊥ (λ control. new ≡ slice_set old holder (output_failed (code_by said) (extended_by said) control))
     → (result ≡ worked_by id said) × MatchOption (slice_get old holder) ⊥ (λ control. new ≡ slice_set old holder (after_work id said control))
-undone_said reply.Done undone id holder result old new answer changed = absurd (undone refl)
-undone_said reply.CoverOpen undone id holder result old new answer changed = (answer, changed)
-undone_said reply.PaperEnd undone id holder result old new answer changed = (answer, changed)
-undone_said reply.LineFault undone id holder result old new answer changed = (answer, changed)
-undone_said reply.Offline undone id holder result old new answer changed = (answer, changed)
+undone_said said undone id holder result old new answer changed = grind arith
 
 -- work on a request that the printer doesn't do
 pub fails : (at : Option ℕ) (holder place : ℕ) (said : Reply) (result : Worked) (old new : List Control) (hs : List KeptControl) (d : KeptControl)
