@@ -1,6 +1,6 @@
 -- What a line buffer keeps of a line as it goes on, at its line feed, and at the end of the input.
 use Rattle.std.proofs.Common.{◌≡◌, ◌++◌, ◌∷◌, ℕ, ◌+◌, ◌-◌, ◌<◌, ◌≤◌, List, [], Bool, true, false, cond, eqb, leb, length, get_or, take, drop, ap, sym, ◌∙◌}
-use Rattle.std.proofs.Common.{subst, refl, arith, ◌&&◌, ◌||◌, append-nil, length-append, take-append-drop, append_assoc, true≢false}
+use Rattle.std.proofs.Common.{subst, refl, arith, ◌&&◌, ◌||◌, append-nil, length-append, take-append-drop, append_assoc}
 use Rattle.std.specs.Prelude.{MatchBool}
 use Rattle.std.proofs.lemmas.List.{drop_more, get_or-append-add, length-take, take_all, take_rest}
 use Rattle.std.proofs.Math.Seq.{take-append-add}
@@ -9,7 +9,6 @@ use Rattle.std.proofs.lemmas.Bool.Decides.{nat_tests}
 use Rattle.pos_script.specs.declared.line_buffer.EndedLine.TheVariants as ended
 use Rattle.pos_script.specs.declared.line_buffer.Line.{Line}
 use Rattle.pos_script.specs.declared.line_buffer.Look.{Look}
-use Rattle.pos_script.specs.declared.line_buffer.Look.TheVariants as look
 use Rattle.pos_script.specs.Lines.{pieces, complete_lines, unfinished, lines_of, last_line, without_cr, is_nothing, is_plain, is_space, is_quiet}
 use Rattle.pos_script.specs.LineBuffers.{Kept, Whole, TooLong, EndsInput, EndsLine, IsHeld, IsLine, StandsFor, are_plain, have_no_feed, is_blank, is_comment}
 use Rattle.pos_script.specs.LineBuffers.{is_kept_nothing, is_no_feed, is_quiet_look, kept_ended, kept_of, kept_with, look_ended, look_from, look_of, look_with}

@@ -1,6 +1,5 @@
 -- How a script falls into lines where it comes in pieces.
 use Rattle.std.proofs.Common.{◌≡◌, ◌++◌, ◌∷◌, ℕ, ◌<◌, List, [], Bool, true, false, not, cond, eqb, length, ap, sym, ◌∙◌, refl, arith, append-nil, ◌&&◌}
-use Rattle.std.proofs.Common.{true≢false}
 use Rattle.std.specs.List.{list_all}
 use Rattle.pos_script.specs.LineBuffers.{is_no_feed}
 use Rattle.pos_script.specs.Lines.{onto_first, pieces, lines_in, ended_in, last_in, last_line, complete_lines, unfinished, without_cr}
