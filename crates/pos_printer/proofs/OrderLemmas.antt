@@ -1,5 +1,5 @@
 -- What comes of an order that a printer was given.
-use Rattle.std.proofs.Common.{◌≡◌, ◌∙◌, List, Ok, ap, refl}
+use Rattle.std.proofs.Common.{◌≡◌, List, Ok, refl}
 use Rattle.std.specs.Prelude.{ℕ}
 use Rattle.pos_service.specs.declared.order.Order.{Order}
 use Rattle.pos_service.specs.declared.order.Reply.{Reply}

@@ -1,8 +1,8 @@
 -- Work on the request of the control that holds a printer.
-use Rattle.std.proofs.Common.{◌≡◌, ◌∙◌, ℕ, ◌<◌, ◌≤◌, Bool, true, false, cond, List, All, Ok, get_or, set, length, ap, arith, refl, subst, sym}
+use Rattle.std.proofs.Common.{◌≡◌, ◌∙◌, ℕ, ◌<◌, ◌≤◌, Bool, true, cond, List, All, Ok, get_or, set, length, ap, arith, refl, subst, sym}
 use Rattle.std.proofs.lemmas.List.{length-map, map-set}
 use Rattle.std.proofs.lemmas.Option.{get_or_from_slice_get, slice_get-get_or, slice_get-map, slice_get_within, MatchOption-at_some}
-use Rattle.std.proofs.lemmas.Bool.{false≢true, true≢false}
+use Rattle.std.proofs.lemmas.Bool.{false≢true}
 use Rattle.std.specs.Option.{option_and_then, option_map}
 use Rattle.std.specs.Prelude.{Option, Some, None, Result, IsSome, IsTrue, MatchOption, MatchResult, is_some, slice_get, slice_set}
 use Rattle.pos_service.specs.declared.memory.NoMemory.{NoMemory}
@@ -33,17 +33,6 @@ pub works : (at : Option ℕ) (holder place : ℕ) (outcome : Result Worked NoMe
     → MatchResult outcome (λ result. WorksOn (due_request holder request) place result old before new after)
     (λ want. SameHardware old before new after) → WorksAt at place outcome old before new after
 works at holder place outcome old new before after request is printer found h = rw (is, printer, found) h
-
-none_of : {A B : Type 0} (f : A → B) (o : Option A) (P : Type 0) (Q : B → Type 0) → is_some o ≡ false → P → MatchOption (option_map f o) P Q
-none_of f None P Q none p = p
-none_of f (Some x) P Q none p = absurd (true≢false none)
-
--- there is none
-pub idles : (at : Option ℕ) (holder place : ℕ) (old : List Control) (before : Hardware) → at ≡ Some holder → is_printer before.kind ≡ true
-    → is_some (option_and_then (first_request place) (slice_get old holder)) ≡ false → WorksAt at place (Ok worked.Idle) old before old before
-idles at holder place old before is printer none =
-    rw (is, printer) (none_of (due_request holder) (option_and_then (first_request place) (slice_get old holder)) _ _ none
-    (refl, record { controls = refl; hardware = refl }))
 
 -- the request to do is the one that is done
 of_request : (o : Option (ℕ × Order)) (id i : ℕ) (old new : List Control) (control : Control)
@@ -93,8 +82,7 @@ pub first_is : (place holder : ℕ) (request : ℕ × Order) (cs : List Control)
 first_is place holder request cs f = rw f.there f.first
 
 first_of : (b : Bool) (o : Option (ℕ × Order)) (request : ℕ × Order) → cond b o None ≡ Some request → (o ≡ Some request) × (b ≡ true)
-first_of true o request is = (is, refl)
-first_of false o request is = absurd cc
+first_of b o request is = grind arith
 
 same_first : (b : Bool) (place : ℕ) (u v : Signs) (x : Control) → first_request place (cond b (heard_signs u v x) x) ≡ first_request place x
 same_first b place u v x = grind arith
@@ -198,11 +186,7 @@ undone_said : (said : Reply) → (said ≡ reply.Done → ⊥) → (id holder : 
     → result ≡ worked.Failed (code_by said) (extended_by said)
     → MatchOption (slice_get old holder) ⊥ (λ control. new ≡ slice_set old holder (output_failed (code_by said) (extended_by said) control))
     → (result ≡ worked_by id said) × MatchOption (slice_get old holder) ⊥ (λ control. new ≡ slice_set old holder (after_work id said control))
-undone_said reply.Done undone id holder result old new answer changed = absurd (undone refl)
-undone_said reply.CoverOpen undone id holder result old new answer changed = (answer, changed)
-undone_said reply.PaperEnd undone id holder result old new answer changed = (answer, changed)
-undone_said reply.LineFault undone id holder result old new answer changed = (answer, changed)
-undone_said reply.Offline undone id holder result old new answer changed = (answer, changed)
+undone_said said undone id holder result old new answer changed = grind arith
 
 -- work on a request that the printer doesn't do
 pub fails : (at : Option ℕ) (holder place : ℕ) (said : Reply) (result : Worked) (old new : List Control) (hs : List KeptControl) (d : KeptControl)

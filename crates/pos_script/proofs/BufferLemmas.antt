@@ -1,23 +1,21 @@
 -- What a line buffer keeps of a line as it goes on, at its line feed, and at the end of the input.
 use Rattle.std.proofs.Common.{◌≡◌, ◌++◌, ◌∷◌, ℕ, ◌+◌, ◌-◌, ◌<◌, ◌≤◌, List, [], Bool, true, false, cond, eqb, leb, length, get_or, take, drop, ap, sym, ◌∙◌}
-use Rattle.std.proofs.Common.{subst, refl, arith, ◌&&◌, ◌||◌, append-nil, length-append, take-append-drop, append_assoc, true≢false}
+use Rattle.std.proofs.Common.{subst, refl, arith, ◌&&◌, ◌||◌, append-nil, length-append, take-append-drop, append_assoc}
 use Rattle.std.specs.Prelude.{MatchBool}
 use Rattle.std.proofs.lemmas.List.{drop_more, get_or-append-add, length-take, take_all, take_rest}
 use Rattle.std.proofs.Math.Seq.{take-append-add}
-use Rattle.std.proofs.lemmas.List.Folds.{list_all-append, list_all_at}
+use Rattle.std.proofs.lemmas.List.Folds.{list_all-append}
 use Rattle.std.proofs.lemmas.Bool.Decides.{nat_tests}
 use Rattle.pos_script.specs.declared.line_buffer.EndedLine.TheVariants as ended
 use Rattle.pos_script.specs.declared.line_buffer.Line.{Line}
 use Rattle.pos_script.specs.declared.line_buffer.Look.{Look}
-use Rattle.pos_script.specs.declared.line_buffer.Look.TheVariants as look
 use Rattle.pos_script.specs.Lines.{pieces, complete_lines, unfinished, lines_of, last_line, without_cr, is_nothing, is_plain, is_space, is_quiet}
 use Rattle.pos_script.specs.LineBuffers.{Kept, Whole, TooLong, EndsInput, EndsLine, IsHeld, IsLine, StandsFor, are_plain, have_no_feed, is_blank, is_comment}
 use Rattle.pos_script.specs.LineBuffers.{is_kept_nothing, is_no_feed, is_quiet_look, kept_ended, kept_of, kept_with, look_ended, look_from, look_of, look_with}
 use Rattle.pos_script.proofs.LineLemmas.{adds_lines, adds_rest, ends_lines, ends_rest, two_parts}
 
 cond_behind : (t : Bool) (xs ys zs : List ℕ) → cond t (xs ++ ys) (xs ++ zs) ≡ xs ++ cond t ys zs
-cond_behind true xs ys zs = refl
-cond_behind false xs ys zs = refl
+cond_behind t xs ys zs = grind arith
 
 -- a carriage return at the end of a line is one at the end of its last part
 without_cr_behind : (xs : List ℕ) (y : ℕ) (ys : List ℕ) → without_cr (xs ++ (y ∷ ys)) ≡ xs ++ without_cr (y ∷ ys)
@@ -27,17 +25,11 @@ without_cr_behind xs y ys =
     rw (len, get_or-append-add xs (y ∷ ys) m 0, take-append-add xs (y ∷ ys) m) (cond_behind _ xs (take m (y ∷ ys)) (y ∷ ys))
 
 look_nothing : (look : Look) → look_with look [] ≡ look
-look_nothing look.Comment = refl
-look_nothing look.Blank = refl
-look_nothing look.BlankThenReturn = refl
-look_nothing look.Loud = refl
+look_nothing look = grind arith
 
 look_cases : (y : ℕ) (ys : List ℕ) (comment blank almost : Bool)
     → look_with (look_from comment blank almost) (y ∷ ys) ≡ look_from comment (blank && is_blank (y ∷ ys)) (blank && is_blank (without_cr (y ∷ ys)))
-look_cases y ys true blank almost = refl
-look_cases y ys false true almost = refl
-look_cases y ys false false true = refl
-look_cases y ys false false false = refl
+look_cases y ys comment blank almost = grind arith
 
 -- how a line looks with bytes behind it
 pub look_more : (xs ys : List ℕ) → 0 < length xs → look_with (look_of xs) ys ≡ look_of (xs ++ ys)
@@ -62,20 +54,17 @@ pub kept_more : (xs ys : List ℕ) → kept_with (kept_of xs) ys ≡ kept_of (xs
 kept_more xs ys = kept_cases (leb (length xs) 140001) xs ys refl
 
 quiet_is : (line : List ℕ) → is_quiet line ≡ (is_comment line || is_blank line)
-quiet_is [] = refl
-quiet_is (b ∷ bs) = refl
+quiet_is line = grind arith
 
 length_cases : (t : Bool) (xs : List ℕ) → length xs ≤ length (cond t (take (length xs - 1) xs) xs) + 1
 length_cases true xs = omega (arith, length-take (length xs - 1) xs)
 length_cases false xs = omega arith
 
 front_true : (s t : Bool) → (s && t) ≡ true → s ≡ true
-front_true true t h = refl
-front_true false t h = h
+front_true s t h = grind arith
 
 back_true : (s t : Bool) → (s && t) ≡ true → t ≡ true
-back_true true t h = h
-back_true false t h = absurd (true≢false (sym h))
+back_true s t h = grind arith
 
 blank_front : (xs ys : List ℕ) → is_blank (xs ++ ys) ≡ true → is_blank xs ≡ true
 blank_front xs ys h = front_true (is_blank xs) (is_blank ys) (sym (list_all-append is_space xs ys) ∙ h)
@@ -90,10 +79,7 @@ comment_kept (x ∷ []) lt = absurd (omega (arith, lt))
 comment_kept (x ∷ y ∷ ys) lt = ap is_comment (without_cr_behind (x ∷ []) y ys)
 
 ended_cases : (comment blank almost : Bool) → (blank ≡ true → almost ≡ true) → (comment || almost) ≡ is_quiet_look (look_ended (look_from comment blank almost))
-ended_cases true blank almost h = refl
-ended_cases false true almost h = h refl
-ended_cases false false true h = refl
-ended_cases false false false h = refl
+ended_cases comment blank almost h = grind arith
 
 held_ended_cases : (t : Bool) (line : List ℕ) → leb (length line) 140001 ≡ t
     → IsHeld (kept_ended (cond t (Whole line) (TooLong (look_of line)))) (without_cr line)
@@ -112,10 +98,7 @@ pub held_ended : (line : List ℕ) → IsHeld (kept_ended (kept_of line)) (witho
 held_ended line = held_ended_cases (leb (length line) 140001) line refl
 
 last_cases : (comment blank almost : Bool) → (comment || blank) ≡ is_quiet_look (look_from comment blank almost)
-last_cases true blank almost = refl
-last_cases false true almost = refl
-last_cases false false true = refl
-last_cases false false false = refl
+last_cases comment blank almost = grind arith
 
 held_last_cases : (t : Bool) (line : List ℕ) → leb (length line) 140001 ≡ t → IsHeld (cond t (Whole line) (TooLong (look_of line))) line
 held_last_cases true line is = refl
@@ -125,12 +108,10 @@ held_last : (line : List ℕ) → IsHeld (kept_of line) line
 held_last line = held_last_cases (leb (length line) 140001) line refl
 
 pub nothing_long : (xs : List ℕ) → eqb (length xs) 0 ≡ is_nothing xs
-nothing_long [] = refl
-nothing_long (x ∷ xs) = grind (arith, nat_tests)
+nothing_long xs = grind (arith, nat_tests)
 
 nothing_cases : (t : Bool) (x : ℕ) (xs : List ℕ) (look : Look) → is_kept_nothing (cond t (Whole (x ∷ xs)) (TooLong look)) ≡ false
-nothing_cases true x xs look = refl
-nothing_cases false x xs look = refl
+nothing_cases t x xs look = grind arith
 
 nothing_kept : (line : List ℕ) → is_kept_nothing (kept_of line) ≡ is_nothing line
 nothing_kept [] = refl
@@ -138,8 +119,7 @@ nothing_kept (x ∷ xs) = nothing_cases (leb (length (x ∷ xs)) 140001) x xs (l
 
 input_cases : (line : List ℕ) (kept : Kept) (e : Bool) (lines complete : List (List ℕ)) → e ≡ is_nothing line → lines ≡ complete ++ last_line line
     → IsHeld kept line → MatchBool e (lines ≡ complete) ((lines ≡ complete ++ line ∷ []) × IsHeld kept line)
-input_cases [] kept e lines complete is split held = rw is (split ∙ append-nil complete)
-input_cases (x ∷ xs) kept e lines complete is split held = rw is (split, held)
+input_cases line kept e lines complete is split held = grind (arith, append-nil complete)
 
 -- at the end of the input
 pub input_ends : (read : List ℕ) (kept : Kept) (e : Bool) → e ≡ is_kept_nothing kept → StandsFor kept read → EndsInput read e kept
@@ -164,8 +144,7 @@ feeds_all read piece n old new free is adds stands =
     )
 
 nothing_is : (xs : List ℕ) → is_nothing xs ≡ true → xs ≡ []
-nothing_is [] h = refl
-nothing_is (x ∷ xs) h = absurd (true≢false (sym h))
+nothing_is xs h = grind arith
 
 -- a piece whose first line feed stands at a place: what is before it, with it, and what is behind it
 cut_at : (piece : List ℕ) (n : ℕ) → n < length piece → get_or piece n 0 ≡ 10
@@ -213,15 +192,3 @@ plain_byte b h = grind (arith, nat_tests)
 pub plain_no_feed : (bytes : List ℕ) → are_plain bytes ≡ true → have_no_feed bytes ≡ true
 plain_no_feed [] h = refl
 plain_no_feed (b ∷ bs) h = rw (plain_byte b (front_true (is_plain b) (are_plain bs) h)) (plain_no_feed bs (back_true (is_plain b) (are_plain bs) h))
-
-whole_cases : (t : Bool) (bytes : List ℕ) → eqb (get_or bytes (length bytes - 1) 0) 13 ≡ t → are_plain bytes ≡ true
-    → cond t (take (length bytes - 1) bytes) bytes ≡ bytes
-whole_cases false bytes is h = refl
-whole_cases true [] is h = refl
-whole_cases true (b ∷ bs) is h =
-    let last : get_or (b ∷ bs) (length (b ∷ bs) - 1) 0 ≡ 13 = grind (arith, nat_tests) in
-    absurd (true≢false (sym h ∙ list_all_at is_plain (b ∷ bs) (length (b ∷ bs) - 1) 0 (omega arith) (ap is_plain last)))
-
--- plain bytes have no carriage return at their end
-pub plain_whole : (bytes : List ℕ) → are_plain bytes ≡ true → without_cr bytes ≡ bytes
-plain_whole bytes h = whole_cases (eqb (get_or bytes (length bytes - 1) 0) 13) bytes refl h

@@ -1,6 +1,5 @@
 -- How a script falls into lines where it comes in pieces.
 use Rattle.std.proofs.Common.{◌≡◌, ◌++◌, ◌∷◌, ℕ, ◌<◌, List, [], Bool, true, false, not, cond, eqb, length, ap, sym, ◌∙◌, refl, arith, append-nil, ◌&&◌}
-use Rattle.std.proofs.Common.{true≢false}
 use Rattle.std.specs.List.{list_all}
 use Rattle.pos_script.specs.LineBuffers.{is_no_feed}
 use Rattle.pos_script.specs.Lines.{onto_first, pieces, lines_in, ended_in, last_in, last_line, complete_lines, unfinished, without_cr}
@@ -22,13 +21,10 @@ front_some xs [] lt = absurd (omega (arith, lt))
 front_some xs (p ∷ ps) lt = rw (front_onto_one xs p ps) (omega arith)
 
 glue_onto : (b : ℕ) (ps qs : List (List ℕ)) → 0 < length ps → onto_first b (glue ps qs) ≡ glue (onto_first b ps) qs
-glue_onto b [] qs lt = absurd (omega (arith, lt))
-glue_onto b (p ∷ []) qs lt = refl
-glue_onto b (p ∷ q ∷ ps) qs lt = refl
+glue_onto b ps qs lt = grind arith
 
 glue_next : (p : List ℕ) (ps qs : List (List ℕ)) → 0 < length ps → glue (p ∷ ps) qs ≡ p ∷ glue ps qs
-glue_next p [] qs lt = absurd (omega (arith, lt))
-glue_next p (q ∷ ps) qs lt = refl
+glue_next p ps qs lt = grind arith
 
 glue_cut : (c b : ℕ) (xs ys : List ℕ) (t : Bool) → eqb b c ≡ t → pieces c (xs ++ ys) ≡ glue (pieces c xs) (pieces c ys)
     → pieces c (b ∷ (xs ++ ys)) ≡ glue (pieces c (b ∷ xs)) (pieces c ys)
@@ -45,12 +41,10 @@ glue_some (p ∷ []) qs lt = front_some p qs lt
 glue_some (p ∷ q ∷ ps) qs lt = omega arith
 
 ended_next : (p : List ℕ) (ps : List (List ℕ)) → 0 < length ps → ended_in (p ∷ ps) ≡ without_cr p ∷ ended_in ps
-ended_next p [] lt = absurd (omega (arith, lt))
-ended_next p (q ∷ ps) lt = refl
+ended_next p ps lt = grind arith
 
 last_next : (p : List ℕ) (ps : List (List ℕ)) → 0 < length ps → last_in (p ∷ ps) ≡ last_in ps
-last_next p [] lt = absurd (omega (arith, lt))
-last_next p (q ∷ ps) lt = refl
+last_next p ps lt = grind arith
 
 -- the pieces that are ended among the pieces of two texts, and the last
 ended_glue : (ps qs : List (List ℕ)) → 0 < length ps → 0 < length qs → ended_in (glue ps qs) ≡ ended_in ps ++ ended_in (front_onto (last_in ps) qs)
@@ -73,11 +67,7 @@ rest_behind xs ys = ap last_in (pieces_append 10 xs ys) ∙ last_glue (pieces 10
 -- what is unfinished has no line feed
 last_cut : (c x : ℕ) (xs : List ℕ) (ps : List (List ℕ)) (t : Bool) → eqb x c ≡ t → 0 < length ps → pieces c (last_in ps) ≡ last_in ps ∷ []
     → pieces c (last_in (cond t ([] ∷ ps) (onto_first x ps))) ≡ last_in (cond t ([] ∷ ps) (onto_first x ps)) ∷ []
-last_cut c x xs [] t is lt h = absurd (omega (arith, lt))
-last_cut c x xs (p ∷ []) true is lt h = h
-last_cut c x xs (p ∷ []) false is lt h = rw (is, h) refl
-last_cut c x xs (p ∷ q ∷ ps) true is lt h = h
-last_cut c x xs (p ∷ q ∷ ps) false is lt h = h
+last_cut c x xs ps t is lt h = grind arith
 
 last_whole : (c : ℕ) (xs : List ℕ) → pieces c (last_in (pieces c xs)) ≡ last_in (pieces c xs) ∷ []
 last_whole c [] = refl
@@ -102,8 +92,7 @@ two_parts (p ∷ q ∷ ps) = ap (λ x. without_cr p ∷ x) (two_parts (q ∷ ps)
 -- bytes without a line feed are one piece
 no_feed_step : (b : ℕ) (bs : List ℕ) (t : Bool) → eqb b 10 ≡ t → (not t && list_all is_no_feed bs) ≡ true →
     (list_all is_no_feed bs ≡ true → pieces 10 bs ≡ bs ∷ []) → pieces 10 (b ∷ bs) ≡ (b ∷ bs) ∷ []
-no_feed_step b bs true is h more = absurd (true≢false (sym h))
-no_feed_step b bs false is h more = rw (is, more h) refl
+no_feed_step b bs t is h more = grind arith
 
 pub one_piece : (bs : List ℕ) → list_all is_no_feed bs ≡ true → pieces 10 bs ≡ bs ∷ []
 one_piece [] h = refl

@@ -1,9 +1,8 @@
 -- Pieces of a text, and its lines and words.
-use Rattle.std.proofs.Common.{◌≡◌, ◌++◌, ◌∷◌, ℕ, ◌+◌, ◌<◌, ◌≤◌, List, [], Bool, true, false, cond, eqb, get_or, take, drop, length, ap, sym, ◌∙◌, subst, refl}
+use Rattle.std.proofs.Common.{◌≡◌, ◌++◌, ◌∷◌, ℕ, ◌+◌, ◌<◌, ◌≤◌, List, [], Bool, true, false, cond, eqb, get_or, take, drop, length, ap, sym, ◌∙◌, refl}
 use Rattle.std.proofs.Common.{arith}
-use Rattle.std.specs.Prelude.{MatchOption, Option, Some}
 use Rattle.std.proofs.lemmas.List.{drop_more, take_more, drop_all, take_all}
-use Rattle.pos_script.specs.Lines.{onto_first, pieces, lines_in, lines_of, without_cr}
+use Rattle.pos_script.specs.Lines.{onto_first, pieces}
 
 -- a text before the first of some pieces
 abbrev pub front_onto : List ℕ → List (List ℕ) → List (List ℕ)
@@ -43,28 +42,12 @@ front_end c text i le h =
     h ∙ ap (λ xs. front_onto (take i text) (pieces c xs)) (drop_all i text le) ∙ front_onto_nil (take i text) [] ∙ ap (λ xs. xs ∷ []) (take_all i text le)
 
 -- there is always a piece
-lines_of_more : (line : List ℕ) (ps : List (List ℕ)) → 0 < length ps → lines_in (line ∷ ps) ≡ without_cr line ∷ lines_in ps
-lines_of_more line [] lt = absurd (omega (arith, lt))
-lines_of_more line (p ∷ ps) lt = refl
-
 onto_first_some : (b : ℕ) (ps : List (List ℕ)) → 0 < length (onto_first b ps)
-onto_first_some b [] = omega arith
-onto_first_some b (p ∷ ps) = omega arith
+onto_first_some b ps = grind arith
 
 cond_some : (t : Bool) (xs ys : List (List ℕ)) → 0 < length xs → 0 < length ys → 0 < length (cond t xs ys)
-cond_some true xs ys h k = h
-cond_some false xs ys h k = k
+cond_some t xs ys h k = grind arith
 
 pub some_piece : (c : ℕ) (text : List ℕ) → 0 < length (pieces c text)
 some_piece c [] = omega arith
 some_piece c (b ∷ bs) = cond_some (eqb b c) _ _ (omega arith) (onto_first_some b (pieces c bs))
-
-pub line_then : (text line rest : List ℕ) → pieces 10 text ≡ line ∷ pieces 10 rest → lines_of text ≡ without_cr line ∷ lines_of rest
-line_then text line rest e = ap lines_in e ∙ lines_of_more line (pieces 10 rest) (some_piece 10 rest)
-
-pub last_line : (text : List ℕ) → 0 < length text → pieces 10 text ≡ text ∷ [] → lines_of text ≡ text ∷ []
-last_line [] lt e = absurd (omega (arith, lt))
-last_line (b ∷ bs) lt e = ap lines_in e
-
-pub match_at : {A : Type 0} (o : Option A) (a : A) (P : Type 0) (R : A → Type 0) → o ≡ Some a → MatchOption o P R → R a
-match_at o a P R e m = subst (λ x. MatchOption x P R) e m

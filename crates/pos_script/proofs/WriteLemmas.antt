@@ -1,7 +1,7 @@
 -- Texts that are written one after another.
 use Rattle.std.proofs.Common.{◌≡◌, ◌++◌, ◌∷◌, ◌∙◌, [], ℕ, ◌+◌, ◌<◌, List, Option, length, get_or, take, drop, sym, ap, refl, append_assoc, take-append-drop}
 use Rattle.std.proofs.Common.{flat_map, length-append, arith}
-use Rattle.std.specs.Prelude.{Result, Ok, Err}
+use Rattle.std.specs.Prelude.{Result, Ok, Err, IsErrAnd}
 use Rattle.std.specs.Io.KnownBytes.{Appends}
 use Rattle.std.proofs.lemmas.List.{drop_more}
 use Rattle.std.proofs.lemmas.List.Concat.{flat_map-append}
@@ -11,7 +11,7 @@ use Rattle.pos_script.specs.Glyphs.{characters_text}
 use Rattle.pos_script.specs.Writing.{Writes}
 
 -- where one part is cut, so is the whole
-pub cut_at : {X : Type 0} (f : X → List ℕ) (ps : List X) (i : ℕ) (d : X) (bytes front back : List ℕ) → i < length ps → bytes ≡ f (get_or ps i d)
+cut_at : {X : Type 0} (f : X → List ℕ) (ps : List X) (i : ℕ) (d : X) (bytes front back : List ℕ) → i < length ps → bytes ≡ f (get_or ps i d)
     → bytes ≡ front ++ back → flat_map f ps ≡ (flat_map f (take i ps) ++ front) ++ (back ++ flat_map f (drop (i + 1) ps))
 cut_at f ps i d bytes front back lt is e =
     let a = flat_map f (take i ps) in
@@ -36,26 +36,45 @@ hex_of_glyphs character [] = refl
 hex_of_glyphs character (glyph ∷ glyphs) = ap (λ rest. encode_lower (character glyph ∷ []) ++ rest) (hex_of_glyphs character glyphs)
 
 -- a text that isn't empty stays so
-pub longer : (xs ys : List ℕ) → 0 < length xs → 0 < length (xs ++ ys)
+longer : (xs ys : List ℕ) → 0 < length xs → 0 < length (xs ++ ys)
 longer xs ys lt = omega (arith, length-append xs ys)
 
--- what fails before the rest of a text
-pub failed_front : {E F : Type 0} (a b : Option (List ℕ)) (first rest : List ℕ) (e : E) (f : F) → Writes a b first (Err e) → Writes a b (first ++ rest) (Err f)
-failed_front a b first rest e f w = (w.0, w.1 ++ rest, ap (λ x. x ++ rest) w.2 ∙ append_assoc w.0 w.1 rest, longer w.1 rest w.3, w.4)
+-- A front of a text is written and not all of it.
+abbrev pub Fails : Option (List ℕ) → Option (List ℕ) → List ℕ → Type 0
+Fails old new text = (front : List ℕ) × (back : List ℕ) × (text ≡ front ++ back) × (0 < length back) × Appends old new front
 
--- a text behind one that was written
-pub behind : {E : Type 0} (a b c : Option (List ℕ)) (first second : List ℕ) (result : Result (Unit {0}) E) → Appends a b first
-    → Writes b c second result → Writes a c (first ++ second) result
-behind a b c first second (Ok u) done w = Appends-trans a b c first second done w
-behind a b c first second (Err e) done w =
+-- a fault behind a text that was written
+fails_behind : (a b c : Option (List ℕ)) (first second : List ℕ) → Appends a b first → Fails b c second → Fails a c (first ++ second)
+fails_behind a b c first second done w =
     (first ++ w.0, w.1, ap (λ x. first ++ x) w.2 ∙ sym (append_assoc first w.0 w.1), w.3, Appends-trans a b c first w.0 done w.4)
 
--- what fails between a text that was written and one that was to be
-pub failed_between : {E F : Type 0} (a b c : Option (List ℕ)) (first second third : List ℕ) (e : E) (f : F) → Appends a b first → Writes b c second (Err e)
-    → Writes a c (first ++ (second ++ third)) (Err f)
-failed_between a b c first second third e f done w = behind a b c first (second ++ third) (Err f) done (failed_front b c second third e f w)
+-- a fault before the rest of a text
+pub failed_front : {F : Type 0} (Q : F → Type 0) (a b : Option (List ℕ)) (first rest : List ℕ) (result : Result (Unit {0}) F) → IsErrAnd result Q
+    → Fails a b first → Writes a b (first ++ rest) result
+failed_front Q a b first rest (Ok u) is w = absurd is
+failed_front Q a b first rest (Err f) is w = (w.0, w.1 ++ rest, ap (λ x. x ++ rest) w.2 ∙ append_assoc w.0 w.1 rest, longer w.1 rest w.3, w.4)
+
+-- a text behind one that was written
+pub behind : {F : Type 0} (a b c : Option (List ℕ)) (first second : List ℕ) (result : Result (Unit {0}) F) → Appends a b first
+    → Writes b c second result → Writes a c (first ++ second) result
+behind a b c first second (Ok u) done w = Appends-trans a b c first second done w
+behind a b c first second (Err e) done w = fails_behind a b c first second done w
+
+-- a fault between a text that was written and one that was to be
+pub failed_between : {F : Type 0} (Q : F → Type 0) (a b c : Option (List ℕ)) (first second third : List ℕ) (result : Result (Unit {0}) F)
+    → IsErrAnd result Q → Appends a b first → Fails b c second → Writes a c (first ++ (second ++ third)) result
+failed_between Q a b c first second third result is done w =
+    behind a b c first (second ++ third) result done (failed_front Q b c second third result is w)
 
 -- a text behind two that were written
-pub behind_two : {E : Type 0} (a b c d : Option (List ℕ)) (first second third : List ℕ) (result : Result (Unit {0}) E) → Appends a b first
+pub behind_two : {F : Type 0} (a b c d : Option (List ℕ)) (first second third : List ℕ) (result : Result (Unit {0}) F) → Appends a b first
     → Appends b c second → Writes c d third result → Writes a d (first ++ (second ++ third)) result
 behind_two a b c d first second third result one two w = behind a b d first (second ++ third) result one (behind b c d second third result two w)
+
+-- a fault at one of the parts of a text that are written one after another
+pub failed_part : {X F : Type 0} (Q : F → Type 0) (a b c : Option (List ℕ)) (f : X → List ℕ) (ps : List X) (i : ℕ) (d : X) (bytes : List ℕ)
+    (result : Result (Unit {0}) F) → IsErrAnd result Q → i < length ps → bytes ≡ f (get_or ps i d) → Appends a b (flat_map f (take i ps))
+    → Fails b c bytes → Writes a c (flat_map f ps) result
+failed_part Q a b c f ps i d bytes (Ok u) is lt at done w = absurd is
+failed_part Q a b c f ps i d bytes (Err e) is lt at done w =
+    (_, _, cut_at f ps i d bytes w.0 w.1 lt at w.2, longer w.1 _ w.3, Appends-trans a b c _ w.0 done w.4)

@@ -1,6 +1,5 @@
-use Rattle.std.proofs.Common.{◌≡◌, ◌++◌, ◌∷◌, [], ℕ, List, length, refl, false}
-use Rattle.std.specs.Prelude.{codes, nat_eq}
-use Rattle.std.proofs.lemmas.Result.{err_from_is_err_and}
+use Rattle.std.proofs.Common.{◌≡◌, ◌∷◌, [], ℕ, List, length, refl, false}
+use Rattle.std.specs.Prelude.{nat_eq}
 use Rattle.hex.specs.Hex.{encode_lower}
 use Rattle.pos_script.specs.Text.{hex_text}
 use Rattle.pos_script.proofs.WriteLemmas.{behind_two, failed_between, failed_front}
@@ -12,18 +11,13 @@ some_bytes [] e = cc
 some_bytes (b ∷ bs) e = refl
 
 pub returns-in_err-write_parts : goal.returns-in_err-write_parts
-returns-in_err-write_parts g c =
-    let p = err_from_is_err_and c.from_residual.result c.from_residual.ensures.1 in
-    rw p.1 (failed_front _ _ (codes "ok ") (hex_text c.args.bytes.now ++ 10 ∷ []) c.in_err-write_parts.field-0 p.0 c.in_err-write_parts.ensures)
+returns-in_err-write_parts g c = failed_front _ _ _ _ _ _ c.from_residual.ensures.1 c.in_err-write_parts.ensures
 
 pub returns-in_err-write_hex : goal.returns-in_err-write_hex
 returns-in_err-write_hex g c =
-    let p = err_from_is_err_and c.from_residual-in_err-write_hex.result c.from_residual-in_err-write_hex.ensures.1 in
-    rw (p.1, some_bytes c.args.bytes.now c.if-is_empty.ensures)
-    (failed_between _ _ _ (codes "ok ") (encode_lower c.args.bytes.now) (10 ∷ []) c.in_err-write_hex.field-0 p.0 c.in_ok-write_parts.ensures
-    c.in_err-write_hex.ensures)
+    rw (some_bytes c.args.bytes.now c.if-is_empty.ensures)
+    (failed_between _ _ _ _ _ _ _ _ c.from_residual-in_err-write_hex.ensures.1 c.in_ok-write_parts.ensures c.in_err-write_hex.ensures)
 
 pub returns : goal.returns
-returns g c =
-    rw (some_bytes c.args.bytes.now c.if-is_empty.ensures)
-    (behind_two _ _ _ _ (codes "ok ") (encode_lower c.args.bytes.now) (10 ∷ []) _ c.in_ok-write_parts.ensures c.in_ok-write_hex.ensures c.write_parts-3.ensures)
+returns g c = rw (some_bytes c.args.bytes.now c.if-is_empty.ensures)
+    (behind_two _ _ _ _ _ _ _ _ c.in_ok-write_parts.ensures c.in_ok-write_hex.ensures c.write_parts-3.ensures)

@@ -1,6 +1,5 @@
 use Rattle.std.proofs.Common.{◌∙◌, ◌++◌, ◌+◌, ap, sym, append_assoc, take, drop}
 use Rattle.std.specs.Prelude.{codes}
-use Rattle.std.proofs.lemmas.Result.{err_from_is_err_and}
 use Rattle.std.proofs.KnownBytes.{Appends-trans}
 use Rattle.pos_service.specs.Receipts.{Line, CutAt}
 use Rattle.pos_script.specs.ReceiptText.{item_text}
@@ -11,29 +10,17 @@ use Rattle.pos_script.proofs.receipt.write_items.Goals as goal
 
 pub returns-in_err-write_line-in-Line : goal.returns-in_err-write_line-in-Line
 returns-in_err-write_line-in-Line g c =
-    let p = err_from_is_err_and c.from_residual.result c.from_residual.ensures.1 in
-    let marks = c.args.marks.now in
-    let i = c.loop-mark.mark-index in
-    let count = c.in-Line.count in
-    let before = c.loop-mark.invariant in
-    let more = text_at_line marks i _ c.loop-mark.rest.now c.in-Line.alignment count c.loop-mark-test.true c.in-Line.is in
-    let behind = text_from marks (i + 1) (drop count c.loop-mark.rest.now) in
-    let item = codes " " ++ item_text (Line c.in-Line.alignment (take count c.loop-mark.rest.now)) in
-    rw (p.1, before.2 ∙ ap (λ x. before.0 ++ x) more)
-    (failed_between _ _ _ before.0 item behind c.in_err-write_line-in-Line.field-0 p.0 before.1
+    let more = text_at_line c.args.marks.now c.loop-mark.mark-index _ c.loop-mark.rest.now c.in-Line.alignment c.in-Line.count c.loop-mark-test.true
+    c.in-Line.is in
+    rw (c.loop-mark.invariant.2, more)
+    (failed_between _ _ _ _ _ _ _ _ c.from_residual.ensures.1 c.loop-mark.invariant.1
     (rw c.split_line.ensures.line at c.in_err-write_line-in-Line.ensures))
 
 pub returns-in_err-write_cut-in-Cut : goal.returns-in_err-write_cut-in-Cut
 returns-in_err-write_cut-in-Cut g c =
-    let p = err_from_is_err_and c.from_residual-in_err-write_cut-in-Cut.result c.from_residual-in_err-write_cut-in-Cut.ensures.1 in
-    let marks = c.args.marks.now in
-    let i = c.loop-mark.mark-index in
-    let before = c.loop-mark.invariant in
-    let more = text_at_cut marks i _ c.loop-mark.rest.now c.in-Cut.percentage c.loop-mark-test.true c.in-Cut.is in
-    let behind = text_from marks (i + 1) c.loop-mark.rest.now in
-    let item = codes " " ++ item_text (CutAt c.in-Cut.percentage) in
-    rw (p.1, before.2 ∙ ap (λ x. before.0 ++ x) more)
-    (failed_between _ _ _ before.0 item behind c.in_err-write_cut-in-Cut.field-0 p.0 before.1 c.in_err-write_cut-in-Cut.ensures)
+    let more = text_at_cut c.args.marks.now c.loop-mark.mark-index _ c.loop-mark.rest.now c.in-Cut.percentage c.loop-mark-test.true c.in-Cut.is in
+    rw (c.loop-mark.invariant.2, more)
+    (failed_between _ _ _ _ _ _ _ _ c.from_residual-in_err-write_cut-in-Cut.ensures.1 c.loop-mark.invariant.1 c.in_err-write_cut-in-Cut.ensures)
 
 pub loop-mark-preserved : goal.loop-mark-preserved
 loop-mark-preserved g c =

@@ -1,6 +1,5 @@
 use Rattle.std.proofs.Common.{◌≡◌, ◌++◌, [], ℕ, List, append_assoc, append-nil}
 use Rattle.std.specs.Prelude.{codes}
-use Rattle.std.proofs.lemmas.Result.{err_from_is_err_and}
 use Rattle.pos_script.specs.Glyphs.{printed_text}
 use Rattle.pos_script.proofs.WriteLemmas.{failed_front, behind}
 use Rattle.pos_script.proofs.receipt.write_line.Goals as goal
@@ -11,15 +10,12 @@ item_line letter s t = simp (append_assoc, append-nil)
 
 pub returns-in_err-write_parts : goal.returns-in_err-write_parts
 returns-in_err-write_parts g c =
-    let p = err_from_is_err_and c.from_residual.result c.from_residual.ensures.1 in
     let letter = c.letter_of.result.now in
-    let text = printed_text c.args.characters.now in
-    rw (p.1, ← c.letter_of.ensures, item_line letter (codes ":") text)
-    (failed_front _ _ (codes " " ++ (letter ++ (codes ":" ++ []))) text c.in_err-write_parts.field-0 p.0 c.in_err-write_parts.ensures)
+    rw (← c.letter_of.ensures, item_line letter (codes ":") (printed_text c.args.characters.now))
+    (failed_front _ _ _ (codes " " ++ (letter ++ (codes ":" ++ []))) _ _ c.from_residual.ensures.1 c.in_err-write_parts.ensures)
 
 pub returns : goal.returns
 returns g c =
     let letter = c.letter_of.result.now in
-    let text = printed_text c.args.characters.now in
-    rw (← c.letter_of.ensures, item_line letter (codes ":") text)
-    (behind _ _ _ (codes " " ++ (letter ++ (codes ":" ++ []))) text c.write_printed.result c.in_ok-write_parts.ensures c.write_printed.ensures)
+    rw (← c.letter_of.ensures, item_line letter (codes ":") (printed_text c.args.characters.now))
+    (behind _ _ _ (codes " " ++ (letter ++ (codes ":" ++ []))) _ _ c.in_ok-write_parts.ensures c.write_printed.ensures)

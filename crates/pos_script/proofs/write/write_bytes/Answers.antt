@@ -1,4 +1,4 @@
-use Rattle.std.proofs.Common.{◌++◌, ◌-◌, ◌∙◌, ℕ, List, ap, drop, length, subst, take, take-append-drop}
+use Rattle.std.proofs.Common.{◌++◌, ◌∙◌, ℕ, List, ap, subst, take, take-append-drop}
 use Rattle.std.proofs.lemmas.List.{take_rest}
 use Rattle.pos_script.specs.Writing.{Writes}
 use Rattle.pos_script.proofs.WriteLemmas.{behind}
@@ -10,4 +10,4 @@ returns g c =
     let n = c.in-Ok.count in
     subst (λ (text : List ℕ). Writes (g.W.Write.contents c.args.writer.now) (g.W.Write.contents c.write_rest.new.writer) text c.write_rest.result)
     (ap (λ rest. take n bytes ++ rest) (take_rest bytes n) ∙ take-append-drop n bytes)
-    (behind _ _ _ (take n bytes) (take (length bytes - n) (drop n bytes)) c.write_rest.result c.in-Ok.ensures.bytes c.write_rest.ensures)
+    (behind _ _ _ _ _ _ c.in-Ok.ensures.bytes c.write_rest.ensures)

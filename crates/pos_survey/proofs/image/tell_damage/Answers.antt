@@ -1,5 +1,5 @@
 use Rattle.std.proofs.Common.{◌+◌, ℕ, sym, ◌∙◌, ap}
-use Rattle.pos_image.specs.Layout.{start, other, first_of}
+use Rattle.pos_image.specs.Layout.{start}
 use Rattle.pos_store.proofs.Recovered.{damaged_stands}
 use Rattle.pos_survey.proofs.Heads.{long_body}
 use Rattle.pos_survey.proofs.image.tell_damage.Goals as goal
@@ -10,14 +10,5 @@ returns c bytes heads is = (
   (
     long_body bytes is (sym (c.is_tied.ensures bytes heads) ∙ c.if-is_tied.false),
     ap (λ (k : ℕ). k + 9) (c.start.ensures ∙ ap start (c.current_slot.ensures bytes heads)),
-  ),
-)
-
-pub returns-then-is_tied : goal.returns-then-is_tied
-returns-then-is_tied c bytes heads is = (
-  damaged_stands bytes is,
-  (
-    sym (c.is_tied.ensures bytes heads) ∙ c.if-is_tied.true,
-    ap (λ (k : ℕ). k + 1) (c.start-at.ensures ∙ ap start (c.other.ensures ∙ ap other (c.first.ensures ∙ ap first_of (sym heads.layout_is)))),
   ),
 )
