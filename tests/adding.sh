@@ -29,9 +29,9 @@ count "an edit of a file of the totals" 13 'SetAll|setAll|set_all'
 count "a property that is always the same" 3 'CapTransactions'
 count "a property of the device" 6 'NumberOfFiles'
 count "a property that can be set" 5 'AutoDisable|auto_disable'
-count "an input of every kind" 9 'PowerMoved'
-count "a reply with its code" 10 'Offline\b'
-count "a request of the script" 14 'Deliver\b|deliver_event|"deliver"'
+count "an input of every kind" 6 'PowerMoved'
+count "a reply with its code" 8 'Offline\b'
+count "a request of the script" 11 'Deliver\b|deliver_event|"deliver"'
 count "a category" 11 'CashDrawer'
 echo "$passed passed, $failed failed"
 [ "$failed" -eq 0 ]

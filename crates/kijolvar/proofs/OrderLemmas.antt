@@ -1,7 +1,6 @@
 -- Orders, and what is told of them.
-use Rattle.kijolvar.proofs.Common.{Err, Kept, List, NextOrderBy, ap, ℕ, ◌≡◌}
+use Rattle.kijolvar.proofs.Common.{Err, Kept, List, NextOrderBy, arith, ℕ, ◌≡◌}
 use Rattle.kijolvar.specs.declared.settlement.Settlement.{Settlement}
-use Rattle.kijolvar.specs.declared.settlement.Settlement.TheVariants.{InMemory}
 use Rattle.pos_service.specs.Peripherals.{Asked, PeripheralState}
 use Rattle.pos_service.specs.declared.memory.NoMemory.{NoMemory}
 use Rattle.pos_service.specs.declared.order.Order.{Order}
@@ -13,7 +12,4 @@ any_want old new asked one other a = record { kind = a.kind; unparked = a.unpark
 -- whatever is told of an order, the counter and the spares stay
 pub told_keeps : (settlement : Settlement) (old : Kept) (before after : List ℕ) (needed_before needed code : ℕ) (new : Kept)
     → NextOrderBy settlement old before after needed_before needed code new → (new.counter ≡ old.counter) × (new.spares ≡ old.spares)
-told_keeps InMemory old before after needed_before needed code new told =
-    (ap (λ (till : Kept). till.counter) told.stays, ap (λ (till : Kept). till.spares) told.stays)
-told_keeps _ old before after needed_before needed code new told =
-    (ap (λ (till : Kept). till.counter) told.stays, ap (λ (till : Kept). till.spares) told.stays)
+told_keeps settlement old before after needed_before needed code new told = grind arith

@@ -2,10 +2,6 @@
 use Rattle.std.specs.Prelude.{◌≡◌, ◌≢◌, ◌⊎◌, ◌++◌, ℕ, List, [], Some, Ok, length, take, drop, nat_le}
 use Rattle.pos_disk.specs.declared.device.Disk.{Ghosts as DiskGhosts}
 use Rattle.pos_disk.specs.Memory.{Memory, state_of}
-use Rattle.pos_disk.specs.State.{IsAtRest}
-use Rattle.pos_image.specs.declared.layout.Layout.TheVariants.{Layout1}
-use Rattle.pos_image.specs.NewDisk.{no_files}
-use Rattle.pos_image.specs.Standing.{HasNewImage}
 use Rattle.pos_service.specs.declared.peripheral.Peripheral.{Ghosts}
 use Rattle.pos_profile.specs.Entries.{Contents}
 use Rattle.pos_counter.specs.Counters.{machine}
@@ -38,11 +34,6 @@ pub record Begins (peripherals : Ghosts Device) (contents : Contents) (disk : Ti
   pub answer : till.answer.items ≡ []
   pub outcome : till.outcome ≡ Ok tt
   pub orders : till.orders.items ≡ []
-
--- A disk that was formatted: at rest, with no files by layout 1, and sequence 1.
-pub record IsNewDisk (disk : Memory) : Type 0 where
-  pub at_rest : IsAtRest (state_of disk)
-  pub image : HasNewImage Layout1 no_files 1 (state_of disk).reading
 
 -- The lines of a text are carried out in order, and the new answer is what they print; or, where there was no memory
 -- for that, they are as far as it is there, and it is a front. What is in memory alone stays there, and the orders that

@@ -3,8 +3,8 @@ ghost use Rattle.kijolvar.specs.Orders.{device_state};
 
 use crate::tray::{Post, Tray};
 use pos_profile::Entry;
-use pos_run::{Ends, Mount, Wrapped};
-use pos_service::{Input, Kind, NoMemory, Order, Peripheral, Reply, Signs, Snapshot, Taken};
+use pos_run::{Mount, Wrapped};
+use pos_service::{Ends, Input, Kind, NoMemory, Order, Peripheral, Reply, Signs, Snapshot, Taken};
 
 /// A device of a till, or a spare: a simulated peripheral. Where the host has the device, the simulated one stands for
 /// it: it answers at once, and each order that it carries out is kept for the host. A spare has no name, and none of

@@ -1,8 +1,8 @@
 //! The disks that tills begin with.
 ghost use Rattle.std.specs.Prelude.{◌≡◌, IfErr, IfOk};
-ghost use Rattle.pos_disk.specs.Memory.{fresh};
+ghost use Rattle.pos_disk.specs.Memory.{fresh, state_of};
+ghost use Rattle.pos_image.specs.Standing.{HasNoFiles};
 ghost use Rattle.kijolvar.specs.Codes.{IsFormatCode};
-ghost use Rattle.kijolvar.specs.Tills.{IsNewDisk};
 
 use crate::codes::{DISK_FAILED, FORMATTED, TOO_SMALL};
 use crate::till_disk::TillDisk;
@@ -14,12 +14,6 @@ use std::alloc::Global;
 /// How many bytes the disk of the totals has.
 pub const SIZE: usize = 327_680;
 
-/// A disk in memory of zero bytes.
-pub fn zero_disk(alloc: Global) -> Result<MemDisk, NoMemory> {
-    let bytes = vec![in alloc; 0; SIZE]?;
-    Ok(MemDisk::new(alloc, bytes)?)
-}
-
 /// A disk in memory of these bytes.
 pub fn disk_of(alloc: Global, bytes: &[u8]) -> Result<MemDisk, NoMemory>
     ensures { IfOk result (λ disk. disk ≡ fresh bytes.now) }
@@ -30,7 +24,7 @@ pub fn disk_of(alloc: Global, bytes: &[u8]) -> Result<MemDisk, NoMemory>
 /// A disk with no files. Refused with FORMATTED where it has totals, and with TOO_SMALL where it is too short; it never
 /// fails.
 pub fn format_disk(disk: TillDisk) -> Result<TillDisk, u32>
-    ensures formatted { IfOk result (λ formatted. IsNewDisk formatted.memory) }
+    ensures formatted { IfOk result (λ formatted. HasNoFiles (state_of formatted.memory)) }
     ensures refused { IfErr result (λ code. IsFormatCode code) }
 {
     match Images::format(disk) {

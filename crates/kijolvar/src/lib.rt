@@ -2,13 +2,14 @@
 #![tactic(auto)]
 
 ghost use Rattle.std.specs.Prelude.{◌≡◌, ◌≢◌, ◌<◌, ◌↔◌, ◌⊎◌, length, IfErr, IfOk, IsNone, Ok, Err};
-ghost use Rattle.pos_disk.specs.Memory.{fresh};
+ghost use Rattle.pos_disk.specs.Memory.{fresh, state_of};
+ghost use Rattle.pos_image.specs.Standing.{HasNoFiles};
 ghost use Rattle.pos_profile.specs.Entries.{Contents};
 ghost use Rattle.kijolvar.specs.Codes.{IsFormatCode, no_memory, ok, too_small};
 ghost use Rattle.pos_image.specs.Layout.{disk_size};
 ghost use Rattle.kijolvar.specs.Profiles.{Gives};
 ghost use Rattle.kijolvar.specs.Hosting.{IsHostCode};
-ghost use Rattle.kijolvar.specs.Tills.{Answers, Begins, Fails, GoesOn, HandsOver, IsNewDisk, NextOrder};
+ghost use Rattle.kijolvar.specs.Tills.{Answers, Begins, Fails, GoesOn, HandsOver, NextOrder};
 ghost use Rattle.kijolvar.specs.declared.settlement.Settlement.TheVariants.{InMemory};
 ghost use Rattle.kijolvar.specs.declared.till.Till.{Till};
 ghost use Rattle.kijolvar.specs.declared.till_disk.TillDisk.{TillDisk};
@@ -30,9 +31,10 @@ mod tray;
 
 use codes::{BAD_PROFILE, DISK_FAILED, NO_MEMORY, OK, TOO_SMALL, UNDONE};
 use device::Device;
-use disk::{SIZE, disk_of, format_disk, zero_disk};
+use disk::{SIZE, disk_of, format_disk};
 use errands::Errands;
 use pos_disk::Disk;
+use pos_image::new_disk;
 use pos_profile::{Profile, ProfileFault};
 use pos_service::{NoMemory, Peripheral};
 use session::Session;
@@ -104,20 +106,6 @@ fn disk_in_file(alloc: Global, bytes: &[u8]) -> Result<(TillDisk, Errands), NoMe
     Ok((TillDisk::new(memory, Some(errands.share()?)), errands))
 }
 
-/// A disk in memory with no files.
-fn new_disk(alloc: Global) -> Result<TillDisk, u32>
-    ensures made { IfOk result (λ disk. IsNewDisk disk.memory) }
-    ensures refused { IfErr result (λ code. code ≡ no_memory) }
-{
-    let Ok(memory) = zero_disk(alloc) else {
-        return Err(NO_MEMORY);
-    };
-    match format_disk(TillDisk::new(memory, None)) {
-        Ok(disk) => Ok(disk),
-        Err(_) => Err(NO_MEMORY),
-    }
-}
-
 /// A new till over the devices of a profile, which are simulated, with totals on a formatted disk in memory. The
 /// profile is TOML (docs/PROFILE.md); an empty one is the built profile. The till is what is written to `out`.
 ///
@@ -125,7 +113,7 @@ fn new_disk(alloc: Global) -> Result<TillDisk, u32>
 #[unsafe(no_mangle)]
 pub extern "C" fn kijolvar_open(alloc: Global, profile: &[u8], out: &mut *mut u8) -> u32
     ensures opened { result ≡ ok → (contents : Contents) × (disk : TillDisk) × (kept : Till)
-        × Gives profile.now (Ok contents) × IsNewDisk disk.memory × (out.new ≡ kept.at)
+        × Gives profile.now (Ok contents) × HasNoFiles (state_of disk.memory) × (out.new ≡ kept.at)
         × Begins ⟦<Device as Peripheral>⟧ contents disk kept.session × (kept.session.settlement ≡ InMemory) }
     ensures refused { result ≢ ok → (out.new ≡ out.old) × Gives profile.now (Err result) }
 {
@@ -133,9 +121,10 @@ pub extern "C" fn kijolvar_open(alloc: Global, profile: &[u8], out: &mut *mut u8
         Ok(profile) => profile,
         Err(code) => return code,
     };
-    let Ok(disk) = new_disk(alloc) else {
+    let Ok(memory) = new_disk(alloc) else {
         return NO_MEMORY;
     };
+    let disk = TillDisk::new(memory, None);
     let Ok(session) = begin(alloc, profile, disk, None) else {
         return NO_MEMORY;
     };
@@ -193,7 +182,7 @@ pub extern "C" fn kijolvar_format_file(
     out: &mut *mut u8,
 ) -> u32
     ensures opened { result ≡ ok → (contents : Contents) × (disk : TillDisk) × (kept : Till)
-        × Gives profile.now (Ok contents) × IsNewDisk disk.memory × (out.new ≡ kept.at)
+        × Gives profile.now (Ok contents) × HasNoFiles (state_of disk.memory) × (out.new ≡ kept.at)
         × Begins ⟦<Device as Peripheral>⟧ contents disk kept.session × (kept.session.settlement ≢ InMemory) }
     ensures refused { result ≢ ok → (out.new ≡ out.old) × (Gives profile.now (Err result) ⊎ IsFormatCode result) }
 {

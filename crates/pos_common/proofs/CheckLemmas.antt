@@ -1,6 +1,6 @@
 -- What the check of a control decides of a call's table.
 use Rattle.pos_common.proofs.Common.{Answer, Bool, Control, Decided, Err, Gets, KeptControl, List, NoMemory, None, Ok, Option, Result, Row, SetsTo, Some, []}
-use Rattle.pos_common.proofs.Common.{false, first_refusal, is_none, not, refl, sym, true, when, ℕ, ◌&&◌, ◌∙◌, ◌∷◌, ◌≡◌}
+use Rattle.pos_common.proofs.Common.{arith, false, first_refusal, is_none, not, refl, true, when, ℕ, ◌&&◌, ◌∷◌, ◌≡◌}
 use Rattle.pos_common.specs.Checks.{Checks}
 use Rattle.pos_service.specs.Claims.{is_foreign}
 use Rattle.pos_service.specs.Needs.{needs_holder, needs_no_other, table}
@@ -8,7 +8,6 @@ use Rattle.pos_service.specs.declared.answer.Value.{Value}
 use Rattle.pos_service.specs.declared.code.Code.{Code}
 use Rattle.pos_service.specs.declared.needs.Needs.{Needs}
 use Rattle.pos_service.specs.declared.property.Property.{Property}
-use Rattle.std.proofs.lemmas.Bool.{and_parts, false_from_ne_true}
 use Rattle.pos_service.specs.declared.answer.Answer.TheVariants as answer
 use Rattle.pos_service.specs.declared.code.Code.TheVariants as code
 
@@ -24,19 +23,16 @@ decided_by_rest rows rest result Same Done is decided = record { outcome = rw is
 -- a property is told so
 pub gets_by_rest : (rows rest : List Row) (p : Property) (v : Value) (outcome : Result Answer NoMemory) → first_refusal rows ≡ first_refusal rest
     → Gets rest p v outcome → Gets rows p v outcome
-gets_by_rest rows rest p v (Ok result) is gets = decided_by_rest rows rest result _ _ is gets
-gets_by_rest rows rest p v (Err want) is gets = (gets.0, is ∙ gets.1)
+gets_by_rest rows rest p v outcome is gets = grind (arith, decided_by_rest)
 
 -- a property is set so
 pub sets_by_rest : (rows rest : List Row) (tells : Bool) (outcome : Result Answer NoMemory) (old new : KeptControl) (control : Control)
     → first_refusal rows ≡ first_refusal rest → SetsTo rest tells outcome old new control → SetsTo rows tells outcome old new control
-sets_by_rest rows rest tells (Ok result) old new control is sets = decided_by_rest rows rest result _ _ is sets
-sets_by_rest rows rest tells (Err want) old new control is sets = (sets.0, is ∙ sets.1, sets.2)
+sets_by_rest rows rest tells outcome old new control is sets = grind (arith, decided_by_rest)
 
 lets_there : (closed is_there : Bool) (rows : List Row) → first_refusal (when closed code.Closed ∷ when (not is_there) code.Illegal ∷ rows) ≡ None
     → is_there ≡ true
-lets_there false true rows none = refl
-lets_there _ _ rows none = absurd cc
+lets_there closed is_there rows none = grind arith
 
 -- what a table asks behind the category
 abbrev claim_rows : ℕ → Option ℕ → Control → Needs → List Row
@@ -49,13 +45,12 @@ claim_rows number holder control needs =
 pub asks_second : (number : ℕ) (holder : Option ℕ) (control : Control) (needs : Needs) (a b : Bool) → needs.is_there ≡ (a && b)
     → Checks number holder control needs (Ok tt) → b ≡ true
 asks_second number holder control needs a b is checks =
-    (and_parts a b (sym is ∙ lets_there (needs.is_open && is_none control.device) needs.is_there (claim_rows number holder control needs) (checks []))).1
+    grind (arith, lets_there (needs.is_open && is_none control.device) needs.is_there (claim_rows number holder control needs) (checks []))
 
 -- what a control is that its check lets through: open, where it has to be
 pub lets_open : (number : ℕ) (holder : Option ℕ) (control : Control) (needs : Needs) → needs.is_open ≡ true
     → first_refusal (table number holder control needs []) ≡ None → is_none control.device ≡ false
-lets_open number holder control needs is none =
-    false_from_ne_true (is_none control.device) (λ closed. absurd (let refuses = rw (is, closed) at none in cc))
+lets_open number holder control needs is none = grind arith
 
 -- one of a category that has what is asked
 pub lets_own : (number : ℕ) (holder : Option ℕ) (control : Control) (needs : Needs) → first_refusal (table number holder control needs []) ≡ None

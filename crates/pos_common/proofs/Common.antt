@@ -2,8 +2,8 @@
 pub use Rattle.pos_common.specs.KeptControls.{AreCopies, Gets, HasCopies, HasRoom, KeptControl, SetsTo, TurnsInto, controls_of, fault_events, scan_events}
 pub use Rattle.pos_common.specs.KeptControls.{sign_events}
 pub use Rattle.pos_service.specs.Controls.{Control, all_listening, failed, if_listening, listens, queued, read}
-pub use Rattle.pos_service.specs.Hardware.{Hardware, SameHardware, TakesIn, hardware_of, reaction}
-pub use Rattle.pos_service.specs.Peripherals.{Fed, PeripheralState, Receives, Takes, TakesWhile, input_fits, signs_of}
+pub use Rattle.pos_service.specs.Hardware.{Hardware, SameHardware, TakesIn, hardware_of}
+pub use Rattle.pos_service.specs.Peripherals.{Fed, PeripheralState, Takes, input_fits}
 pub use Rattle.pos_service.specs.Properties.{is_in, needs_of, needs_to_set, row_of, value_rows}
 pub use Rattle.pos_service.specs.Refusals.{Decided, Row, first_refusal, when}
 pub use Rattle.pos_service.specs.Statuses.{heard_signs}

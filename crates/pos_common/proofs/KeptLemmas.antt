@@ -1,7 +1,7 @@
 -- What a change of one control does to the machine's controls.
 use Rattle.pos_common.proofs.Common.{All, All-head, All-push, All-tail, Control, KeptControl, List, ap, arith, controls_of, drop, drop-drop, drop-set-lt}
-use Rattle.pos_common.proofs.Common.{drop_more, get_or, get_or-map, length, map, map-set, set, set-get_or, subst, sym, take, take_more_set, ℕ, ◌++◌, ◌+◌, ◌<◌}
-use Rattle.pos_common.proofs.Common.{◌∙◌, ◌≡◌}
+use Rattle.pos_common.proofs.Common.{drop_more, get_or, get_or-map, length, length-map, map, map-set, set, set-get_or, subst, sym, take, take_more_set, ℕ, ◌++◌}
+use Rattle.pos_common.proofs.Common.{◌+◌, ◌<◌, ◌∙◌, ◌≡◌}
 use Rattle.std.proofs.lemmas.List.Edits.{map_over_more}
 
 -- a held control at a place is the machine's control there
@@ -12,15 +12,15 @@ control_at hs i d c lt = sym (get_or-map (λ (g : KeptControl). g.control) hs i 
 pub same_control : (hs : List KeptControl) (i : ℕ) (d g : KeptControl) → i < length hs → g.control ≡ (get_or hs i d).control
     → controls_of (set hs i g) ≡ controls_of hs
 same_control hs i d g lt s =
-    map-set (λ (f : KeptControl). f.control) hs i g ∙ ap (set (controls_of hs) i) (s ∙ control_at hs i d g.control lt) ∙ set-get_or (controls_of hs) i g.control
+    grind (arith, map-set (λ (f : KeptControl). f.control) hs i g, control_at hs i d g.control, set-get_or (controls_of hs) i g.control)
 
 -- one more control is mapped
-pub mapped_more : (f : Control → Control) (xs : List Control) (hs : List KeptControl) (i : ℕ) (d g : KeptControl) → i < length hs
-    → g.control ≡ f (get_or hs i d).control → controls_of hs ≡ map f (take i xs) ++ drop i xs → length xs ≡ length hs
-    → controls_of (set hs i g) ≡ map f (take (i + 1) xs) ++ drop (i + 1) xs
-mapped_more f xs hs i d g lt s m n =
-    map-set (λ (x : KeptControl). x.control) hs i g ∙ ap (set (controls_of hs) i) s
-    ∙ map_over_more f xs (controls_of hs) i (get_or hs i d).control (omega arith) m (control_at hs i d (get_or hs i d).control lt)
+pub mapped_more : (f : Control → Control) (olds hs : List KeptControl) (i : ℕ) (d g : KeptControl) → i < length hs
+    → g.control ≡ f (get_or hs i d).control → controls_of hs ≡ map f (take i (controls_of olds)) ++ drop i (controls_of olds) → length olds ≡ length hs
+    → controls_of (set hs i g) ≡ map f (take (i + 1) (controls_of olds)) ++ drop (i + 1) (controls_of olds)
+mapped_more f olds hs i d g lt s m n =
+    rw (map-set (λ (x : KeptControl). x.control) hs i g, s) (map_over_more f (controls_of olds) (controls_of hs) i (get_or hs i d).control
+    (omega (arith, length-map olds (λ (x : KeptControl). x.control))) m (control_at hs i d (get_or hs i d).control lt))
 
 -- what each element from a place on has, the element there has
 pub first_of_rest : (P : KeptControl → Type 0) (hs : List KeptControl) (i : ℕ) (d : KeptControl) → i < length hs → All P (drop i hs) → P (get_or hs i d)

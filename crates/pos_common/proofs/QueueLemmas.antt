@@ -27,12 +27,11 @@ says_at given hs i d g (Ok result) at lt turns =
           (λ refusal same. (same.0, record { controls = same_control hs i d g lt (ap (λ (h : KeptControl). h.control) same.1); hardware = refl }))
           turns.outcome;
     })
-says_at given hs i d g (Err want) at lt same = record { controls = same_control hs i d g lt (ap (λ (h : KeptControl). h.control) same); hardware = refl }
+says_at given hs i d g (Err want) at lt same = grind (arith, same_control hs i d g)
 
 -- as what a call comes to
 pub queued_of : (given : Order) (number place : ℕ) (outcome : Result Answer NoMemory) (old new : List Control) (at : Hardware)
     → MatchResult outcome (λ result. QueuesOrder given number result old at new at) (λ want. SameHardware old at new at)
     → MatchResult outcome (λ result. Does (deed.Queues given) number place result old at new at)
     (λ want. IsTrue (may_want (deed.Queues given)) × SameHardware old at new at)
-queued_of given number place (Ok result) old new at h = h
-queued_of given number place (Err want) old new at h = (refl, h)
+queued_of given number place outcome old new at h = grind arith

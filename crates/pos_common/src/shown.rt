@@ -42,14 +42,14 @@ impl Shown {
     pub(crate) fn copy_of_bytes(&self) -> Result<Bytes, NoMemory>
         ensures { IfOk result (λ copy. copy ≡ self.now.bytes) }
     {
-        Bytes::from_slice(self.alloc, self.scan.bytes.as_slice())
+        Ok(Bytes::from_slice(self.alloc, self.scan.bytes.as_slice())?)
     }
 
     /// A copy of ScanDataLabel: the label in what was read.
     pub(crate) fn copy_of_label(&self) -> Result<Bytes, NoMemory>
         ensures { IfOk result (λ copy. copy ≡ self.now.label) }
     {
-        Bytes::from_slice(self.alloc, self.scan.label.as_slice())
+        Ok(Bytes::from_slice(self.alloc, self.scan.label.as_slice())?)
     }
 
     /// A DataEvent with this scan, or an event without one, is delivered: the scan is shown, its label and its type as
@@ -76,8 +76,8 @@ fn no_scan(alloc: Global) -> Scan
 {
     Scan {
         kind: 0,
-        bytes: Bytes::new(Vec::new(alloc)),
-        label: Bytes::new(Vec::new(alloc)),
+        bytes: Bytes::from_vec(Vec::new(alloc)),
+        label: Bytes::from_vec(Vec::new(alloc)),
     }
 }
 
@@ -96,6 +96,6 @@ fn as_shown(alloc: Global, decode: bool, scan: Scan) -> Scan
     Scan {
         kind: 0,
         bytes,
-        label: Bytes::new(Vec::new(alloc)),
+        label: Bytes::from_vec(Vec::new(alloc)),
     }
 }

@@ -5,11 +5,7 @@ use Rattle.pos_sims.specs.Drawers.{drawer_state}
 use Rattle.pos_sims.specs.LineDisplays.{display_state}
 use Rattle.pos_sims.specs.ReceiptPrinters.{printer_state}
 use Rattle.pos_sims.specs.Scanners.{scanner_state}
-use Rattle.pos_disk.specs.Memory.{Memory, state_of}
-use Rattle.pos_disk.specs.State.{IsAtRest}
 use Rattle.pos_image.specs.declared.layout.Layout.TheVariants.{Layout1}
-use Rattle.pos_image.specs.NewDisk.{no_files}
-use Rattle.pos_image.specs.Standing.{HasNewImage}
 use Rattle.pos_service.specs.declared.kind.Kind.TheVariants as kind
 use Rattle.pos_service.specs.Displays.{blank_display}
 use Rattle.pos_service.specs.Receipts.{empty_roll}
@@ -43,11 +39,6 @@ start_spares = Some (drawer_state false false) ∷ []
 -- formatted
 abbrev pub start : Machine
 start = begun_with start_devices (new_totals (Stands Layout1 [] 1 ∷ []) 0)
-
--- A disk in memory that was formatted: at rest, with no files by layout 1, and sequence 1.
-pub record IsNewDisk (disk : Memory) : Type 0 where
-  pub at_rest : IsAtRest (state_of disk)
-  pub image : HasNewImage Layout1 no_files 1 (state_of disk).reading
 
 -- What the program without words does with a script: a run from where it begins.
 pub record Serves (streams : Streams) (result : Result (Unit {0}) RunFault) : Type 0 where

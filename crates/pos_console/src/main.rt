@@ -3,7 +3,6 @@
 //! tells what it holds (docs/CONSOLE.md).
 #![tactic(auto)]
 
-mod disk;
 mod files;
 mod program;
 mod scripts;

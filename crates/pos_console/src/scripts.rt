@@ -2,7 +2,7 @@
 ghost use Rattle.pos_run.specs.Streams.{streams_of};
 ghost use Rattle.pos_console.specs.Serving.{Serves};
 
-use crate::disk::format_disk;
+use pos_image::new_disk;
 use pos_profile::Profile;
 use pos_run::{AnswerWriter, RunFault, ScriptReader, run_over_profile};
 use std::alloc::Global;
@@ -21,7 +21,7 @@ pub fn serve_built<R: Read, W: Write>(
     let Ok(profile) = Profile::built(alloc) else {
         return Err(RunFault::NoMemory);
     };
-    let Ok(disk) = format_disk(alloc) else {
+    let Ok(disk) = new_disk(alloc) else {
         return Err(RunFault::NoMemory);
     };
     run_over_profile(alloc, reader, writer, &profile, disk)

@@ -1,15 +1,13 @@
 -- What calls come to: they leave a cursor at a place of its display, and want memory only where they may.
-use Rattle.pos_counter.proofs.Common.{◌%◌, ◌+◌, ◌++◌, ◌-◌, ◌<◌, ◌==◌, AllByRecursion, Answer, Bool, Call, CallsAt, CallsFor, CarriesOut, Category, Change}
-use Rattle.pos_counter.proofs.Common.{Changes, ClearText, Code, Control, Cursor, CursorColumn, CursorRow, CursorUpdate, Deed, Display, DisplayText}
-use Rattle.pos_counter.proofs.Common.{DisplayTextAt, Err, Gives, Hardware, IfSome, IsInRange, IsPlaceOn, IsTrue, Kind, LineDisplay, List, MatchResult}
-use Rattle.pos_counter.proofs.Common.{MayWantFor, NoMemory, None, Number, Ok, Option, Place, Property, Queues, Refused, Result, Row, SameHardware, ScrollText}
-use Rattle.pos_counter.proofs.Common.{Some, Strip, Truth, Value, [], and_from, arith, attribute_of, cond, cond_both, cursor_after, device_deed, device_rows}
-use Rattle.pos_counter.proofs.Common.{direction_of, false, fed, first_refusal, is_cursor_place, is_index, is_up_to, length, may_want, nat_abs, nat_le, nat_lt}
-use Rattle.pos_counter.proofs.Common.{not, option_map, origin, place_in_window, place_left, refl, returned, same_Some, serves, slice_get, subst, takes}
-use Rattle.pos_counter.proofs.Common.{text_from, true, with_run, with_text, ℕ, ℤ, ◌∷◌, ◌≡◌, ◌≤◌, ⊤}
+use Rattle.pos_counter.proofs.Common.{◌++◌, ◌<◌, ◌==◌, AllByRecursion, Answer, Bool, Call, CallsAt, CarriesOut, Category, Change, Changes, ClearText, Code}
+use Rattle.pos_counter.proofs.Common.{Control, Cursor, Deed, Display, DisplayText, DisplayTextAt, Gives, Hardware, IfSome, IsInRange, IsPlaceOn, IsTrue, Kind}
+use Rattle.pos_counter.proofs.Common.{List, MatchResult, MayWantFor, NoMemory, None, Ok, Option, Place, Property, Queues, Refused, Result, Row, SameHardware}
+use Rattle.pos_counter.proofs.Common.{ScrollText, Some, Strip, Value, [], and_from, arith, attribute_of, cond, cond_both, cursor_after, device_deed}
+use Rattle.pos_counter.proofs.Common.{device_rows, direction_of, false, fed, first_refusal, is_cursor_place, is_index, is_up_to, may_want, nat_abs, not}
+use Rattle.pos_counter.proofs.Common.{option_map, origin, place_left, refl, returned, rules, same_Some, serves, slice_get, subst, takes, true, with_run}
+use Rattle.pos_counter.proofs.Common.{with_text, ℕ, ℤ, ◌∷◌, ◌≡◌, ◌≤◌, ⊤}
 use Rattle.std.proofs.lemmas.Bool.Decides.{nat_tests}
 use Rattle.std.proofs.lemmas.Nat.{mod_below}
-use Rattle.pos_service.specs.Kinds.{columns_of, is_display, rows_of}
 use Rattle.pos_service.specs.DisplayCalls.{display_deed, display_rows, scrolls, shows}
 use Rattle.pos_service.specs.declared.deed.Change.TheVariants as change
 use Rattle.pos_service.specs.declared.display_text.Attribute.{Attribute}
@@ -52,32 +50,19 @@ with_column rows columns place n count is = grind arith
 -- a property that may be set leaves the cursor at a place
 pub place_set : (at : Option Kind) (c : Cursor) (p : Property) (v : Value) → takes at p v ≡ true → IsPlaceOn at c.place
     → IsPlaceOn at (cursor_after c p v).place
-place_set None c p v may is = tt
-place_set (Some k) c p v may is = λ display. by p v may (is display)
-  where
-    by : (p : Property) (v : Value) → takes (Some k) p v ≡ true → IsPlace (rows_of (Some k)) (columns_of (Some k)) c.place
-        → IsPlace (rows_of (Some k)) (columns_of (Some k)) (cursor_after c p v).place
-    by CursorRow (Number n) may is = with_row (rows_of (Some k)) (columns_of (Some k)) c.place n may is
-    by CursorColumn (Number n) may is = with_column (rows_of (Some k)) (columns_of (Some k)) c.place n may is
-    by CursorUpdate (Truth truth) may is = is
-    by p v may is = is
+place_set at c p v may is = grind (arith, with_row, with_column)
 
 pub first_place : (rows columns : ℕ) → 1 ≤ rows → IsPlace rows columns origin
 first_place rows columns some = grind (arith, nat_tests)
 
 -- the first place is one of each display
 pub place_opened : (at : Option Kind) → IfSome at IsInRange → IsPlaceOn at origin
-place_opened None range = tt
-place_opened (Some (Display rows columns)) range = λ display. first_place rows columns range.0
-place_opened (Some k) range = λ display. cc
+place_opened at range = grind (arith, first_place)
 
 -- ---- texts
 
 run_column : (columns : ℕ) (run : List ℕ) (strip : Strip) → 0 < columns → strip.place.column ≤ columns → (with_run columns run strip).place.column ≤ columns
-run_column columns [] strip some le = le
-run_column columns (b ∷ run) strip some le =
-    let below : (strip.place.column + length run) % columns < columns = mod_below (strip.place.column + length run) columns some in
-    omega (arith, below)
+run_column columns run strip some le = grind (arith, mod_below)
 
 -- a text leaves the place on the strip at most one right of the last column
 text_column : (columns : ℕ) (run bytes : List ℕ) (strip : Strip) → 0 < columns → strip.place.column ≤ columns
@@ -89,19 +74,11 @@ text_column columns run (b ∷ bytes) strip some le =
     (λ other. cond_both (b == 13) _ _ within (λ returns. text_column columns [] bytes (returned (with_run columns run strip)) some (omega arith))
     (λ plain. text_column columns (run ++ b ∷ []) bytes strip some le))
 
--- the window has the row of the place that it ends with
-window_place : (rows columns : ℕ) (place : Place) → 0 < rows → place.column ≤ columns → IsPlace rows columns (place_in_window rows place)
-window_place rows columns place some le =
-    let row : place.row - (place.row + 1 - rows) < rows = omega arith in
-    and_from (nat_lt (place.row - (place.row + 1 - rows)) rows) (nat_le place.column columns) (grind (arith, nat_tests, row)) (grind (arith, nat_tests, le))
-
 -- a text leaves the cursor at a place
 pub text_place : (rows columns : ℕ) (update : Bool) (start : Place) (bytes : List ℕ) → 0 < rows → 0 < columns → IsPlace rows columns start
     → IsPlace rows columns (place_left rows columns update start bytes)
 text_place rows columns false start bytes tall wide is = is
-text_place rows columns true start bytes tall wide is =
-    let le : start.column ≤ columns = grind (arith, nat_tests) in
-    window_place rows columns (text_from columns start bytes).place tall (text_column columns [] bytes (record { placed = []; place = start }) wide le)
+text_place rows columns true start bytes tall wide is = grind (arith, nat_tests, and_from, text_column)
 
 -- ---- what calls come to
 
@@ -118,8 +95,7 @@ DeedStaysOn at was (Queues given) = ⊤
 
 -- what comes of an attribute, or of a direction, is one
 one_of : {A : Type 0} (f : A → Deed) (o : Option A) (d : Deed) (P : Deed → Type 0) → ((a : A) → P (f a)) → option_map f o ≡ Some d → P d
-one_of f None d P each is = absurd cc
-one_of f (Some a) d P each is = subst P (same_Some (f a) d is) (each a)
+one_of f o d P each is = grind (arith, same_Some)
 
 -- of a display
 module _ (rows columns : ℕ) (cursor : Cursor) (tall : 1 ≤ rows) (wide : 1 ≤ columns) where
@@ -129,9 +105,7 @@ module _ (rows columns : ℕ) (cursor : Cursor) (tall : 1 ≤ rows) (wide : 1 �
   -- a text from a place leaves the cursor at one
   text_stays : (start : Place) (text : List ℕ) (style : Option Attribute) (d : Deed) → (IsPlace rows columns cursor.place → IsPlace rows columns start)
       → option_map (shows at cursor start text) style ≡ Some d → DeedStaysOn at cursor.place d
-  text_stays start text style d within is =
-      one_of (shows at cursor start text) style d (DeedStaysOn at cursor.place)
-      (λ s was display. text_place rows columns cursor.update start text (omega arith) (omega arith) (within (was display))) is
+  text_stays start text style d within is = search (rules, one_of, text_place)
 
   display_stays : (asked : Call) (d : Deed) → NoneApplies (display_rows at asked) → display_deed at cursor asked ≡ Some d → DeedStaysOn at cursor.place d
   display_stays (DisplayText text attribute) d allowed is = text_stays cursor.place text (attribute_of attribute) d (λ i. i) is
@@ -143,19 +117,10 @@ module _ (rows columns : ℕ) (cursor : Cursor) (tall : 1 ≤ rows) (wide : 1 �
   display_stays (ScrollText direction units) d allowed is = one_of (scrolls units) (direction_of direction) d (DeedStaysOn at cursor.place) (λ way. tt) is
   display_stays asked d allowed is = absurd cc
 
--- where nothing is a display, each place is as good
-no_display : (k : Kind) (was : Place) (d : Deed) → is_display k ≡ false → DeedStaysOn (Some k) was d
-no_display k was (Gives given (change.Cursor place)) flat = λ is display. absurd cc
-no_display k was (Changes (change.Cursor place)) flat = λ is display. absurd cc
-no_display k was d flat = tt
-
 -- a call whose arguments are allowed comes to what leaves the cursor at a place of the device, which serves the category
 pub deed_called : (k : Category) (is : Kind) (c : Control) (asked : Call) (d : Deed) → serves k (Some is) ≡ true → IsInRange is
     → NoneApplies (device_rows k (Some is) c asked) → device_deed k (Some is) c asked ≡ Some d → DeedStaysOn (Some is) c.cursor.place d
-deed_called LineDisplay (Display rows columns) c asked d served range allowed e =
-    display_stays rows columns c.cursor range.0 range.2 asked d allowed e
-deed_called k (Display rows columns) c asked d served range allowed e = absurd cc
-deed_called k is c asked d served range allowed e = no_display is c.cursor.place d refl
+deed_called k is c asked d served range allowed e = grind (arith, display_stays)
 
 -- a call that is refused by its arguments
 pub called_refused : (n place : ℕ) (asked : Call) (c : Control) (code : Code) (old : List Control) (before : Hardware) → slice_get old n ≡ Some c
@@ -169,10 +134,4 @@ pub called_done : (n place : ℕ) (asked : Call) (c : Control) (d : Deed) (outco
     → device_deed c.category (Some before.kind) c asked ≡ Some d → MayWantFor asked d
     → MatchResult outcome (λ result. CarriesOut d n place result old before new after)
     (λ want. IsTrue (may_want d) × SameHardware old before new after) → CallsAt n asked place outcome old before new after
-called_done n place asked c d outcome old new before after found none is wants done = rw found (by outcome done)
-  where
-    by : (o : Result Answer NoMemory)
-        → MatchResult o (λ result. CarriesOut d n place result old before new after) (λ want. IsTrue (may_want d) × SameHardware old before new after)
-        → CallsFor n asked place o c old before new after
-    by (Ok result) h = decided_none none (rw is h)
-    by (Err want) h = (wants h.0, none, h.1)
+called_done n place asked c d outcome old new before after found none is wants done = search (rules, decided_none)

@@ -1,13 +1,13 @@
 -- The devices of a machine, by the registry of a counter: what stands at their places, how they begin and end, and exchanges.
 use Rattle.pos_counter.proofs.Common.{◌+◌, ◌++◌, All, All-cons, All-map, All-nil, AllByRecursion, Attach, Attaches, Bool, Category, Detach, Detaches, Device}
 use Rattle.pos_counter.proofs.Common.{Does, Effect, Entry, Err, HardTotals, Hardware, HasItsKind, HasKindInRange, IfErr, IfSome, IsDoneAt, IsNamed, IsServed}
-use Rattle.pos_counter.proofs.Common.{IsSome, KeptControl, List, MayServe, None, Ok, Option, PeripheralState, Registered, Result, Some, StaysInService, Step}
-use Rattle.pos_counter.proofs.Common.{TotalsPart, [], ap, append-nil, append_assoc, arith, attached, bytes_eq, cond, cond_both, cons_option, controls_of}
-use Rattle.pos_counter.proofs.Common.{detached, device_at, device_of, devices_of, false, false≢true, filter, find, first_of, get_or, hardware_in, hardware_of}
-use Rattle.pos_counter.proofs.Common.{has_kind, is_open_at, is_some, kind_in, length, length-map, length_push, list_any, machine_with, map, names_of}
-use Rattle.pos_counter.proofs.Common.{option_and_then_some, option_map, parked, parked_state, place_from, place_of, planned_of, profile_devices, refl}
-use Rattle.pos_counter.proofs.Common.{registered_from, registered_place, same_Some, set, slice_get, standing_at, subst, suc, sym, take, totals_devices}
-use Rattle.pos_counter.proofs.Common.{totals_place, true, vacant, vacant_devices, with_peripheral, zero, ◌||◌, ℕ, ◌∙◌, ◌∷◌, ◌≡◌}
+use Rattle.pos_counter.proofs.Common.{IsSome, KeptControl, List, None, Ok, Option, PeripheralState, Registered, Result, Some, Step, TotalsPart, [], ap}
+use Rattle.pos_counter.proofs.Common.{append-nil, append_assoc, arith, attached, bytes_eq, cond, cond_both, cons_option, controls_of, detached, device_at}
+use Rattle.pos_counter.proofs.Common.{device_of, devices_of, false, false≢true, filter, find, first_of, get_or, hardware_in, hardware_of, has_kind, is_open_at}
+use Rattle.pos_counter.proofs.Common.{kind_in, length, length-map, length_push, list_any, machine_with, map, names_of, option_and_then_some, option_map, parked}
+use Rattle.pos_counter.proofs.Common.{parked_state, place_from, place_of, planned_of, profile_devices, refl, registered_from, registered_place, rules}
+use Rattle.pos_counter.proofs.Common.{same_Some, set, slice_get, standing_at, suc, sym, take, totals_devices, totals_place, true, vacant, vacant_devices}
+use Rattle.pos_counter.proofs.Common.{with_peripheral, zero, ◌||◌, ℕ, ◌∙◌, ◌∷◌, ◌≡◌}
 use Rattle.std.proofs.Math.Bool.{and-true}
 use Rattle.std.proofs.lemmas.List.Folds.{list_any-append}
 use Rattle.pos_profile.specs.Categories.{is_totals}
@@ -31,8 +31,7 @@ place_found at name (d ∷ list) totals = let rest = place_found (at + 1) name l
 
 pub place_under_name : (name : List ℕ) (list : List Registered) (totals : Option (List ℕ))
     → place_of (devices_of list totals) name ≡ first_of (registered_place (names_of list) name) (totals_place (length list) name totals)
-place_under_name name list totals =
-    place_found 0 name list totals ∙ ap (λ k. first_of (registered_place (names_of list) name) (totals_place k name totals)) (omega arith)
+place_under_name name list totals = search (rules, place_found)
 
 -- a device of the registry is found
 pub found_first : (name : List ℕ) (list : List Registered) (totals : Option (List ℕ)) (place : ℕ)
@@ -69,10 +68,7 @@ found_from at name (d ∷ ds) place is =
     ]) is
 
 pub found_there : (name : List ℕ) (ds : List Device) (place : ℕ) → place_of ds name ≡ Some place → IsSome (slice_get ds place)
-found_there name ds place is =
-    let there = found_from 0 name ds place is in
-    let same : place ≡ there.0 = omega (arith, there.1) in
-    rw same there.2
+found_there name ds place is = search (rules, found_from)
 
 -- ---- what stands at a place
 
@@ -100,14 +96,11 @@ pub devices_with : (list : List Registered) (totals : Option (List ℕ)) (place 
     → devices_of (with_peripheral list place x) totals ≡ set (devices_of list totals) place (record (device_of d) { hardware = option_map hardware_of x })
 devices_with [] totals zero d x at = cc
 devices_with [] totals (suc place) d x at = cc
-devices_with (y ∷ list) totals zero d x at =
-    let same : y ≡ d = cc in
-    ap (λ (z : Registered). let first : Device = record (device_of z) { hardware = option_map hardware_of x } in first ∷ devices_of list totals) same
+devices_with (y ∷ list) totals zero d x at = search rules
 devices_with (y ∷ list) totals (suc place) d x at = ap (λ ds. device_of y ∷ ds) (devices_with list totals place d x at)
 
 served_kind : (d : Registered) (was : PeripheralState) → IsServed d → d.peripheral ≡ Some was → d.kind ≡ was.kind
-served_kind d was served is = sym
-    (subst (λ (o : Option PeripheralState). IfSome o (λ state. (state.is_parked ≡ false) × (state.kind ≡ d.kind))) is served).1
+served_kind d was served is = search rules
 
 -- what stands at a place serves a device there, and is of its kind
 served_at : (list : List Registered) (place : ℕ) (was : PeripheralState) → AllByRecursion IsServed list → standing_at list place ≡ Some was
@@ -134,24 +127,6 @@ done_there list new totals place was now Does served stands is does =
       changed = ap (λ ds. devices_of ds totals) is ∙ devices_with list totals place there.0 (Some now) there.1;
     }
 
--- a device whose peripheral isn't found has none
-pub vacant_there : {B : Type 0} (list : List Registered) (totals : Option (List ℕ)) (place : ℕ) (found : Option B) (f : B → PeripheralState)
-    → option_map f found ≡ standing_at list place → is_some found ≡ false → hardware_in (slice_get (devices_of list totals) place) ≡ None
-vacant_there list totals place None f is none = rw (hardware_there list totals place, ← is)
-vacant_there list totals place (Some x) f is none = cc
-
--- what is found at the place of a name is what stands at the device of this name
-pub found_under_name : (list : List Registered) (totals : Option (List ℕ)) (name : List ℕ) (place : ℕ) (found : Option PeripheralState)
-    → Some place ≡ place_of (devices_of list totals) name → found ≡ standing_at list place
-    → hardware_in (device_at (devices_of list totals) (place_of (devices_of list totals) name)) ≡ option_map hardware_of found
-found_under_name list totals name place found finds is = rw (← finds, hardware_there list totals place, is)
-
--- one whose peripheral is found has one
-pub attached_there : {B : Type 0} (list : List Registered) (totals : Option (List ℕ)) (place : ℕ) (found : Option B) (f : B → PeripheralState)
-    → option_map f found ≡ standing_at list place → is_some found ≡ true → IsSome (hardware_in (slice_get (devices_of list totals) place))
-attached_there list totals place None f is some = cc
-attached_there list totals place (Some x) f is some = rw (hardware_there list totals place, ← is)
-
 -- ---- the end of a counter
 
 -- a device whose peripheral is out of service is to the machine as it was
@@ -166,9 +141,7 @@ parked_device d = ap (λ (o : Option Hardware). let x : Device = record { name =
 pub devices_stay : (list : List Registered) (totals : Option (List ℕ)) → map device_of (map parked list) ≡ filter has_kind (devices_of list totals)
 devices_stay [] None = refl
 devices_stay [] (Some name) = refl
-devices_stay (d ∷ list) totals =
-    ap (λ (x : Device). x ∷ map device_of (map parked list)) (parked_device d)
-    ∙ ap (λ (xs : List Device). device_of d ∷ xs) (devices_stay list totals)
+devices_stay (d ∷ list) totals = search (rules, parked_device, (devices_stay list totals))
 
 -- what was taken out of service is out of service
 out_of_service : (o : Option PeripheralState) → IfSome (option_map parked_state o) (λ state. state.is_parked ≡ true)
@@ -236,27 +209,20 @@ count_devices earlier (e ∷ es) none kept =
 
 -- a device of a sound registry is of a kind in range, and so is its peripheral
 has_its_kind : (d : Registered) → HasKindInRange d → IsServed d → HasItsKind (device_of d)
-has_its_kind d range served = (range, by d.peripheral served)
-  where
-    by : (o : Option PeripheralState) → IfSome o (λ state. (state.is_parked ≡ false) × (state.kind ≡ d.kind))
-        → IfSome (option_map hardware_of o) (λ (hardware : Hardware). Some d.kind ≡ Some hardware.kind)
-    by None h = tt
-    by (Some state) h = ap Some (sym h.1)
+has_its_kind d range served = search rules
 
 pub kinds_hold : (list : List Registered) (totals : Option (List ℕ)) → AllByRecursion HasKindInRange list → AllByRecursion IsServed list
     → All HasItsKind (devices_of list totals)
 kinds_hold [] None kinds served = All-nil HasItsKind
 kinds_hold [] (Some name) kinds served = All-cons HasItsKind (record { name = name; kind = None; hardware = None }) [] (tt, tt) (All-nil HasItsKind)
-kinds_hold (d ∷ list) totals kinds served =
-    All-cons HasItsKind (device_of d) (devices_of list totals) (has_its_kind d kinds.0 served.0) (kinds_hold list totals kinds.1 served.1)
+kinds_hold (d ∷ list) totals kinds served = search (rules, has_its_kind, (kinds_hold list totals kinds.1 served.1))
 
 -- ---- exchanges
 
 -- the device of a name that the registry has
 named_device : (list : List Registered) (totals : Option (List ℕ)) (name : List ℕ) (d : Registered) → IsNamed list name d
     → device_at (devices_of list totals) (place_of (devices_of list totals) name) ≡ Some (device_of d)
-named_device list totals name d is =
-    ap (device_at (devices_of list totals)) (found_first name list totals is.place is.found) ∙ registered_there list totals is.place d is.at
+named_device list totals name d is = search (rules, found_first, registered_there)
 
 module _ (hs : List KeptControl) (list new : List Registered) (totals : Option (List ℕ)) (name : List ℕ) (cl : List (Option ℕ)) (part : TotalsPart) where
   -- nothing has changed
@@ -282,8 +248,7 @@ module _ (hs : List KeptControl) (list new : List Registered) (totals : Option (
         kind = ap Some (sym h.may.kind);
         machine = rw (h.served, devices_with list totals h.place h.may.device (Some (state peripheral)) h.may.at);
       }
-  attach_step state peripheral (Err (attach.Unknown, given)) back h =
-      (kind_last name list totals h.0, ap (λ b. hardware_of (state b)) back, same_machine h.1)
+  attach_step state peripheral (Err (attach.Unknown, given)) back h = search (rules, kind_last, same_machine)
   attach_step state peripheral (Err (attach.InUse, given)) back h =
       (rw (named_device list totals name h.0.device h.0.named, h.0.served), ap (λ b. hardware_of (state b)) back, same_machine h.1)
   attach_step state peripheral (Err (attach.KindDiffers, given)) back h =
@@ -308,8 +273,7 @@ module _ (hs : List KeptControl) (list new : List Registered) (totals : Option (
         is_closed = sym (told h.0.place h.0.found) ∙ h.1;
         machine = ap (λ xs. machine_with hs cl xs part) (ap (λ xs. devices_of xs totals) h.0.vacated ∙ devices_with list totals h.0.place d.0 None d.1);
       }
-  detach_step state is_open (Err detach.Unknown) told h =
-      (kind_last name list totals h.0, same_machine h.1)
+  detach_step state is_open (Err detach.Unknown) told h = search (rules, kind_last, same_machine)
   detach_step state is_open (Err detach.Vacant) told h =
       let there = named_device list totals name h.0.device h.0.named in
       ((rw there, rw (there, h.0.vacant)), same_machine h.1)

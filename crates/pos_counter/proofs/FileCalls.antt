@@ -1,12 +1,11 @@
 -- What the totals do with a call, for all that their disk may leave before it.
 use Rattle.pos_counter.proofs.Common.{◌&&◌, Answer, Answered, Arranges, Asks, Bool, Call, Calls, CallsFiles, Commits, Decided, DiskGhosts, DoesChange}
 use Rattle.pos_counter.proofs.Common.{DoesCommit, Empty, Err, FileCall, FilesCalled, FilesStepped, GroupDone, HasFailed, IsUndone, Leaves, LeavesOneOf}
-use Rattle.pos_counter.proofs.Common.{LeavesOnly, List, Makes, MatchResult, Mode, NoMemory, None, Nothing, Off, Ok, OnErr, Option, PutsChanges, PutsGroup}
-use Rattle.pos_counter.proofs.Common.{Ready, Result, Rises, Row, RunsOut, Some, Standing, StandsForEither, Totals, TotalsChange, TotalsDo, TotalsPart}
-use Rattle.pos_counter.proofs.Common.{TotalsView, TurnsOff, Value, WhenOff, [], ap, ap₂, arith, changes_asked, changes_in, cond, false, file_call, file_rows}
-use Rattle.pos_counter.proofs.Common.{first_refusal, given_by, in_doubt, in_transaction, inl, inr, is_none, left_after, not, outcome, own_takes_memory, part_of}
-use Rattle.pos_counter.proofs.Common.{part_with, put_at_once, refl, refusals_of_change, settled, subst, sym, told, transaction_of, true, with_transaction, ℕ}
-use Rattle.pos_counter.proofs.Common.{◌∙◌, ◌∷◌, ◌≡◌, ◌≤◌, ◌⊎◌}
+use Rattle.pos_counter.proofs.Common.{LeavesOnly, List, Makes, MatchResult, Mode, NoMemory, None, Nothing, Ok, OnErr, Option, PutsChanges, PutsGroup, Result}
+use Rattle.pos_counter.proofs.Common.{Rises, Row, RunsOut, Some, Standing, StandsForEither, Totals, TotalsChange, TotalsDo, TotalsPart, TotalsView, TurnsOff}
+use Rattle.pos_counter.proofs.Common.{Value, WhenOff, [], ap, arith, changes_asked, changes_in, cond, file_call, file_rows, first_refusal, given_by, in_doubt}
+use Rattle.pos_counter.proofs.Common.{inl, inr, is_none, left_after, not, outcome, own_takes_memory, part_of, part_with, put_at_once, refl, rules, settled}
+use Rattle.pos_counter.proofs.Common.{subst, sym, told, transaction_of, true, with_transaction, ℕ, ◌∙◌, ◌∷◌, ◌≡◌, ◌≤◌, ◌⊎◌}
 use Rattle.pos_counter.proofs.Leaving.{arranged_rest, kept_left, rest_settled, settled_twice}
 use Rattle.pos_counter.proofs.Lifts.{decided_cases, decided_none, decided_some, decided_weaker, match_cases}
 
@@ -49,36 +48,15 @@ puts_comes Commits P old n result new does = by (changes_in (transaction_of old 
     by (change ∷ others) does = grouped P old _ change others Empty result new does
 puts_comes other P old n result new does = absurd does
 
--- it does so where the disk fails for a weaker cause; where it has no changes, for any
-done_so : {Out : Type 0} (P Q : Type 0) → (P → Q) → (old : Totals) (changes : List TotalsChange) (given : Value) (result : Answer) (new : Totals)
-    → Out ⊎ GroupDone P old changes given result new → Out ⊎ GroupDone Q old changes given result new
-done_so P Q to old changes given result new (inl out) = inl out
-done_so P Q to old changes given result new (inr (inl done)) = inr (inl done)
-done_so P Q to old changes given result new (inr (inr failed)) = inr (inr (failed.0, to failed.1, failed.2))
-
 puts_so : (asked : FileCall) (P Q : Type 0) (old : Totals) (n : ℕ) (result : Answer) (new : Totals)
     → ((changes_asked old n asked ≡ [] → ⊥) → P → Q) → Puts asked P old n result new → Puts asked Q old n result new
-puts_so (Makes change) P Q old n result new to does = elim (match_cases (transaction_of old n) _ _ does) [
-  | inl x ↦
-      let so = to (λ none. let no : change ∷ [] ≡ [] = rw x.0 at none in cc) in
-      rw x.0 (decided_weaker (done_so P Q so old (change ∷ []) (given_by old.next change) result new) (λ same. same) x.1)
-  | inr x ↦ rw x.1 x.2
-]
-puts_so Commits P Q old n result new to does = by (changes_in (transaction_of old n)) to does
-  where
-    by : (changes : List TotalsChange) → ((changes ≡ [] → ⊥) → P → Q) → DoesCommit P old (with_transaction old n None) changes result new
-        → DoesCommit Q old (with_transaction old n None) changes result new
-    by [] to does = does
-    by (change ∷ others) to does = done_so P Q (to (λ none. cc)) (with_transaction old n None) (change ∷ others) Empty result new does
-puts_so other P Q old n result new to does = absurd does
+puts_so asked P Q old n result new to does = grind (arith, match_cases, decided_weaker)
 
 -- the totals do so
 totals_do : (asked : FileCall) (old : TotalsPart) (n : ℕ) (result : Answer) (new : TotalsPart)
     → PutsChanges (λ answer totals. Puts asked (Rises old.failures new.failures) old.totals n answer totals) old (changes_asked old.totals n asked)
     result new → TotalsDo asked old n result new
-totals_do (Makes change) old n result new puts = puts
-totals_do Commits old n result new puts = puts
-totals_do other old n result new puts = absurd puts.does
+totals_do asked old n result new puts = grind arith
 
 -- it keeps the layout, and without changes the mode
 comes_layout : {P : Type 0} {old new : Totals} {result : Answer} {changes : List TotalsChange} → Comes P old result new changes → new.layout ≡ old.layout
@@ -86,21 +64,11 @@ comes_layout (Stays transactions undone same) = ap (λ (t : Totals). t.layout) s
 comes_layout (Groups change others transactions given (inl done)) = ap (λ (t : Totals). t.layout) done.1.totals
 comes_layout (Groups change others transactions given (inr failed)) = ap (λ (t : Totals). t.layout) failed.2
 
-comes_mode : {P : Type 0} {old new : Totals} {result : Answer} {changes : List TotalsChange} → Comes P old result new changes → changes ≡ []
-    → new.mode ≡ old.mode
-comes_mode (Stays transactions undone same) none = ap (λ (t : Totals). t.mode) same
-comes_mode (Groups change others transactions given done) none = absurd cc
-
 -- ---- a call of the totals' own
 
 -- what holds anyhow holds while the totals are off
 when_off : (mode : Mode) (P : Type 0) → P → WhenOff mode P
-when_off Off P holds = holds
-when_off (Ready files sequence) P holds = tt
-
-never_turns : (mode : Mode) → TurnsOff mode mode → ⊥
-never_turns Off turns = turns
-never_turns (Ready files sequence) turns = turns
+when_off mode P holds = grind arith
 
 -- the group of a change is what it puts there at once, where nothing refuses it
 at_once : (o : Option Answer) (transacting : Bool) (change : TotalsChange)
@@ -134,14 +102,7 @@ module _ {D : Type 0} (bound : DiskGhosts D) (old new : TotalsView D) (n : ℕ) 
     answers : (left after : List Standing) (was is : ℕ) → ((changes ≡ [] → ⊥) → HasFailed bound old.disk new.disk → Rises was is)
         → after ≡ left_after (part_with old.totals left was) changes new.totals.mode → TurnsOff old.totals.mode new.totals.mode ⊎ (is ≡ was) → was ≤ is
         → FilesCalled n asked (part_with old.totals left was) (Ok result) (part_with new.totals after is)
-    answers left after was is fails leaves counts later =
-        decided_none none (totals_do (file_call asked) (part_with old.totals left was) n result (part_with new.totals after is) (record {
-          does = puts_so (file_call asked) (HasFailed bound old.disk new.disk) (Rises was is) old.totals n result new.totals fails does;
-          group = puts.group;
-          left = leaves;
-          counts = counts;
-          later = later;
-        }))
+    answers left after was is fails leaves counts later = search (rules, decided_none, totals_do, puts_so)
 
     moves : (left : List Standing) → Leaves bound old left → FilesStepped bound left old n asked (Ok result) new
     moves left leaves =
@@ -162,24 +123,7 @@ module _ {D : Type 0} (bound : DiskGhosts D) (old new : TotalsView D) (n : ℕ) 
         }
 
     unrefused : (cs : List TotalsChange) → changes ≡ cs → CallsFiles bound old n asked (Ok result) new
-    unrefused [] empty =
-        let mode = comes_mode comes empty in
-        inl (record {
-          disk = puts.untouched empty;
-          is_settled = λ left. ap₂ (λ l m. settled l m left) layout mode;
-          answer = λ left failures so. answers left left failures failures (λ some. absurd (some empty))
-              (sym (ap (left_after (part_with old.totals left failures) changes) mode ∙ kept_left changes (part_with old.totals left failures) so))
-              (inr refl) (omega arith);
-        })
-    unrefused (change ∷ cs) some = inr (record {
-      uses = λ spares. elim spares [
-        | inl refused ↦ let no : false ≡ true = rw none at refused in cc
-        | inr empty ↦ let no : [] ≡ change ∷ cs = sym empty ∙ some in cc
-      ];
-      steps = moves;
-      unchanged = λ undone. elim (puts.unchanged undone) [ inl turns ↦ inl turns | inr same ↦ inr (ap (λ (v : TotalsView D). v.disk) same) ];
-      kept = puts.kept;
-    })
+    unrefused cs some = grind (arith, comes, layout, answers, kept_left, moves)
 
   -- what it is answered, and what its changes do to the disk
   abbrev GroupCalls : FileCall → Result Answer NoMemory → Type 0
@@ -192,49 +136,18 @@ module _ {D : Type 0} (bound : DiskGhosts D) (old new : TotalsView D) (n : ℕ) 
 
   group_calls : (outcome : Result Answer NoMemory) → OnErr outcome (own_takes_memory asked ≡ true) → GroupCalls (file_call asked) outcome
       → (o : Option Answer) → first_refusal rows ≡ o → CallsFiles bound old n asked outcome new
-  group_calls (Ok result) takes (told, puts) (Some refusal) e =
-      let y = rw e at told.outcome in
-      inl (record {
-        disk = puts.untouched (ap (λ (o : Option Answer). cond (is_none o) changes []) e);
-        is_settled = same_settled y.1;
-        answer = λ left failures so. decided_some e y.0 (same_part left failures y.1);
-      })
+  group_calls (Ok result) takes (told, puts) (Some refusal) e = search (rules, same_settled, decided_some, same_part)
   group_calls (Ok result) takes (told, puts) None e = unrefused result e (rw e at puts) (rw e at told.outcome) changes refl
   group_calls (Err want) takes (told, puts) (Some refusal) e = let bad = sym e ∙ told.0 in cc
-  group_calls (Err want) takes (told, puts) None e = inl (record {
-    disk = elim (puts.unchanged (λ done. done)) [
-      | inl turns ↦ absurd (never_turns old.totals.mode (rw told.1 at turns))
-      | inr same ↦ ap (λ (v : TotalsView D). v.disk) same
-    ];
-    is_settled = same_settled told.1;
-    answer = λ left failures so. (takes, e, same_part left failures told.1);
-  })
+  group_calls (Err want) takes (told, puts) None e = search (rules, same_settled, same_part)
 
   -- what it does that asks this
   pub calls_files : (outcome : Result Answer NoMemory) (asks : FileCall) → file_call asked ≡ asks → OnErr outcome (own_takes_memory asked ≡ true)
       → Calls bound old n asks outcome new → CallsFiles bound old n asked outcome new
-  calls_files (Ok result) (Asks question) is takes (tells, same) =
-      let kept = ap (λ (v : TotalsView D). v.totals) same in
-      inl (record {
-        disk = ap (λ (v : TotalsView D). v.disk) same;
-        is_settled = same_settled kept;
-        answer = λ left failures so. rw is (decided_weaker (λ told. (told, same_part left failures kept)) (λ y. same_part left failures kept) tells);
-      })
-  calls_files (Err want) (Asks question) is takes (tells, same) =
-      let kept = ap (λ (v : TotalsView D). v.totals) same in
-      inl (record {
-        disk = ap (λ (v : TotalsView D). v.disk) same;
-        is_settled = same_settled kept;
-        answer = λ left failures so. rw is (takes, tells.1, same_part left failures kept);
-      })
-  calls_files outcome (Makes change) is takes changes =
-      group_calls outcome takes (rw is (
-        changes.answer,
-        subst (λ group. PutsGroup bound old group outcome new)
-            (at_once (first_refusal (refusals_of_change old.totals n change)) (in_transaction old.totals n) change) changes.disk,
-      )) (first_refusal rows) refl
-  calls_files outcome Commits is takes commits =
-      group_calls outcome takes (rw is (commits.answer, commits.disk)) (first_refusal rows) refl
+  calls_files (Ok result) (Asks question) is takes (tells, same) = search (rules, same_settled, decided_weaker, same_part)
+  calls_files (Err want) (Asks question) is takes (tells, same) = search (rules, same_settled, same_part)
+  calls_files outcome (Makes change) is takes changes = search (rules, group_calls, at_once)
+  calls_files outcome Commits is takes commits = search (rules, group_calls)
   calls_files (Ok result) (Arranges arrangement) is takes arranged = inl (record {
     disk = arranged.disk;
     is_settled = λ left. elim (decided_cases arranged.answer) [

@@ -13,6 +13,5 @@ pub mod Sparing
 pub mod Recovering
 pub mod Steps
 pub mod PrefixRuns
-pub mod PrefixExamples
 pub mod Prefixes
 pub mod Reopening

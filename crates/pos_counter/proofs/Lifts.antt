@@ -1,29 +1,26 @@
 -- From what a call does to one control to what it does to the machine.
-use Rattle.pos_counter.proofs.Common.{◌<◌, Answer, Answered, Call, CallOf, Control, Decided, Device, Does, Err, Get, Gets, IsUndone, KeptControl, List, Machine}
-use Rattle.pos_counter.proofs.Common.{MatchOption, NoMemory, None, Ok, Option, Property, Refused, Result, Row, Some, Step, TotalsPart, [], answered, ap}
+use Rattle.pos_counter.proofs.Common.{◌<◌, Answer, Answered, Call, CallOf, Control, Decided, Device, Does, Get, Gets, IsUndone, KeptControl, List, Machine}
+use Rattle.pos_counter.proofs.Common.{MatchOption, NoMemory, None, Option, Property, Refused, Result, Row, Some, Step, TotalsPart, [], answered, ap, arith}
 use Rattle.pos_counter.proofs.Common.{cond_both, controls_of, facts_of, first_refusal, get_or, get_or_default, get_rows, holder_of, inl, inr, length}
-use Rattle.pos_counter.proofs.Common.{machine_with, map-set, option_map, property_of, refl, refusals, set, set-get_or, slice_get, slice_get-get_or}
+use Rattle.pos_counter.proofs.Common.{machine_with, map-set, option_map, property_of, refusals, rules, set, set-get_or, slice_get, slice_get-get_or}
 use Rattle.pos_counter.proofs.Common.{slice_get-map, sym, with_control, ℕ, ◌∙◌, ◌∷◌, ◌≡◌, ◌⊎◌, ⊤}
-
--- the machine of some controls, devices and totals
-abbrev with_controls : List Control → List Device → List (Option ℕ) → TotalsPart → Machine
-with_controls controls devices cl part = record { controls = controls; devices = devices; claims = cl; totals = part }
 
 -- a match was of none, or of some
 pub match_cases : {A : Type 0} (o : Option A) (P : Type 0) (R : A → Type 0) → MatchOption o P R → ((o ≡ None) × P) ⊎ ((a : A) × (o ≡ Some a) × R a)
-match_cases None P R h = inl (refl, h)
-match_cases (Some a) P R h = inr (a, refl, h)
+match_cases o P R h = grind arith
+
+-- a match that none doesn't meet was of some
+pub matched : {A : Type 0} (o : Option A) (R : A → Type 0) → MatchOption o ⊥ R → (a : A) × (o ≡ Some a) × R a
+matched o R h = grind arith
 
 -- a match holds still where both its sides are weakened
 pub match_weaker : {A : Type 0} (o : Option A) (P Q : Type 0) (R S : A → Type 0) → (P → Q) → ((a : A) → R a → S a) → MatchOption o P R → MatchOption o Q S
-match_weaker None P Q R S f g h = f h
-match_weaker (Some a) P Q R S f g h = g a h
+match_weaker o P Q R S f g h = grind arith
 
 -- a table's decision, weakened
 pub decided_weaker : {rows : List Row} {result : Answer} {Same Done Kept Did : Type 0} → (Done → Did) → (Same → Kept) → Decided rows result Same Done
     → Decided rows result Kept Did
-decided_weaker {rows = rows} done same d =
-    record { outcome = match_weaker (first_refusal rows) _ _ _ _ done (λ refusal y. (y.0, same y.1)) d.outcome }
+decided_weaker {rows = rows} done same d = search (rules, match_weaker)
 
 -- a table that refuses nothing, and one that refuses
 pub decided_none : {rows : List Row} {result : Answer} {Same Done : Type 0} → first_refusal rows ≡ None → Done → Decided rows result Same Done
@@ -62,8 +59,7 @@ kept_same hs n h k lt is also = is ∙ get_or_default hs n h k lt ∙ sym also
 -- the machine with one control in the place of another
 pub set_machine : (hs : List KeptControl) (cl : List (Option ℕ)) (ds : List Device) (part : TotalsPart) (n : ℕ) (g : KeptControl) (c : Control) → g.control ≡ c
     → machine_with (set hs n g) cl ds part ≡ with_control (machine_with hs cl ds part) n c
-set_machine hs cl ds part n g c e =
-    ap (λ cs. with_controls cs ds cl part) (map-set (λ (h : KeptControl). h.control) hs n g ∙ ap (set (controls_of hs) n) e)
+set_machine hs cl ds part n g c e = search (rules, map-set)
 
 -- the machine whose control is as it was
 pub kept_machine : (hs : List KeptControl) (cl : List (Option ℕ)) (ds : List Device) (part : TotalsPart) (n : ℕ) (g h : KeptControl) → g ≡ h → h ≡ get_or hs n h
@@ -79,5 +75,4 @@ decided_step m m' n c asked r rows Same Done found refused same does d = rw foun
 -- a property that is told, or for which there is no memory, is a step
 pub get_step : (m : Machine) (n : ℕ) (c : Control) (p : Property) (r : Result Answer NoMemory) → slice_get m.controls n ≡ Some c
     → Gets (get_rows n (holder_of m c) c (facts_of m n c) p) p (property_of c (facts_of m n c) p) r → Step m (CallOf n (Get p)) (answered r) m
-get_step m n c p (Ok result) at d = decided_step m m n c (Get p) result _ _ _ at refl (λ same. refl) (λ told. (told, refl)) d
-get_step m n c p (Err want) found h = rw found (h.0, h.1, refl)
+get_step m n c p r found h = grind (arith, decided_step)

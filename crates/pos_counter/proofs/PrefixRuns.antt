@@ -1,10 +1,10 @@
 -- A crash during a run of the machine or of a counter leaves a prefix of the history.
-use Rattle.pos_counter.proofs.Common.{◌++◌, Answer, BeginsOver, Counter, Damaged, DiskGhosts, Failure, Ghosts, HasBegun, HasRun, HasTooMany, History}
-use Rattle.pos_counter.proofs.Common.{IsLeftDuring, IsOneOf, IsPrefixAlong, IsPrefixInside, IsPrefixOf, IsRun, IsStep, KeepsPrefix, KeepsPrefixes, Layout}
-use Rattle.pos_counter.proofs.Common.{Leaves, LeavesPrefix, List, Machine, PlainFile, Recovers, Refused, Request, Response, Rises, Run, Standing, Stands}
-use Rattle.pos_counter.proofs.Common.{StandsFor, StandsForEither, StandsForOneOf, StandsForSome, StartsWith, Step, TotalsPart, TotalsView, Unformatted, [], ap}
-use Rattle.pos_counter.proofs.Common.{begun, event_of, history_along, history_of, history_until, history_with, inl, inr, machine, machine_now, part_of, refl}
-use Rattle.pos_counter.proofs.Common.{subst, sym, ℕ, ◌∷◌, ◌≡◌, ◌⊎◌}
+use Rattle.pos_counter.proofs.Common.{◌++◌, Answer, BeginsOver, Counter, DiskGhosts, Failure, Ghosts, HasBegun, HasRun, HasTooMany, History, IsLeftDuring}
+use Rattle.pos_counter.proofs.Common.{IsOneOf, IsPrefixAlong, IsPrefixInside, IsPrefixOf, IsRun, IsStep, KeepsPrefix, KeepsPrefixes, Layout, Leaves}
+use Rattle.pos_counter.proofs.Common.{LeavesPrefix, List, Machine, PlainFile, Recovers, Refused, Request, Response, Rises, Run, Standing, Stands}
+use Rattle.pos_counter.proofs.Common.{StandsForEither, StandsForOneOf, StandsForSome, StartsWith, Step, TotalsPart, [], ap, arith, begun, event_of}
+use Rattle.pos_counter.proofs.Common.{history_along, history_of, history_until, history_with, inl, inr, machine, machine_now, part_of, refl, rules, subst, sym}
+use Rattle.pos_counter.proofs.Common.{ℕ, ◌∷◌, ◌≡◌, ◌⊎◌}
 use Rattle.std.proofs.Math.Path.{path_j, subst_refl}
 use Rattle.pos_counter.proofs.Prefixes.{Fits, fits_inside, fits_leaves, fits_start}
 use Rattle.pos_counter.proofs.Runs.{run_append}
@@ -66,10 +66,7 @@ module _ (layout : Layout) (start : List PlainFile) (sequence : ℕ) (first last
   -- what a recovery answers that recovers nothing
   pub law_recovers : (result : Answer) (new : TotalsPart) → Recovers last.totals result new
       → (result ≡ Refused Failure 0) × (HasTooMany (IsOneOf last.totals.left) last.totals.totals.next ⊎ Rises last.totals.failures new.failures)
-  law_recovers result new (inl h) = absurd (let no = (law_after Unformatted h.1).stands in cc)
-  law_recovers result new (inr (failed, inl (inl damaged, same))) = absurd (let no = (law_after Damaged damaged).stands in cc)
-  law_recovers result new (inr (failed, inl (inr many, same))) = (failed, inl many)
-  law_recovers result new (inr (failed, inr disk)) = (failed, inr disk.rises)
+  law_recovers result new h = grind (arith, law_after)
 
 -- the history of one run after another
 pub history_append : (history : History) (a b c : Machine) (steps more : List (Request × Response)) (run : Run a steps b) (rest : Run b more c)
@@ -86,31 +83,17 @@ module _ {D P : Type 0} (bound : DiskGhosts D) (peripherals : Ghosts P) (layout 
   -- the disk of a counter that begins leaves these files alone
   begins_leaves : (counter : Counter D P) → BeginsOver bound peripherals layout start sequence counter
       → Leaves bound counter.totals (Stands layout start sequence ∷ [])
-  begins_leaves counter is = subst (λ (v : TotalsView D). Leaves bound v (Stands layout start sequence ∷ [])) (sym is.begins.totals) (record {
-    honest = is.honest;
-    leaves = λ bytes may. inl (subst (StandsFor (Stands layout start sequence)) (sym (rest_leaves (bound.state is.disk) bytes is.at_rest may)) is.stands);
-    is_settled = refl;
-  })
-
-  begins_with : (counter : Counter D P) → BeginsOver bound peripherals layout start sequence counter
-      → StartsWith layout start sequence (part_of bound counter.totals (Stands layout start sequence ∷ []))
-  begins_with counter is = record { off = ap (λ (v : TotalsView D). v.totals.mode) is.begins.totals; left = refl }
+  begins_leaves counter is = search (rules, rest_leaves)
 
   -- it has run through nothing
   pub has_begun : (counter : Counter D P) → BeginsOver bound peripherals layout start sequence counter
       → HasBegun bound peripherals layout start sequence counter
-  has_begun counter is = record {
-    past = record { first = counter; begins = is; left = Stands layout start sequence ∷ []; leaves = begins_leaves counter is; run = refl };
-    history = refl;
-  }
+  has_begun counter is = search (rules, begins_leaves)
 
   -- the history of what a counter has run through fits its totals
   past_fits : (steps : List (Request × Response)) (counter : Counter D P) (past : HasRun bound peripherals layout start sequence steps counter)
       → Fits (history_until past) (part_of bound counter.totals past.left)
-  past_fits steps counter past =
-      let from = part_of bound past.first.totals (Stands layout start sequence ∷ []) in
-      run_fits (begun layout start) (machine peripherals past.first from) steps (machine_now past) past.run
-      (fits_start (begun layout start) start sequence from refl (begins_with past.first past.begins))
+  past_fits steps counter past = search (rules, run_fits, fits_start)
 
   -- one more request
   pub keeps_prefix : (steps : List (Request × Response)) (old new : Counter D P) (past : HasRun bound peripherals layout start sequence steps old)

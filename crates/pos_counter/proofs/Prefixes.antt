@@ -1,30 +1,22 @@
 -- Whatever happens to the totals' files, a crash leaves a prefix of their history, also where their disk is moved to layout 2.
-use Rattle.pos_counter.proofs.Common.{◌&&◌, ◌+◌, ◌++◌, BeginsWith, Bool, DirectoryFault, Err, FilesEvent, FilesFound, Group, GroupAccepted, GroupInDoubt}
-use Rattle.pos_counter.proofs.Common.{History, IsOneOf, IsPrefix, IsPrefixOf, IsReady, IsSettled, Layout, Layout1, Layout2, LeavesPrefix, LeavesPrefixInside}
-use Rattle.pos_counter.proofs.Common.{Limits, List, Machine, Mode, None, NothingDone, Off, Ok, Option, PlainFile, Ready, Request, Response, Result, Run, Some}
-use Rattle.pos_counter.proofs.Common.{Standing, Stands, StartsWith, TotalsPart, [], after_groups, and_then, ap, append-nil, append_assoc, ap₂, arith, cond}
-use Rattle.pos_counter.proofs.Common.{cond_both, decided, event_of, files_after, files_of, has_made, history_along, history_with, inl, inr, is_same, length}
-use Rattle.pos_counter.proofs.Common.{limits_of, listed, moved_with, nat_le, nat_lt, outcome, outcome_of_all, plain, refl, replicate, settled, stored, subst}
-use Rattle.pos_counter.proofs.Common.{sym, told, true, with_settled, without_doubt, ℕ, ◌∙◌, ◌∷◌, ◌≡◌, ◌⊎◌}
-use Rattle.std.proofs.lemmas.Bool.Decides.{Decides-and, nat_tests}
+use Rattle.pos_counter.proofs.Common.{◌++◌, BeginsWith, DirectoryFault, Err, FilesEvent, FilesFound, Group, GroupAccepted, GroupInDoubt, History, IsOneOf}
+use Rattle.pos_counter.proofs.Common.{IsPrefix, IsPrefixOf, IsReady, IsSettled, Layout, Layout1, Layout2, LeavesPrefix, LeavesPrefixInside, Limits, List}
+use Rattle.pos_counter.proofs.Common.{Machine, Mode, None, NothingDone, Off, Ok, Option, PlainFile, Request, Response, Result, Run, Some, Standing, Stands}
+use Rattle.pos_counter.proofs.Common.{StartsWith, TotalsPart, [], after_groups, and_then, ap, append-nil, append_assoc, arith, cond_both, decided, event_of}
+use Rattle.pos_counter.proofs.Common.{files_after, files_of, has_made, history_along, history_with, inl, inr, is_same, limits_of, listed, moved_with, outcome}
+use Rattle.pos_counter.proofs.Common.{outcome_of_all, plain, refl, rules, settled, sym, told, true, with_settled, without_doubt, ℕ, ◌∙◌, ◌∷◌, ◌≡◌, ◌⊎◌}
+use Rattle.std.proofs.lemmas.Bool.Decides.{nat_tests}
 use Rattle.std.proofs.lemmas.Slice.Eq.{bytes_eq-Decides}
 use Rattle.std.specs.Cmp.Lexicographic.{pointwise_decides}
 use Rattle.pos_counter.proofs.Leaving.{Rest, settles}
-use Rattle.pos_dir.specs.Files.{AreWider, has_name, total_size}
-use Rattle.pos_dir.specs.declared.change.Change.TheVariants.{Create}
+use Rattle.pos_dir.specs.Files.{AreWider}
 use Rattle.pos_dir.specs.declared.change.Change.{Change}
-use Rattle.pos_dir.specs.declared.fault.DirectoryFault.TheVariants.{Exists, NoRoom}
-use Rattle.pos_dir.specs.declared.limits.TheConstants.{LAYOUT_1, LAYOUT_2}
 
 -- ---- files
 
 -- the test of two files decides
 file_decides : (file other : PlainFile) → (is_same file other ≡ true → file ≡ other) × (file ≡ other → is_same file other ≡ true)
-file_decides file other =
-    let both = Decides-and _ _ (bytes_eq-Decides file.name other.name) (bytes_eq-Decides file.bytes other.bytes) in (
-      λ same. let parts = both.0 same in ap₂ (λ name bytes. let f : PlainFile = record { name = name; bytes = bytes } in f) parts.0 parts.1,
-      λ same. both.1 (ap (λ (f : PlainFile). f.name) same, ap (λ (f : PlainFile). f.bytes) same),
-    )
+file_decides file other = search (rules, bytes_eq-Decides)
 
 -- the test of what groups make
 these_files : (made : Result (List PlainFile) DirectoryFault) (found : List PlainFile) → has_made made found ≡ true → made ≡ Ok found
@@ -40,18 +32,12 @@ same_Ok files others same = cc
 -- what is made after something is made of what that made
 pub made_then : (first : Result (List PlainFile) DirectoryFault) (follows : List PlainFile → Result (List PlainFile) DirectoryFault) (last : List PlainFile)
     → and_then first follows ≡ Ok last → (next : List PlainFile) × (first ≡ Ok next) × (follows next ≡ Ok last)
-made_then (Err fault) follows last made = absurd cc
-made_then (Ok next) follows last made = (next, refl, made)
+made_then first follows last made = grind arith
 
 -- the files after groups, and then after one more
 one_more : (limits : Limits) (start before : List PlainFile) (groups : List Group) (group : Group) → after_groups limits start groups ≡ Ok before
     → after_groups limits start (groups ++ group ∷ []) ≡ outcome_of_all limits before group
-one_more limits start before [] group made =
-    last (outcome_of_all limits start group) ∙ ap (λ files. outcome_of_all limits files group) (same_Ok start before made)
-  where
-    last : (o : Result (List PlainFile) DirectoryFault) → and_then o (λ next. Ok next) ≡ o
-    last (Err fault) = refl
-    last (Ok files) = refl
+one_more limits start before [] group made = search (rules, same_Ok)
 one_more limits start before (first ∷ groups) group made =
     let there = made_then (outcome_of_all limits start first) (λ next. after_groups limits next groups) before made in
     rw there.1 (one_more limits there.0 before groups group there.2)
@@ -122,41 +108,9 @@ same_stands layout other files others m n same = (cc, cc, cc)
 -- totals that are ready leave their files alone
 alone : (layout : Layout) (mode : Mode) (left : List Standing) (doubt : Option Group) → IsReady mode → left ≡ settled layout mode left
     → AreAround layout (plain (files_of mode)) doubt left
-alone layout Off left doubt ready is standing one = absurd ready
-alone layout (Ready files sequence) left doubt ready is standing one = elim (rw is at one) [ inl e ↦ inl (sequence, e) | inr e ↦ absurd e ]
+alone layout mode left doubt ready is standing one = grind arith
 
 -- ---- steps
-
--- what is stored as it was is ready as it was, with the same files
-same_ready : (early late : Mode) → stored late ≡ stored early → IsReady late → IsReady early × (plain (files_of late) ≡ plain (files_of early))
-same_ready early Off same ready = absurd ready
-same_ready Off (Ready files sequence) same ready = absurd cc
-same_ready (Ready files sequence) (Ready others next) same ready = (tt, cc)
-
--- a recovery decides on the group in doubt
-decided_made : (history : History) (doubt : Option Group) (before found : List PlainFile) (sequence : ℕ)
-    → files_after history history.settled ≡ Ok before
-    → IsWithout history.layout before (Stands history.layout found sequence) ⊎ IsWith history.layout before doubt (Stands history.layout found sequence)
-    → history.doubt ≡ doubt → (files_after (decided history doubt found) (decided history doubt found).settled ≡ Ok found)
-    × ((decided history doubt found).doubt ≡ None)
-decided_made history None before found sequence made one none = (
-  elim one [ inl w ↦ rw (same_stands history.layout history.layout found before sequence w.0 w.1).1 made | inr w ↦ absurd (let no = w.doubted in cc) ],
-  none,
-)
-decided_made history (Some group) before found sequence made one some =
-    cond_both (has_made (files_after history (history.settled ++ group ∷ [])) found) (with_settled history group) (without_doubt history)
-    (λ (h : History). (files_after h h.settled ≡ Ok found) × (h.doubt ≡ None))
-    (λ test. (these_files _ found test, refl))
-    (λ test. (
-      elim one [
-        | inl w ↦ rw (same_stands history.layout history.layout found before sequence w.0 w.1).1 made
-        | inr w ↦
-            let there = one_more (limits_of history.layout) history.start before history.settled group made in
-            let after : files_after history (history.settled ++ group ∷ []) ≡ Ok found = cc (there, w.made, w.stands, w.doubted) in
-            absurd (let yes = are_these _ found after in cc)
-      ],
-      refl,
-    ))
 
 -- What a history keeps, whatever happens: its layout, the files that it starts with, and the settled groups.
 pub record Grows (history after : History) : Type 0 where
@@ -191,54 +145,17 @@ grows history event = (told_grows history event).settled
 ready_fits : (history : History) (totals : TotalsPart) → IsReady totals.totals.mode → IsSettled totals.totals totals.left
     → totals.totals.layout ≡ history.layout → files_after history history.settled ≡ Ok (plain (files_of totals.totals.mode)) → history.doubt ≡ None
     → Fits history totals
-ready_fits history totals is settles layout made none = record {
-  before = plain (files_of totals.totals.mode);
-  made = made;
-  around = rw (← layout) (alone totals.totals.layout totals.totals.mode totals.left history.doubt is settles);
-  ready = λ ready. (layout, refl, none);
-  is_settled = settles;
-}
+ready_fits history totals is settles layout made none = search (rules, alone, settles)
 
 -- what happens keeps the history fitting
 pub fits_next : (history : History) (old : TotalsPart) (event : FilesEvent) (new : TotalsPart) → Fits history old → Happens old event new
     → IsSettled new.totals new.left → Fits (told history event) new
-fits_next history old (GroupAccepted group) new fits h settles =
-    let was = fits.ready h.was in
-    ready_fits (with_settled history group) new h.is settles (h.layout ∙ was.0)
-    (one_more (limits_of history.layout) history.start fits.before history.settled group fits.made ∙ rw (was.0, was.1) at h.made) refl
-fits_next history old (GroupInDoubt group) new fits h settles =
-    let was = fits.ready h.was in
-    record { before = fits.before; made = fits.made; around = rw (was.0, was.1) at h.around; ready = λ ready. absurd (rw h.off at ready); is_settled = settles }
-fits_next history old (FilesFound found) new fits h settles =
-    let layout : new.totals.layout ≡ history.layout = elim (fits.around (Stands new.totals.layout found h.sequence) h.candidate) [
-      | inl w ↦ (same_stands new.totals.layout history.layout found fits.before h.sequence w.0 w.1).0
-      | inr w ↦ (same_stands new.totals.layout history.layout found w.files h.sequence w.sequence w.stands).0
-    ] in
-    let one = rw layout at (fits.around (Stands new.totals.layout found h.sequence) h.candidate) in
-    let made = decided_made history history.doubt fits.before found h.sequence fits.made one refl in
-    ready_fits (told history (FilesFound found)) new h.is settles (layout ∙ sym (told_grows history (FilesFound found)).layout)
-    (made.0 ∙ ap (λ (fs : List PlainFile). Ok fs) (sym h.files)) made.1
-fits_next history old NothingDone new fits h settles = record {
-  before = fits.before;
-  made = fits.made;
-  around = λ standing one. fits.around standing (rw h.left at one);
-  ready = λ ready.
-      let same = same_ready old.totals.mode new.totals.mode h.mode ready in
-      let was = fits.ready same.0 in
-      (h.layout ∙ was.0, same.1 ∙ was.1, was.2);
-  is_settled = settles;
-}
+fits_next history old event new fits h settles = grind (arith, ready_fits, settles, one_more, same_stands, cond_both, these_files, are_these, told_grows)
 
 -- a history fits totals that start with the files after its settled groups
 pub fits_start : (history : History) (start : List PlainFile) (sequence : ℕ) (totals : TotalsPart) → files_after history history.settled ≡ Ok start
     → StartsWith history.layout start sequence totals → Fits history totals
-fits_start history start sequence totals made is = record {
-  before = start;
-  made = made;
-  around = λ standing one. elim (rw is.left at one) [ inl e ↦ inl (sequence, e) | inr e ↦ absurd e ];
-  ready = λ ready. absurd (rw is.off at ready);
-  is_settled = rw is.off;
-}
+fits_start history start sequence totals made is = search rules
 
 -- ---- a crash
 
@@ -277,15 +194,8 @@ fits_inside history old event new fits next left is = elim is [
   | inl before ↦ inl (fits_leaves history old fits left before)
   | inr after ↦
       let prefix = fits_leaves (told history event) new next left after in
-      inr (record {
-        prefix = prefix.prefix;
-        first = prefix.first;
-        files = prefix.files;
-        sequence = prefix.sequence;
-        made = prefix.made;
-        stands = prefix.stands;
-        holds = begins_on prefix.prefix (told history event).settled history.settled prefix.holds (grows history event);
-      })
+      let holds = begins_on prefix.prefix (told history event).settled history.settled prefix.holds (grows history event) in
+      inr (search (prefix.first, prefix.made, prefix.stands, holds))
 ]
 
 -- ---- a disk that is moved to layout 2
@@ -294,18 +204,10 @@ abbrev Outcome : Type 0
 Outcome = Result (List PlainFile) DirectoryFault
 
 module _ (limits wider : Limits) (are : AreWider limits wider) where
-  -- a file that there was room for
-  wider_room : (twice : Bool) (count size : ℕ) (made next : List PlainFile)
-      → ◌≡◌ {A = Outcome} (cond twice (Err Exists) (cond (nat_lt count limits.files && nat_le size limits.bytes) (Ok made) (Err NoRoom))) (Ok next)
-      → ◌≡◌ {A = Outcome} (cond twice (Err Exists) (cond (nat_lt count wider.files && nat_le size wider.bytes) (Ok made) (Err NoRoom))) (Ok next)
-  wider_room twice count size made next done = grind (arith, nat_tests)
-
   -- a change that is applicable within limits is so within wider ones
   wider_outcome : (files : List PlainFile) (change : Change) (next : List PlainFile) → outcome limits files change ≡ Ok next
       → outcome wider files change ≡ Ok next
-  wider_outcome files (Create name size) next done =
-      wider_room (has_name files name) (length files) (total_size files + size) (files ++ record { name = name; bytes = replicate size 0 } ∷ []) next done
-  wider_outcome files other next done = done
+  wider_outcome files change next done = grind (arith, nat_tests)
 
   -- so is a group
   wider_group : (files : List PlainFile) (changes : List Change) (last : List PlainFile) → outcome_of_all limits files changes ≡ Ok last
@@ -323,30 +225,14 @@ module _ (limits wider : Limits) (are : AreWider limits wider) where
       let there = made_then (outcome_of_all limits files group) (λ next. after_groups limits next groups) last done in
       rw (wider_group files group there.0 there.1) (wider_groups there.0 groups last there.2)
 
--- layout 2 has the wider limits
-moves_wider : AreWider LAYOUT_1 LAYOUT_2
-moves_wider = record { files = omega arith; bytes = omega arith }
-
 module _ (history : History) (held : List Group) (files : List PlainFile) (sequence : ℕ) (is : IsPrefix history held (Stands Layout1 files sequence)) where
   -- the groups of the prefix make the same files by layout 2
   made_moved : files_after (moved_with history is.prefix) is.prefix ≡ Ok files
-  made_moved =
-      let same = same_stands Layout1 history.layout files is.files sequence is.sequence is.stands in
-      wider_groups LAYOUT_1 LAYOUT_2 moves_wider history.start is.prefix files
-      (subst (λ (l : Layout). after_groups (limits_of l) history.start is.prefix ≡ Ok files) (sym same.0)
-      (is.made ∙ ap (λ (fs : List PlainFile). Ok fs) (sym same.1)))
+  made_moved = search (rules, same_stands, wider_groups)
 
   -- so the prefix is one of the history of the disk that was moved
   pub moved_prefix : IsPrefixOf (moved_with history is.prefix) (Stands Layout2 files 1)
-  moved_prefix = record {
-    prefix = is.prefix;
-    first = ([], refl);
-    holds = ([], sym (append-nil is.prefix));
-    files = files;
-    sequence = 1;
-    made = made_moved;
-    stands = refl;
-  }
+  moved_prefix = search (rules, append-nil, made_moved)
 
   -- which fits a machine that begins over these files
   pub fits_moved : (totals : TotalsPart) → StartsWith Layout2 files 1 totals → Fits (moved_with history is.prefix) totals

@@ -1,17 +1,17 @@
 -- Setting a property as a step of the machine, where it recovers the totals and where it doesn't.
-use Rattle.pos_counter.proofs.Common.{◌&&◌, ◌<◌, Answer, Answered, AreDevicesSound, Bool, CallOf, Category, Code, Control, Counter, Device, DeviceEnabled}
-use Rattle.pos_counter.proofs.Common.{DiskGhosts, DiskRecovers, Done, Empty, Err, FindsFiles, Ghosts, HardTotals, IsCounterSound, IsErrOf, IsOneOf}
-use Rattle.pos_counter.proofs.Common.{IsRecovering, KeptControl, Kind, Leaves, List, Machine, Mode, NoMemory, None, Off, Ok, Option, OutOfMemory, Property}
-use Rattle.pos_counter.proofs.Common.{ReadsAs, Recovers, RecoversAny, RecoversOneOf, Refused, Response, Result, Serves, Set, SetsByRecovery, SetsTo, Signs}
-use Rattle.pos_counter.proofs.Common.{Some, SparesDisk, Standing, Step, Totals, TotalsPart, TotalsView, Truth, Value, WhenOff, [], after_enabling, after_set}
-use Rattle.pos_counter.proofs.Common.{and_from, and_right, answered, ap, asks_recovery, code_of, controls_of, device_at, enabling, false, first_refusal, get_or}
-use Rattle.pos_counter.proofs.Common.{hardware_in, holder_in, holder_of, inl, inr, is_enabling, is_none, is_ready, is_some, is_totals, kind_in, kind_of, length}
-use Rattle.pos_counter.proofs.Common.{machine, machine_with, not, or_left, or_right, part_of, part_with, recovers, refl, refusals, set, set_rows, settled}
-use Rattle.pos_counter.proofs.Common.{signs_at, signs_in, slice_get, subst, sym, tells_power, true, with_control, ℕ, ◌∙◌, ◌≡◌, ◌⊎◌}
+use Rattle.pos_counter.proofs.Common.{◌&&◌, ◌<◌, Answer, Answered, AreDevicesSound, CallOf, Code, Control, Counter, Device, DeviceEnabled, DiskGhosts}
+use Rattle.pos_counter.proofs.Common.{DiskRecovers, Done, Empty, Err, FindsFiles, Ghosts, HardTotals, IsCounterSound, IsErrOf, IsOneOf, IsRecovering}
+use Rattle.pos_counter.proofs.Common.{KeptControl, Kind, Leaves, List, Machine, Mode, NoMemory, None, Off, Ok, Option, OutOfMemory, Property, Recovers}
+use Rattle.pos_counter.proofs.Common.{RecoversAny, RecoversOneOf, Refused, Response, Result, Serves, Set, SetsByRecovery, SetsTo, Signs, Some, SparesDisk}
+use Rattle.pos_counter.proofs.Common.{Standing, Step, Totals, TotalsPart, TotalsView, Truth, Value, WhenOff, [], after_enabling, after_set, and_from, and_right}
+use Rattle.pos_counter.proofs.Common.{answered, ap, arith, asks_recovery, code_of, controls_of, device_at, enabling, false, first_refusal, get_or, hardware_in}
+use Rattle.pos_counter.proofs.Common.{holder_in, holder_of, inl, inr, is_none, is_ready, kind_in, kind_of, length, machine, machine_with, not, or_left}
+use Rattle.pos_counter.proofs.Common.{or_right, part_of, part_with, recovers, refl, refusals, rules, set, set_rows, settled, signs_at, signs_in, slice_get}
+use Rattle.pos_counter.proofs.Common.{subst, sym, tells_power, true, with_control, ℕ, ◌∙◌, ◌≡◌, ◌⊎◌}
 use Rattle.pos_totals.specs.declared.fault.RecoveryFault.TheVariants as fault
 use Rattle.pos_totals.specs.declared.fault.RecoveryFault.{RecoveryFault}
 use Rattle.pos_counter.proofs.Leaving.{settled_twice}
-use Rattle.pos_counter.proofs.Lifts.{decided_none, decided_weaker, kept_at, kept_machine, match_cases, set_machine}
+use Rattle.pos_counter.proofs.Lifts.{decided_none, decided_weaker, kept_at, kept_machine, matched, set_machine}
 use Rattle.pos_counter.proofs.Serving.{same_sound}
 use Rattle.pos_counter.proofs.Sound.{seated, set_seat, with_control_sound}
 
@@ -43,21 +43,8 @@ pub record Asking (hs : List KeptControl) (n : ℕ) (p : Property) (v : Value) (
   pub opened : is_none control.device ≡ false
   pub totals : control.category ≡ HardTotals
 
-all_ask : (k : Category) (o : Option ℕ) (enabled : Bool) (p : Property) (v : Value) (mode : Mode)
-    → (is_totals k && is_some o && not enabled && is_enabling p v && not (is_ready mode)) ≡ true
-    → (mode ≡ Off) × (p ≡ DeviceEnabled) × (v ≡ Truth true) × ((is_totals k && is_some o && not enabled && true) ≡ true) × (is_none o ≡ false)
-    × (k ≡ HardTotals)
-all_ask HardTotals (Some place) false DeviceEnabled (Truth true) Off is = (refl, refl, refl, refl, refl, refl)
-all_ask k o enabled p v mode is = absurd cc
-
 pub asks_there : (hs : List KeptControl) (n : ℕ) (p : Property) (v : Value) (mode : Mode) → IsRecovering hs n p v mode → Asking hs n p v mode
-asks_there hs n p v mode h =
-    elim (match_cases (slice_get (controls_of hs) n) _ _ h) [
-      | inl x ↦ absurd x.1
-      | inr x ↦
-          let is = all_ask x.0.category x.0.device x.0.enabled p v mode x.2 in
-          record { control = x.0; at = x.1; off = is.0; names = is.1; gives = is.2; asks = is.3; opened = is.4; totals = is.5 }
-    ]
+asks_there hs n p v mode h = grind (arith, matched)
 
 module _ (c : Control) (totals : c.category ≡ HardTotals) where
   -- nothing refuses to enable it, whoever holds the area
@@ -65,21 +52,12 @@ module _ (c : Control) (totals : c.category ≡ HardTotals) where
       → first_refusal (set_rows n holder at c DeviceEnabled (Truth true)) ≡ None
   unrefused n holder at opened = rw (totals, opened)
 
-  -- the power of the device of Hard Totals isn't told
-  silent : tells_power c DeviceEnabled (Truth true) ≡ false
-  silent = rw totals (and_right (not c.enabled) false refl)
-
   -- so it is enabled, without memory
   pub done_set : (n : ℕ) (holder : Option ℕ) (kind : Option Kind) (s : Signs) (h g : KeptControl) (p : Property) (v : Value) (r : Result Answer NoMemory)
       → is_none c.device ≡ false → h.control ≡ c → p ≡ DeviceEnabled → v ≡ Truth true
       → SetsTo (set_rows n holder kind h.control p v) (tells_power h.control p v) r h g (after_set s h.control p v)
       → (r ≡ Ok (Done Empty)) × (g.control ≡ after_set s c DeviceEnabled (Truth true))
-  done_set n holder kind s h g p v (Ok r) opened same names gives turns =
-      let enabled = rw (same, names, gives) at turns in
-      let done = rw (unrefused n holder kind opened) at enabled.outcome in
-      (ap Ok done.0, done.1)
-  done_set n holder kind s h g p v (Err want) opened same names gives wants =
-      absurd (let no : false ≡ true = rw (same, names, gives, silent) at wants.0 in cc)
+  done_set n holder kind s h g p v r opened same names gives wants = grind (arith, unrefused, and_right)
 
 -- ---- a recovery
 
@@ -102,12 +80,6 @@ module _ {D : Type 0} (bound : DiskGhosts D) (old new : TotalsView D) (off : old
   -- unless the disk's fault is answered, it hasn't failed
   never_failed : (IsErrOf r fault.Device → ⊥) → (bound.state new.disk).failures ≡ (bound.state old.disk).failures
   never_failed other = elim (recovers.counts leaves.honest) [ inl failed ↦ absurd (other failed) | inr same ↦ same ]
-
--- a recovery that fails keeps the totals
-kept_totals : (P : Standing → Type 0) (old new : Totals) (x : RecoveryFault) → FindsFiles P old (Err x) new → new ≡ old
-kept_totals P old new fault.NoMemory h = h
-kept_totals P old new fault.Device h = h
-kept_totals P old new x h = h.1
 
 -- ---- a call that recovers totals that are off
 
@@ -135,10 +107,7 @@ module _ {D P : Type 0} (bound : DiskGhosts D) (peripherals : Ghosts P) (old new
   -- it uses the disk
   uses : (left : List Standing) (failures : ℕ)
       → SparesDisk (machine peripherals old (part_with old.totals.totals left failures)) (CallOf n enabling) → ⊥
-  uses left failures spares = elim (rw there.at at spares) [
-    | inl refused ↦ let no : false ≡ true = rw (unrefused c there.totals n _ _ there.opened) at refused in cc
-    | inr rests ↦ let is = recovering in cc
-  ]
+  uses left failures spares = search (rules, unrefused, recovering)
 
   -- what it does where nothing refuses it
   does : (result : Answer) (left after : List Standing)
@@ -201,8 +170,7 @@ module _ {D P : Type 0} (bound : DiskGhosts D) (peripherals : Ghosts P) (old new
   module _ (x : RecoveryFault) (recovers : DiskRecovers bound old.totals (Err x) new.totals)
       (same : (part : TotalsPart) → machine peripherals new part ≡ machine peripherals old part) where
     kept : new.totals.totals ≡ old.totals.totals
-    kept = kept_totals (ReadsAs bound old.totals.disk) old.totals.totals new.totals.totals x
-        (rw there.off at recovers.answer)
+    kept = grind arith
 
     fails : (response : Response) → ((left : List Standing) → Leaves bound old.totals left → Step (before left) (CallOf n enabling) response (now left))
         → Serves bound peripherals old (CallOf n (Set p v)) response new
@@ -213,8 +181,7 @@ module _ {D P : Type 0} (bound : DiskGhosts D) (peripherals : Ghosts P) (old new
 
     same_part : (left : List Standing) → Leaves bound old.totals left → (IsErrOf {T = Unit {0}} (Err x) fault.Device → ⊥)
         → part_of bound new.totals left ≡ part_of bound old.totals left
-    same_part left leaves other =
-        rw (kept, never_failed bound old.totals new.totals there.off (Err x) recovers left leaves other)
+    same_part left leaves other = search (rules, kept, never_failed)
 
     -- why it has failed
     why : (left : List Standing) (k : Code) → Leaves bound old.totals left → Some k ≡ code_of x

@@ -1,10 +1,9 @@
 -- What an enabling finds where a crash has left a disk that stands for some files.
-use Rattle.pos_counter.proofs.Common.{Answer, Answered, Applies, CallOf, Control, DeviceEnabled, Done, Failure, FindsThem, Group, HasCause, HasThem, HasTooMany}
-use Rattle.pos_counter.proofs.Common.{History, IsOneOf, Layout, Layout1, Layout2, Limits, List, Machine, Ok, OutOfMemory, PlainFile, Recovered, Recovers}
-use Rattle.pos_counter.proofs.Common.{Refused, Request, Response, Rises, Run, SetsByRecovery, Some, Standing, Stands, StartsWith, Step, TotalsPart, Truth, []}
-use Rattle.pos_counter.proofs.Common.{after_groups, and_from, ap, arith, asks_recovery, begun, enabling, event_of, first_refusal, history_along, history_of}
-use Rattle.pos_counter.proofs.Common.{history_with, inl, inr, is_ready, length, limits_of, not, outcome_of_all, recovers, refl, refusals, slice_get, subst}
-use Rattle.pos_counter.proofs.Common.{true, ℕ, ◌∙◌, ◌∷◌, ◌≡◌, ◌≤◌, ◌⊎◌}
+use Rattle.pos_counter.proofs.Common.{Answer, Answered, Applies, CallOf, Control, DeviceEnabled, Failure, FindsThem, Group, History, IsOneOf, Layout, Limits}
+use Rattle.pos_counter.proofs.Common.{List, Machine, Ok, PlainFile, Recovers, Refused, Request, Response, Rises, Run, SetsByRecovery, Some, Stands, StartsWith}
+use Rattle.pos_counter.proofs.Common.{Step, TotalsPart, Truth, [], after_groups, and_from, arith, asks_recovery, begun, enabling, event_of, first_refusal}
+use Rattle.pos_counter.proofs.Common.{history_along, history_of, history_with, inl, inr, length, limits_of, outcome_of_all, refl, refusals, rules, slice_get}
+use Rattle.pos_counter.proofs.Common.{subst, true, ℕ, ◌∙◌, ◌∷◌, ◌≡◌, ◌≤◌}
 use Rattle.pos_dir.proofs.Kept.{few_after_all}
 use Rattle.pos_counter.proofs.Lifts.{match_cases, refused_undone}
 use Rattle.pos_counter.proofs.PrefixRuns.{law_after, law_recovers}
@@ -13,62 +12,25 @@ use Rattle.pos_counter.proofs.Steps.{plain_numbered}
 
 -- ---- an enabling
 
-module _ (layout : Layout) (start : List PlainFile) (sequence : ℕ) (old new : TotalsPart) (is : StartsWith layout start sequence old) where
+module _ (layout : Layout) (start : List PlainFile) (sequence : ℕ) (old : Machine) (is : StartsWith layout start sequence old.totals) where
   -- what is left is these files
-  these : (other : Layout) (files : List PlainFile) (q : ℕ) → IsOneOf old.left (Stands other files q)
+  these : (other : Layout) (files : List PlainFile) (q : ℕ) → IsOneOf old.totals.left (Stands other files q)
       → (other ≡ layout) × (files ≡ start) × (q ≡ sequence)
-  these other files q one = elim (subst (λ (left : List Standing). IsOneOf left (Stands other files q)) is.left one) [
-    | inl e ↦ same_stands other layout files start q sequence e
-    | inr e ↦ absurd e
-  ]
+  these other files q one = search (rules, same_stands)
 
-  -- a recovery finds them
-  found_them : Recovered old new → HasThem layout start sequence old new
-  found_them h =
-      let same = these h.found.layout h.found.files h.found.sequence h.found.found in
-      record {
-        found = rw (h.found.totals, same.0);
-        mode = rw (h.found.totals, same.1, same.2);
-        left = h.left ∙ rw (h.found.totals, same.0, same.1, same.2, plain_numbered old.totals.next start);
-        counts = h.counts;
-      }
+  module _ (number : ℕ) (control : Control) (asks : asks_recovery control DeviceEnabled (Truth true) ≡ true) where
+    -- a recovery finds them, or fails, for a cause
+    by_recovery : (result : Answer) (new : Machine) → SetsByRecovery old number control DeviceEnabled (Truth true) result new
+        → FindsThem layout start sequence old number control (Answered result) new
+    by_recovery result new h = grind (arith, these, plain_numbered, law_recovers)
 
-  -- or fails, for a cause
-  has_cause : HasTooMany (IsOneOf old.left) old.totals.next ⊎ Rises old.failures new.failures → HasCause start old new
-  has_cause (inl many) = inr (rw (these many.layout many.files many.sequence many.found).1 at many.handles)
-  has_cause (inr rises) = inl rises
+    refused : (refusal : Answer) (new : Machine) → first_refusal (refusals old number control enabling) ≡ Some refusal → new ≡ old
+        → FindsThem layout start sequence old number control (Answered refusal) new
+    refused refusal new first unchanged = grind (arith, refused_undone)
 
-module _ (layout : Layout) (start : List PlainFile) (sequence : ℕ) (old : Machine) (is : StartsWith layout start sequence old.totals)
-    (number : ℕ) (control : Control)
-    (asks : asks_recovery control DeviceEnabled (Truth true) ≡ true) where
-  -- the totals are to be recovered
-  is_recovering : recovers old.totals control DeviceEnabled (Truth true) ≡ true
-  is_recovering =
-      and_from (asks_recovery control DeviceEnabled (Truth true)) (not (is_ready old.totals.totals.mode)) asks
-      (ap (λ mode. not (is_ready mode)) is.off)
-
-  by_recovery : (result : Answer) (new : Machine) → SetsByRecovery old number control DeviceEnabled (Truth true) result new
-      → FindsThem layout start sequence old number control (Answered result) new
-  by_recovery result new (inl h) = rw h.0 (found_them layout start sequence old.totals new.totals is h.1)
-  by_recovery result new (inr h) =
-      let failed = law_recovers layout start sequence old old [] refl is result new.totals h.0 in
-      rw failed.0 (inr (refl, refl, has_cause layout start sequence old.totals new.totals is failed.1))
-
-  refused : (refusal : Answer) (new : Machine) → first_refusal (refusals old number control enabling) ≡ Some refusal → new ≡ old
-      → FindsThem layout start sequence old number control (Answered refusal) new
-  refused (Refused why extended) new first unchanged = inl (first, unchanged)
-  refused (Done given) new first unchanged = absurd (rw first at (refused_undone (refusals old number control enabling)))
-
-  pub finds_them : (response : Response) (new : Machine) → slice_get old.controls number ≡ Some control
-      → Step old (CallOf number enabling) response new → FindsThem layout start sequence old number control response new
-  finds_them (Answered result) new found step =
-      let called = rw found at step in
-      elim (match_cases (first_refusal (refusals old number control enabling)) _ _ called.outcome) [
-        | inl x ↦ by_recovery result new (rw is_recovering at x.1)
-        | inr x ↦ rw x.2.0 (refused x.0 new x.1 x.2.1)
-      ]
-  finds_them OutOfMemory new found step = let wants = rw found at step in wants.2
-  finds_them other new found step = absurd step
+    pub finds_them : (response : Response) (new : Machine) → slice_get old.controls number ≡ Some control
+        → Step old (CallOf number enabling) response new → FindsThem layout start sequence old number control response new
+    finds_them response new found step = grind (arith, match_cases, by_recovery, and_from, refused)
 
 -- ---- how many files a disk stands for
 
@@ -99,8 +61,7 @@ along_start history old (s ∷ steps) new run =
 
 -- no layout allows more files than layout 2
 few_for_all : (layout : Layout) → (limits_of layout).files ≤ 250
-few_for_all Layout1 = omega arith
-few_for_all Layout2 = omega arith
+few_for_all layout = grind arith
 
 -- E_FAILURE of a recovery in a counter that has given no handle
 module _ (layout : Layout) (start : List PlainFile) (sequence : ℕ) (first last : Machine) (steps : List (Request × Response)) (run : Run first steps last)

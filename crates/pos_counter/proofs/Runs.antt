@@ -1,7 +1,7 @@
 -- A run goes on by one more step.
 use Rattle.pos_counter.proofs.Common.{◌++◌, Counter, DiskGhosts, Ghosts, IsLeftDuring, IsRun, IsStep, IsStepBeside, Leaves, List, Machine, MayLeave, Run}
-use Rattle.pos_counter.proofs.Common.{RunsFrom, Standing, StandsForEither, StandsForOneOf, Step, [], ap, arith, inl, inr, length, machine_of_counter, part_of}
-use Rattle.pos_counter.proofs.Common.{refl, request_of, response_of, steps_of, subst, sym, ℕ, ◌∷◌, ◌≡◌}
+use Rattle.pos_counter.proofs.Common.{RunsFrom, Standing, StandsForEither, StandsForOneOf, Step, [], arith, inl, inr, length, machine_of_counter, part_of, refl}
+use Rattle.pos_counter.proofs.Common.{request_of, response_of, rules, steps_of, subst, sym, ℕ, ◌∷◌, ◌≡◌}
 use Rattle.pos_counter.specs.Steps as machine
 use Rattle.pos_disk.proofs.Moments.{followed_by, started, weaker}
 use Rattle.pos_service.specs.declared.request.Request.{Request}
@@ -13,8 +13,7 @@ pub steps_push : {P : Type 0} (peripherals : Ghosts P) (qs : List (Request (Unit
     (r : Response P) → length rs ≡ length qs
     → steps_of peripherals (qs ++ q ∷ []) (rs ++ r ∷ []) ≡ steps_of peripherals qs rs ++ (request_of peripherals q, response_of peripherals r) ∷ []
 steps_push peripherals [] [] q r same = refl
-steps_push peripherals (p ∷ qs) (s ∷ rs) q r same =
-    ap (λ steps. (request_of peripherals p, response_of peripherals s) ∷ steps) (steps_push peripherals qs rs q r (omega arith))
+steps_push peripherals (p ∷ qs) (s ∷ rs) q r same = search (rules, (steps_push peripherals qs rs q r (omega arith)))
 steps_push peripherals qs rs q r same = cc
 
 -- one run after another
@@ -31,8 +30,7 @@ left_first a c (s ∷ more) run bytes h = inl h
 -- and so is what is left before or after its first step
 left_beside : (a b c : Machine) (s : machine.Request × machine.Response) (more : List (machine.Request × machine.Response)) (step : Step a s.0 s.1 b)
     (run : Run b more c) (bytes : List ℕ) → StandsForEither a.totals.left b.totals.left bytes → IsLeftDuring a (s ∷ more) c (b, step, run) bytes
-left_beside a b c s more step run bytes (inl h) = inl h
-left_beside a b c s more step run bytes (inr h) = inr (left_first b c more run bytes h)
+left_beside a b c s more step run bytes h = grind (arith, left_first)
 
 module _ {D P : Type 0} (bound : DiskGhosts D) (peripherals : Ghosts P) where
   -- a run with one step more
@@ -69,12 +67,7 @@ module _ {D P : Type 0} (bound : DiskGhosts D) (peripherals : Ghosts P) where
   pub runs_from : (a b : Counter D P) (steps : List (machine.Request × machine.Response)) (left : List Standing)
       → ((disk : D) (bytes : List ℕ) → bound.honest disk → (bound.state disk).left_since (bound.state disk).moment bytes
       → MayLeave (bound.state disk) bytes) → Leaves bound a.totals left → IsRun bound peripherals a steps b → RunsFrom bound peripherals left a steps b
-  runs_from a b [] left only leaves run = subst (λ n. RunsFrom bound peripherals left a [] n) (sym run) (record {
-    after = left;
-    leaves = leaves;
-    run = refl;
-    any_moment = started (bound.state a.totals.disk) (StandsForOneOf left) (λ bytes since. leaves.leaves bytes (only a.totals.disk bytes leaves.honest since));
-  })
+  runs_from a b [] left only leaves run = search (rules, started)
   runs_from a c (s ∷ steps) left only leaves run =
       let b = run.0 in
       let first = run.1.steps left leaves in

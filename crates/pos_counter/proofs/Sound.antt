@@ -1,27 +1,23 @@
 -- What keeps a machine sound: each control stays at its device, and each device of its kind.
-use Rattle.pos_counter.proofs.Common.{All, All-cons, All-get_or, All-map, All-nil, All-set, All-weaker, Answer, Call, CarriesOut, Category, Change, Changes}
-use Rattle.pos_counter.proofs.Common.{ChangesOne, Control, Decided, Deed, Device, DeviceDoes, Does, DueRequest, Effect, Err, Follows, Gives, Hardware}
-use Rattle.pos_counter.proofs.Common.{HasItsDevice, HasItsKind, IfSome, Input, IsAttached, IsDetached, IsInRange, IsPlaceOn, IsSound, IsTrue, List, Machine}
-use Rattle.pos_counter.proofs.Common.{MatchOption, MatchOption-at_some, MatchResult, NoMemory, None, Ok, OnHardware, Option, Ordered, Place, Property, Queued}
-use Rattle.pos_counter.proofs.Common.{Queues, Result, SameHardware, Signs, Some, TakesIn, Value, WorksAt, WorksOn, [], after_release, after_set, after_work}
-use Rattle.pos_counter.proofs.Common.{all_listening, ap, arith, changed, cond_both, cursor_after, device_at, device_deed, device_rows, due_request_at, eq-eqb}
-use Rattle.pos_counter.proofs.Common.{false, false≢true, first_refusal, found_at, get_or_from_slice_get, has_open, id_rows, if_listening, inl, inr}
-use Rattle.pos_counter.proofs.Common.{is_exclusive, is_none, is_open_at, is_place, is_some, kind_in, kind_of, length-set, listens, option_map, or_parts}
-use Rattle.pos_counter.proofs.Common.{or_right, origin, place_found, queued, reaction, read, refl, serves, set, signs_of, slice_get, slice_get-map}
-use Rattle.pos_counter.proofs.Common.{slice_get_within, slice_set, stopped, subst, suc, sym, takes, true, with_control, zero, ◌||◌, ℕ, ◌∙◌, ◌∷◌, ◌≡◌}
+use Rattle.pos_counter.proofs.Common.{All, All-get_or, All-map, All-set, Answer, Call, CarriesOut, Category, Change, Changes, ChangesOne, Control, Deed, Device}
+use Rattle.pos_counter.proofs.Common.{DeviceDoes, Does, DueRequest, Effect, Err, Follows, Gives, Hardware, HasItsDevice, HasItsKind, IfSome, Input, IsAttached}
+use Rattle.pos_counter.proofs.Common.{IsDetached, IsInRange, IsPlaceOn, IsSound, IsTrue, List, Machine, MatchOption, MatchOption-at_some, MatchResult, NoMemory}
+use Rattle.pos_counter.proofs.Common.{None, Ok, OnHardware, Option, Ordered, Place, Property, Queues, Result, SameHardware, Signs, Some, TakesIn, Value}
+use Rattle.pos_counter.proofs.Common.{WorksAt, WorksOn, [], after_release, after_set, after_work, all_listening, ap, arith, changed, cond_both, device_at}
+use Rattle.pos_counter.proofs.Common.{device_deed, device_rows, due_request_at, eq-eqb, false≢true, found_at, get_or, get_or_from_slice_get, has_open}
+use Rattle.pos_counter.proofs.Common.{if_listening, inl, inr, is_exclusive, is_none, is_place, is_some, kind_in, kind_of, length-set, listens, option_map}
+use Rattle.pos_counter.proofs.Common.{or_right, origin, place_found, reaction, refl, rules, serves, set, signs_of, slice_get, slice_get-map, slice_get_within}
+use Rattle.pos_counter.proofs.Common.{slice_set, stopped, subst, suc, sym, takes, true, with_control, zero, ◌||◌, ℕ, ◌∙◌, ◌∷◌, ◌≡◌}
+use Rattle.std.proofs.lemmas.List.Folds.{list_any_at}
 use Rattle.pos_service.specs.Statuses.{heard_signs}
-use Rattle.pos_service.specs.declared.deed.Change.TheVariants as change
 use Rattle.pos_service.specs.declared.finding.Finding.{Finding}
-use Rattle.pos_service.specs.declared.input.Input.TheVariants as input
-use Rattle.pos_service.specs.declared.input.Taken.TheVariants as taken
 use Rattle.pos_service.specs.declared.input.Taken.{Taken}
 use Rattle.pos_service.specs.declared.order.Order.{Order}
 use Rattle.pos_service.specs.declared.order.Reply.TheVariants as reply
 use Rattle.pos_service.specs.declared.order.Reply.{Reply}
-use Rattle.pos_service.specs.declared.scan.Scan.{Scan}
 use Rattle.pos_service.specs.declared.worked.Worked.{Worked as WorkResult}
 use Rattle.pos_counter.proofs.Cursors.{DeedStaysOn, NoneApplies, StaysOn, deed_called, place_opened, place_set}
-use Rattle.pos_counter.proofs.Lifts.{match_cases}
+use Rattle.pos_counter.proofs.Lifts.{match_cases, matched}
 
 -- the device is there, and serves a control of the category whose cursor is at a place
 abbrev pub Served : Category → Place → Option Device → Type 0
@@ -36,11 +32,7 @@ Seat devices category cursor place = IfSome place (λ at. Served category cursor
 moved_seat : (ds : List Device) (category : Category) (was now : Place) (device : Option ℕ)
     → (IsPlaceOn (kind_in (device_at ds device)) was → IsPlaceOn (kind_in (device_at ds device)) now) → Seat ds category was device
     → Seat ds category now device
-moved_seat ds category was now None moves h = tt
-moved_seat ds category was now (Some i) moves h = elim (match_cases (slice_get ds i) _ _ h) [
-  | inl x ↦ absurd x.1
-  | inr x ↦ rw x.1 (x.2.0, x.2.1, (rw x.1 at moves) x.2.2)
-]
+moved_seat ds category was now device moves h = grind (arith, matched)
 
 -- what all have, the one at a place has
 all_at : {A : Type 0} (P : A → Type 0) (xs : List A) (n : ℕ) (x : A) → slice_get xs n ≡ Some x → All P xs → P x
@@ -83,45 +75,35 @@ all_listening_keep : (ds : List Device) (place : ℕ) (change : Control → Cont
     → All (HasItsDevice ds) (all_listening place change cs)
 all_listening_keep ds place change cs keeps all =
     All-map (HasItsDevice ds) (if_listening place change) cs
-    (All-weaker (HasItsDevice ds) (λ c. HasItsDevice ds (if_listening place change c))
-    (λ c h. cond_both (listens place c) (change c) c (HasItsDevice ds) (λ on. keeps c h) (λ off. h)) cs all)
-
-read_keeps : (ds : List Device) (scan : Scan) → KeepsSeats ds (read scan)
-read_keeps ds scan c h = cond_both c.list.in_error _ _ (HasItsDevice ds) (λ failed. h) (λ reads. h)
+    (λ k e lt.
+    let c = get_or cs k e in
+    cond_both (listens place c) (change c) c (HasItsDevice ds) (λ on. keeps c (all k e lt)) (λ off. all k e lt))
 
 reaction_keeps : (ds : List Device) (i : Input) (t : Taken) (was is : Signs) → KeepsSeats ds (reaction i t was is)
-reaction_keeps ds i taken.Quiet was is c h = h
-reaction_keeps ds (input.Scan kind bytes label) taken.Scan was is c h = read_keeps ds (record { kind = kind; bytes = bytes; label = label }) c h
-reaction_keeps ds i taken.Scan was is c h = h
-reaction_keeps ds i taken.Fault was is c h = h
+reaction_keeps ds i t was is c h = grind (arith, cond_both)
 
 -- a device that has other hardware, or none, serves whom it served, unless it has lost its own
 served_with : (ds : List Device) (i k : ℕ) (d : Device) (now : Option Hardware) (category : Category) (cursor : Place) → slice_get ds i ≡ Some d
     → (k ≡ i → is_some now ≡ true) → Served category cursor (slice_get ds k)
     → Served category cursor (slice_get (set ds i (record d { hardware = now })) k)
 served_with [] i k d now category cursor is stands h = absurd h
-served_with (x ∷ ds) zero zero d now category cursor is stands h =
-    let same : x ≡ d = cc in (rw same at h.0, or_right (is_none d.kind) (is_some now) (stands refl), rw same at h.2)
+served_with (x ∷ ds) zero zero d now category cursor is stands h = search (rules, or_right)
 served_with (x ∷ ds) zero (suc k) d now category cursor is stands h = h
 served_with (x ∷ ds) (suc i) zero d now category cursor is stands h = h
 served_with (x ∷ ds) (suc i) (suc k) d now category cursor is stands h = served_with ds i k d now category cursor is (λ e. stands (ap suc e)) h
 
-seat_with : (ds : List Device) (i : ℕ) (d : Device) (now : Option Hardware) → slice_get ds i ≡ Some d → (c : Control)
-    → (c.device ≡ Some i → is_some now ≡ true) → HasItsDevice ds c → HasItsDevice (set ds i (record d { hardware = now })) c
-seat_with ds i d now is c stands h = by c.device stands h
-  where
-    by : (o : Option ℕ) → (o ≡ Some i → is_some now ≡ true) → Seat ds c.category c.cursor.place o
-        → Seat (set ds i (record d { hardware = now })) c.category c.cursor.place o
-    by None stands g = tt
-    by (Some k) stands g = served_with ds i k d now c.category c.cursor.place is (λ e. stands (ap Some e)) g
+seat_with : (ds : List Device) (i : ℕ) (d : Device) (now : Option Hardware) → slice_get ds i ≡ Some d → (category : Category) (cursor : Place)
+    (device : Option ℕ) → (device ≡ Some i → is_some now ≡ true) → Seat ds category cursor device
+    → Seat (set ds i (record d { hardware = now })) category cursor device
+seat_with ds i d now is category cursor h stands k = grind (arith, served_with)
 
--- other hardware at a device, or none, keeps the machine sound, where it is of the device's kind and each control is at its device
+-- other hardware at a device, or none, keeps the machine sound, where it is of the device's kind, and is there where a control has the device open
 hardware_sound : (m : Machine) (cs : List Control) (i : ℕ) (d : Device) (now : Option Hardware) → slice_get m.devices i ≡ Some d
-    → IfSome now (λ hardware. d.kind ≡ Some hardware.kind) → All (HasItsDevice (set m.devices i (record d { hardware = now }))) cs → IsSound m
-    → IsSound (record m { controls = cs; devices = slice_set m.devices i (record d { hardware = now }) })
-hardware_sound m cs i d now is kind seats s = record {
+    → IfSome now (λ hardware. d.kind ≡ Some hardware.kind) → All (λ c. c.device ≡ Some i → is_some now ≡ true) cs → All (HasItsDevice m.devices) cs
+    → IsSound m → IsSound (record m { controls = cs; devices = slice_set m.devices i (record d { hardware = now }) })
+hardware_sound m cs i d now is kind stands seats s = record {
   kinds = All-set HasItsKind m.devices i (record d { hardware = now }) ((all_at HasItsKind m.devices i d is s.kinds).0, kind) s.kinds;
-  places = seats;
+  places = λ k e lt. seat_with m.devices i d now is _ _ _ (stands k e lt) (seats k e lt);
   covers = s.covers ∙ sym (length-set m.devices i (record d { hardware = now }));
 }
 
@@ -143,9 +125,8 @@ on_hardware_sound m m' at Does keeps o s =
     let kind : o.device.kind ≡ Some o.before.kind = rw o.is_attached at here.1 in
     let stands : StandsAt m.devices at o.before = record { kind = rw (o.is_at, o.is_device, kind); range = rw kind at here.0 } in
     let kept = keeps o.place o.before o.controls o.after stands o.does in
-    rw o.machine (hardware_sound m o.controls o.place o.device (Some o.after) o.is_device (kind ∙ ap Some (sym kept.kind))
-    (All-weaker (HasItsDevice m.devices) (HasItsDevice (set m.devices o.place (record o.device { hardware = Some o.after })))
-    (λ c h. seat_with m.devices o.place o.device (Some o.after) o.is_device c (λ e. refl) h) o.controls (kept.seats s.places)) s)
+    rw o.machine (hardware_sound m o.controls o.place o.device (Some o.after) o.is_device (kind ∙ ap Some (sym kept.kind)) (λ k e lt opens. refl)
+    (kept.seats s.places) s)
 
 -- whatever has this effect does so
 abbrev AllKeep : List Device → Effect → Type 0
@@ -159,25 +140,17 @@ module _ (ds : List Device) (old : List Control) (before : Hardware) (new : List
 
   -- those that listen change
   listening : (place : ℕ) (change : Control → Control) → KeepsSeats ds change → new ≡ all_listening place change old → Keeps ds before old after new
-  listening place change keeps same = record {
-    kind = ap (λ (s : Hardware). s.kind) is ∙ kind;
-    seats = λ all. rw same (all_listening_keep ds place change old keeps all);
-  }
+  listening place change keeps same = search (rules, all_listening_keep)
 
 pub takes_keeps : (ds : List Device) (i : Input) (place : ℕ) → AllKeep ds (TakesIn i place)
-takes_keeps ds i place old before new after h =
-    let was = signs_of before.kind before.plant in
-    let is = signs_of after.kind after.plant in
-    listening ds old before new after _ h.hardware refl place (reaction i h.taken was is) (reaction_keeps ds i h.taken was is) h.controls
+takes_keeps ds i place old before new after h = search (rules, listening, reaction_keeps)
 
 -- a control that changes keeps its device
 one_keeps : (ds : List Device) (change : Control → Control) (number : ℕ) (old new : List Control) → KeepsSeats ds change
     → ChangesOne change number old new → All (HasItsDevice ds) old → All (HasItsDevice ds) new
-one_keeps ds change number old new keeps h all = elim (match_cases (slice_get old number) _ _ h) [
-  | inl x ↦ absurd x.1
-  | inr x ↦ rw x.2
-      (All-set (HasItsDevice ds) old number (change x.0) (keeps x.0 (all_at (HasItsDevice ds) old number x.0 x.1 all)) all)
-]
+one_keeps ds change number old new keeps h all =
+    let x = matched (slice_get old number) _ h in
+    rw x.2 (All-set (HasItsDevice ds) old number (change x.0) (keeps x.0 (all_at (HasItsDevice ds) old number x.0 x.1 all)) all)
 
 -- where nothing has changed
 same_keeps : (ds : List Device) → AllKeep ds SameHardware
@@ -185,17 +158,14 @@ same_keeps ds old before new after h = unmoved ds old before new after before h.
 
 -- whatever a peripheral says to an order
 ordered_keeps : (ds : List Device) (given : Order) (place : ℕ) (told : Reply) → AllKeep ds (Ordered given place told)
-ordered_keeps ds given place reply.Done old before new after h =
-    let change = heard_signs (signs_of before.kind before.plant) (signs_of after.kind after.plant) in
-    listening ds old before new after _ h.hardware refl place change (λ c seat. seat) h.controls
+ordered_keeps ds given place reply.Done old before new after h = search (rules, listening)
 ordered_keeps ds given place reply.LineFault old before new after h = unmoved ds old before new after _ h.hardware refl h.controls
 ordered_keeps ds given place said old before new after h = same_keeps ds old before new after h.same
 
 -- a control that a call changes so has its device
 change_seat : (ds : List Device) (what : Change) (c : Control) → StaysOn (kind_in (device_at ds c.device)) c.cursor.place what → HasItsDevice ds c
     → HasItsDevice ds (changed what c)
-change_seat ds (change.Cursor place) c stays h = moved_seat ds c.category c.cursor.place place c.device stays h
-change_seat ds what c stays h = h
+change_seat ds what c stays h = grind (arith, moved_seat)
 
 -- the control with a number, whose cursor a call leaves at a place of its device, keeps that
 changes_keep : (ds : List Device) (what : Change) (number : ℕ) (c : Control) (old new : List Control) → slice_get old number ≡ Some c
@@ -224,25 +194,12 @@ deed_keeps ds (Gives given what) r number place c old before new after at stays 
         (cond_both (listens place c) (signs c) c (λ g. StaysOn (kind_in (device_at ds g.device)) g.cursor.place what) (λ on. stays) (λ off. stays))
         follows all
     by said ordered same all = rw same all
-deed_keeps ds (Changes what) r number place c old before new after at stays h = record {
-  kind = ap (λ (s : Hardware). s.kind) h.hardware;
-  seats = changes_keep ds what number c old new at stays h.controls;
-}
-deed_keeps ds (Queues given) r number place c old before new after at stays h =
-    elim (match_cases (first_refusal (id_rows c)) _ _
-    (MatchOption-at_some ⊥ (λ control. Decided (id_rows control) r (SameHardware old before new after)
-    (Queued given number r old before new after)) c at h).outcome) [
-      | inl x ↦ record {
-        kind = ap (λ (s : Hardware). s.kind) x.1.hardware;
-        seats = one_keeps ds (queued given) number old new (λ c seat. seat) x.1.controls;
-      }
-      | inr x ↦ same_keeps ds old before new after x.2.1
-    ]
+deed_keeps ds (Changes what) r number place c old before new after at stays h = search (rules, changes_keep)
+deed_keeps ds (Queues given) r number place c old before new after at stays h = search (rules, match_cases, one_keeps, same_keeps)
 
 -- the control that is told what has come of its request
 work_keeps : (ds : List Device) (id : ℕ) (told : Reply) → KeepsSeats ds (after_work id told)
-work_keeps ds id reply.Done c h = h
-work_keeps ds id said c h = h
+work_keeps ds id said c h = grind arith
 
 worked_keeps : (ds : List Device) (work : DueRequest) (place : ℕ) (r : WorkResult) → AllKeep ds (WorksOn work place r)
 worked_keeps ds work place r old before new after h =
@@ -266,30 +223,20 @@ pub device_keeps : (k : Category) (m : Machine) (asked : Call) (r : Answer) (n p
     → StandsAt m.devices c.device before → DeviceDoes k (kind_of m c) n c asked r place m.controls before new after
     → Keeps m.devices before m.controls after new
 device_keeps k m asked r n place c before new after at served allowed stands h =
-    elim (match_cases (device_deed k (kind_of m c) c asked) _ _ h) [
-      | inl x ↦ absurd x.1
-      | inr x ↦ deed_keeps m.devices x.0 r n place c m.controls before new after at (stays x.0 x.1) x.2
-    ]
-  where
-    stays : (d : Deed) → device_deed k (kind_of m c) c asked ≡ Some d → DeedStaysOn (kind_of m c) c.cursor.place d
-    stays d is =
-        rw stands.kind (deed_called k before.kind c asked d (rw stands.kind at served) stands.range (rw stands.kind at allowed) (rw stands.kind at is))
+    let x = matched (device_deed k (kind_of m c) c asked) _ h in
+    let stays : (d : Deed) → device_deed k (kind_of m c) c asked ≡ Some d → DeedStaysOn (kind_of m c) c.cursor.place d =
+    rw stands.kind (λ d. deed_called k before.kind c asked d (rw stands.kind at served) stands.range (rw stands.kind at allowed)) in
+    deed_keeps m.devices x.0 r n place c m.controls before new after at (stays x.0 x.1) x.2
 
 -- an open control's category serves its device
-pub served_by : (ds : List Device) (c : Control) (before : Hardware) → StandsAt ds c.device before → HasItsDevice ds c
-    → serves c.category (kind_in (device_at ds c.device)) ≡ true
-served_by ds c before stands h = by c.device stands.kind h
-  where
-    by : (o : Option ℕ) → kind_in (device_at ds o) ≡ Some before.kind → Seat ds c.category c.cursor.place o
-        → serves c.category (kind_in (device_at ds o)) ≡ true
-    by None kind h = absurd cc
-    by (Some i) kind h = elim (match_cases (slice_get ds i) _ _ h) [ inl x ↦ absurd x.1 | inr x ↦ rw x.1 x.2.0 ]
+pub served_by : (ds : List Device) (category : Category) (cursor : Place) (device : Option ℕ) (before : Hardware)
+    → kind_in (device_at ds device) ≡ Some before.kind → Seat ds category cursor device → serves category (kind_in (device_at ds device)) ≡ true
+served_by ds category cursor device before kind h = grind (arith, matched)
 
 -- a control with a property set to what it takes has its device
 pub set_seat : (ds : List Device) (s : Signs) (c : Control) (p : Property) (v : Value) → takes (kind_in (device_at ds c.device)) p v ≡ true
     → HasItsDevice ds c → HasItsDevice ds (after_set s c p v)
-set_seat ds s c p v may h = moved_seat ds c.category c.cursor.place (cursor_after c.cursor p v).place c.device
-    (place_set (kind_in (device_at ds c.device)) c.cursor p v may) h
+set_seat ds s c p v may h = search (rules, moved_seat, place_set)
 
 -- a control that has released its device still has it open
 pub released_seat : (ds : List Device) (k : Category) (c : Control) → HasItsDevice ds c → HasItsDevice ds (after_release k c)
@@ -298,22 +245,11 @@ released_seat ds k c h = cond_both (is_exclusive k) (stopped c) c (HasItsDevice 
 -- a device that gets a peripheral of its kind keeps each control's device
 pub attached_sound : (m m' : Machine) (name : List ℕ) (hardware : Hardware) → IsAttached m name hardware m' → IsSound m → IsSound m'
 attached_sound m m' name hardware o s =
-    rw o.machine (hardware_sound m m.controls o.place o.device (Some hardware) o.is_device o.kind
-    (All-weaker (HasItsDevice m.devices) (HasItsDevice (set m.devices o.place (record o.device { hardware = Some hardware })))
-    (λ c h. seat_with m.devices o.place o.device (Some hardware) o.is_device c (λ e. refl) h) m.controls s.places) s)
-
--- where no control has the device at a place open, each stays at its own once that has lost its peripheral
-seats_elsewhere : (ds : List Device) (i : ℕ) (d : Device) (cs : List Control) → slice_get ds i ≡ Some d → is_open_at i cs ≡ false
-    → All (HasItsDevice ds) cs → All (HasItsDevice (set ds i (record d { hardware = None }))) cs
-seats_elsewhere ds i d [] is none all = All-nil (HasItsDevice (set ds i (record d { hardware = None })))
-seats_elsewhere ds i d (c ∷ cs) is none all =
-    let each = or_parts (has_open i c) (is_open_at i cs) none in
-    All-cons (HasItsDevice (set ds i (record d { hardware = None }))) c cs
-    (seat_with ds i d None is c (λ e. absurd (false≢true (sym each.0 ∙ ap (is_place i) e ∙ eq-eqb i i refl))) (all 0 c (omega arith)))
-    (seats_elsewhere ds i d cs is each.1 (λ k e lt. all (suc k) e (omega arith)))
+    rw o.machine (hardware_sound m m.controls o.place o.device (Some hardware) o.is_device o.kind (λ k e lt opens. refl) s.places s)
 
 -- a device that no control has open may lose its peripheral
 pub detached_sound : (m m' : Machine) (name : List ℕ) (hardware : Hardware) → IsDetached m name hardware m' → IsSound m → IsSound m'
 detached_sound m m' name hardware o s =
     rw o.machine (hardware_sound m m.controls o.place o.device None o.is_device tt
-    (seats_elsewhere m.devices o.place o.device m.controls o.is_device o.is_closed s.places) s)
+    (λ k e lt opens. absurd (false≢true (sym o.is_closed ∙ list_any_at (has_open o.place) m.controls k e lt
+    (ap (is_place o.place) opens ∙ eq-eqb o.place o.place refl)))) s.places s)

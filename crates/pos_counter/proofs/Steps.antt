@@ -1,22 +1,20 @@
 -- What each step of the machine leaves: a sound machine, and the files of the totals as its event says.
-use Rattle.pos_counter.proofs.Common.{◌+◌, ◌++◌, All-push, Answer, Answered, Arranges, Asks, Bool, Call, CallOf, Called, Category, CategoryDoes, Claim, Close}
-use Rattle.pos_counter.proofs.Common.{Control, Delivered, Does, DoesTogether, Done, Effect, Failure, File, FileCall, Get, HardTotals, Hardware}
-use Rattle.pos_counter.proofs.Common.{HasItsDevice, History, IsAttached, IsDetached, IsOneGroup, IsOneOf, IsSettled, IsSound, IsUndone, Layout, List, Machine}
-use Rattle.pos_counter.proofs.Common.{MatchBool, Mode, None, Nothing, NothingDone, Off, Ok, OnHardware, Open, Option, OutOfMemory, PlainFile, Property, Ready}
-use Rattle.pos_counter.proofs.Common.{Recovered, Recovers, Refused, Release, Request, Response, Set, Sets, SetsByRecovery, Some, Standing, Stands, Step, Totals}
-use Rattle.pos_counter.proofs.Common.{TotalsChange, TotalsDo, TotalsPart, Value, WorkOn, Worked, [], after_disk_fault, after_release, after_set, and_parts, ap}
-use Rattle.pos_counter.proofs.Common.{arith, asks_recovery, category_rows, changes_asked, changes_of, claimed, claimed_by, closed, delivered, dropped}
-use Rattle.pos_counter.proofs.Common.{event_between, event_of, false, file_call, files_after_all, files_of, first_refusal, has_call, history_with, holder_of}
-use Rattle.pos_counter.proofs.Common.{in_doubt, inl, inr, is_category, is_common, is_none, is_ready, is_totals, kind_of, left_after, length, length-set}
-use Rattle.pos_counter.proofs.Common.{limits_of, map, needs_of, new_control, next_sequences, not, numbered, outcome_of_all, place_of, plain, recovers, refl}
-use Rattle.pos_counter.proofs.Common.{refusals, released, released_by, row_of, serves, settled, signs_at, slice_get, stored, subst, sym, table, takes, true}
-use Rattle.pos_counter.proofs.Common.{with_control, with_place, with_totals, ℕ, ◌∙◌, ◌∷◌, ◌≡◌}
+use Rattle.pos_counter.proofs.Common.{◌+◌, ◌++◌, All-push, Answer, Answered, Arranges, Asks, Bool, Call, CallOf, Category, CategoryDoes, Claim, Close, Control}
+use Rattle.pos_counter.proofs.Common.{Delivered, Does, DoesTogether, Done, Effect, Failure, File, FileCall, Get, HardTotals, Hardware, HasItsDevice, History}
+use Rattle.pos_counter.proofs.Common.{IsAttached, IsDetached, IsOneGroup, IsOneOf, IsSettled, IsSound, IsUndone, Layout, List, Machine, MatchBool, Mode, None}
+use Rattle.pos_counter.proofs.Common.{Nothing, Off, Ok, OnHardware, Open, Option, OutOfMemory, PlainFile, Property, Ready, Recovered, Recovers, Refused}
+use Rattle.pos_counter.proofs.Common.{Release, Request, Response, Set, Sets, SetsByRecovery, Some, Standing, Stands, Step, Totals, TotalsChange, TotalsDo}
+use Rattle.pos_counter.proofs.Common.{TotalsPart, Value, WorkOn, Worked, [], after_disk_fault, after_release, after_set, and_parts, ap, arith, asks_recovery}
+use Rattle.pos_counter.proofs.Common.{category_rows, changes_asked, changes_of, closed, delivered, dropped, event_between, false, file_call, files_after_all}
+use Rattle.pos_counter.proofs.Common.{first_refusal, has_call, history_with, inl, inr, is_common, is_ready, is_totals, kind_of, left_after, length, length-set}
+use Rattle.pos_counter.proofs.Common.{limits_of, map, new_control, next_sequences, not, numbered, outcome_of_all, place_of, plain, recovers, refl, refusals}
+use Rattle.pos_counter.proofs.Common.{released, rules, serves, signs_at, slice_get, subst, sym, takes, true, with_control, with_place, with_totals, ℕ, ◌∷◌, ◌≡◌}
 use Rattle.pos_totals.specs.Groups.{group_of}
 use Rattle.pos_counter.proofs.Cursors.{NoneApplies, none_applies, unless_not}
 use Rattle.pos_counter.proofs.FileCalls.{Comes, Groups, Stays, puts_comes}
 use Rattle.pos_counter.proofs.Hardware.{own_call}
 use Rattle.pos_counter.proofs.Leaving.{Rest, arranged_rest, kept_left, rest_settled, same_rest, settles, without_rest}
-use Rattle.pos_counter.proofs.Lifts.{decided_cases, match_cases}
+use Rattle.pos_counter.proofs.Lifts.{decided_cases, match_cases, matched}
 use Rattle.pos_counter.proofs.Prefixes.{AreAround, Fits, Happens, fits_next}
 use Rattle.pos_counter.proofs.Sound.{Keeps, StandsAt, attached_sound, detached_sound, device_keeps, found_seat, on_hardware_sound, released_seat, seated}
 use Rattle.pos_counter.proofs.Sound.{served_by, set_seat, takes_keeps, with_control_sound, works_keep}
@@ -29,21 +27,9 @@ abbrev Told : List TotalsChange → TotalsPart → Response → TotalsPart → T
 Told changes old response new =
     Happens old (event_between changes old.totals.mode response new.totals.mode) new × IsSettled new.totals new.left
 
--- nothing is done to files that stay, where no change is acknowledged
-nothing : (early late : Mode) (changes : List TotalsChange) (response : Response) → stored late ≡ stored early
-    → ((changes ≡ [] → ⊥) → IsUndone response) → event_between changes early response late ≡ NothingDone
-nothing (Ready files sequence) (Ready others next) (change ∷ changes) (Answered (Done given)) same undone = absurd (undone (λ none. cc))
-nothing (Ready files sequence) (Ready others next) changes response same undone = refl
-nothing Off Off [] response same undone = refl
-nothing Off Off (change ∷ changes) response same undone = refl
-nothing early late changes response same undone = absurd cc
-
 rests : (changes : List TotalsChange) (old new : TotalsPart) (response : Response) → ((changes ≡ [] → ⊥) → IsUndone response)
     → IsSettled old.totals old.left → Rest old new → Told changes old response new
-rests changes old new response undone is h = (
-  subst (λ event. Happens old event new) (sym (nothing old.totals.mode new.totals.mode changes response h.mode undone)) h,
-  h.left ∙ is ∙ sym (rest_settled old new h old.left) ∙ ap (settled new.totals.layout new.totals.mode) (sym h.left),
-)
+rests changes old new response undone is h = grind (arith, rest_settled)
 
 -- files with one of the sequences
 with_some : (layout : Layout) (files : List PlainFile) (sequences : List ℕ) (left : Standing)
@@ -59,16 +45,10 @@ module _ (old new : TotalsPart) (is : IsSettled old.totals old.left) where
     abbrev all : List TotalsChange
     all = change ∷ others
 
-    settles_so : new.totals.layout ≡ old.totals.layout → IsSettled new.totals new.left
-    settles_so layout = settles new.totals.layout new.totals.mode new.left
-        (in_doubt old.totals.layout old.totals.next old.left all old.totals.mode) (rw layout left)
-
     -- what the group makes of the files
     made_at : (files : List File) (sequence : ℕ) → old.totals.mode ≡ Ready files sequence
         → outcome_of_all (limits_of old.totals.layout) (plain files) (group_of files all) ≡ Ok (plain (files_after_all old.totals.next files all))
-    made_at files sequence ready =
-        subst (λ mode. outcome_of_all (limits_of old.totals.layout) (plain (files_of mode)) (group_of (files_of mode) all)
-        ≡ Ok (plain (files_after_all old.totals.next (files_of mode) all))) ready group
+    made_at files sequence ready = search rules
 
     done_told : (given : Value) → DoesTogether (record old.totals { transactions = transactions }) all new.totals
         → Told all old (Answered (Done given)) new
@@ -79,10 +59,9 @@ module _ (old new : TotalsPart) (is : IsSettled old.totals old.left) where
         by (Ready files sequence) ready =
             let now = files_after_all old.totals.next files all in
             let still : new.totals.mode ≡ Ready now h.sequence = rw ready at (ap (λ (t : Totals). t.mode) h.totals) in
-            let layout : new.totals.layout ≡ old.totals.layout = ap (λ (t : Totals). t.layout) h.totals in (
-              rw (ready, still) (record { was = tt; is = tt; layout = layout; made = made_at files sequence ready }),
-              settles_so layout,
-            )
+            let layout : new.totals.layout ≡ old.totals.layout = ap (λ (t : Totals). t.layout) h.totals in
+            let made = made_at files sequence ready in
+            (rw (ready, still) (record { was = tt; is = tt; layout = layout; made = made }), search (rules, settles))
 
     failed_told : (result : Answer) → result ≡ Refused Failure 0
         → new.totals ≡ after_disk_fault (record old.totals { transactions = transactions }) → Told all old (Answered result) new
@@ -95,10 +74,7 @@ module _ (old new : TotalsPart) (is : IsSettled old.totals old.left) where
         layout = ap (λ (t : Totals). t.layout) same
 
         by : (m : Mode) → old.totals.mode ≡ m → Told all old (Answered result) new
-        by Off was = (
-          rw (was, off) (record { layout = layout; mode = refl; left = rw (off, was) at left }),
-          settles_so layout,
-        )
+        by Off was = (rw (was, off) (record { layout = layout; mode = refl; left = rw (off, was) at left }), search (rules, settles))
         by (Ready files sequence) ready =
             let around : AreAround old.totals.layout (plain files) (Some (group_of files all)) new.left = λ standing one.
             elim (rw (rw (off, ready) at left) at one) [
@@ -113,30 +89,20 @@ module _ (old new : TotalsPart) (is : IsSettled old.totals old.left) where
                     made = made_at files sequence ready;
                     stands = found.1;
                   })
-            ] in (
-              rw (ready, off, failed) (record { was = tt; off = refl; around = around }),
-              settles_so layout,
-            )
+            ] in
+            (rw (ready, off, failed) (record { was = tt; off = refl; around = around }), search (rules, settles))
 
   comes_told : (P : Type 0) (changes : List TotalsChange) (result : Answer) → IsOneGroup old.totals changes
       → new.left ≡ left_after old changes new.totals.mode → Comes P old.totals result new.totals changes → Told changes old (Answered result) new
-  comes_told P changes result group left (Stays transactions undone same) =
-      let mode = ap (λ (t : Totals). t.mode) same in
-      rests changes old new (Answered result) undone is (record {
-        layout = ap (λ (t : Totals). t.layout) same;
-        mode = ap stored mode;
-        left = left ∙ ap (left_after old changes) mode ∙ kept_left changes old is;
-      })
+  comes_told P changes result group left (Stays transactions undone same) = search (rules, rests, kept_left)
   comes_told P changes result group left (Groups change others transactions given (inl done)) =
       rw done.0 (done_told change others transactions group left given done.1)
-  comes_told P changes result group left (Groups change others transactions given (inr failed)) =
-      failed_told change others transactions group left result failed.0 failed.2
+  comes_told P changes result group left (Groups change others transactions given (inr failed)) = search (rules, failed_told)
 
 files_told : (asked : FileCall) (old new : TotalsPart) (n : ℕ) (result : Answer) → IsSettled old.totals old.left
     → TotalsDo asked old n result new → Told (changes_asked old.totals n asked) old (Answered result) new
 files_told (Asks question) old new n result is h = rests [] old new (Answered result) (λ some. absurd (some refl)) is (rw h.1 (same_rest old))
-files_told (Arranges arrangement) old new n result is h =
-    rests [] old new (Answered result) (λ some. absurd (some refl)) is (rw h.1 (arranged_rest old n arrangement))
+files_told (Arranges arrangement) old new n result is h = search (rules, rests, arranged_rest)
 files_told Nothing old new n result is h = absurd h
 files_told asked old new n result is h =
     comes_told old new is _ _ result h.group h.left (puts_comes asked _ old.totals n result new.totals h.does)
@@ -147,27 +113,15 @@ plain_numbered next [] = refl
 plain_numbered next (file ∷ files) = ap (λ fs. file ∷ fs) (plain_numbered (next + 1) files)
 
 found_told : (old new : TotalsPart) (response : Response) → old.totals.mode ≡ Off → Recovered old new → Told [] old response new
-found_told old new response off h =
-    let ready : new.totals.mode ≡ Ready (numbered old.totals.next h.found.files) h.found.sequence = ap (λ (t : Totals). t.mode) h.found.totals in (
-      rw (off, ready) (record {
-        sequence = h.found.sequence;
-        candidate = rw (ap (λ (t : Totals). t.layout) h.found.totals, plain_numbered old.totals.next h.found.files) h.found.found;
-        is = tt;
-        files = refl;
-      }),
-      settles new.totals.layout new.totals.mode new.left old.left h.left,
-    )
+found_told old new response off h = search (rules, plain_numbered, settles)
 
 -- a recovery that recovers nothing leaves them
 unrecovered : (old new : TotalsPart) (result : Answer) → Recovers old result new → Rest old new
-unrecovered old new result (inl h) = rw h.2 (same_rest old)
-unrecovered old new result (inr (failed, inl h)) = rw h.1 (same_rest old)
-unrecovered old new result (inr (failed, inr h)) = rw h.else_same (record { layout = refl; mode = refl; left = refl })
+unrecovered old new result h = grind (arith, same_rest)
 
 -- totals that are recovered are off
 pub recovers_off : (mode : Mode) → not (is_ready mode) ≡ true → mode ≡ Off
-recovers_off Off e = refl
-recovers_off (Ready files sequence) e = absurd cc
+recovers_off mode e = grind arith
 
 -- ---- what leaves the files alone
 
@@ -183,18 +137,14 @@ record StepLeaves (changes : List TotalsChange) (old : Machine) (response : Resp
 
 beside_leaves : (changes : List TotalsChange) (old new : Machine) (response : Response) → ((changes ≡ [] → ⊥) → IsUndone response) → Beside old new
     → StepLeaves changes old response new
-beside_leaves changes old new response undone b =
-    record { sound = b.sound; told = λ is. rests changes old.totals new.totals response undone is b.rest }
+beside_leaves changes old new response undone b = search (rules, rests)
 
 same_beside : (old new : Machine) → new ≡ old → Beside old new
 same_beside old new same = rw same (record { sound = λ s. s; rest = same_rest old.totals })
 
 -- one thing after another
 beside_then : (old mid new : Machine) → Beside old mid → Beside mid new → Beside old new
-beside_then old mid new a b = record {
-  sound = λ s. b.sound (a.sound s);
-  rest = record { layout = b.rest.layout ∙ a.rest.layout; mode = b.rest.mode ∙ a.rest.mode; left = b.rest.left ∙ a.rest.left };
-}
+beside_then old mid new a b = search rules
 
 other_totals : (m : Machine) (part : TotalsPart) → IsSound m → IsSound (record m { totals = part })
 other_totals m part s = record { kinds = s.kinds; places = s.places; covers = s.covers }
@@ -206,14 +156,12 @@ control_beside : (m : Machine) (n : ℕ) (c : Control) → (IsSound m → HasIts
 control_beside m n c seat = record { sound = λ s. with_control_sound m n c (seat s) s; rest = same_rest m.totals }
 
 claims_beside : (m : Machine) (claims : List (Option ℕ)) → length claims ≡ length m.claims → Beside m (record m { claims = claims })
-claims_beside m claims same =
-    record { sound = λ s. record { kinds = s.kinds; places = s.places; covers = same ∙ s.covers }; rest = same_rest m.totals }
+claims_beside m claims same = search (rules, same_rest)
 
 hardware_beside : (old new : Machine) (at : Option ℕ) (Does : ℕ → Effect) → OnHardware old at Does new
     → ((place : ℕ) (before : Hardware) (cs : List Control) (after : Hardware) → StandsAt old.devices at before → Does place old.controls before cs after
     → Keeps old.devices before old.controls after cs) → Beside old new
-hardware_beside old new at Does o keeps =
-    record { sound = on_hardware_sound old new at Does keeps o; rest = rw o.machine (same_rest old.totals) }
+hardware_beside old new at Does o keeps = search (rules, on_hardware_sound, same_rest)
 
 -- ---- requests that are no calls
 
@@ -232,43 +180,20 @@ detached_beside old new name hardware h = record { sound = detached_sound old ne
 
 -- ---- calls
 
-length_released : (cl : List (Option ℕ)) (o : Option ℕ) (n : ℕ) → length (released_by cl o n) ≡ length cl
-length_released cl o n = grind (arith, length-set {A = Option ℕ})
-
--- what a control's claim, its release and its end leave
-claimed_beside : (k : Category) (m : Machine) (n : ℕ) (c : Control) → Beside m (claimed k m n c)
-claimed_beside HardTotals m n c = totals_beside m _ (record { layout = refl; mode = refl; left = refl })
-claimed_beside k m n c = claims_beside m (claimed_by m.claims c.device n) (grind (arith, length-set {A = Option ℕ}))
-
 released_beside : (k : Category) (m : Machine) (n : ℕ) (c : Control) → Beside m (released k m n c)
-released_beside HardTotals m n c = totals_beside m _ (record { layout = refl; mode = refl; left = refl })
-released_beside k m n c = claims_beside m (released_by m.claims c.device n) (length_released m.claims c.device n)
+released_beside k m n c = grind (arith, totals_beside, claims_beside, length-set)
 
 dropped_beside : (k : Category) (m : Machine) (n : ℕ) (c : Control) → Beside m (dropped k m n c)
-dropped_beside HardTotals m n c = totals_beside m _ (without_rest m.totals n)
-dropped_beside k m n c = claims_beside m (released_by m.claims c.device n) (length_released m.claims c.device n)
-
--- a call that totals don't have asks nothing of them
-asks_nothing : (own : Call) → has_call HardTotals own ≡ false → file_call own ≡ Nothing
-asks_nothing (Open name) other = refl
-asks_nothing own other = cc
+dropped_beside k m n c = grind (arith, totals_beside, without_rest, claims_beside, length-set)
 
 -- nor does a call of another category, or one that all have
 pub none_of_totals : (k : Category) (asked : Call) → is_totals k ≡ false → (is_common asked ≡ false → has_call k asked ≡ true) → file_call asked ≡ Nothing
-none_of_totals k asked other has = asks_nothing asked (by (row_of asked).category k other has)
-  where
-    by : (o : Option Category) (k : Category) → is_totals k ≡ false → (is_none o ≡ false → is_category o k ≡ true) → is_category o HardTotals ≡ false
-    by None k other is = refl
-    by (Some HardTotals) HardTotals other is = cc
-    by (Some HardTotals) k other is = absurd (let no = is refl in cc)
-    by (Some c) k other is = refl
+none_of_totals k asked other has = grind arith
 
 -- a call of a category's own that nothing refuses is one of its control's category
 pub own_of : (m : Machine) (n : ℕ) (c : Control) (asked : Call) → is_common asked ≡ false → first_refusal (refusals m n c asked) ≡ None
     → has_call c.category asked ≡ true
-own_of m n c asked own none = unless_not (has_call c.category asked)
-    (none_applies (table n (holder_of m c) c (needs_of c.category asked) (category_rows c.category m n c asked))
-    (ap first_refusal (sym (own_call m n c asked own).rows) ∙ none)).1.0
+own_of m n c asked own none = search (rules, unless_not, none_applies, own_call)
 
 module _ (m m' : Machine) (n : ℕ) (c : Control) (r : Answer) (at : slice_get m.controls n ≡ Some c) where
   -- what leaves the files alone
@@ -316,35 +241,25 @@ module _ (m m' : Machine) (n : ℕ) (c : Control) (r : Answer) (at : slice_get m
       unasked (rw h.1 (control_beside m n _ (λ s. found_seat m.devices c.category (place_of m.devices name) s.kinds)))
   does_leaves Close none has h =
       unasked (rw h.1 (beside_then m _ _ (control_beside m n (closed c) (λ s. tt)) (dropped_beside c.category (with_control m n (closed c)) n c)))
-  does_leaves (Claim timeout) none has h = unasked (rw h.1 (claimed_beside c.category m n c))
+  does_leaves (Claim timeout) none has h = search (rules, unasked, totals_beside, claims_beside, length-set)
   does_leaves Release none has h =
       let after = after_release c.category c in
       unasked (rw h.1 (beside_then m _ _ (control_beside m n after (λ s. released_seat m.devices c.category c (seated m n c s at)))
       (released_beside c.category (with_control m n after) n c)))
-  does_leaves (Set p v) none has h =
-      set_leaves p v (unless_not (takes (kind_of m c) p v) none.1.1.1.1.1.0) h
+  does_leaves (Set p v) none has h = search (rules, set_leaves, unless_not)
   does_leaves (Get p) none has h = unasked (same_beside m m' h.1)
   does_leaves own none has h =
-      own_leaves c.category own (λ s before stands. served_by m.devices c before stands (seated m n c s at)) none.1.1.1.1.1 (has refl) h
-
-  called_leaves : (q : Call) → Called m n c q r m' → StepLeaves (changes_asked m.totals.totals n (file_call q)) m (Answered r) m'
-  called_leaves q h = elim (decided_cases h) [
-    | inl x ↦ does_leaves q (none_applies (refusals m n c q) x.0) (λ own. own_of m n c q own x.0) x.1
-    | inr x ↦ beside_leaves _ m m' (Answered r) (λ some. x.0) (same_beside m m' x.1)
-  ]
+      let served = λ (s : IsSound m) (before : Hardware) (stands : StandsAt m.devices c.device before).
+      served_by m.devices c.category c.cursor.place c.device before stands.kind (seated m n c s at) in
+      own_leaves c.category own served none.1.1.1.1.1 (has refl) h
 
 -- ---- steps
 
 -- each step leaves a sound machine, and the files as its event says
 step_leaves : (old new : Machine) (r : Response) (q : Request) → Step old q r new → StepLeaves (changes_of old q) old r new
-step_leaves old new (Answered result) (CallOf n asked) h = elim (match_cases (slice_get old.controls n) _ _ h) [
-  | inl x ↦ beside_leaves _ old new (Answered result) (λ some. rw x.1.0 tt) (same_beside old new x.1.1)
-  | inr x ↦ called_leaves old new n x.0 result x.1 asked x.2
-]
-step_leaves old new OutOfMemory (CallOf n asked) h = elim (match_cases (slice_get old.controls n) _ _ h) [
-  | inl x ↦ absurd x.1
-  | inr x ↦ beside_leaves _ old new OutOfMemory (λ some. tt) (same_beside old new x.2.2)
-]
+step_leaves old new (Answered result) (CallOf n asked) h =
+    search (rules, match_cases, beside_leaves, same_beside, decided_cases, does_leaves, none_applies, own_of)
+step_leaves old new OutOfMemory (CallOf n asked) h = search (rules, matched, beside_leaves, same_beside)
 step_leaves old new r (CallOf n asked) h = absurd h
 step_leaves old new (Worked result) (WorkOn name) h = beside_leaves [] old new (Worked result) (λ some. absurd (some refl))
     (hardware_beside old new _ _ h (λ place before cs after stands does. works_keep old.devices _ place (Ok result) old.controls before cs after does))
@@ -353,8 +268,8 @@ step_leaves old new (Delivered event) (Deliver n reply) h = beside_leaves [] old
       | inl x ↦ same_beside old new x.1.1
       | inr x ↦ rw x.2.1 (control_beside old n (delivered reply x.0) (λ s. seated old n x.0 s x.1))
     ])
-step_leaves old new r q h = beside_leaves [] old new r (λ some. absurd (some refl))
-    (search (same_beside, made_beside, attached_beside, detached_beside, hardware_beside, takes_keeps))
+step_leaves old new r q h =
+    search (rules, beside_leaves, same_beside, made_beside, attached_beside, detached_beside, hardware_beside, takes_keeps)
 
 pub step_sound : (old new : Machine) (q : Request) (r : Response) → Step old q r new → IsSound old → IsSound new
 step_sound old new q r step = (step_leaves old new r q step).sound
@@ -362,6 +277,4 @@ step_sound old new q r step = (step_leaves old new r q step).sound
 -- where a history fits, it goes on fitting
 pub step_fits : (history : History) (old : Machine) (q : Request) (r : Response) (new : Machine) → Fits history old.totals → Step old q r new
     → Fits (history_with history old q r new) new.totals
-step_fits history old q r new fits step =
-    let told = (step_leaves old new r q step).told fits.is_settled in
-    fits_next history old.totals (event_of old q r new) new.totals fits told.0 told.1
+step_fits history old q r new fits step = search (rules, step_leaves, fits_next)

@@ -1,9 +1,8 @@
 -- A call of the totals' own as a step of the machine.
-use Rattle.pos_counter.proofs.Common.{Answer, AsksNothing, Call, CallOf, CallsFiles, CategoryDoes, Control, Counter, DiskGhosts, Done, Err, FilesCalled, Ghosts}
-use Rattle.pos_counter.proofs.Common.{HardTotals, IsCounterSound, IsDone, IsReady, IsUndone, List, Machine, Mode, NoMemory, Off, Ok, Ready, Refused, Result}
-use Rattle.pos_counter.proofs.Common.{Serves, Set, Some, SparesDisk, SparesFiles, Standing, Step, TotalsPart, TotalsView, TurnsOff, [], answered, ap}
-use Rattle.pos_counter.proofs.Common.{category_rows, changes_asked, controls_of, false, file_call, file_rows, first_refusal, inl, inr, is_common, machine}
-use Rattle.pos_counter.proofs.Common.{part_of, part_with, refl, refusals, slice_get, subst, sym, ℕ, ◌∙◌, ◌≡◌}
+use Rattle.pos_counter.proofs.Common.{Answer, Call, CallOf, CallsFiles, Control, Counter, DiskGhosts, FilesCalled, Ghosts, HardTotals, IsCounterSound, IsDone}
+use Rattle.pos_counter.proofs.Common.{IsReady, IsUndone, List, Machine, Mode, NoMemory, Result, Serves, Some, SparesDisk, SparesFiles, Standing, Step}
+use Rattle.pos_counter.proofs.Common.{TotalsPart, TotalsView, TurnsOff, answered, ap, arith, category_rows, controls_of, false, file_call, file_rows}
+use Rattle.pos_counter.proofs.Common.{first_refusal, inl, inr, is_common, machine, part_of, part_with, refl, refusals, rules, slice_get, ℕ, ◌∙◌, ◌≡◌}
 use Rattle.pos_counter.proofs.Hardware.{IsLet, let_refusals, own_call}
 use Rattle.pos_counter.proofs.Lifts.{decided_step}
 use Rattle.pos_counter.proofs.Serving.{OnlyNow, quiet_serves}
@@ -17,38 +16,19 @@ module _ (m : Machine) (n : ℕ) (c : Control) (asked : Call) (own : is_common a
   -- what the totals do with a call on an enabled control is a step
   called_step : (part : TotalsPart) (outcome : Result Answer NoMemory) → FilesCalled n asked m.totals outcome part
       → Step m (CallOf n asked) (answered outcome) (record m { totals = part })
-  called_step part (Ok result) h =
-      decided_step m (record m { totals = part }) n c asked result _ _ _ found totals_refusals
-      (ap (λ (p : TotalsPart). let o : Machine = record m { totals = p } in o))
-      (λ does. (own_call m n c asked own).does result (record m { totals = part })
-      (subst (λ k. CategoryDoes k m n c asked result (record m { totals = part })) (sym is) (does, refl))) h
-  called_step part (Err want) h = rw found (
-    (own_call m n c asked own).takes h.0,
-    totals_refusals ∙ h.1,
-    ap (λ (p : TotalsPart). let o : Machine = record m { totals = p } in o) h.2,
-  )
+  called_step part outcome h = grind (arith, decided_step, totals_refusals, own_call)
 
   -- behind its control's check, it leaves the disk alone exactly where the totals do
   spares_own : SparesDisk m (CallOf n asked) → SparesFiles m.totals.totals n (file_call asked)
-  spares_own spares = elim (rw found at spares) [
-    | inl refused ↦ inl (rw totals_refusals at refused)
-    | inr asks ↦ inr (by asked own asks)
-  ]
-    where
-      by : (a : Call) → is_common a ≡ false → AsksNothing m.totals n c a → changes_asked m.totals.totals n (file_call a) ≡ []
-      by (Set p v) own asks = cc
-      by a own asks = asks
+  spares_own spares = search (rules, totals_refusals)
 
 -- what isn't answered to be done wasn't done
 not_done : (outcome : Result Answer NoMemory) → IsUndone (answered outcome) → IsDone outcome → ⊥
-not_done (Ok (Done given)) undone done = undone
-not_done (Ok (Refused k x)) undone done = done
-not_done (Err want) undone done = done
+not_done outcome undone done = grind arith
 
 -- a disk that a call has touched in which the totals stay ready
 still_ready : (old new : Mode) → TurnsOff old new → IsReady new → ⊥
-still_ready old Off turns ready = ready
-still_ready old (Ready files sequence) turns ready = turns
+still_ready old new turns ready = grind arith
 
 -- a call of the totals' own that its control may make
 pub files_serve : {D P : Type 0} (bound : DiskGhosts D) (peripherals : Ghosts P) (old : Counter D P) (now : TotalsView D) (n : ℕ) (c : Control)

@@ -32,17 +32,16 @@ impl<D: Disk, P: Peripheral> Counter<D, P> {
         requires sound { IsCounterSound P.Peripheral self.old }
         ensures { Serves D.Disk P.Peripheral self.old (CallOf number call.Close) (Answered result) self.new }
     {
-        let control = &self.controls[number];
-        let device = control.device();
-        if device.is_none() {
+        let control = &mut self.controls[number];
+        let Some(place) = control.device() else {
             return Answer::Refused(Code::Closed, 0);
-        }
+        };
         if is_totals(control) {
             self.totals.drop_control(number);
-            return self.controls[number].close();
+            return control.close();
         }
-        self.claims.release(device, number);
-        self.controls[number].close()
+        self.claims.release(Some(place), number);
+        control.close()
     }
 
     /// `claim` (common chapter).
@@ -102,6 +101,7 @@ fn claim_area<D: Disk>(
     ensures answer { Decided (claim_rows control.now.control (is_area_taken totals.old.totals number) timeout) result
         (totals.new.totals ≡ totals.old.totals)
         ((result ≡ Answer.Done Value.Empty) × (totals.new.totals ≡ record totals.old.totals { area = Some number })) }
+    ensures rest { totals.new.totals ≡ record totals.old.totals { area = totals.new.totals.area } }
     ensures disk { totals.new.disk ≡ totals.old.disk }
 {
     match control.claim(number, totals.area(), timeout) {
@@ -135,6 +135,7 @@ fn release_area<D: Disk>(control: &mut Control, totals: &mut Totals<D>, number: 
         ((result ≡ Answer.Done Value.Empty)
         × (control.new.control ≡ after_release control.old.control.category control.old.control)
         × (totals.new.totals ≡ record totals.old.totals { area = None })) }
+    ensures rest { totals.new.totals ≡ record totals.old.totals { area = totals.new.totals.area } }
     ensures disk { totals.new.disk ≡ totals.old.disk }
 {
     match control.release(number, totals.area()) {

@@ -14,8 +14,8 @@ use crate::responses;
 use pos_common::{Claims, Control};
 use pos_disk::Disk;
 use pos_profile::laws::is_profile;
-use pos_profile::{Profile, Slot};
-use pos_service::{Category, ErrorReply, Event, NoMemory, Peripheral, Request, Response};
+use pos_profile::{Profile, Slot, end_all};
+use pos_service::{Category, Ends, ErrorReply, Event, NoMemory, Peripheral, Request, Response};
 use pos_totals::Totals;
 use std::alloc::Global;
 
@@ -45,6 +45,18 @@ pub struct Ended<D: Disk, P> {
     pub disk: D,
     /// The devices that may have a peripheral, each once, in the profile's order, with what served it, out of service.
     pub entries: Vec<Slot<P>>,
+}
+
+impl<D: Disk, P: Ends> Ended<D, P> {
+    /// Ends what served the devices: the disk.
+    pub fn end(self) -> D
+        requires { Unit {0} }
+        ensures { result ≡ self.disk }
+    {
+        let Ended { disk, entries } = self;
+        end_all(entries);
+        disk
+    }
 }
 
 impl<D: Disk, P: Peripheral> Counter<D, P> {

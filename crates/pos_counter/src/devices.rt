@@ -1,7 +1,7 @@
 //! The devices of a counter, by their names and places.
-ghost use Rattle.std.specs.Prelude.{◌≡◌, [], Some, IfOk, IsSome, length, map};
+ghost use Rattle.std.specs.Prelude.{◌≡◌, [], None, Some, IfOk, IsSome, MatchOption, length, map, slice_get};
 ghost use Rattle.pos_profile.specs.Registries.{devices as registered, devices_of as registered_in, parked};
-ghost use Rattle.pos_service.specs.Hardware.{signs_in};
+ghost use Rattle.pos_service.specs.Hardware.{hardware_of, signs_in};
 ghost use Rattle.pos_counter.specs.Machine.{device_at, found_at, kind_in, place_of, hardware_in};
 ghost use Rattle.pos_counter.specs.KeptDevices.{AreDevicesSound, devices_in, profile_devices, totals_name, totals_place};
 
@@ -55,6 +55,19 @@ impl<P: Peripheral> Devices<P> {
             Some(place) => Some(place),
             None => self.find_totals(name),
         }
+    }
+
+    /// The place of the first device with a name, and what serves it; None where there is none or it is vacant.
+    pub(crate) fn find_served(&self, name: &[u8]) -> Option<(usize, &P)>
+        requires { AreDevicesSound P.Peripheral self.now }
+        ensures { let devices = devices_in P.Peripheral self.now in
+            let at = place_of devices name.now in
+            MatchOption result (hardware_in (device_at devices at) ≡ None) (λ found. (at ≡ Some found.0)
+            × (hardware_in (slice_get devices found.0) ≡ Some (hardware_of (P.Peripheral.state found.1.now)))) }
+    {
+        let place = self.find(name)?;
+        let peripheral = self.registry.peripheral(place)?;
+        Some((place, peripheral))
     }
 
     /// The place of the Hard Totals device, where it has the name.

@@ -1,13 +1,13 @@
 //! The exchange of peripherals: which are attached, and which are detached.
 ghost use Rattle.std.specs.Prelude.{◌≡◌, ℕ, Some, false, true, IfErr, IfOk};
+ghost use Rattle.std.specs.List.{list_any};
 ghost use Rattle.pos_service.specs.Hardware.{hardware_of};
-ghost use Rattle.pos_common.specs.KeptControls.{controls_of};
 ghost use Rattle.pos_profile.specs.Places.{place_of};
 ghost use Rattle.pos_profile.specs.Registries.{devices as registered, names_of};
 ghost use Rattle.pos_counter.specs.KeptDevices.{AreDevicesSound};
 ghost use Rattle.pos_counter.specs.Counters.{IsStepBeside, IsCounterSound};
 ghost use Rattle.pos_counter.specs.Responses.{attached, detached};
-ghost use Rattle.pos_counter.specs.Steps.{Attach, Detach, has_open, is_open_at};
+ghost use Rattle.pos_counter.specs.Steps.{Attach, Detach, has_open};
 
 use crate::counter::Counter;
 use crate::devices::Devices;
@@ -55,7 +55,7 @@ fn is_open<P: Peripheral>(controls: &[Control], devices: &Devices<P>, name: &[u8
     requires { AreDevicesSound P.Peripheral devices.now }
     ensures { (place : ℕ) →
         place_of (names_of (registered P.Peripheral devices.now.registry)) name.now ≡ Some place
-        → result ≡ is_open_at place (controls_of controls.now) }
+        → result ≡ list_any (λ control. has_open place control.control) controls.now }
 {
     match devices.registry.find(name) {
         Some(place) => is_open_at(controls, place),
@@ -65,14 +65,9 @@ fn is_open<P: Peripheral>(controls: &[Control], devices: &Devices<P>, name: &[u8
 
 /// Whether one of the controls has the device at a place open.
 fn is_open_at(controls: &[Control], place: usize) -> bool
-    ensures { result ≡ is_open_at place (controls_of controls.now) }
+    ensures { result ≡ list_any (λ control. has_open place control.control) controls.now }
 {
-    for control in controls {
-        if has_open(control, place) {
-            return true;
-        }
-    }
-    false
+    controls.iter().any(|control| has_open(control, place))
 }
 
 /// Whether the control has the device at a place open.

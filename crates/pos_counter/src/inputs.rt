@@ -25,10 +25,7 @@ impl<D: Disk, P: Peripheral> Counter<D, P> {
         ensures step { IsStepBeside P.Peripheral self.old (InputTo device.now input.now) (taken_in result) self.new }
         ensures sound { IsCounterSound P.Peripheral self.new }
     {
-        let Some(place) = self.devices.find(device) else {
-            return Err(InputFault::NoDevice);
-        };
-        let Some(peripheral) = self.devices.registry.peripheral(place) else {
+        let Some((place, peripheral)) = self.devices.find_served(device) else {
             return Err(InputFault::NoDevice);
         };
         if !input.fits(peripheral.kind()) {
@@ -53,10 +50,7 @@ impl<D: Disk, P: Peripheral> Counter<D, P> {
         requires sound { IsCounterSound P.Peripheral self.now }
         ensures { IsStepBeside P.Peripheral self.now (SnapshotOf device.now) (shown result) self.now }
     {
-        let Some(place) = self.devices.find(device) else {
-            return Err(SnapshotFault::NoDevice);
-        };
-        let Some(peripheral) = self.devices.registry.peripheral(place) else {
+        let Some((_, peripheral)) = self.devices.find_served(device) else {
             return Err(SnapshotFault::NoDevice);
         };
         match peripheral.snapshot() {

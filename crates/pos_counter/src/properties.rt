@@ -4,14 +4,19 @@ ghost use Rattle.pos_service.specs.declared.call.Call.TheVariants as call;
 ghost use Rattle.pos_store.specs.Standing.{Standing};
 ghost use Rattle.pos_counter.specs.Counters.{IsCounterSound, Serves, machine};
 ghost use Rattle.pos_counter.specs.Leaving.{part_with};
+ghost use Rattle.pos_common.specs.KeptControls.{SetsTo};
 ghost use Rattle.pos_service.specs.Claims.{is_own};
-ghost use Rattle.pos_counter.specs.Machine.{holder_in, holder_of};
+ghost use Rattle.pos_service.specs.Hardware.{signs_in};
+ghost use Rattle.pos_service.specs.Properties.{after_set, set_rows, tells_power};
+ghost use Rattle.pos_counter.specs.KeptDevices.{devices_in};
+ghost use Rattle.pos_counter.specs.Machine.{device_at, hardware_in, holder_in, holder_of, kind_in};
 ghost use Rattle.pos_counter.specs.Responses.{answered};
 ghost use Rattle.pos_counter.specs.Steps.{Step, CallOf, facts_of};
 ghost use Rattle.pos_counter.specs.FileCalls.{IsRecovering};
 ghost use Rattle.pos_counter.specs.Totals.{asks_recovery, file_facts};
 
 use crate::counter::Counter;
+use crate::devices::Devices;
 use crate::totals_calls::is_totals;
 use pos_common::{Claims, Control};
 use pos_disk::Disk;
@@ -78,10 +83,7 @@ impl<D: Disk, P: Peripheral> Counter<D, P> {
         }
         let control = &mut self.controls[number];
         let holder = find_holder(control, &self.claims, self.totals.area());
-        let device = control.device();
-        let kind = self.devices.kind_at(device);
-        let signs = self.devices.signs_at(device);
-        control.set(number, holder, kind, signs, property, value)
+        set_control(control, number, holder, &self.devices, property, value)
     }
 
     /// Enables a control of Hard Totals that are off, once they are recovered.
@@ -97,13 +99,13 @@ impl<D: Disk, P: Peripheral> Counter<D, P> {
         ensures { Serves D.Disk P.Peripheral self.old (CallOf number (call.Set property value.now)) (answered result)
             self.new }
     {
-        let control = &self.controls[number];
-        let holder = find_holder(control, &self.claims, self.totals.area());
-        let device = control.device();
-        let kind = self.devices.kind_at(device);
-        let signs = self.devices.signs_at(device);
+        let area = self.totals.area();
+        let holder = find_holder(&self.controls[number], &self.claims, area);
         match self.totals.recover() {
-            Ok(()) => self.controls[number].set(number, holder, kind, signs, property, value),
+            Ok(()) => {
+                let control = &mut self.controls[number];
+                set_control(control, number, holder, &self.devices, property, value)
+            }
             Err(fault) => match fault.code() {
                 Ok(code) => Ok(Answer::Refused(code, 0)),
                 Err(NoMemory) => Err(NoMemory),
@@ -120,6 +122,26 @@ pub(crate) fn find_holder(control: &Control, claims: &Claims, area: Option<usize
         return area;
     }
     claims.holder(control.device())
+}
+
+/// Sets a property of a control, by who holds its device and by what that is and shows.
+fn set_control<P: Peripheral>(
+    control: &mut Control,
+    number: usize,
+    holder: Option<usize>,
+    devices: &Devices<P>,
+    property: Property,
+    value: &Value,
+) -> Result<Answer, NoMemory>
+    ensures { let was = control.old.control in
+        let device = device_at (devices_in P.Peripheral devices.now) was.device in
+        SetsTo (set_rows number holder (kind_in device) was property value.now) (tells_power was property value.now)
+        result control.old control.new (after_set (signs_in (hardware_in device)) was property value.now) }
+{
+    let device = control.device();
+    let kind = devices.kind_at(device);
+    let signs = devices.signs_at(device);
+    control.set(number, holder, kind, signs, property, value)
 }
 
 /// What is known of the files: nothing while the totals are off.

@@ -33,12 +33,9 @@ impl<D: Disk, P: Peripheral> Counter<D, P> {
         ensures step { IsStepBeside P.Peripheral self.old (WorkOn device.now) (worked result) self.new }
         ensures sound { IsCounterSound P.Peripheral self.new }
     {
-        let Some(place) = self.devices.find(device) else {
+        let Some((place, _)) = self.devices.find_served(device) else {
             return Err(WorkFault::NoDevice);
         };
-        if self.devices.registry.peripheral(place).is_none() {
-            return Err(WorkFault::NoDevice);
-        }
         match work_there(&mut self.controls, place, &self.claims, &mut self.devices) {
             Ok(worked) => Ok(worked),
             Err(NoMemory) => Err(WorkFault::NoMemory),

@@ -2,20 +2,13 @@
 ghost use Rattle.std.specs.Prelude.{◌≡◌, false, IfOk};
 ghost use Rattle.pos_counter.specs.Counters.{IsCounterSound};
 
-use pos_counter::{Counter, Ended};
-use pos_disk::{Disk, MemDisk};
-use pos_image::Images;
-use pos_profile::{Profile, Slot};
+use pos_counter::Counter;
+use pos_disk::Disk;
+use pos_profile::Profile;
 use pos_run::{AnswerWriter, ScriptReader, Spares, run};
 use pos_service::{Peripheral, PeripheralBox};
-use std::alloc::{AllocError, Global};
+use std::alloc::Global;
 use std::test::Fail;
-
-/// A disk that is formatted.
-pub fn formatted(alloc: Global) -> Result<MemDisk, AllocError> {
-    let disk = MemDisk::new(alloc, vec![in alloc; 0u8; 327_680]?)?;
-    Images::format(disk).map_err(|_| AllocError)
-}
 
 /// A counter over a disk and the devices of the built profile, each of them vacant.
 pub fn vacant<D: Disk + Drop, P: Peripheral>(alloc: Global, disk: D) -> Result<Counter<D, P>, Fail>
@@ -47,7 +40,7 @@ pub fn told<D: Disk + Drop>(
 ) -> Result<(Vec<u8>, D), Fail> {
     let mut counter = over(alloc, profile, disk)?;
     let text = text_of(alloc, &mut counter, lines);
-    Ok((text, end(counter)))
+    Ok((text, counter.shutdown().end()))
 }
 
 /// Has a peripheral serve a device. One that is refused is ended.
@@ -97,35 +90,4 @@ pub fn text_of<D: Disk>(
     let mut text = Vec::new(alloc);
     run_into(alloc, counter, script, &mut text);
     text
-}
-
-/// Ends devices and their peripherals: how many had one that was out of service.
-pub fn end_all(mut entries: Vec<Slot<PeripheralBox>>) -> usize
-    requires { Unit {0} }
-{
-    let mut parked: usize = 0;
-    while let Some(entry) = entries.pop() {
-        let Slot {
-            name: _,
-            kind: _,
-            peripheral,
-        } = entry;
-        if let Some(peripheral) = peripheral {
-            if peripheral.is_parked() {
-                parked = parked.saturating_add(1);
-            }
-            peripheral.end();
-        }
-    }
-    entries.destroy_empty();
-    parked
-}
-
-/// Ends a counter: its disk.
-pub fn end<D: Disk>(counter: Counter<D, PeripheralBox>) -> D
-    requires { IsCounterSound ⟦<PeripheralBox as Peripheral>⟧ counter }
-{
-    let Ended { disk, entries } = counter.shutdown();
-    end_all(entries);
-    disk
 }

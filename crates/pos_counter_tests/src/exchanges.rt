@@ -2,11 +2,12 @@
 ghost use Rattle.std.specs.Prelude.{◌≡◌, false};
 ghost use Rattle.pos_counter.specs.Counters.{IsCounterSound};
 
-use crate::counters::{end_all, formatted, serve, vacant};
+use crate::counters::{serve, vacant};
 use crate::drivers::Wanting;
 use pos_counter::{Counter, Ended};
 use pos_disk::Disk;
-use pos_profile::Slot;
+use pos_image::new_disk;
+use pos_profile::{Slot, end_all};
 use pos_service::{AttachFault, DetachFault, Peripheral, PeripheralBox};
 use pos_sims::{PlainDrawer, PlainScanner};
 use std::test::Fail;
@@ -45,25 +46,25 @@ fn detach<D: Disk>(
     }
 }
 
-/// Whether the peripheral of the device at a place is mute, if there is one.
-fn is_mute(entries: &[Slot<PeripheralBox>], place: usize) -> Option<bool> {
+/// Whether the peripheral of the device at a place is mute, and whether it is out of service, if there is one.
+fn found_at(entries: &[Slot<PeripheralBox>], place: usize) -> Option<(bool, bool)> {
     let peripheral = entries.get(place)?.peripheral.as_ref()?;
-    Some(peripheral.snapshot().is_err())
+    Some((peripheral.snapshot().is_err(), peripheral.is_parked()))
 }
 
 #[test]
 fn each_is_handed_back(rt: HostRuntime) -> Result<(), Fail> {
     let drawer = Box::new(rt.alloc(), Wanting::new(PlainDrawer::new(), true))?;
     let scanner = Box::new(rt.alloc(), Wanting::new(PlainScanner::new(), true))?;
-    let mut counter = vacant(rt.alloc(), formatted(rt.alloc())?)?;
+    let mut counter = vacant(rt.alloc(), new_disk(rt.alloc())?)?;
     let refused = offer(&mut counter, b"s1", PeripheralBox::new(drawer));
     serve(&mut counter, b"s1", PeripheralBox::new(scanner));
     let (first, second) = (detach(&mut counter, b"s1"), detach(&mut counter, b"s1"));
     let Ended { disk, entries } = counter.shutdown();
-    let found = (is_mute(&entries, 0), is_mute(&entries, 1));
-    assert_eq!(rt; end_all(entries), 1);
+    let found = (found_at(&entries, 0), found_at(&entries, 1));
+    end_all(entries);
     assert!(rt; refused == Some((AttachFault::KindDiffers, true)));
     assert!(rt; first == Ok(true) && second == Err(DetachFault::Vacant));
-    assert!(rt; found == (Some(true), None) && disk.len() == 327_680);
+    assert!(rt; found == (Some((true, true)), None) && disk.len() == 327_680);
     Ok(())
 }

@@ -4,12 +4,12 @@ ghost use Rattle.std.specs.Prelude.{IfOk, All};
 ghost use Rattle.pos_counter.specs.Counters.{IsCounterSound};
 ghost use Rattle.pos_counter.specs.Responses.{OffersInService};
 
-use crate::counters::formatted;
 use pos_counter::{Counter, Ended};
 use pos_disk::{Disk, MemDisk};
+use pos_image::new_disk;
 use pos_profile::{Profile, Slot};
 use pos_service::{
-    Answer, Bytes, Call, Category, ErrorReply, Name, NoMemory, Peripheral, Property, Request,
+    Answer, Bytes, Call, Category, ErrorReply, LentBytes, NoMemory, Peripheral, Property, Request,
     Response, Value,
 };
 use pos_sims::PlainDrawer;
@@ -65,17 +65,17 @@ fn requests<'a>(alloc: Global) -> Result<Requests<'a>, NoMemory>
         Request::CallOf(0, Call::Open(totals)),
         enable(0),
         enable(0),
-        Request::Attach(Name::new(b"d1"), peripheral),
+        Request::Attach(LentBytes::from_slice(b"d1"), peripheral),
         Request::CallOf(2, Call::Open(drawer)),
         notify(2),
         enable(2),
         enable(2),
         Request::CallOf(2, Call::OpenDrawer),
         Request::CallOf(2, Call::OpenDrawer),
-        Request::Snapshot(Name::new(b"d1")),
+        Request::Snapshot(LentBytes::from_slice(b"d1")),
         Request::Deliver(2, ErrorReply::Default),
         Request::CallOf(2, Call::Close),
-        Request::Detach(Name::new(b"d1")),
+        Request::Detach(LentBytes::from_slice(b"d1")),
     ];
     match listed {
         Ok(listed) => Ok(listed),
@@ -159,7 +159,7 @@ fn end_drawers(mut entries: Vec<Slot<PlainDrawer>>) {
 #[test]
 fn requests_are_performed(rt: HostRuntime) -> Result<(), Fail> {
     let profile = Profile::built(rt.alloc())?;
-    let Ok(mut counter) = made(rt.alloc(), &profile, formatted(rt.alloc())?) else {
+    let Ok(mut counter) = made(rt.alloc(), &profile, new_disk(rt.alloc())?) else {
         return Err(Fail::new("no memory for a counter"));
     };
     let outcome = match requests(rt.alloc()) {

@@ -1,8 +1,9 @@
 //! A move to layout 2 is stopped at each of its disk calls. After each crash then a new counter finds the same files,
 //! by one layout or the other, and the disk can be moved.
-use crate::counters::{formatted, told};
+use crate::counters::told;
 use crate::torn::Loose;
 use pos_disk::{Fill, FuseDisk, MemDisk};
+use pos_image::new_disk;
 use pos_profile::Profile;
 use pos_program::migrate_disk;
 use pos_store::StoreFault;
@@ -23,7 +24,7 @@ const BY_LAYOUT_2: &[u8] = b"ok\nok\nok\nok 65536\nok 01020304\nok 00000000\nok 
 /// A disk of layout 1 with two files.
 fn with_files(alloc: Global) -> Result<MemDisk, Fail> {
     let profile = Profile::built(alloc)?;
-    Ok(told(alloc, &profile, formatted(alloc)?, LINES)?.1)
+    Ok(told(alloc, &profile, new_disk(alloc)?, LINES)?.1)
 }
 
 /// What a new counter finds.

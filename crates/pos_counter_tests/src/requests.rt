@@ -1,11 +1,14 @@
 //! Each kind of request over drivers that find no memory for each other order or input: it is refused, and done when
 //! it is made once more.
 
-use crate::counters::{end, formatted, serve, text_of, vacant};
+use crate::counters::{serve, text_of, vacant};
 use crate::drivers::Wanting;
 use pos_counter::{ControlFault, InputFault, SnapshotFault, WorkFault};
+use pos_disk::MemDisk;
+use pos_image::new_disk;
 use pos_service::PeripheralBox;
 use pos_sims::{PlainDisplay, PlainDrawer, PlainScanner, RollPrinter};
+use std::alloc::{AllocError, Global};
 use std::test::Fail;
 
 /// A drawer, a scanner, a display and a printer, each with its calls, and then the calls of Hard Totals.
@@ -47,6 +50,11 @@ const TEXT: &[u8] =
     ok\nok\nok\nok 1\nok 1 4\nok 41\nok\nok\nok 07070707\nok\nok\nok\nok\nok\nok\nok true\nok\nok\nok\nok 09090909\n\
     ok 8188\nok 8192\nok 1\nok\nerr 109\nbad device\n";
 
+/// A disk with no files. What is proved of it isn't wanted here, where devices alone are.
+fn formatted(alloc: Global) -> Result<MemDisk, AllocError> {
+    new_disk(alloc)
+}
+
 #[test]
 fn each_kind_of_request_is_refused_without_memory(rt: HostRuntime) -> Result<(), Fail> {
     let alloc = rt.alloc();
@@ -60,7 +68,7 @@ fn each_kind_of_request_is_refused_without_memory(rt: HostRuntime) -> Result<(),
     serve(&mut counter, b"p1", PeripheralBox::new(display));
     serve(&mut counter, b"r1", PeripheralBox::new(printer));
     let text = text_of(alloc, &mut counter, SCRIPT);
-    end(counter);
+    counter.shutdown().end();
     assert_eq!(rt; text.as_slice(), TEXT);
     Ok(())
 }

@@ -1,9 +1,10 @@
 //! Each call that reaches the disk is stopped at each of its disk calls. Then the totals are off and the disk is left
 //! alone; crashes leave the files before the call or after the whole of it; and enabling finds which.
-use crate::counters::{formatted, told};
+use crate::counters::told;
 use crate::rows::{CHANGES, ENABLING};
 use crate::stopped_call::{Counts, StoppedCall};
 use pos_disk::MemDisk;
+use pos_image::new_disk;
 use pos_profile::Profile;
 use std::alloc::Global;
 use std::test::Fail;
@@ -13,7 +14,7 @@ fn with_room(alloc: Global) -> Result<MemDisk, Fail> {
     let lines = b"new t HardTotals\nopen t t1\nset t DeviceEnabled true\ncall t create 41 4 false\n\
         call t create 42 4 false\ncall t write 1 0 01020304\n";
     let profile = Profile::built(alloc)?;
-    Ok(told(alloc, &profile, formatted(alloc)?, lines)?.1)
+    Ok(told(alloc, &profile, new_disk(alloc)?, lines)?.1)
 }
 
 /// Lines that fill a log with records of another file, which has this handle and is deleted in the end. The last write
@@ -55,26 +56,26 @@ fn an_enabling_is_stopped(rt: HostRuntime) -> Result<(), Fail> {
     Ok(())
 }
 
-#[test]
-fn a_change_by_a_record_is_stopped(rt: HostRuntime) -> Result<(), Fail> {
-    let alloc = rt.alloc();
+/// Stops each change at each of its disk calls, over a disk whose log has room or hasn't.
+fn stop_changes(alloc: Global, has_room: bool) -> Result<Counts, Fail> {
     let mut counts = Counts::new();
     for row in CHANGES {
-        StoppedCall::new(alloc, with_room(alloc)?, row)?.stop_at_each(&mut counts)?;
+        let disk = if has_room {
+            with_room(alloc)?
+        } else {
+            without_room(alloc)?
+        };
+        StoppedCall::new(alloc, disk, row)?.stop_at_each(&mut counts)?;
     }
-    println!(rt; "a change by a record: {counts}")?;
-    assert_eq!(rt; counts.stops, 120);
-    Ok(())
+    Ok(counts)
 }
 
 #[test]
-fn a_change_by_an_image_is_stopped(rt: HostRuntime) -> Result<(), Fail> {
-    let alloc = rt.alloc();
-    let mut counts = Counts::new();
-    for row in CHANGES {
-        StoppedCall::new(alloc, without_room(alloc)?, row)?.stop_at_each(&mut counts)?;
+fn a_change_is_stopped(rt: HostRuntime) -> Result<(), Fail> {
+    for (by, has_room, stops) in [("a record", true, 120), ("an image", false, 240)] {
+        let counts = stop_changes(rt.alloc(), has_room)?;
+        println!(rt; "a change by {by}: {counts}")?;
+        assert_eq!(rt; counts.stops, stops);
     }
-    println!(rt; "a change by an image: {counts}")?;
-    assert_eq!(rt; counts.stops, 240);
     Ok(())
 }

@@ -2,16 +2,19 @@ use crate::steps::{Step, played};
 use pos_service::display_text::DisplayCell;
 use pos_service::receipt_text::{Alignment, Mark, PrintedCharacter};
 use pos_service::{
-    Bytes, Call, Category, Code, Event, Form, Input, Locus, NoMemory, Plant, Property, Snapshot,
-    Value,
+    Bytes, Call, Code, Event, Form, Input, Locus, NoMemory, Property, Snapshot, Value,
 };
 use pos_sims::{PlainDisplay, PlainDrawer, PlainScanner, RollPrinter};
 use std::alloc::Global;
 use std::test::Fail;
 
-/// Whether a peripheral is on.
-fn is_on(shown: &Snapshot) -> bool {
-    shown.0.powered
+/// What a peripheral that is on is by its kind.
+fn form_of(shown: &Snapshot) -> Option<&Form> {
+    if shown.0.powered {
+        Some(&shown.0.form)
+    } else {
+        None
+    }
 }
 
 #[test]
@@ -24,14 +27,8 @@ fn a_drawer_opens_and_is_shut(rt: HostRuntime) -> Result<(), Fail> {
     ];
     let (opened, shut) = (Event::StatusUpdate(1), Event::StatusUpdate(0));
     let events = [opened, shut, opened];
-    let shown = played(
-        rt.alloc(),
-        Category::CashDrawer,
-        &mut drawer,
-        &steps,
-        &events,
-    )?;
-    assert!(rt; is_on(&shown) && matches!(shown.0.form, Form::Drawer(true)));
+    let shown = played(rt.alloc(), &mut drawer, &steps, &events)?;
+    assert!(rt; matches!(form_of(&shown), Some(Form::Drawer(true))));
     Ok(())
 }
 
@@ -51,14 +48,8 @@ fn a_control_is_told_of_its_devices_power(rt: HostRuntime) -> Result<(), Fail> {
     ];
     let (on, off) = (Event::StatusUpdate(2001), Event::StatusUpdate(2004));
     let events = [on, off, on, Event::StatusUpdate(1)];
-    let shown = played(
-        rt.alloc(),
-        Category::CashDrawer,
-        &mut drawer,
-        &steps,
-        &events,
-    )?;
-    assert!(rt; is_on(&shown) && matches!(shown.0.form, Form::Drawer(true)));
+    let shown = played(rt.alloc(), &mut drawer, &steps, &events)?;
+    assert!(rt; matches!(form_of(&shown), Some(Form::Drawer(true))));
     Ok(())
 }
 
@@ -81,8 +72,8 @@ fn a_scan_and_a_fault_reach_the_control(rt: HostRuntime) -> Result<(), Fail> {
         Event::Error(Code::Failure, 0, Locus::InputData),
         Event::Data,
     ];
-    let shown = played(rt.alloc(), Category::Scanner, &mut scanner, &steps, &events)?;
-    assert!(rt; is_on(&shown) && matches!(shown.0.form, Form::Scanner));
+    let shown = played(rt.alloc(), &mut scanner, &steps, &events)?;
+    assert!(rt; matches!(form_of(&shown), Some(Form::Scanner)));
     Ok(())
 }
 
@@ -101,13 +92,7 @@ fn display_steps(alloc: Global) -> Result<[Step; 4], NoMemory> {
 
 /// Whether a display shows these characters, row by row.
 fn has_characters(display: &Snapshot, characters: &[u8]) -> bool {
-    let Snapshot(
-        Plant {
-            powered: true,
-            form: Form::Display(cells),
-        },
-    ) = display
-    else {
+    let Some(Form::Display(cells)) = form_of(display) else {
         return false;
     };
     let shown = cells.as_slice().iter();
@@ -120,7 +105,7 @@ fn has_characters(display: &Snapshot, characters: &[u8]) -> bool {
 fn a_display_shows_what_is_asked(rt: HostRuntime) -> Result<(), Fail> {
     let steps = display_steps(rt.alloc())?;
     let mut display = PlainDisplay::new(rt.alloc(), 2, 4)?;
-    let shown = played(rt.alloc(), Category::LineDisplay, &mut display, &steps, &[])?;
+    let shown = played(rt.alloc(), &mut display, &steps, &[])?;
     assert!(rt; has_characters(&shown, b" EJG I  "));
     Ok(())
 }
@@ -143,13 +128,7 @@ fn printer_steps(alloc: Global) -> Result<[Step; 8], NoMemory> {
 
 /// Whether a printer has printed these lines, cuts and characters.
 fn has_printed(printer: &Snapshot, marks: &[Mark], bytes: &[u8]) -> bool {
-    let Snapshot(
-        Plant {
-            powered: true,
-            form: Form::Printer(receipt),
-        },
-    ) = printer
-    else {
+    let Some(Form::Printer(receipt)) = form_of(printer) else {
         return false;
     };
     let (told, characters) = receipt.printed();
@@ -172,13 +151,7 @@ const EVENTS: [Event; 6] = [
 fn a_printer_prints_what_is_asked_and_queued(rt: HostRuntime) -> Result<(), Fail> {
     let steps = printer_steps(rt.alloc())?;
     let mut printer = RollPrinter::new(rt.alloc(), 8, 5, 2);
-    let shown = played(
-        rt.alloc(),
-        Category::PosPrinter,
-        &mut printer,
-        &steps,
-        &EVENTS,
-    )?;
+    let shown = played(rt.alloc(), &mut printer, &steps, &EVENTS)?;
     let (full, centred) = (
         Mark::Line(Alignment::Left, 8),
         Mark::Line(Alignment::Center, 1),

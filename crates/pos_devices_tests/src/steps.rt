@@ -50,16 +50,25 @@ pub fn control(alloc: Global, category: Category) -> Control {
     control
 }
 
+/// The category whose controls open a device of this kind.
+fn category_of(kind: Kind) -> Category {
+    match kind {
+        Kind::Drawer => Category::CashDrawer,
+        Kind::Scanner => Category::Scanner,
+        Kind::Display { .. } => Category::LineDisplay,
+        Kind::Printer { .. } => Category::PosPrinter,
+    }
+}
+
 /// What a peripheral is after these steps. It fails where one of them isn't done, or where the control delivers other
 /// events than these.
 pub fn played<P: Peripheral>(
     alloc: Global,
-    category: Category,
     device: &mut P,
     steps: &[Step],
     events: &[Event],
 ) -> Result<Snapshot, Fail> {
-    let mut controls = [control(alloc, category)];
+    let mut controls = [control(alloc, category_of(device.kind()))];
     if let Some(number) = first_wrong(alloc, &mut controls, device, steps)? {
         return Err(Fail::new(format_args!("step {number} is not done")));
     }

@@ -1,8 +1,6 @@
 use crate::steps::{Step, played};
 use pos_service::display_text::{Attribute, Direction};
-use pos_service::{
-    Bytes, Call, Category, Event, Form, Input, NoMemory, Order, Peripheral, Reply, Snapshot,
-};
+use pos_service::{Bytes, Call, Event, Form, Input, NoMemory, Order, Peripheral, Reply, Snapshot};
 use pos_sims::{Flaky, PlainDisplay, PlainDrawer, Recorder, RingDisplay, RollPrinter};
 use std::alloc::Global;
 use std::test::Fail;
@@ -36,13 +34,7 @@ fn a_failed_order_is_counted_and_done_when_it_comes_again(rt: HostRuntime) -> Re
         Step::Fed(Input::DrawerMoved(false)),
     ];
     let events = [Event::StatusUpdate(1), Event::StatusUpdate(0)];
-    let shown = played(
-        rt.alloc(),
-        Category::CashDrawer,
-        &mut drawer,
-        &steps,
-        &events,
-    )?;
+    let shown = played(rt.alloc(), &mut drawer, &steps, &events)?;
     assert!(rt; matches!(shown.0.form, Form::Drawer(false)));
     assert_eq!(rt; drawer.asks(), 2);
     Ok(())
@@ -68,14 +60,14 @@ fn calls_with_nothing_to_do_order_too(rt: HostRuntime) -> Result<(), Fail> {
         Step::Asked(Call::DisplayText(empty, 0)),
         Step::Asked(Call::ScrollText(1, 0)),
     ];
-    played(rt.alloc(), Category::LineDisplay, &mut display, &steps, &[])?;
+    played(rt.alloc(), &mut display, &steps, &[])?;
     assert_eq!(rt; display.asks(), 2);
     let mut printer = Recorder::new(RollPrinter::new(rt.alloc(), 8, 5, 2));
     let steps = [
         Step::Asked(Call::CutPaper(0)),
         Step::Asked(Call::ClearOutput),
     ];
-    played(rt.alloc(), Category::PosPrinter, &mut printer, &steps, &[])?;
+    played(rt.alloc(), &mut printer, &steps, &[])?;
     assert_eq!(rt; printer.asks(), 0);
     Ok(())
 }

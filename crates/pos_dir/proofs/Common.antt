@@ -3,7 +3,7 @@ pub use Rattle.std.proofs.Common.{Bool, Err, List, None, Ok, Option, Result, Som
 pub use Rattle.std.proofs.Common.{leb, length, length-append, length-drop, lit<, ltb, map, not, refl, rules, set, subst, suc, sym, take, true, vec_capacity}
 pub use Rattle.std.proofs.Common.{vec_len, zero, ℕ, ◌&&◌, ◌*◌, ◌++◌, ◌+◌, ◌-◌, ◌<◌, ◌^◌, ◌||◌, ◌∙◌, ◌∷◌, ◌≡◌, ◌≤◌}
 pub use Rattle.std.proofs.Math.Seq.{drop-nil, take-nil}
-pub use Rattle.std.proofs.lemmas.Bool.{and_parts, cases_lt, eqb-false, le-ltb, leb-true, ltb-false}
+pub use Rattle.std.proofs.lemmas.Bool.{and_parts, cases_lt, eqb-false, le-ltb, leb-true}
 pub use Rattle.std.proofs.lemmas.Bool.Decides.{nat_tests}
 pub use Rattle.std.proofs.lemmas.List.{append-nil, at_drop_more, drop-map, drop_at, get_or-append-add, get_or-drop, get_or-take, get_or_past, length-map}
 pub use Rattle.std.proofs.lemmas.List.{length-replicate, length-set, length-take, map-append, map-set, map_push, nil_from_length, take-append-drop, take-map}
@@ -24,7 +24,7 @@ pub use Rattle.pos_dir.specs.Changes.{IsChange, IsGroup, and_then, fault_of, fla
 pub use Rattle.pos_dir.specs.Fields.{byte_at, name_spelling, number_at, part_at, text_spelling, ◌>>=◌}
 unfoldable pub use Rattle.pos_dir.specs.Fields.{name_at, text_at}
 pub use Rattle.pos_dir.specs.Files.{AreWritable, DirectoryView, IsDirectory, are_distinct, has_name, is_name, total_size}
-pub use Rattle.pos_dir.specs.Outlines.{Agrees, AreOutlines, Checks, Shape, answer_by_size, is_named, shape_of, shape_of_file, size_in}
+pub use Rattle.pos_dir.specs.Outlines.{Agrees, AreOutlines, Shape, answer_by_size, is_named, shape_of, shape_of_file, size_in}
 pub use Rattle.pos_dir.specs.Reading.{end_within, is_end, is_sound}
 unfoldable pub use Rattle.pos_dir.specs.Reading.{directory_at, file_at, group_at, items_at}
 pub use Rattle.pos_dir.specs.Spelling.{body_limit, change_limit, file_spelling, group_spelling, spelling}

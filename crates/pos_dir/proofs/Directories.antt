@@ -1,7 +1,7 @@
 -- A directory that is read is the one that was spelled.
 use Rattle.pos_dir.proofs.Common.{AllByRecursion, AreWritable, File, IsDirectory, Limits, List, None, Some, [], and_parts, ap, arith, body_limit, directory_at}
 use Rattle.pos_dir.proofs.Common.{file_at, file_spelling, flat_map, is_end, is_name, is_sound, length, length-append, list_all, lit<, name_spelling, nat_tests}
-use Rattle.pos_dir.proofs.Common.{refl, spelling, sum_by-cons, text_spelling, to_be_bytes, total_size, true, w32, ℕ, ◌&&◌, ◌*◌, ◌+◌, ◌<◌, ◌^◌, ◌∷◌, ◌≡◌, ◌≤◌}
+use Rattle.pos_dir.proofs.Common.{refl, spelling, sum_by-cons, text_spelling, total_size, true, ℕ, ◌&&◌, ◌*◌, ◌+◌, ◌<◌, ◌^◌, ◌∷◌, ◌≡◌, ◌≤◌}
 use Rattle.pos_dir.specs.declared.limits.TheConstants.{LAYOUT_1, LAYOUT_2}
 use Rattle.pos_dir.proofs.Items.{counted_again, counted_take}
 use Rattle.pos_dir.proofs.Readers.{IsBytes, IsReader, both_again, both_take, name_reads, text_reads}
@@ -32,8 +32,8 @@ are_files : (files : List File) (limit : ℕ) → limit < 2 ^ 32 → total_size 
 are_files [] limit low small named = tt
 are_files (file ∷ files) limit low small named =
     let sum = sum_by-cons (λ (x : File). length x.bytes) file files in
-    let parts = and_parts (is_name file.name) (list_all (λ x. is_name x.name) files) named in
-    ((parts.0, omega (arith, sum, small, low)), are_files files limit low (omega (arith, sum, small)) parts.1)
+    let others : list_all (λ x. is_name x.name) files ≡ true = grind (arith, nat_tests) in
+    ((grind (arith, nat_tests), omega (arith, sum, small, low)), are_files files limit low (omega (arith, sum, small)) others)
 
 -- What is read as a directory is one, and is spelled so.
 pub directory_takes : (limits : Limits) (bytes : List ℕ) (files : List File) → IsBytes bytes → directory_at limits bytes ≡ Some files
@@ -61,19 +61,15 @@ one_spelling limits files others writable h g same =
 
 -- ---- how long a spelling is
 
-good_length : (name : List ℕ) → is_name name ≡ true → length name ≤ 10
-good_length name good = grind (arith, nat_tests)
-
 length_files : (files : List File) → list_all (λ file. is_name file.name) files ≡ true
     → length (flat_map file_spelling files) ≤ 15 * length files + total_size files
 length_files [] named = omega arith
 length_files (file ∷ files) named =
     let sum = sum_by-cons (λ (x : File). length x.bytes) file files in
     let parts = and_parts (is_name file.name) (list_all (λ x. is_name x.name) files) named in
-    let short = good_length file.name parts.0 in
+    let short : length file.name ≤ 10 = grind (arith, nat_tests, parts.0) in
     let one = length-append (name_spelling file.name) (text_spelling file.bytes) in
-    let text = length-append (to_be_bytes w32 (length file.bytes)) file.bytes in
-    omega (arith, length-append (file_spelling file) (flat_map file_spelling files), one, text, short, sum, length_files files parts.1)
+    omega (arith, length-append (file_spelling file) (flat_map file_spelling files), one, short, sum, length_files files parts.1)
 
 -- the spelling of a directory is no longer than a body may be
 pub length-spelling : (limits : Limits) (files : List File) → IsDirectory limits files → length (spelling files) ≤ body_limit limits

@@ -1,8 +1,7 @@
 -- A group that is read is the one that was spelled.
-use Rattle.pos_dir.proofs.Common.{Change, IsChange, IsGroup, List, None, Some, [], ap, append_assoc, arith, change_at}
-use Rattle.pos_dir.proofs.Common.{change_spelling, fields_at, group_at, group_spelling, is_end, leb-true, length, nat_le, nat_tests, refl}
-use Rattle.pos_dir.proofs.Common.{subst, suc, text_spelling, to_be_bytes, true, w16, w32, write_limit, ℕ, ◌++◌, ◌<◌, ◌^◌, ◌∙◌}
-use Rattle.pos_dir.proofs.Common.{◌∷◌, ◌≡◌}
+use Rattle.pos_dir.proofs.Common.{Change, IsChange, IsGroup, List, None, Some, [], ap, append_assoc, arith, change_at, change_spelling, fields_at, group_at}
+use Rattle.pos_dir.proofs.Common.{group_spelling, is_end, leb-true, length, nat_le, nat_tests, refl, subst, suc, text_spelling, to_be_bytes, true, w16, w32}
+use Rattle.pos_dir.proofs.Common.{write_limit, ℕ, ◌++◌, ◌<◌, ◌^◌, ◌∙◌, ◌∷◌, ◌≡◌}
 use Rattle.pos_dir.proofs.Items.{counted_again, counted_take}
 use Rattle.pos_dir.proofs.Readers.{IsBytes, IsReader, both_again, both_take, byte_reads, name_reads, passed, some_is, step, text_reads, u16_reads, u32_reads}
 use Rattle.pos_dir.specs.declared.change.Change.TheVariants.{Create, Delete, Rename, SetAll, Write}

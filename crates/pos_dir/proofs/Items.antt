@@ -77,24 +77,14 @@ pub length_items : {A : Type 0} (read : List ℕ → Option (A × List ℕ)) (co
     → items_at read count bytes ≡ Some x → length x.0 ≡ count
 unfolding items_at
 length_items read zero bytes x e = grind arith
-length_items read (suc count) bytes x e =
-    let a = bind_some (read bytes) _ x e in
-    let b = bind_some (items_at read count a.0.1) _ x a.2 in
-    grind (arith, b.2, length_items read count a.0.1 b.0 b.1)
+length_items read (suc count) bytes x e = grind (arith, length_items read count)
 
 -- one more item behind those that were read
 pub items_push : {A : Type 0} (read : List ℕ → Option (A × List ℕ)) (count : ℕ) (bytes : List ℕ) (xs : List A) (rest : List ℕ) (x : A) (after : List ℕ)
     → items_at read count bytes ≡ Some (xs, rest) → read rest ≡ Some (x, after) → items_at read (suc count) bytes ≡ Some (xs ++ x ∷ [], after)
 unfolding items_at
-items_push read zero bytes xs rest x after e more =
-    let none : [] ≡ xs = grind arith in
-    let same : bytes ≡ rest = grind arith in
-    rw (same, ← none, more) refl
-items_push read (suc count) bytes xs rest x after e more =
-    let a = bind_some (read bytes) _ (xs, rest) e in
-    let b = bind_some (items_at read count a.0.1) _ (xs, rest) a.2 in
-    let next = items_push read count a.0.1 b.0.0 b.0.1 x after b.1 (grind (arith, b.2)) in
-    grind (arith, a.1, b.2, next)
+items_push read zero bytes xs rest x after e more = grind arith
+items_push read (suc count) bytes xs rest x after e more = grind (arith, items_push read count)
 
 -- where the bytes behind items are told, some items were read
 pub some_read : {A : Type 0} (read : Option (List A × List ℕ)) (end : List ℕ) → Some end ≡ option_map (λ x. x.1) read
@@ -120,13 +110,18 @@ no_more read count i bytes le =
     rw k refl
 
 -- an item that was read first is the last of those in front
-pub front-first : {A : Type 0} (front : List A) (x : A) (read : Option (List A × List ℕ))
+pub front_first : {A : Type 0} (front : List A) (x : A) (read : Option (List A × List ℕ))
     → with_front front (with_first x read) ≡ with_front (front ++ x ∷ []) read
-front-first front x None = refl
-front-first {A = A} front x (Some others) = ap (λ (xs : List A). Some (xs, others.1)) (simp append_assoc)
+front_first front x None = refl
+front_first {A = A} front x (Some others) = ap (λ (xs : List A). Some (xs, others.1)) (simp append_assoc)
 
 -- a file takes room from those behind it
 pub end_first : (room : ℕ) (file : File) (read : Option (List File × List ℕ))
     → end_within room (with_first file read) ≡ cond (leb (length file.bytes) room) (end_within (room - length file.bytes) read) None
 end_first room file None = grind (arith, nat_tests)
 end_first room file (Some x) = grind (arith, nat_tests, sum_by-cons (λ (f : File). length f.bytes) file x.0)
+
+-- what the loops over a count go by
+pub ruleset counting = (items_next, no_more, length_items, end_first, nat_tests)
+
+pub ruleset collecting = (items_next, no_more, front_first, append-nil)

@@ -1,11 +1,9 @@
 -- A change that is applicable leaves the files of a directory.
 use Rattle.pos_dir.proofs.Common.{AllByRecursion, Bool, Change, DirectoryFault, Err, File, IsChange, IsDirectory, Limits, List, Ok, Result, Shape, Some, []}
-use Rattle.pos_dir.proofs.Common.{and_then, ap, are_distinct, arith, at_drop_more, bytes_eq, drop, drop-nil, false, get_or, get_or_from_slice_get, has_name}
-use Rattle.pos_dir.proofs.Common.{is_name, length, length-append, length-set, list_all, nat_tests, not, outcome, outcome_of_all, refl, remove, set, slice_get}
-use Rattle.pos_dir.proofs.Common.{slice_get_within, suc, sum_by-remove, sum_by-set, sum_by_push, sym, take-nil, total_size, true, zero, ℕ, ◌++◌, ◌+◌, ◌<◌, ◌∙◌}
-use Rattle.pos_dir.proofs.Common.{◌∷◌, ◌≡◌, ◌≤◌}
+use Rattle.pos_dir.proofs.Common.{and_then, ap, are_distinct, arith, bytes_eq, drop-nil, false, get_or_from_slice_get, has_name, is_name, length, length-append}
+use Rattle.pos_dir.proofs.Common.{length-set, list_all, nat_tests, not, outcome, outcome_of_all, refl, remove, set, slice_get, slice_get_within, suc}
+use Rattle.pos_dir.proofs.Common.{sum_by-remove, sum_by-set, sum_by_push, take-nil, total_size, true, zero, ℕ, ◌++◌, ◌∙◌, ◌∷◌, ◌≡◌, ◌≤◌}
 use Rattle.std.proofs.lemmas.List.Edits.{length-remove}
-use Rattle.std.proofs.lemmas.List.Elements.{All-from_recursion}
 use Rattle.std.proofs.lemmas.List.Folds.{list_all-append, list_any-append}
 use Rattle.std.proofs.lemmas.Slice.Eq.{bytes_eq-Decides}
 use Rattle.pos_dir.proofs.Outcomes.{Makes, makes}
@@ -48,15 +46,7 @@ are_distinct-remove : (files : List File) (i : ℕ) → are_distinct files ≡ t
 are_distinct-remove [] i distinct = simp (take-nil, drop-nil)
 are_distinct-remove (f ∷ files) zero distinct = grind (arith, nat_tests)
 are_distinct-remove (f ∷ files) (suc i) distinct =
-    grind (
-      arith,
-      nat_tests,
-      free files f.name,
-      free (remove files i) f.name,
-      list_all-remove
-          (λ x. not (bytes_eq x.name f.name)) files i,
-      are_distinct-remove files i,
-    )
+    grind (arith, nat_tests, free, list_all-remove (λ x. not (bytes_eq x.name f.name)) files i, are_distinct-remove files i)
 
 -- a file with a new name
 are_distinct-set : (files : List File) (i : ℕ) (file : File) → are_distinct files ≡ true → has_name files file.name ≡ false
@@ -64,16 +54,7 @@ are_distinct-set : (files : List File) (i : ℕ) (file : File) → are_distinct 
 are_distinct-set [] i file distinct new = refl
 are_distinct-set (f ∷ files) zero file distinct new = grind (arith, nat_tests)
 are_distinct-set (f ∷ files) (suc i) file distinct new =
-    grind (
-      arith,
-      nat_tests,
-      free files f.name,
-      free (set files i file) f.name,
-      list_all-set
-          (λ x. not (bytes_eq x.name f.name)) files i file,
-      are_distinct-set files i file,
-      differs f.name file.name,
-    )
+    grind (arith, nat_tests, free, list_all-set (λ x. not (bytes_eq x.name f.name)) files i file, are_distinct-set files i file, differs f.name file.name)
 
 -- a file with the name that it had
 has_name-same : (files : List File) (i : ℕ) (old new : File) (name : List ℕ) → slice_get files i ≡ Some old → new.name ≡ old.name
@@ -94,10 +75,8 @@ are_distinct-same (f ∷ files) (suc i) old new at same =
 total_size-set : (files : List File) (i : ℕ) (old new : File) → slice_get files i ≡ Some old → length new.bytes ≡ length old.bytes
     → total_size (set files i new) ≡ total_size files
 total_size-set files i old new at same =
-    let within = slice_get_within files i old at in
-    let e = sum_by-set (λ (x : File). length x.bytes) files i new old within in
     let here = ap (λ (x : File). length x.bytes) (get_or_from_slice_get files i old old at) in
-    omega (arith, e, here, same)
+    omega (arith, sum_by-set (λ (x : File). length x.bytes) files i new old (slice_get_within files i old at), here, same)
 
 total_size-remove : (files : List File) (i : ℕ) (old : File) → slice_get files i ≡ Some old → total_size (remove files i) ≤ total_size files
 total_size-remove files i old at = omega (arith, sum_by-remove (λ (x : File). length x.bytes) files i old (slice_get_within files i old at))
@@ -154,10 +133,7 @@ all_changed limits files next (change ∷ changes) was each h =
 
 few_made : (limits : Limits) (files next : List File) (change : Change) → length files ≤ limits.files → Makes limits files change next
     → length next ≤ limits.files
-few_made limits files next change was (Adds file good new few small e) = rw (← e) (omega (arith, length-append files (file ∷ []), few))
-few_made limits files next change was (Removes i old at e) = rw (← e) (omega (arith, length-remove files i (slice_get_within files i old at), was))
-few_made limits files next change was (Renames i old file at good new size e) = rw (← e) (omega (arith, length-set files i file, was))
-few_made limits files next change was (Rewrites i old file at shape e) = rw (← e) (omega (arith, length-set files i file, was))
+few_made limits files next change was made = grind (arith, length-append, length-remove, length-set, slice_get_within)
 
 -- Changes that are applicable leave no more files than the limits allow.
 pub few_after_all : (limits : Limits) (files next : List File) (changes : List Change) → length files ≤ limits.files
@@ -166,27 +142,3 @@ few_after_all limits files next [] was h = let e : files ≡ next = cc in rw (�
 few_after_all limits files next (change ∷ changes) was h =
     let first = went_on (outcome limits files change) (λ mid. outcome_of_all limits mid changes) next h in
     few_after_all limits first.0 next changes (few_made limits files first.0 change was (makes limits files first.0 change first.1)) first.2
-
--- ---- a loop over the changes
-
--- each change of a group is one that it takes
-pub takes_change : (changes : List Change) (i : ℕ) (change : Change) → AllByRecursion IsChange changes → i < length changes
-    → change ≡ get_or changes i change → IsChange change
-takes_change changes i change each lt at = rw at (All-from_recursion IsChange changes each i change lt)
-
--- the changes from one on: it, and then the rest
-split : (limits : Limits) (files : List File) (changes : List Change) (i : ℕ) (change : Change) → i < length changes → change ≡ get_or changes i change
-    → outcome_of_all limits files (drop i changes) ≡ and_then (outcome limits files change) (λ x. outcome_of_all limits x (drop (i + 1) changes))
-split limits files changes i change lt at = rw (← at) at (at_drop_more (outcome_of_all limits files) changes i change lt)
-
--- where a change is applicable, the rest makes of its files what the whole makes
-pub goes_on : (limits : Limits) (files next : List File) (changes : List Change) (i : ℕ) (change : Change)
-    (total : Result (List File) DirectoryFault) → i < length changes → change ≡ get_or changes i change → outcome limits files change ≡ Ok next
-    → outcome_of_all limits files (drop i changes) ≡ total → outcome_of_all limits next (drop (i + 1) changes) ≡ total
-goes_on limits files next changes i change total lt at made so_far = sym (rw made at (split limits files changes i change lt at)) ∙ so_far
-
--- where a change isn't applicable, the whole isn't
-pub stops : (limits : Limits) (files : List File) (changes : List Change) (i : ℕ) (change : Change) (fault : DirectoryFault)
-    (total : Result (List File) DirectoryFault) → i < length changes → change ≡ get_or changes i change → outcome limits files change ≡ Err fault
-    → outcome_of_all limits files (drop i changes) ≡ total → total ≡ Err fault
-stops limits files changes i change fault total lt at stopped so_far = sym so_far ∙ rw stopped at (split limits files changes i change lt at)

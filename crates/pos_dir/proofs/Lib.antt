@@ -6,5 +6,3 @@ pub mod Items
 pub mod Directories
 pub mod Groups
 pub mod Outlined
-pub mod Applied
-pub mod Passing

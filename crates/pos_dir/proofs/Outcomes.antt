@@ -1,9 +1,8 @@
 -- What each change makes of the files. The other proofs go by what is made, and not by which change it is.
-use Rattle.pos_dir.proofs.Common.{Change, DirectoryFault, Err, File, Limits, List, NoMemory, None, Ok, Option, Range, Result}
-use Rattle.pos_dir.proofs.Common.{Some, [], answer_by_size, arith, cond, false, flaw_of, has_name, is_name, least_size_of, length, length-append}
-use Rattle.pos_dir.proofs.Common.{length-drop, length-replicate, length-take, map, nat_le, nat_tests, option_map, outcome, refl, remove, replicate, set}
-use Rattle.pos_dir.proofs.Common.{shape_of_file, size_in, slice_get, slice_set, splice, subst, suc, sym, total_size, true, with_file, zero, ℕ, ◌++◌, ◌+◌, ◌<◌}
-use Rattle.pos_dir.proofs.Common.{◌∙◌, ◌∷◌, ◌≡◌, ◌≤◌}
+use Rattle.pos_dir.proofs.Common.{Change, DirectoryFault, Err, File, Limits, List, NoMemory, None, Ok, Option, Range, Result, Some, [], answer_by_size, arith}
+use Rattle.pos_dir.proofs.Common.{cond, false, flaw_of, has_name, is_name, least_size_of, length, length-append, length-drop, length-replicate, length-take}
+use Rattle.pos_dir.proofs.Common.{map, nat_le, nat_tests, option_map, outcome, refl, remove, replicate, set, shape_of_file, size_in, slice_get, slice_set}
+use Rattle.pos_dir.proofs.Common.{splice, subst, suc, sym, total_size, true, with_file, zero, ℕ, ◌++◌, ◌+◌, ◌<◌, ◌∙◌, ◌∷◌, ◌≡◌, ◌≤◌}
 use Rattle.pos_dir.proofs.Readers.{some_is}
 use Rattle.pos_dir.specs.declared.change.Change.TheVariants.{Create, Delete, Rename, SetAll, Write}
 
@@ -28,9 +27,6 @@ record InFile (change : Change) (place : ℕ × ℕ) : Type 0 where
   made : (limits : Limits) (files : List File) → outcome limits files change ≡ with_file (slice_get files place.0) (with_new files place new_of)
 
 in_file : (change : Change) (place : ℕ × ℕ) → Some place ≡ least_size_of change → InFile change place
-in_file (Create name size) place e = absurd cc
-in_file (Delete index) place e = absurd cc
-in_file (Rename index name) place e = absurd cc
 in_file (Write index offset bytes) place e = subst (InFile (Write index offset bytes)) (some_is (index, offset + length bytes) place (sym e)) record {
   new_of = λ file. record file { bytes = splice file.bytes offset bytes };
   shape = λ file fits. rw (length-splice file.bytes offset bytes fits) refl;
@@ -41,6 +37,7 @@ in_file (SetAll index value) place e = subst (InFile (SetAll index value)) (some
   shape = λ file fits. rw (length-replicate {A = ℕ} (length file.bytes) value) refl;
   made = λ limits files. grind (arith, nat_tests);
 }
+in_file other place e = absurd cc
 
 -- an answer is that of a change with this outcome, which leaves the names and sizes of the files
 abbrev pub KeepsShapes : List File → Result (Unit {0}) DirectoryFault → Result (List File) DirectoryFault → Type 0

@@ -1,8 +1,8 @@
 -- A field that is read is the field that was spelled, and what was spelled is read again.
 use Rattle.pos_dir.proofs.Common.{Bool, List, None, Option, Some, Width, [], ap, append_assoc, arith, byte_at, byte_len, cases_lt, cond, drop, drop_at, false}
 use Rattle.pos_dir.proofs.Common.{from_be_bytes, get_or, get_or-append-add, get_or-drop, get_or-take, get_or_past, inl, inr, is_name, le-ltb, length}
-use Rattle.pos_dir.proofs.Common.{length-append, length-take, ltb, ltb-false, name_at, name_spelling, nat_tests, number_at, part_at, refl, subst, sym, take}
-use Rattle.pos_dir.proofs.Common.{take-append-drop, take_at, text_at, text_spelling, to_be_bytes, true, w16, w32, ℕ, ◌++◌, ◌+◌, ◌<◌, ◌>>=◌, ◌^◌, ◌∙◌, ◌∷◌, ◌≡◌}
+use Rattle.pos_dir.proofs.Common.{length-append, length-take, ltb, name_at, name_spelling, nat_tests, number_at, part_at, refl, subst, take, take-append-drop}
+use Rattle.pos_dir.proofs.Common.{take_at, text_at, text_spelling, to_be_bytes, true, w16, w32, ℕ, ◌++◌, ◌+◌, ◌<◌, ◌>>=◌, ◌^◌, ◌∙◌, ◌∷◌, ◌≡◌}
 use Rattle.std.proofs.lemmas.Nat.{be_bytes_2, be_bytes_4, from_be_bytes-to_be_bytes_2, from_be_bytes-to_be_bytes_4}
 
 -- each is a byte
@@ -31,9 +31,6 @@ some_is x y e = cc
 -- a test that let a value through
 pub passed : {A : Type 0} (b : Bool) (x y : A) → cond b (Some x) None ≡ Some y → (b ≡ true) × (x ≡ y)
 passed b x y e = grind (arith, nat_tests)
-
-stopped : {A : Type 0} (b : Bool) (x y : A) → cond b None (Some x) ≡ Some y → (b ≡ false) × (x ≡ y)
-stopped b x y e = grind (arith, nat_tests)
 
 -- A reader finds what is spelled at the front, and nothing else.
 pub record IsReader {A : Type 0} (read : List ℕ → Option (A × List ℕ)) (spell : A → List ℕ) (Fits : A → Type 0) : Type 0 where
@@ -78,17 +75,14 @@ byte_takes (byte ∷ bytes) x rest fits e = (grind arith, grind (arith, fits 0))
 pub byte_reads : IsReader byte_at byte_spelling (λ byte. byte < 256)
 byte_reads = record { takes = byte_takes; again = λ x rest lt. refl }
 
-part_takes : (size : ℕ) (bytes x rest : List ℕ) → part_at size bytes ≡ Some (x, rest) → (bytes ≡ x ++ rest) × (length x ≡ size)
-part_takes size bytes x rest e = grind (arith, nat_tests, length-take size bytes, take-append-drop size bytes)
-
-part_again : (size : ℕ) (x rest : List ℕ) → length x ≡ size → part_at size (x ++ rest) ≡ Some (x, rest)
-part_again size x rest len =
-    let long : ltb (length (x ++ rest)) size ≡ false = le-ltb _ _ (omega (arith, length-append x rest)) in
-    rw (long, take_at x rest size len, drop_at x rest size len) refl
-
 -- a part behind its length is read as it is spelled
 part_reads : (size : ℕ) → IsReader (part_at size) (λ x. x) (λ x. length x ≡ size)
-part_reads size = record { takes = λ bytes x rest fits e. part_takes size bytes x rest e; again = part_again size }
+part_reads size = record {
+  takes = λ bytes x rest fits e. grind (arith, nat_tests, length-take size bytes, take-append-drop size bytes);
+  again = λ x rest len.
+      let long : ltb (length (x ++ rest)) size ≡ false = le-ltb _ _ (omega (arith, length-append x rest)) in
+      rw (long, take_at x rest size len, drop_at x rest size len) refl;
+}
 
 -- A width whose numbers are those below the limit.
 pub record IsWide (w : Width) (limit : ℕ) : Type 0 where
@@ -101,10 +95,9 @@ number_reads : {w : Width} {limit : ℕ} → IsWide w limit → IsReader (number
 number_reads {w = w} {limit = limit} wide = record {
   takes = λ bytes n rest fits e.
       let front = take (byte_len w) bytes in
-      let g = stopped (ltb (length bytes) (byte_len w)) _ (n, rest) e in
-      let back = wide.back front (omega (arith, ltb-false _ _ g.0, length-take (byte_len w) bytes)) (IsBytes-take (byte_len w) bytes fits) in
-      subst (λ (p : ℕ × List ℕ). (bytes ≡ to_be_bytes w p.0 ++ p.1) × (p.0 < limit)) g.1
-      (rw back (sym (take-append-drop (byte_len w) bytes)), wide.below front (IsBytes-take (byte_len w) bytes fits));
+      let front_fits = IsBytes-take (byte_len w) bytes fits in
+      let back = λ (len : length front ≡ byte_len w). wide.back front len front_fits in
+      grind (arith, nat_tests, back, wide.below front front_fits, length-take (byte_len w) bytes, take-append-drop (byte_len w) bytes);
   again = λ n rest lt.
       let long : ltb (length (to_be_bytes w n ++ rest)) (byte_len w) ≡ false = le-ltb _ _ (omega (arith, wide.len n, length-append (to_be_bytes w n) rest)) in
       rw (long, take_at (to_be_bytes w n) rest (byte_len w) (wide.len n), drop_at (to_be_bytes w n) rest (byte_len w) (wide.len n), wide.again n lt) refl;
@@ -140,18 +133,19 @@ name_takes bytes x rest fits e = step byte_reads bytes fits e (λ size. step (pa
 -- a good name is read as it is spelled
 pub name_reads : IsReader name_at name_spelling (λ name. is_name name ≡ true)
 unfolding name_at
-name_reads = record { takes = name_takes; again = λ x rest good. rw (part_again (length x) x rest refl, good) refl }
+name_reads = record { takes = name_takes; again = λ x rest good. rw ((part_reads (length x)).again x rest refl, good) refl }
 
 text_takes : (bytes x rest : List ℕ) → IsBytes bytes → text_at bytes ≡ Some (x, rest) → (bytes ≡ text_spelling x ++ rest) × (length x < 2 ^ 32)
 unfolding text_at
 text_takes bytes x rest fits e = step u32_reads bytes fits e (λ size.
-    let text = part_takes size.x size.rest x rest size.on in
+    let text = (part_reads size.x).takes size.rest x rest size.bytes_left size.on in
     (cc (append_assoc (to_be_bytes w32 (length x)) x rest), omega (arith, size.fits, text.1)))
 
 text_again : (x rest : List ℕ) → length x < 2 ^ 32 → text_at (text_spelling x ++ rest) ≡ Some (x, rest)
 unfolding text_at
 text_again x rest lt =
-    ap text_at (append_assoc (to_be_bytes w32 (length x)) x rest) ∙ rw (u32_reads.again (length x) (x ++ rest) lt, part_again (length x) x rest refl) refl
+    ap text_at (append_assoc (to_be_bytes w32 (length x)) x rest)
+    ∙ rw (u32_reads.again (length x) (x ++ rest) lt, (part_reads (length x)).again x rest refl) refl
 
 -- a text is read as it is spelled
 pub text_reads : IsReader text_at text_spelling (λ text. length text < 2 ^ 32)

@@ -5,12 +5,12 @@ ghost use Rattle.pos_dir.specs.Files.{is_name};
 ghost use Rattle.pos_dir.specs.Changes.{flaw_of, least_size_of, outcome, HasWidths};
 ghost use Rattle.pos_dir.specs.Supplies.{IsSupplied};
 
-use crate::bytes::LentBytes;
 use crate::fault::DirectoryFault;
 use crate::file::File;
 use crate::limits::Limits;
 use crate::names::is_name;
 use crate::supplying::Supply;
+use pos_bytes::LentBytes;
 
 /// The most bytes that one Write may have.
 pub(crate) const WRITE_LIMIT: usize = 65_536;

@@ -18,6 +18,7 @@ pub(crate) trait Item<'a>: Drop + Sized {
 }
 
 /// So many items.
+#[tactic(auto, using(crate::proofs::Items::collecting))]
 pub(crate) fn collect_items<'a, T: Item<'a>>(
     alloc: Global,
     count: u16,

@@ -1,15 +1,15 @@
 ghost use Rattle.std.specs.Prelude.{◌≡◌, ◌≤◌};
 ghost use Rattle.pos_dir.specs.Files.{total_size};
 
-use crate::bytes::{Bytes, Name};
 use crate::limits::Limits;
+use pos_bytes::Bytes;
 
 /// A file of Hard Totals: its name and its bytes, whose number, 0 allowed, stays as the file was
 /// created (UnifiedPOS 1.16, Hard Totals).
 #[derive(Drop)]
 pub struct File {
     /// Its name: 1 to 10 bytes of 0x20 to 0x7F.
-    pub name: Name,
+    pub name: Bytes,
     /// Its bytes.
     pub bytes: Bytes,
 }

@@ -5,12 +5,12 @@ ghost use Rattle.pos_dir.specs.Texts.{file_of};
 ghost use Rattle.pos_dir.specs.Files.{has_name, are_distinct};
 ghost use Rattle.pos_dir.specs.Reading.{file_at, items_at, end_within, directory_at, Locates};
 
-use crate::bytes::{Bytes, Name};
 use crate::collecting::Item;
 use crate::fault::DirectoryFault;
 use crate::fields::{read_name, read_text, read_u16};
 use crate::file::File;
 use crate::limits::Limits;
+use pos_bytes::Bytes;
 use std::alloc::Global;
 
 /// A file in the bytes that spell it.
@@ -35,8 +35,8 @@ fn copy_file(alloc: Global, text: &FileText<'_>) -> Result<File, DirectoryFault>
     ensures { MatchResult result (λ file. file ≡ file_of text.now) (λ fault. fault ≡ DirectoryFault.NoMemory) }
 {
     Ok(File {
-        name: Name::from_vec(Vec::from_slice(alloc, text.name)?),
-        bytes: Bytes::from_vec(Vec::from_slice(alloc, text.bytes)?),
+        name: Bytes::from_slice(alloc, text.name)?,
+        bytes: Bytes::from_slice(alloc, text.bytes)?,
     })
 }
 
@@ -52,6 +52,7 @@ impl<'a> Item<'a> for File {
 }
 
 /// The bytes behind so many files, whose sizes are at most the room in sum.
+#[tactic(auto, using(crate::proofs::Items::counting))]
 fn skip_files(count: u16, bytes: &[u8], room: usize) -> Option<&[u8]>
     ensures { option_map (λ x. x.now) result ≡ end_within room (items_at file_at count bytes.now) }
 {
@@ -66,6 +67,7 @@ fn skip_files(count: u16, bytes: &[u8], room: usize) -> Option<&[u8]>
 }
 
 /// Whether one of so many files has the name, where the bytes begin with so many.
+#[tactic(auto, using(crate::proofs::Items::counting))]
 pub(crate) fn is_used(count: u16, bytes: &[u8], name: &[u8]) -> bool
     ensures { IfSome (items_at file_at count bytes.now) (λ files. result ≡ has_name files.0 name.now) }
 {
@@ -83,6 +85,7 @@ pub(crate) fn is_used(count: u16, bytes: &[u8], name: &[u8]) -> bool
 }
 
 /// Whether no two of so many files have one name, where the bytes begin with so many.
+#[tactic(auto, using(crate::proofs::Items::counting))]
 fn are_distinct(count: u16, bytes: &[u8]) -> bool
     ensures { IfSome (items_at file_at count bytes.now) (λ files. result ≡ are_distinct files.0) }
 {
@@ -100,6 +103,7 @@ fn are_distinct(count: u16, bytes: &[u8]) -> bool
 }
 
 /// The number of files and the bytes that spell them, where the bytes spell a directory.
+#[tactic(auto, unfolding(crate::specs::Reading::directory_at), using(crate::proofs::Items::counting))]
 pub(crate) fn locate_files(limits: Limits, bytes: &[u8]) -> Option<(u16, &[u8])>
     ensures { MatchOption result (directory_at limits bytes.now ≡ None)
         (λ x. Locates file_at (directory_at limits bytes.now) x.0 x.1.now) }

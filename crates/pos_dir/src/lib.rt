@@ -3,7 +3,6 @@
 #![tactic(auto)]
 
 mod applying;
-mod bytes;
 mod change;
 mod changes;
 mod collecting;
@@ -24,7 +23,6 @@ mod supplying;
 mod writing;
 
 pub use applying::{apply_and_encode, apply_applicable, apply_group};
-pub use bytes::{Bytes, LentBytes, Name};
 pub use change::Change;
 pub use directory::Directory;
 pub use fault::DirectoryFault;
@@ -35,5 +33,6 @@ pub use group::Group;
 pub use limits::{LAYOUT_1, LAYOUT_2, Limits};
 pub use names::is_name;
 pub use outlines::check_group;
+pub use pos_bytes::{Bytes, LentBytes};
 pub use reading::{decode, decode_group};
 pub use writing::{encode, encode_group, measure_group};

@@ -44,6 +44,7 @@ fn sum_outlines(outlines: &[Outline<'_>]) -> usize
 }
 
 /// Checks a Create.
+#[tactic(auto, using(crate::proofs::Outlined::outlining))]
 fn check_create<'a, const N: usize>(
     outlines: &mut ArrayVec<Outline<'a>, N>,
     limits: Limits,

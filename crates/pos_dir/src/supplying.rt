@@ -5,11 +5,11 @@ ghost use Rattle.std.specs.Vec.Iter.{into_iter_items};
 ghost use Rattle.pos_dir.specs.declared.supplying.Supply.{Supply};
 ghost use Rattle.pos_dir.specs.Supplies.{supplies_of, IsSupplied};
 
-use crate::bytes::{Bytes, LentBytes, Name};
 use crate::change::Change;
 use crate::fault::DirectoryFault;
 use crate::file::File;
 use crate::group::Group;
+use pos_bytes::{Bytes, LentBytes};
 use std::alloc::Global;
 use std::vec::IntoIter;
 
@@ -19,7 +19,7 @@ pub(crate) enum Supply {
     /// The file that it adds.
     NewFile(File),
     /// The name that it gives.
-    NewName(Name),
+    NewName(Bytes),
 }
 
 /// What the changes of a group take of memory, in their order.
@@ -59,10 +59,10 @@ fn make_file(alloc: Global, name: &LentBytes<'_>, size: u32) -> Result<File, Dir
 }
 
 /// The same name in memory of its own.
-fn copy_name(alloc: Global, name: &LentBytes<'_>) -> Result<Name, DirectoryFault>
+fn copy_name(alloc: Global, name: &LentBytes<'_>) -> Result<Bytes, DirectoryFault>
     ensures { MatchResult result (λ copy. copy ≡ name.now) (λ fault. fault ≡ DirectoryFault.NoMemory) }
 {
-    Ok(Name::from_vec(Vec::from_slice(alloc, name.as_slice())?))
+    Ok(Bytes::from_slice(alloc, name.as_slice())?)
 }
 
 /// What a change takes, the first of what is left.

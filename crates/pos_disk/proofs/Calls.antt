@@ -17,17 +17,10 @@ module _ (past : List Moment) (present next : Moment) where
   latest = get_or-append_seam past present [] next
 
   keeps : (t : ℕ) (c : List ℕ) → t ≤ length past → LeftSince past present t c → LeftSince (past ++ present ∷ []) next t c
-  keeps t c le left = inl (⊎_elim
-      (λ (k, from, to, was). (k, from, omega (arith, to, longer), rw (earlier k to) was))
-      (λ now. (length past, le, omega (arith, longer), rw latest now)) left)
+  keeps t c le left = grind (arith, longer, earlier, length, latest)
 
   nothing_else : (t : ℕ) (c : List ℕ) → LeftSince (past ++ present ∷ []) next t c → LeftSince past present t c ⊎ LeftAt next c
-  nothing_else t c left = ⊎_elim
-      (λ (k, from, to, was). elim (cases_lt k (length past)) [
-        | inl before ↦ inl (inl (k, from, before, rw (earlier k before) at was))
-        | inr behind ↦ let here : k ≡ length past = omega (arith, longer) in inl (inr (rw (here, latest) at was))
-      ])
-      inr left
+  nothing_else t c left = grind (arith, cases_lt, length, earlier, longer, latest)
 
 -- a disk in memory keeps its moment before each change
 pub elapsed : (disk : Memory) (next : Moment) (settled : List ℕ)

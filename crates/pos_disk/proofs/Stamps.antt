@@ -30,16 +30,12 @@ module _ (bytes saved stamps : List ℕ) (stamp : ℕ) (long : length stamps ≡
 
   pub settled_at : (i : ℕ) → i < length bytes
       → get_or (choose (loose_by stamp stamps) saved bytes) i 0 ≡ cond (get_or stamps i 0 == stamp) (get_or saved i 0) (get_or bytes i 0)
-  settled_at i inside =
-      rw (← loose_is stamp stamps i (omega (arith, long))) (choose_at (loose_by stamp stamps) saved bytes i (length-map stamps (λ s. s == stamp) ∙ long) same)
+  settled_at i inside = grind (arith, loose_is, choose_at, loose_by, length-map)
 
 -- a crash may leave whatever is chosen at the loose places
 pub choose_left : (moment : Moment) (xs : List ℕ) → length moment.loose ≡ length moment.reading → length xs ≡ length moment.reading
     → LeftAt moment (choose moment.loose xs moment.reading)
-choose_left moment xs long same = record {
-  same_length = length-choose moment.loose xs moment.reading long same;
-  settled = λ i isnt. grind (arith, choose_at moment.loose xs moment.reading i long same);
-}
+choose_left moment xs long same = grind (arith, length-choose, choose_at)
 
 -- where each place has been saved
 module _ (bytes stamps old new : List ℕ) (stamp : ℕ) (long : length stamps ≡ length bytes) (same : length old ≡ length bytes) where

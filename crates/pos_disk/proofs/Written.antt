@@ -28,13 +28,7 @@ module _ (bytes saved stamps : List ℕ) (stamp at n : ℕ) (kept : IsKept bytes
 
   -- what a disk in memory keeps of its places still holds after a write
   pub still_kept : IsKept (splice bytes at new) saved' (splice stamps at (replicate n stamp)) stamp
-  still_kept =
-      let bytes_long = length-splice bytes new at (omega arith) in
-      record {
-        saved_length = omega (arith, save.same_length, kept.saved_length);
-        stamps_length = omega (arith, length-splice stamps (replicate n stamp) at room, kept.stamps_length);
-        none_later = λ i. grind (arith, in_range at n i, inside_bears i, outside_same i, kept.none_later i);
-      }
+  still_kept = grind (arith, length-splice, replicate, room, in_range, inside_bears, outside_same)
 
   -- the bytes of the last sync stay
   stays_settled : choose (loose_by stamp (splice stamps at (replicate n stamp))) saved' (splice bytes at new) ≡ choose (loose_by stamp stamps) saved bytes

@@ -1,8 +1,7 @@
 -- What a deletion does to the list of a queue.
 use Rattle.pos_events.proofs.Common.{All, All-drop, All-head, All-tail, All-take, All-weaker, Bool, Enqueued, List, Other, Scan, [], arith, drop, drop-nil}
 use Rattle.pos_events.proofs.Common.{events_in, false, filter, filter-append, input_cleared, is_output_error, is_waiting, list_of, not, output_cleared, refl}
-use Rattle.pos_events.proofs.Common.{take, take-append-drop, take-nil, told_event, tolds, true, waiting_in, weave, with_input_data, without_errors, ℕ, ◌++◌}
-use Rattle.pos_events.proofs.Common.{◌+◌, ◌∷◌, ◌≡◌}
+use Rattle.pos_events.proofs.Common.{take, take-append-drop, take-nil, tolds, true, waiting_in, weave, with_input_data, without_errors, ℕ, ◌++◌, ◌+◌, ◌∷◌, ◌≡◌}
 use Rattle.pos_events.proofs.DeliveringLemmas.{IsWaiting, all_wait, regroup}
 
 -- the test of an event that stays when input is deleted, and when output is
@@ -15,7 +14,7 @@ is_kept event = not (is_output_error event)
 -- without waiting events the list is that of the others
 pub only_told : (others : List Other) → weave [] others ≡ tolds others
 only_told [] = refl
-only_told (other ∷ others) = rw (take-nil {A = Enqueued} other.before, drop-nil {A = Enqueued} other.before, only_told others)
+only_told (other ∷ others) = grind (arith, take-nil, drop-nil, only_told others)
 
 -- the waiting events go
 none_told : (events : List Enqueued) → All IsWaiting events → filter is_told events ≡ []
@@ -27,7 +26,7 @@ weave_filtered waiting [] w = none_told waiting w
 weave_filtered waiting (other ∷ others) w =
     let front = none_told (take other.before waiting) (All-take IsWaiting other.before waiting w) in
     let rest = weave_filtered (drop other.before waiting) others (All-drop IsWaiting other.before waiting w) in
-    rw (filter-append, front) (grind (arith, rest))
+    grind (arith, filter-append, front, rest)
 
 input_data_filtered : (events : List Enqueued) → filter is_told (with_input_data events) ≡ filter is_told events
 input_data_filtered [] = refl
@@ -35,8 +34,8 @@ input_data_filtered (event ∷ events) = grind (arith, input_data_filtered event
 
 all_filtered : (input_data in_error : Bool) (scans : List Scan) (others : List Other)
     → filter is_told (events_in input_data (waiting_in scans in_error) others) ≡ tolds others
-all_filtered false in_error scans others = weave_filtered (waiting_in scans in_error) others (all_wait scans in_error)
-all_filtered true in_error scans others = rw input_data_filtered (weave_filtered (waiting_in scans in_error) others (all_wait scans in_error))
+all_filtered input_data in_error scans others =
+    grind (arith, input_data_filtered, weave_filtered (waiting_in scans in_error) others (all_wait scans in_error))
 
 pub input_deleted : (input_data in_error : Bool) (scans none : List Scan) (others after : List Other) → none ≡ [] → tolds after ≡ tolds others
     → list_of false false none after ≡ input_cleared (list_of input_data in_error scans others)
@@ -56,13 +55,9 @@ errors_woven : (waiting : List Enqueued) (others : List Other) (count : ℕ) →
 errors_woven waiting [] count k = rw (take-append-drop count waiting) (all_stay waiting k)
 errors_woven waiting (other ∷ others) count k =
     let n = count + other.before in
-    let rest = weave (drop n waiting) others in
-    let deleted = errors_woven waiting others n k in
     let kept = errors_woven (drop n waiting) others 0 (All-drop IsKept n waiting k) in
     let front = all_stay (take n waiting) (All-take IsKept n waiting k) in
-    let around = filter-append is_kept (take n waiting) (told_event other.event ∷ rest) in
-    rw (regroup waiting others count other.before (told_event other.event))
-    (grind (arith, around, filter-append is_kept (take n waiting) rest, deleted, front, kept))
+    grind (arith, regroup, filter-append, errors_woven waiting others n k, front, kept)
 
 -- EL_INPUT_DATA stays
 input_data_stays : (events : List Enqueued) → filter is_kept (with_input_data events) ≡ with_input_data (filter is_kept events)
@@ -77,6 +72,4 @@ stays in_error scans others =
 
 pub errors_deleted : (input_data in_error : Bool) (scans : List Scan) (others after : List Other) → after ≡ without_errors 0 others
     → list_of input_data in_error scans after ≡ output_cleared (list_of input_data in_error scans others)
-errors_deleted false in_error scans others after e = rw (e, stays in_error scans others)
-errors_deleted true in_error scans others after e =
-    rw (e, input_data_stays (weave (waiting_in scans in_error) others), stays in_error scans others)
+errors_deleted input_data in_error scans others after e = grind (arith, input_data_stays, stays)

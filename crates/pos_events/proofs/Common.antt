@@ -1,7 +1,6 @@
 -- The words of specifications and of the standard library that the proofs of this crate cite, passed on from one place.
 pub use Rattle.std.proofs.Common.{All, Bool, IsSome, List, None, Option, Some, [], ap, append_assoc, arith, cond, drop, false, get_or, length, length-append}
-pub use Rattle.std.proofs.Common.{length-drop, map, not, option_map, refl, set, subst, suc, sym, take, true, ℕ, ◌++◌, ◌+◌, ◌-◌, ◌<◌, ◌==◌, ◌∙◌, ◌∷◌, ◌≡◌, ◌≢◌}
-pub use Rattle.std.proofs.Common.{◌≤◌}
+pub use Rattle.std.proofs.Common.{length-drop, map, not, option_map, refl, set, subst, suc, take, true, ℕ, ◌++◌, ◌+◌, ◌-◌, ◌<◌, ◌==◌, ◌∙◌, ◌∷◌, ◌≡◌, ◌≢◌, ◌≤◌}
 pub use Rattle.std.proofs.Math.Seq.{drop-nil, take-add, take-nil}
 pub use Rattle.std.proofs.lemmas.Bool.Decides.{nat_tests}
 pub use Rattle.std.proofs.lemmas.List.{append-nil, drop-append-le, drop-drop, drop_all, drop_more, get_or-map, length-map, map-append, map-set, set-get_or}

@@ -28,8 +28,7 @@ all_wait scans true = All-append IsWaiting (map Data scans) (input_error locus.I
 split_behind : (front rest : List Enqueued) (event : Enqueued) → All IsWaiting front → is_waiting event ≡ false
     → split false (front ++ event ∷ rest) ≡ record { front = front; deliverable = Some event; rest = rest }
 split_behind [] rest event w goes = rw goes
-split_behind (first ∷ front) rest event w goes =
-    rw (All-head IsWaiting first front w, split_behind front rest event (All-tail IsWaiting first front w) goes)
+split_behind (first ∷ front) rest event w goes = grind (arith, All-head, split_behind front rest event (All-tail IsWaiting first front w) goes)
 
 split_none : (events : List Enqueued) → All IsWaiting events → split false events ≡ record { front = events; deliverable = None; rest = [] }
 split_none [] w = refl
@@ -60,28 +59,24 @@ weave_lead waiting (other ∷ others) count = regroup waiting others count other
 deliverable_woven : (waiting : List Enqueued) (others : List Other) → All IsWaiting waiting
     → (split false (weave waiting others)).deliverable ≡ option_map told_event (first_told others)
 deliverable_woven waiting [] w = rw (split_none waiting w)
-deliverable_woven waiting (other ∷ others) w =
-    rw (split_behind (take other.before waiting) (weave (drop other.before waiting) others) (told_event other.event)
-    (All-take IsWaiting other.before waiting w) (grind arith))
+deliverable_woven waiting (other ∷ others) w = grind (arith, split_behind, All-take IsWaiting other.before waiting w)
 
 left_woven : (waiting : List Enqueued) (others : List Other) → All IsWaiting waiting
     → left_by false (weave waiting others) ≡ weave waiting (without_first others)
 left_woven waiting [] w = rw (split_none waiting w) (append-nil waiting)
-left_woven waiting (other ∷ others) w =
-    rw (split_behind (take other.before waiting) (weave (drop other.before waiting) others) (told_event other.event)
-    (All-take IsWaiting other.before waiting w) (grind arith)) (weave_lead waiting others other.before)
+left_woven waiting (other ∷ others) w = grind (arith, split_behind, All-take IsWaiting other.before waiting w, weave_lead)
 
 pub deliverable_told : (input_data in_error : Bool) (scans : List Scan) (others : List Other)
     → (split false (events_in input_data (waiting_in scans in_error) others)).deliverable ≡ option_map told_event (first_told others)
-deliverable_told false in_error scans others = deliverable_woven (waiting_in scans in_error) others (all_wait scans in_error)
-deliverable_told true in_error scans others =
-    rw deliverable_with_input_data (deliverable_woven (waiting_in scans in_error) others (all_wait scans in_error))
+deliverable_told input_data in_error scans others =
+    grind (arith, deliverable_with_input_data, deliverable_woven (waiting_in scans in_error) others (all_wait scans in_error))
 
 pub left_by_told : (input_data in_error : Bool) (scans : List Scan) (others : List Other)
     → left_by false (events_in input_data (waiting_in scans in_error) others) ≡ events_in input_data (waiting_in scans in_error) (without_first others)
-left_by_told false in_error scans others = left_woven (waiting_in scans in_error) others (all_wait scans in_error)
-left_by_told true in_error scans others =
-    rw (left_with_input_data, left_woven (waiting_in scans in_error) others (all_wait scans in_error))
+left_by_told input_data in_error scans others =
+    grind (arith, left_with_input_data, left_woven (waiting_in scans in_error) others (all_wait scans in_error))
+
+pub ruleset telling = (deliverable_told, left_by_told)
 
 -- no reply to an event that doesn't wait changes the events
 told_stays : (events : List Enqueued) (answer : ErrorReply) (list : EventList) → after_reply (split false events).deliverable answer list ≡ list
@@ -94,9 +89,7 @@ first_waits : (event : Enqueued) (waiting : List Enqueued) (others : List Other)
 first_waits event waiting [] behind some = refl
 first_waits event waiting (other ∷ others) behind some =
     let next : other.before ≡ suc (other.before - 1) = omega arith in
-    let first : take other.before (event ∷ waiting) ≡ event ∷ take (other.before - 1) waiting = ap (λ n. take n (event ∷ waiting)) next in
-    let rest : drop other.before (event ∷ waiting) ≡ drop (other.before - 1) waiting = ap (λ n. drop n (event ∷ waiting)) next in
-    rw (first, rest)
+    rw (ap (λ n. take n (event ∷ waiting)) next, ap (λ n. drop n (event ∷ waiting)) next)
 
 waiting_first : (scan : Scan) (scans : List Scan) (in_error : Bool) → waiting_in (scan ∷ scans) in_error ≡ Data scan ∷ waiting_in scans in_error
 waiting_first scan scans in_error = grind arith
@@ -107,19 +100,19 @@ pub first_is_input_data : (input_data in_error no_scans : Bool) (scans : List Sc
     → events_in input_data (waiting_in scans in_error) others ≡ input_error locus.InputData ∷ events_in false (waiting_in scans in_error) others
 first_is_input_data input_data in_error no_scans [] others behind count fits kind is some = grind (arith, fits.held)
 first_is_input_data input_data in_error no_scans (scan ∷ scans) others behind count fits kind is some =
-    grind (arith, waiting_first scan scans in_error, first_waits (Data scan) (waiting_in scans in_error) others behind)
+    grind (arith, waiting_first, first_waits (Data scan) (waiting_in scans in_error) others behind)
 
 -- a DataEvent is the first
 pub first_is_data : (input_data in_error : Bool) (scan : Scan) (scans rest : List Scan) (others : List Other) (behind count : ℕ) → input_data ≡ false
     → scans ≡ scan ∷ rest → count ≡ before_first others behind → count ≢ 0
     → events_in input_data (waiting_in scans in_error) others ≡ Data scan ∷ weave (waiting_in rest in_error) (one_less others)
 first_is_data input_data in_error scan scans rest others behind count e s is some =
-    rw (e, s, waiting_first) (first_waits (Data scan) (waiting_in rest in_error) others behind (omega arith))
+    grind (arith, waiting_first, first_waits (Data scan) (waiting_in rest in_error) others behind)
 
 -- while data events aren't enabled, an event that doesn't wait is delivered, and no reply changes the others
 pub delivered_told : (data_enabled frozen : Bool) (answer : ErrorReply) (list : EventList) → frozen ≡ false → data_enabled ≡ false
     → delivered data_enabled frozen answer list ≡ record list { events = left_by false list.events }
-delivered_told data_enabled frozen answer list f d = rw (f, d) (told_stays list.events answer (record list { events = left_by false list.events }))
+delivered_told data_enabled frozen answer list f d = grind (arith, told_stays)
 
 -- the first of some scans is there
 pub popped_scan : (popped : Option Scan) (scans rest : List Scan) → IsSome popped → scans ≡ option_to_list popped ++ rest

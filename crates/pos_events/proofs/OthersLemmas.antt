@@ -1,7 +1,6 @@
 -- What the loops over the events that don't wait keep.
 use Rattle.pos_events.proofs.Common.{Enqueued, List, Other, [], all_before, ap, append_assoc, arith, false, get_or, get_or-map, is_error, length, length-append}
-use Rattle.pos_events.proofs.Common.{map-set, set, set-get_or, sym, take, take_more_set, told_event, tolds, true, without_errors, ℕ, ◌++◌, ◌+◌, ◌<◌, ◌∙◌, ◌∷◌}
-use Rattle.pos_events.proofs.Common.{◌≡◌, ◌≤◌}
+use Rattle.pos_events.proofs.Common.{map-set, set, set-get_or, take, take_more_set, told_event, tolds, true, without_errors, ℕ, ◌++◌, ◌+◌, ◌<◌, ◌∷◌, ◌≡◌, ◌≤◌}
 
 -- what stands before two parts
 pub all_before-append : (others more : List Other) → all_before (others ++ more) ≡ all_before others + all_before more
@@ -13,13 +12,12 @@ pub tolds_set : (others : List Other) (i : ℕ) (d other : Other) → i < length
     → tolds (set others i other) ≡ tolds others
 tolds_set others i d other lt e =
     let f : Other → Enqueued = λ (o : Other). told_event o.event in
-    map-set f others i other ∙ ap (set (tolds others) i) (ap told_event e ∙ sym (get_or-map f others i d (f d) lt)) ∙ set-get_or (tolds others) i (f d)
+    grind (arith, map-set f others i other, get_or-map f others i d (f d) lt, set-get_or (tolds others) i (f d))
 
 -- one more before which nothing waits
 pub none_more : (others : List Other) (i : ℕ) (other : Other) → i < length others → other.before ≡ 0 → all_before (take i others) ≡ 0
     → all_before (take (i + 1) (set others i other)) ≡ 0
-none_more others i other lt e none =
-    rw (take_more_set others i other lt) (omega (arith, all_before-append (take i others) (other ∷ [])))
+none_more others i other lt e none = grind (arith, take_more_set, all_before-append)
 
 -- Of the others, some are still to be looked at, and those that stay stand behind them; so many waiting events are carried to the next.
 pub record Removing (start rest : List Other) (carried : ℕ) (now : List Other) : Type 0 where
@@ -35,16 +33,16 @@ removing_kept start rest now more first other carried r e stays =
     let kept : Other = record { before = carried + other.before; event = other.event } in
     record {
       done = r.done ++ kept ∷ [];
-      parts = grind (arith, r.parts, append_assoc rest r.done (kept ∷ []));
-      same = grind (arith, r.same, r.parts, append_assoc r.done (kept ∷ []) (without_errors 0 rest));
-      counted = grind (arith, r.counted, r.parts, all_before-append r.done (kept ∷ []));
+      parts = grind (arith, append_assoc);
+      same = grind (arith, append_assoc);
+      counted = grind (arith, all_before-append);
     }
 
 -- the next is deleted
 pub removing_error : (start rest now more : List Other) (first other : Other) (carried : ℕ) → Removing start (first ∷ rest) carried now
     → now ≡ other ∷ more → is_error other.event ≡ true → Removing start rest (carried + other.before) more
 removing_error start rest now more first other carried r e goes =
-    record { done = r.done; parts = grind (arith, r.parts); same = grind (arith, r.same, r.parts); counted = grind (arith, r.counted, r.parts) }
+    record { done = r.done; parts = grind arith; same = grind arith; counted = grind arith }
 
 -- while some are to be looked at, there are some
 pub removing_some : (start rest now : List Other) (carried : ℕ) → Removing start rest carried now → length rest ≤ length now

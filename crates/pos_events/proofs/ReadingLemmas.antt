@@ -33,5 +33,4 @@ count_waiting scans true = sum_by-append worth (map Data scans) (input_error loc
 -- DataCount is the number of scans
 pub count_events : (input_data in_error : Bool) (scans : List Scan) (others : List Other)
     → count_by is_data (events_in input_data (waiting_in scans in_error) others) ≡ length scans
-count_events false in_error scans others = rw count_weave (count_waiting scans in_error)
-count_events true in_error scans others = rw (count_with_input_data, count_weave) (count_waiting scans in_error)
+count_events input_data in_error scans others = grind (arith, count_with_input_data, count_weave, count_waiting)

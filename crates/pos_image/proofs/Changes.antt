@@ -1,21 +1,18 @@
 -- What each change of the images leaves.
 use Rattle.pos_image.proofs.Common.{Ghosts, HasEither, HasFields, HasImage, HasNewImage, HasPrepared, IsBeside, IsCurrent, IsPrepared, IsReady, IsSound}
 use Rattle.pos_image.proofs.Common.{LeavesOnly, List, Prepared, SameBut, Slot, Some, Stages, View, [], ap, arith, cases_Bool, false, get_or, image_of, inl, inr}
-use Rattle.pos_image.proofs.Common.{is_open, layout_of, length, length_at, log_of, log_place, longest, nat_eq, next_of, prepared_or, rest_leaves, splice}
-use Rattle.pos_image.proofs.Common.{spliced_same, spliced_within, start, true, weaker, ℕ, ◌+◌, ◌-◌, ◌<◌, ◌^◌, ◌∙◌, ◌∷◌, ◌≡◌, ◌≤◌}
+use Rattle.pos_image.proofs.Common.{is_open, layout_of, length, log_of, log_place, longest, nat_eq, next_of, prepared_or, rest_leaves, splice, spliced_same}
+use Rattle.pos_image.proofs.Common.{start, true, weaker, ℕ, ◌+◌, ◌<◌, ◌^◌, ◌∷◌, ◌≡◌, ◌≤◌}
 use Rattle.pos_image.proofs.Current.{published, published_log, shut_stages}
 use Rattle.pos_image.proofs.Logs.{image_here, kept_image, new_image}
 use Rattle.pos_image.proofs.Places.{beside_apart}
+use Rattle.std.proofs.lemmas.Grind.{common_steps}
 
 -- sound images are ready: at rest a crash leaves the current image and its log
 pub ready : {D : Type 0} (bound : Ghosts D) (images : View D) → 327680 ≤ bound.size images.disk → images.sequence < 2 ^ 64
     → (bound.honest images.disk → IsSound (bound.state images.disk) images) → IsReady bound images
-ready bound images large counted sound = record {
-  large = large;
-  counted = counted;
-  sound = sound;
-  leaves = λ honest c may. rw (rest_leaves (bound.state images.disk) c (sound honest).at_rest may) (image_here (sound honest).current);
-}
+ready bound images large counted sound =
+    let here = λ (honest : bound.honest images.disk). image_here (sound honest).current in grind (arith, rest_leaves)
 
 -- at any moment while an image is put beside the current one
 pub beside_leaves : {D : Type 0} (bound : Ghosts D) (old : View D) (disk : D) (it : Prepared) → IsBeside old.slot old.sequence it → bound.honest old.disk
@@ -28,17 +25,11 @@ beside_leaves bound old disk it beside was is_ready moments =
 pub placed : (bytes body : List ℕ) (slot : Slot) (sequence : ℕ) → length body ≤ longest (layout_of slot) → is_open bytes (start slot) ≡ false
     → get_or bytes (start slot + log_place (layout_of slot)) 0 ≡ 0 → HasFields bytes (start slot) sequence body
     → IsPrepared bytes slot body sequence
-placed bytes body slot sequence short shut no_log fields =
-    let fits : length_at bytes (start slot) ≤ longest (layout_of slot) = omega (arith, fields.length_is, short) in assumption
+placed bytes body slot sequence short shut no_log fields = grind arith
 
 -- a gate that was written
 pub written_gate : (old new : List ℕ) (at byte : ℕ) → at + 1 ≤ length old → new ≡ splice old at (byte ∷ []) → (SameBut at 1 old new) × (get_or new at 0 ≡ byte)
-written_gate old new at byte fits written =
-    let here : at - at ≡ 0 = omega arith in
-    rw written (
-      spliced_same old (byte ∷ []) at fits,
-      spliced_within 0 old (byte ∷ []) at at fits (omega arith) ∙ ap (λ (k : ℕ). get_or (byte ∷ []) k 0) here,
-    )
+written_gate old new at byte fits written = grind (arith, common_steps, spliced_same)
 
 -- and opened
 pub opened_gate : (old new : List ℕ) (at : ℕ) → at + 1 ≤ length old → new ≡ splice old at (165 ∷ []) → (SameBut at 1 old new) × (is_open new at ≡ true)

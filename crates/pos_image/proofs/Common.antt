@@ -1,6 +1,6 @@
 -- The words of specifications and of the standard library that the proofs of this crate cite, passed on from one place.
 pub use Rattle.std.proofs.Common.{Err, List, None, Ok, OnOk, Option, Result, Some, [], ap, arith, false, get_or, inl, inr, length, nat_eq, refl, rules, subst}
-pub use Rattle.std.proofs.Common.{sym, true, ℕ, ⊎_elim, ◌++◌, ◌+◌, ◌-◌, ◌<◌, ◌^◌, ◌↔◌, ◌∙◌, ◌∷◌, ◌≡◌, ◌≤◌, ◌⊎◌}
+pub use Rattle.std.proofs.Common.{sym, true, ℕ, ◌++◌, ◌+◌, ◌-◌, ◌<◌, ◌^◌, ◌↔◌, ◌∙◌, ◌∷◌, ◌≡◌, ◌≤◌, ◌⊎◌}
 pub use Rattle.std.proofs.lemmas.Bool.{cases_Bool, cases_lt, le-leb, le-ltb, lt-leb, lt-ltb}
 pub use Rattle.std.proofs.lemmas.Bool.Decides.{nat_tests}
 pub use Rattle.std.specs.Int.{from_be_bytes, w32, w64}
@@ -8,7 +8,7 @@ pub use Rattle.std.specs.Prelude.{MatchOption, if◌then◌else◌, ⊤}
 pub use Rattle.byteorder.specs.Endian.{big_bytes}
 pub use Rattle.pos_disk.proofs.Bytes.{get_or-part, in_range, length-part, length-splice, part-part, part-splice, splice_elsewhere, spliced_within}
 pub use Rattle.pos_disk.proofs.Moments.{followed_by, goes_on, rest_leaves, started, watches_on, watches_read, watches_sync, weaker}
-pub use Rattle.pos_disk.proofs.Within.{kept_part, leaves_within, same_on, spliced_same, wider, within_goes_on, within_here, within_sync, within_write}
+pub use Rattle.pos_disk.proofs.Within.{kept_part, leaves_within, spliced_same, within_here, within_write}
 pub use Rattle.pos_disk.specs.State.{DiskState, InRange, IsAtRest, LeavesOnly, MayLeave, Syncs, Watches, Writes, part, splice}
 pub use Rattle.pos_disk.specs.Within.{IsWithin, SameBut}
 pub use Rattle.pos_disk.specs.declared.device.Disk.{Ghosts}

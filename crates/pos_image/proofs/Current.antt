@@ -1,8 +1,8 @@
 -- The current image, and what changes of the other slots leave of it.
 use Rattle.pos_image.proofs.Common.{First, Fourth, HasPrepared, InRange, IsCurrent, IsFound, IsPrepared, List, Prepared, SameBut, Second, ShowsImage, Slot}
 use Rattle.pos_image.proofs.Common.{Stages, Third, ap, arith, body_at, current_on, false, first_of, from_be_bytes, get_or, image_in, image_on, inl, inr}
-use Rattle.pos_image.proofs.Common.{is_marked, is_open, is_tied, kept_part, layout_of, layout_on, le-leb, le-ltb, length, length_at, log_place, longest}
-use Rattle.pos_image.proofs.Common.{nat_tests, other, part, refl, sequence_at, start, sym, true, w32, w64, wider, ℕ, ◌+◌, ◌<◌, ◌∙◌, ◌≡◌, ◌≤◌}
+use Rattle.pos_image.proofs.Common.{is_marked, is_open, is_tied, kept_part, layout_of, layout_on, le-leb, le-ltb, length, length_at, log_place, longest, other}
+use Rattle.pos_image.proofs.Common.{part, refl, sequence_at, start, sym, true, w32, w64, ℕ, ◌+◌, ◌<◌, ◌∙◌, ◌≡◌, ◌≤◌}
 use Rattle.pos_image.specs.declared.layout.Layout.TheVariants.{Layout1, Layout2}
 use Rattle.pos_image.proofs.Places.{IsApart, beside_apart, other_other, places, same_or_apart}
 
@@ -41,11 +41,8 @@ kept_body {old = old} {new = new} {slot = slot} same whole outside has =
     let fits = has.fits in
     let long = ap (from_be_bytes w32) (kept_part same (start slot + 9) 4 (omega arith) (λ i inside. outside i (omega arith))) in
     let behind = kept_part same (start slot + 13) (length_at old (start slot)) (omega arith) (λ i inside. outside i (omega arith)) in
-    record {
-      sequence_is = kept_sequence same slot whole (λ i inside. outside i (omega arith)) ∙ has.sequence_is;
-      fits = rw long has.fits;
-      body_is = ap (λ (m : ℕ). part (start slot + 13) m new) long ∙ behind ∙ has.body_is;
-    }
+    let number = kept_sequence same slot whole (λ i inside. outside i (omega arith)) in
+    grind arith
 
 -- by layout 1 the gates of layout 2 are closed
 pub first_layout : (bytes : List ℕ) → layout_on bytes ≡ Layout1 → (slot : Slot) → layout_of slot ≡ Layout2 → is_open bytes (start slot) ≡ true → ⊥
@@ -110,9 +107,7 @@ stage_current {slot = slot} apart current stages =
 
 -- while its gate is written, closed, no more happens
 pub shut_stages : {target : Slot} {old new : List ℕ} → SameBut (start target) 1 old new → is_open new (start target) ≡ false → Stages target old new
-shut_stages {target = target} same shut =
-    let here = places target in
-    record { same = wider (omega arith) (omega arith) same; behind = λ opened. absurd (cc (opened, shut)) }
+shut_stages {target = target} same shut = grind arith
 
 -- and open, the new image is the current one
 pub published : {slot : Slot} {it : Prepared} {old new body : List ℕ} {sequence : ℕ} → IsCurrent old slot body sequence → HasPrepared old slot sequence it
@@ -159,8 +154,7 @@ marked bytes slot here = grind arith
 
 pub chosen : (bytes : List ℕ) (slot : Slot) → layout_on bytes ≡ layout_of slot → is_open bytes (start slot) ≡ true
     → (is_open bytes (start (other slot)) ≡ true → sequence_at bytes (start (other slot)) < sequence_at bytes (start slot)) → IsChosen bytes slot
-chosen bytes slot layout here lesser =
-    record { place = rw layout (grind (arith, nat_tests)); marked = marked bytes slot here; untied = rw layout (grind (arith, nat_tests)) }
+chosen bytes slot layout here lesser = grind arith
 
 -- where the bytes are long enough, they hold the image in that slot
 pub chosen_stands : (bytes : List ℕ) (slot : Slot) → 327680 ≤ length bytes → IsChosen bytes slot → image_on bytes ≡ image_in bytes slot
@@ -169,8 +163,7 @@ chosen_stands bytes slot whole chosen = rw (le-ltb (length bytes) 327680 whole, 
 
 -- the slot of the current image is chosen
 pub current_chosen : {slot : Slot} {bytes body : List ℕ} {sequence : ℕ} → IsCurrent bytes slot body sequence → IsChosen bytes slot
-current_chosen {slot = slot} {bytes = bytes} current =
-    chosen bytes slot current.layout_is current.gate (λ also. rw current.sequence_is (current.greater also))
+current_chosen {slot = slot} {bytes = bytes} current = grind arith
 
 -- the bytes stand for the current image
 pub current_stands : {slot : Slot} {bytes body : List ℕ} {sequence : ℕ} → IsCurrent bytes slot body sequence
@@ -183,7 +176,4 @@ current_stands {slot = slot} {bytes = bytes} current =
 pub found_current : {slot : Slot} {bytes body : List ℕ} {sequence size : ℕ} → 327680 ≤ length bytes → IsFound bytes slot sequence size
     → body ≡ part (start slot + 13) size bytes → IsCurrent bytes slot body sequence
 unfolding body_at
-found_current {slot = slot} {bytes = bytes} {body = body} whole found is =
-    let fits : length_at bytes (start slot) ≤ longest (layout_of slot) = omega (arith, found.length_is, found.fits) in
-    let body_is : body_at bytes (start slot) ≡ body = rw found.length_is (sym is) in
-    assumption
+found_current {slot = slot} {bytes = bytes} {body = body} whole found is = grind arith

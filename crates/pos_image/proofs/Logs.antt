@@ -1,6 +1,6 @@
 -- The log span of the current slot.
 use Rattle.pos_image.proofs.Common.{HasImage, HasNewImage, IsCurrent, List, Slot, Stages, ap, arith, get_or, get_or-part, kept_part, layout_of, log_in, log_of}
-use Rattle.pos_image.proofs.Common.{log_place, log_size, refl, start, sym, ℕ, ◌+◌, ◌∙◌, ◌≡◌}
+use Rattle.pos_image.proofs.Common.{log_place, log_size, refl, start, ℕ, ◌+◌, ◌∙◌, ◌≡◌}
 use Rattle.pos_image.proofs.Current.{current_chosen, current_stands, stage_current}
 use Rattle.pos_image.proofs.Places.{IsApart, places}
 
@@ -21,11 +21,8 @@ kept_image {slot = slot} apart was stages =
     let is = stage_current apart was stages in
     let here = places slot in
     let whole = was.whole in
-    record {
-      image = current_stands is;
-      log = log_here is ∙ kept_part stages.same (start slot + log_place (layout_of slot)) (log_size (layout_of slot)) (omega arith) (omega arith)
-          ∙ sym (log_here was);
-    }
+    let log = kept_part stages.same (start slot + log_place (layout_of slot)) (log_size (layout_of slot)) (omega arith) (omega arith) in
+    grind (arith, current_stands is, log_here is, log_here was)
 
 -- a new image, whose log has 0 in its first gate
 pub new_image : {slot : Slot} {bytes body : List ℕ} {sequence : ℕ} → IsCurrent bytes slot body sequence

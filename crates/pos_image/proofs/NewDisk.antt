@@ -1,6 +1,6 @@
 -- What formatting leaves.
-use Rattle.pos_image.proofs.Common.{First, GATES, HasClosedGates, HasFields, IsCurrent, IsNewDisk, List, SameBut, [], ap, arith, cases_lt, false, get_or}
-use Rattle.pos_image.proofs.Common.{is_open, length, nat_eq, no_files, part, part-part, part-splice, splice, true, ℕ, ◌<◌, ◌∙◌, ◌∷◌, ◌≡◌, ◌≤◌}
+use Rattle.pos_image.proofs.Common.{First, GATES, HasClosedGates, HasFields, IsCurrent, IsNewDisk, List, SameBut, [], ap, arith, cases_lt, get_or, is_open}
+use Rattle.pos_image.proofs.Common.{length, no_files, part, part-part, part-splice, splice, true, ℕ, ◌<◌, ◌∙◌, ◌∷◌, ◌≡◌, ◌≤◌}
 use Rattle.pos_image.proofs.Changes.{opened_gate}
 use Rattle.pos_image.proofs.Current.{HasBody, first_here, kept_body}
 use Rattle.pos_image.proofs.Fields.{fields}
@@ -32,29 +32,14 @@ module _ (closed mid new : List ℕ) (large : 327680 ≤ length closed) (gates :
 
   -- the closed gates stay so
   still_closed : HasClosedGates new
-  still_closed = record {
-    first_log = stays 16384 (omega arith) (gates 1 (omega arith));
-    second = stays 32768 (omega arith) (gates 2 (omega arith));
-    second_log = stays 49152 (omega arith) (gates 3 (omega arith));
-    third = stays 65536 (omega arith) (gates 4 (omega arith));
-    fourth = stays 196608 (omega arith) (gates 5 (omega arith));
-  }
+  still_closed = grind arith
 
   -- the first slot has the body of no files and sequence 1
   first_current : IsCurrent new First no_files 1
   first_current =
-      let shut : (i : ℕ) → get_or new i 0 ≡ 0 → is_open new i ≡ false = λ i is. ap (λ (byte : ℕ). nat_eq byte 165) is in
-      let was : HasBody mid First no_files 1 = record { sequence_is = holds.sequence_is; fits = omega (arith, holds.length_is); body_is = holds.body_is } in
+      let was : HasBody mid First no_files 1 = grind (arith, holds) in
       let has = kept_body opened.0 long (omega arith) was in
-      record {
-        whole = omega (arith, opened.0.same_length, long);
-        layout_is = first_here new (shut 65536 still_closed.third) (shut 196608 still_closed.fourth);
-        gate = opened.1;
-        sequence_is = has.sequence_is;
-        fits = has.fits;
-        body_is = has.body_is;
-        greater = λ is. absurd (cc (is, shut 32768 still_closed.second));
-      }
+      grind (arith, opened, long, still_closed, first_here new)
 
   -- it is the current image, and there is no log
   pub new_disk : IsNewDisk new

@@ -1,18 +1,13 @@
 -- The bytes on which no image is found.
 use Rattle.pos_image.proofs.Common.{DamagedImage, HasHeads, Head, Layout, List, NoImage, Slot, arith, false, first_of, image_on, is_open, layout_of, layout_on}
-use Rattle.pos_image.proofs.Common.{le-ltb, length, length_at, longest, lt-leb, lt-ltb, nat_eq, nat_tests, other, sequence_at, start, sym, true, ℕ, ◌<◌, ◌∙◌}
-use Rattle.pos_image.proofs.Common.{◌≡◌, ◌≤◌}
-use Rattle.pos_image.proofs.Current.{chosen, chosen_stands, marked}
-use Rattle.pos_image.proofs.Places.{other_other, same_layout}
+use Rattle.pos_image.proofs.Common.{length, length_at, longest, lt-leb, lt-ltb, nat_tests, other, sequence_at, start, true, ℕ, ◌<◌, ◌∙◌, ◌≡◌, ◌≤◌}
+use Rattle.pos_image.proofs.Current.{chosen, chosen_stands}
+use Rattle.pos_image.proofs.Places.{same_layout}
 
 -- too few bytes hold no image
 pub short_stands : (bytes : List ℕ) → length bytes < 327680 → image_on bytes ≡ NoImage
 unfolding image_on
 short_stands bytes short = rw (lt-ltb (length bytes) 327680 short)
-
--- the first slot of a layout is of that layout
-of_first : (layout : Layout) → layout_of (first_of layout) ≡ layout
-of_first layout = grind arith
 
 -- an open slot has too long a body, and the one beside it is closed or has the lesser sequence: damage
 long_found : (bytes : List ℕ) (slot : Slot) → 327680 ≤ length bytes → layout_on bytes ≡ layout_of slot → is_open bytes (start slot) ≡ true
@@ -31,23 +26,14 @@ module _ {bytes : List ℕ} {layout : Layout} {first second : Head} (heads : Has
   -- both gates are open with one sequence: damage
   pub tie_found : first.gate ≡ true → second.gate ≡ true → first.sequence ≡ second.sequence → image_on bytes ≡ DamagedImage
   unfolding image_on
-  tie_found one two tie =
-      let slot = first_of layout in
-      let here = heads.at_first.gate ∙ one in
-      let same : nat_eq (sequence_at bytes (start slot)) (sequence_at bytes (start (other slot))) ≡ true = grind (arith, nat_tests) in
-      rw (le-ltb (length bytes) 327680 heads.whole, marked bytes slot here, heads.layout_is, here, heads.at_second.gate ∙ two, same)
+  tie_found one two tie = grind (arith, true, nat_tests)
 
   -- the first slot has too long a body
   pub first_long : first.gate ≡ true → (second.gate ≡ true → second.sequence < first.sequence) → longest (layout_of (first_of layout)) < first.length
       → image_on bytes ≡ DamagedImage
-  first_long opened lesser over =
-      long_found bytes (first_of layout) heads.whole (heads.layout_is ∙ sym (of_first layout)) (heads.at_first.gate ∙ opened)
-      (λ also. let less = lesser (sym heads.at_second.gate ∙ also) in omega arith) (omega arith)
+  first_long opened lesser over = grind (arith, long_found)
 
   -- or the second one
   pub second_long : second.gate ≡ true → (first.gate ≡ true → first.sequence < second.sequence)
       → longest (layout_of (other (first_of layout))) < second.length → image_on bytes ≡ DamagedImage
-  second_long opened lesser over =
-      long_found bytes (other (first_of layout)) heads.whole (heads.layout_is ∙ sym (same_layout (first_of layout) ∙ of_first layout))
-      (heads.at_second.gate ∙ opened)
-      (rw (other_other (first_of layout)) (λ also. let less = lesser (sym heads.at_first.gate ∙ also) in omega arith)) (omega arith)
+  second_long opened lesser over = grind (arith, long_found, same_layout)

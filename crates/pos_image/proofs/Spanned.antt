@@ -1,15 +1,15 @@
 -- What the calls of a log leave of the images, and of the log span.
-use Rattle.pos_image.proofs.Common.{DiskFault, DiskState, Err, Ghosts, HasPrepared, InRange, IsCurrent, IsHeld, IsReady, IsWithin, IsWritable, KeepsImage}
-use Rattle.pos_image.proofs.Common.{Layout, LeavesOnly, List, MatchOption, MayLeave, None, Ok, OnOk, Option, Prepared, Result, SameBut, ShowsImage, Slot, Some}
-use Rattle.pos_image.proofs.Common.{Syncs, View, Watches, Writes, WritesSpan, ap, arith, cases_lt, current_on, get_or, get_or-part, goes_on, image_on, in_range}
-use Rattle.pos_image.proofs.Common.{inl, inr, layout_of, le-ltb, leaves_within, length, length-part, length-splice, log_of, log_place, log_size, part}
+use Rattle.pos_image.proofs.Common.{DiskFault, DiskState, Err, Ghosts, HasPrepared, InRange, IsCurrent, IsHeld, IsInSpan, IsReady, IsWithin, IsWritable}
+use Rattle.pos_image.proofs.Common.{KeepsImage, Layout, LeavesOnly, List, MatchOption, MayLeave, None, Ok, OnOk, Option, Prepared, Result, SameBut, ShowsImage}
+use Rattle.pos_image.proofs.Common.{Slot, Some, Syncs, View, Watches, Writes, WritesSpan, arith, cases_lt, current_on, get_or, get_or-part, goes_on, image_on}
+use Rattle.pos_image.proofs.Common.{in_range, layout_of, le-ltb, leaves_within, length, length-part, length-splice, log_of, log_place, log_size, part}
 use Rattle.pos_image.proofs.Common.{part-part, refl, slot_size, span_of, splice, splice_elsewhere, spliced_within, start, started, sym, weaker, within_here}
-use Rattle.pos_image.proofs.Common.{within_write, ℕ, ⊎_elim, ⊤, ◌+◌, ◌-◌, ◌<◌, ◌^◌, ◌↔◌, ◌∙◌, ◌≡◌, ◌≤◌}
+use Rattle.pos_image.proofs.Common.{within_write, ℕ, ⊤, ◌+◌, ◌-◌, ◌<◌, ◌^◌, ◌↔◌, ◌∙◌, ◌≡◌, ◌≤◌}
 use Rattle.std.proofs.lemmas.List.{ext_get_or, get_or_past}
 use Rattle.pos_image.proofs.Changes.{ready}
 use Rattle.pos_image.proofs.Current.{HasBody, OpensNone, current_stands, kept_away, kept_body, kept_head}
 use Rattle.pos_image.proofs.Logs.{log_here}
-use Rattle.pos_image.proofs.Places.{beside_apart, places, same_or_apart}
+use Rattle.pos_image.proofs.Places.{beside_apart, places}
 use Rattle.pos_image.proofs.Refused.{short_stands}
 use Rattle.pos_image.proofs.Staged.{so_ok}
 
@@ -21,17 +21,12 @@ log_start slot = start slot + log_place (layout_of slot)
 module _ (slot : Slot) (old new : List ℕ) (whole : 327680 ≤ length old) (same : SameBut (log_start slot) (log_size (layout_of slot)) old new) where
   -- nothing of an image lies there
   unreached : (s : Slot) (i : ℕ) → InRange (start s) (log_place (layout_of s)) i → ¬ (InRange (log_start slot) (log_size (layout_of slot)) i)
-  unreached s i inside hit =
-      let here = places s in
-      let there = places slot in
-      elim (same_or_apart s slot) [ inl is ↦ let also = rw is at inside in absurd (omega arith) | inr apart ↦ omega arith ]
+  unreached s i inside hit = grind arith
 
   -- so no slot is opened
   opens_none : OpensNone old new
   opens_none s opened =
-      let here = places s in
-      let kept = kept_head same s whole (λ i inside. unreached s i (omega arith)) in
-      (sym kept.0 ∙ opened, kept.1)
+      let kept = kept_head same s whole (λ i inside. let here = places s in unreached s i (omega arith)) in (sym kept.0 ∙ opened, kept.1)
 
   -- the current image is there
   log_current : {body : List ℕ} {sequence : ℕ} → IsCurrent old slot body sequence → IsCurrent new slot body sequence
@@ -85,33 +80,31 @@ module _ {slot : Slot} {bytes body : List ℕ} {sequence : ℕ} (current : IsCur
 spans_agree : {slot : Slot} {old new body : List ℕ} {sequence : ℕ} → IsCurrent old slot body sequence → IsCurrent new slot body sequence → (i : ℕ)
     → (i < log_size (layout_of slot) → get_or new (log_start slot + i) 0 ≡ get_or old (log_start slot + i) 0)
     → get_or (log_of new) i 0 ≡ get_or (log_of old) i 0
-spans_agree {slot = slot} was is i agree = elim (cases_lt i (log_size (layout_of slot))) [
-  | inl inside ↦ span_place is i inside ∙ agree inside ∙ sym (span_place was i inside)
-  | inr past ↦ span_past is i past ∙ sym (span_past was i past)
-]
+spans_agree {slot = slot} was is i agree =
+    grind (arith, cases_lt i (log_size (layout_of slot)), span_place is i, span_place was i, span_past is i, span_past was i)
 
-module _ {D : Type 0} (images : View D) where
+-- A write into the log span of images that a disk holds: the place is counted from the gate of the slot.
+pub record WritesLog {D T : Type 0} (images : View D) (old new : DiskState) (at : ℕ) (bytes : List ℕ) (result : Result T DiskFault) : Type 0 where
+  pub held : IsHeld old images
+  pub only : (c : List ℕ) → old.left_since old.moment c → MayLeave old c
+  pub inside : IsInSpan (layout_of images.slot) at (length bytes)
+  pub writes : Writes old new (start images.slot + at) bytes result
+
+module _ {D : Type 0} {images : View D} where
   -- a crash leaves the current image, and of its log what is settled
-  keeps_image : (state : DiskState) → IsHeld state images → (c : List ℕ) → MayLeave state c → KeepsImage images (span_of images state) c
-  keeps_image state held c may =
+  keeps_image : {state : DiskState} → IsHeld state images → (c : List ℕ) → MayLeave state c → KeepsImage images (span_of images state) c
+  keeps_image {state = state} held c may =
       let same = leaves_within (within_here held.loose) c may in
       let current = log_current images.slot state.reading c held.current.whole same held.current in
-      record {
-        image = current_stands current;
-        log = record {
-          same_length = span_length current ∙ sym (span_length held.current);
-          settled = λ i tight. spans_agree held.current current i (λ _. may.settled (log_start images.slot + i) tight);
-        };
-      }
+      let image = current_stands current in
+      grind (arith, span_length current, span_length held.current, spans_agree held.current current)
 
   -- so does a crash while the disk is looked at or synced
-  pub watched_image : (old new : DiskState) → IsHeld old images → Watches old new → LeavesOnly old new (KeepsImage images (span_of images old))
-  watched_image old new held watches = weaker old new (MayLeave old) _ (keeps_image old held) watches.any_moment
+  pub watched_image : {old new : DiskState} → IsHeld old images → Watches old new → LeavesOnly old new (KeepsImage images (span_of images old))
+  watched_image held watches = weaker _ _ _ _ (keeps_image held) watches.any_moment
 
   -- a write into the log
-  module _ {T : Type 0} (old new : DiskState) (result : Result T DiskFault) (held : IsHeld old images)
-      (only : (c : List ℕ) → old.left_since old.moment c → MayLeave old c) (at : ℕ) (bytes : List ℕ) (from : log_place (layout_of images.slot) ≤ at)
-      (to : at + length bytes ≤ slot_size (layout_of images.slot)) (writes : Writes old new (start images.slot + at) bytes result) where
+  module _ {T : Type 0} {old new : DiskState} {at : ℕ} {bytes : List ℕ} {result : Result T DiskFault} (wrote : WritesLog images old new at bytes result) where
     -- where it begins in the span
     abbrev place : ℕ
     place = at - log_place (layout_of images.slot)
@@ -119,9 +112,10 @@ module _ {D : Type 0} (images : View D) where
     -- a write leaves the images held
     pub write_held : IsHeld new images
     write_held =
+        let held = wrote.held in
         let here = places images.slot in
         let within : IsWithin old.reading (log_start images.slot) (log_size (layout_of images.slot)) new =
-        within_write result (within_here held.loose) (omega arith) (omega arith) writes in
+        within_write result (within_here held.loose) (omega (arith, wrote.inside.from)) (omega (arith, wrote.inside.to)) wrote.writes in
         let whole = held.current.whole in
         record {
           loose = within.loose;
@@ -131,56 +125,50 @@ module _ {D : Type 0} (images : View D) where
 
     -- the span differs in the range of the write alone
     elsewhere : (i : ℕ) → ¬ (InRange place (length bytes) i) → get_or (log_of new.reading) i 0 ≡ get_or (log_of old.reading) i 0
-    elsewhere i missed =
-        spans_agree held.current write_held.current i (λ _. writes.elsewhere (log_start images.slot + i) (λ hit. missed (omega arith)))
+    elsewhere i missed = spans_agree wrote.held.current write_held.current i
+        (λ _. wrote.writes.elsewhere (log_start images.slot + i) (λ hit. missed (omega (arith, wrote.inside.from))))
 
     -- where the disk has the new bytes, the span has them
     written : new.reading ≡ splice old.reading (start images.slot + at) bytes → log_of new.reading ≡ splice (log_of old.reading) place bytes
     written is =
         let here = places images.slot in
-        let whole = held.current.whole in
-        let long = span_length held.current in
+        let inside = wrote.inside in
+        let whole = wrote.held.current.whole in
+        let long = span_length wrote.held.current in
         let fits : place + length bytes ≤ length (log_of old.reading) = omega arith in
         let spliced = length-splice (log_of old.reading) bytes place fits in
         ext_get_or 0 (log_of new.reading) (splice (log_of old.reading) place bytes) (span_length write_held.current ∙ sym long ∙ sym spliced)
-        (λ i _. elim (in_range place (length bytes) i) [
-          | inl inside ↦
-              let same_place : log_start images.slot + i - (start images.slot + at) ≡ i - place = omega arith in
-              span_place write_held.current i (omega arith) ∙ ap (λ (l : List ℕ). get_or l (log_start images.slot + i) 0) is
-              ∙ spliced_within 0 old.reading bytes (start images.slot + at) (log_start images.slot + i) (omega arith) (omega arith)
-              ∙ ap (λ (k : ℕ). get_or bytes k 0) same_place ∙ sym (spliced_within 0 (log_of old.reading) bytes place i fits inside)
-          | inr missed ↦ elsewhere i missed ∙ sym (splice_elsewhere (log_of old.reading) bytes place i fits missed)
-        ])
+        (λ i less. let range = in_range place (length bytes) i in let same = elsewhere i in
+        let there = spliced_within 0 old.reading bytes (start images.slot + at) (log_start images.slot + i) in
+        let now = span_place write_held.current i in
+        grind (arith, spliced_within 0 (log_of old.reading) bytes place i, splice_elsewhere (log_of old.reading) bytes place i))
 
     -- so it is a write into the span
     pub writes_span : {X E : Type 0} (answer : Result X E) → OnOk answer (new.reading ≡ splice old.reading (start images.slot + at) bytes)
         → WritesSpan (span_of images old) (span_of images new) place bytes answer
     writes_span answer is = record {
       written = so_ok answer _ _ written is;
-      same_length = span_length write_held.current ∙ sym (span_length held.current);
+      same_length = span_length write_held.current ∙ sym (span_length wrote.held.current);
       elsewhere = elsewhere;
-      loose = λ i loose. ⊎_elim (λ was. inl was) (λ hit. inr (omega arith)) (writes.loose (log_start images.slot + i) loose);
+      loose = λ i loose. let inside = wrote.inside in grind (arith, wrote.writes.loose (log_start images.slot + i));
     }
 
     -- at any moment of it a crash leaves what one after it may leave
     pub write_moments : LeavesOnly old new (KeepsImage images (span_of images new))
     write_moments =
-        let here = keeps_image new write_held in
-        let still : (c : List ℕ) → MayLeave old c → MayLeave new c = λ c may. record {
-          same_length = may.same_length ∙ sym writes.same_length;
-          settled = λ i tight. may.settled i (λ was. tight (writes.reached i (inl was))) ∙ sym (writes.elsewhere i (λ hit. tight (writes.reached i (inr hit))));
-        } in
-        goes_on old old new _ (started old _ (λ c left. here c (still c (only c left)))) writes.time here
+        let here = keeps_image write_held in
+        let still : (c : List ℕ) → MayLeave old c → MayLeave new c = λ c may. let writes = wrote.writes in grind arith in
+        goes_on old old new _ (started old _ (λ c left. here c (still c (wrote.only c left)))) wrote.writes.time here
 
   -- a disk that was only looked at or synced still holds them
-  pub looked_held : (old new : DiskState) → IsHeld old images → new.reading ≡ old.reading → ((i : ℕ) → new.loose i → old.loose i) → IsHeld new images
-  looked_held old new held same loose = rw same record { loose = λ i is. held.loose i (loose i is); current = held.current; prepared = held.prepared }
+  pub looked_held : {old new : DiskState} → IsHeld old images → new.reading ≡ old.reading → ((i : ℕ) → new.loose i → old.loose i) → IsHeld new images
+  looked_held held same loose = rw same record { loose = λ i is. held.loose i (loose i is); current = held.current; prepared = held.prepared }
 
 -- images that a disk holds are writable
 pub writable : {D : Type 0} (bound : Ghosts D) (images : View D) → 327680 ≤ bound.size images.disk → images.sequence < 2 ^ 64
     → (bound.honest images.disk → IsHeld (bound.state images.disk) images) → IsWritable bound images
 writable bound images large counted held =
-    let leaves = λ (honest : bound.honest images.disk). keeps_image images (bound.state images.disk) (held honest) in assumption
+    let leaves = λ (honest : bound.honest images.disk). keeps_image (held honest) in assumption
 
 -- writable images are ready after a sync
 pub synced : {D : Type 0} (bound : Ghosts D) (images : View D) (disk : D) (result : Result (Unit {0}) DiskFault) → IsWritable bound images
@@ -190,7 +178,7 @@ synced bound images disk (Err fault) was size honest syncs = tt
 synced bound images disk (Ok done) was size honest syncs =
     ready bound (record images { disk = disk }) (omega (arith, was.large, size)) was.counted (λ now.
     let before = honest.1 now in
-    let held = looked_held images (bound.state images.disk) (bound.state disk) (was.held before) (syncs before).reading (syncs before).loose in
+    let held = looked_held {new = bound.state disk} (was.held before) (syncs before).reading (syncs before).loose in
     record { at_rest = (syncs before).at_rest; current = held.current; prepared = held.prepared })
 
 -- bytes that hold an image are of its layout
@@ -203,10 +191,4 @@ shown_layout layout body sequence bytes shows whole = grind (arith, le-ltb (leng
 pub image_length : (layout : Layout) (body : List ℕ) (sequence : ℕ) (bytes : List ℕ) → ShowsImage layout body sequence bytes
     → length (log_of bytes) ≡ log_size layout
 unfolding log_of
-image_length layout body sequence bytes shows = elim (cases_lt (length bytes) 327680) [
-  | inl short ↦ let none = short_stands bytes short in absurd (cc (none, shows))
-  | inr long ↦
-      let slot = current_on bytes in
-      let here = places slot in
-      length-part (log_start slot) (log_size (layout_of slot)) bytes (omega arith) ∙ ap log_size (shown_layout layout body sequence bytes shows long)
-]
+image_length layout body sequence bytes shows = grind (arith, cases_lt, short_stands, places, length-part, shown_layout)

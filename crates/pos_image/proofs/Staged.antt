@@ -1,8 +1,8 @@
 -- What the steps of a change leave.
 use Rattle.pos_image.proofs.Common.{DiskFault, DiskState, Err, HasFields, IsAtRest, IsWithin, LeavesOnly, List, MayLeave, Ok, OnOk, Result, SameBut, Slot}
-use Rattle.pos_image.proofs.Common.{Stages, Syncs, Writes, [], ap, arith, big_bytes, false, if◌then◌else◌, is_open, kept_part, layout_of, leaves_within, length}
-use Rattle.pos_image.proofs.Common.{log_place, longest, part, part-splice, same_on, slot_size, splice, spliced_same, start, started, wider, within_goes_on}
-use Rattle.pos_image.proofs.Common.{within_here, within_sync, within_write, ℕ, ◌++◌, ◌+◌, ◌-◌, ◌<◌, ◌^◌, ◌∙◌, ◌∷◌, ◌≡◌, ◌≤◌}
+use Rattle.pos_image.proofs.Common.{Stages, Syncs, Writes, [], ap, arith, big_bytes, false, if◌then◌else◌, is_open, kept_part, layout_of, length, log_place}
+use Rattle.pos_image.proofs.Common.{longest, part, part-splice, slot_size, splice, spliced_same, start, within_here, ℕ, ◌++◌, ◌+◌, ◌-◌, ◌<◌, ◌^◌, ◌∙◌, ◌∷◌, ◌≡◌}
+use Rattle.pos_image.proofs.Common.{◌≤◌}
 use Rattle.pos_image.proofs.Current.{kept_gate}
 use Rattle.pos_image.proofs.Fields.{fields}
 use Rattle.pos_image.proofs.Places.{places}
@@ -19,14 +19,12 @@ fields_written old head body slot sequence whole short small head_is =
     let second = splice first (at + 13) body in
     let long : length head ≡ 12 = ap length head_is in
     let one = spliced_same old head (at + 1) (omega arith) in
-    let two = spliced_same first body (at + 13) (omega (arith, one.same_length)) in
-    let three = spliced_same second (0 ∷ []) (at + log_place (layout_of slot)) (omega (arith, one.same_length, two.same_length)) in
+    let two = spliced_same first body (at + 13) (omega arith) in
+    let three = spliced_same second (0 ∷ []) (at + log_place (layout_of slot)) (omega arith) in
     let head_there : part (at + 1) 12 first ≡ head = rw (← long) (part-splice old head (at + 1) (omega arith)) in
-    fields _ body at sequence (omega (arith, one.same_length, two.same_length, three.same_length)) (omega arith) small
-    (kept_part three (at + 1) 12 (omega (arith, one.same_length, two.same_length)) (omega arith)
-    ∙ kept_part two (at + 1) 12 (omega (arith, one.same_length)) (omega arith) ∙ head_there ∙ head_is)
-    (kept_part three (at + 13) (length body) (omega (arith, one.same_length, two.same_length)) (omega arith)
-    ∙ part-splice first body (at + 13) (omega (arith, one.same_length)))
+    fields _ body at sequence (omega arith) (omega arith) small
+    (kept_part three (at + 1) 12 (omega arith) (omega arith) ∙ kept_part two (at + 1) 12 (omega arith) (omega arith) ∙ head_there ∙ head_is)
+    (kept_part three (at + 13) (length body) (omega arith) (omega arith) ∙ part-splice first body (at + 13) (omega arith))
 
 -- a fact holds where a call succeeded
 pub where_ok : {T E : Type 0} (r : Result T E) (P : Type 0) → P → OnOk r P
@@ -40,24 +38,12 @@ so_ok (Err e) P Q to holds = tt
 
 -- while the gate of a slot is closed
 pub closing_stages : (slot : Slot) (old c : List ℕ) → SameBut (start slot) (if is_open old (start slot) then 1 else 0) old c → Stages slot old c
-closing_stages slot old c same =
-    let here = places slot in
-    let none = same.elsewhere (start slot) in
-    record {
-      same = record { same_length = same.same_length; elsewhere = λ i outside. grind (arith, same.elsewhere i, here) };
-      behind = λ opened. (grind (arith, none), record { same_length = same.same_length; elsewhere = λ i outside. grind (arith, same.elsewhere i) });
-    }
+closing_stages slot old c same = grind arith
 
 -- and while an image is written behind it
 pub writing_stages : (slot : Slot) (old mid c : List ℕ) → SameBut (start slot) 1 old mid → is_open mid (start slot) ≡ false
     → SameBut (start slot + 1) (slot_size (layout_of slot) - 1) mid c → Stages slot old c
-writing_stages slot old mid c first shut second =
-    let here = places slot in
-    let kept = kept_gate second (start slot) (omega arith) in
-    record {
-      same = same_on (wider (omega arith) (omega arith) first) (wider (omega arith) (omega arith) second);
-      behind = λ opened. absurd (cc (kept, shut, opened));
-    }
+writing_stages slot old mid c first shut second = grind (arith, places, kept_gate)
 
 -- Disk calls so far wrote within one range alone, and a crash at any moment of them leaves the rest.
 pub record IsRun (at n : ℕ) (old new : DiskState) : Type 0 where
@@ -65,17 +51,11 @@ pub record IsRun (at n : ℕ) (old new : DiskState) : Type 0 where
   pub moments : LeavesOnly old new (SameBut at n old.reading)
 
 pub run_start : {at n : ℕ} {old : DiskState} → IsAtRest old → ((c : List ℕ) → old.left_since old.moment c → MayLeave old c) → IsRun at n old old
-run_start {old = old} rest only =
-    let within = within_here (λ i loose. absurd (rest i loose)) in
-    record { within = within; moments = started old _ (λ c left. leaves_within within c (only c left)) }
+run_start {old = old} rest only = grind (arith, within_here)
 
 pub run_write : {at n place : ℕ} {old mid new : DiskState} {result : Result (Unit {0}) DiskFault} {bytes : List ℕ} → at ≤ place
     → place + length bytes ≤ at + n → Writes mid new place bytes result → IsRun at n old mid → IsRun at n old new
-run_write {result = result} low high writes run =
-    let within = within_write result run.within low high writes in
-    record { within = within; moments = within_goes_on run.moments writes.time within }
+run_write {result = result} low high writes run = grind arith
 
 pub run_sync : {at n : ℕ} {old mid new : DiskState} {result : Result (Unit {0}) DiskFault} → Syncs mid new result → IsRun at n old mid → IsRun at n old new
-run_sync {result = result} syncs run =
-    let within = within_sync result run.within syncs in
-    record { within = within; moments = within_goes_on run.moments syncs.time within }
+run_sync {result = result} syncs run = grind arith

@@ -1,7 +1,7 @@
 -- What image the bytes of a disk hold.
 use Rattle.std.specs.Prelude.{◌≡◌, ◌+◌, ℕ, List, length, get_or, nat_lt, nat_le, nat_eq}
 use Rattle.std.specs.Prelude.{Bool, not, ◌&&◌, ◌||◌, if◌then◌else◌}
-use Rattle.pos_disk.specs.State.{part}
+use Rattle.pos_disk.specs.State.{DiskState, IsAtRest, part}
 use Rattle.pos_image.specs.Layout.{disk_size, longest, log_place, log_size, start, other, first_of, layout_of}
 use Rattle.pos_image.specs.Layout.{layout_on, is_open, is_migrated, sequence_at, length_at, body_at}
 use Rattle.pos_image.specs.NewDisk.{HasClosedGates, no_files}
@@ -80,3 +80,8 @@ pub record HasNewImage (layout : Layout) (body : List ℕ) (sequence : ℕ) (byt
 pub record IsNewDisk (bytes : List ℕ) : Type 0 where
   pub image : HasNewImage Layout1 no_files 1 bytes
   pub gates : HasClosedGates bytes
+
+-- A disk that was formatted: at rest, with no files by layout 1, and sequence 1.
+pub record HasNoFiles (disk : DiskState) : Type 0 where
+  pub at_rest : IsAtRest disk
+  pub image : HasNewImage Layout1 no_files 1 disk.reading

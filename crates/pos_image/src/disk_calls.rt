@@ -1,5 +1,5 @@
 // The few disk calls of which each change of the images is made.
-ghost use Rattle.std.specs.Prelude.{◌≡◌, ◌≤◌, ◌+◌, ◌++◌, length, OnOk, false};
+ghost use Rattle.std.specs.Prelude.{◌≡◌, ◌≤◌, ◌<◌, ◌+◌, ◌^◌, ◌++◌, length, OnOk, false};
 ghost use Rattle.byteorder.specs.Endian.{big_bytes};
 ghost use Rattle.pos_disk.specs.State.{IsAtRest, HasCause};
 ghost use Rattle.pos_disk.specs.Keeps.{KeepsDisk};
@@ -8,9 +8,9 @@ ghost use Rattle.pos_image.specs.DiskCalls.{IsWritten, Keeps, CrashKeeps, Closes
 ghost use Rattle.pos_image.specs.DiskCalls.{HasNoLog, KeepsBeside, Stages, CrashStages};
 ghost use Rattle.pos_image.specs.Slots.{HasFields};
 
+use crate::image::Image;
 use crate::layout::{BODY, CLOSED, SEQUENCE};
 use crate::reading::read_gate;
-use crate::slot::Slot;
 use byteorder::{BigEndian, ByteOrder};
 use pos_disk::{Disk, DiskFault};
 
@@ -49,7 +49,8 @@ pub fn close_gate<D: Disk>(disk: &mut D, at: u64) -> Result<(), DiskFault>
 
 // The fields of a slot between its gate and its body: sequence and length.
 fn head_of(sequence: u64, length: u32) -> [u8; 12]
-    ensures { result ≡ big_bytes 8 sequence ++ big_bytes 4 length }
+    ensures bytes { result ≡ big_bytes 8 sequence ++ big_bytes 4 length }
+    ensures counted { sequence < 2 ^ 64 }
 {
     let mut head = [0; 12];
     BigEndian::write_u64(&mut head, sequence);
@@ -57,55 +58,55 @@ fn head_of(sequence: u64, length: u32) -> [u8; 12]
     head
 }
 
-/// Writes an image behind the gate of this slot, and an empty log, and syncs.
-pub fn write_image<D: Disk>(
-    disk: &mut D,
-    slot: Slot,
-    sequence: u64,
-    body: &[u8],
-) -> Result<(), DiskFault>
+/// Writes an image behind the gate of its slot, and an empty log, and syncs.
+pub fn write_image<D: Disk>(disk: &mut D, image: &Image) -> Result<(), DiskFault>
     requires large { disk_size ≤ D.size disk.old }
-    requires short { length body.now ≤ longest (layout_of slot) }
+    requires short { length image.now.body.items ≤ longest (layout_of image.now.slot) }
     requires at_rest { D.honest disk.old → IsAtRest (D.state disk.old) }
     ensures keeps { KeepsDisk D.Disk disk.old disk.new }
     ensures at_rest { D.honest disk.old → OnOk result (IsAtRest (D.state disk.new)) }
     ensures written { D.honest disk.old
-        → OnOk result (HasFields (D.state disk.new).reading (start slot) sequence body.now) }
-    ensures no_log { D.honest disk.old → OnOk result (HasNoLog slot (D.state disk.new)) }
-    ensures rest { D.honest disk.old → KeepsBeside slot (length body.now) (D.state disk.old) (D.state disk.new) }
-    ensures same { D.honest disk.old → OnOk result (KeepsGate slot (D.state disk.old) (D.state disk.new)) }
-    ensures any_moment { D.honest disk.old → CrashKeepsGate slot (D.state disk.old) (D.state disk.new) }
+        → OnOk result (HasFields (D.state disk.new).reading (start image.now.slot) image.now.sequence
+        image.now.body.items) }
+    ensures no_log { D.honest disk.old → OnOk result (HasNoLog image.now.slot (D.state disk.new)) }
+    ensures rest { D.honest disk.old
+        → KeepsBeside image.now.slot (length image.now.body.items) (D.state disk.old) (D.state disk.new) }
+    ensures same { D.honest disk.old → OnOk result (KeepsGate image.now.slot (D.state disk.old) (D.state disk.new)) }
+    ensures any_moment { D.honest disk.old → CrashKeepsGate image.now.slot (D.state disk.old) (D.state disk.new) }
     ensures cause { D.honest disk.old → HasCause (D.state disk.old) (D.state disk.new) result }
 {
-    let at = slot.start();
-    disk.write(at + SEQUENCE, &head_of(sequence, body.len() as u32))?;
-    disk.write(at + BODY, body)?;
-    disk.write(at + slot.layout().log(), &[CLOSED])?;
+    let at = image.slot.start();
+    disk.write(
+        at + SEQUENCE,
+        &head_of(image.sequence, image.body.len() as u32),
+    )?;
+    disk.write(at + BODY, &image.body)?;
+    disk.write(at + image.slot.layout().log(), &[CLOSED])?;
     disk.sync()
 }
 
-/// Puts an image into a slot, behind a closed gate.
-pub fn place_image<D: Disk>(
-    disk: &mut D,
-    slot: Slot,
-    sequence: u64,
-    body: &[u8],
-) -> Result<(), DiskFault>
+/// Puts an image into its slot, behind a closed gate.
+pub fn place_image<D: Disk>(disk: &mut D, image: &Image) -> Result<(), DiskFault>
     requires large { disk_size ≤ D.size disk.old }
-    requires short { length body.now ≤ longest (layout_of slot) }
+    requires short { length image.now.body.items ≤ longest (layout_of image.now.slot) }
     requires at_rest { D.honest disk.old → IsAtRest (D.state disk.old) }
     ensures keeps { KeepsDisk D.Disk disk.old disk.new }
     ensures at_rest { D.honest disk.old → OnOk result (IsAtRest (D.state disk.new)) }
-    ensures closed { D.honest disk.old → OnOk result (is_open (D.state disk.new).reading (start slot) ≡ false) }
+    ensures closed { D.honest disk.old
+        → OnOk result (is_open (D.state disk.new).reading (start image.now.slot) ≡ false) }
     ensures written { D.honest disk.old
-        → OnOk result (HasFields (D.state disk.new).reading (start slot) sequence body.now) }
-    ensures no_log { D.honest disk.old → OnOk result (HasNoLog slot (D.state disk.new)) }
-    ensures rest { D.honest disk.old → KeepsBeside slot (length body.now) (D.state disk.old) (D.state disk.new) }
-    ensures gate { D.honest disk.old → OnOk result (ClosesGate (start slot) (D.state disk.old) (D.state disk.new)) }
-    ensures same { D.honest disk.old → OnOk result (Stages slot (D.state disk.old).reading (D.state disk.new).reading) }
-    ensures any_moment { D.honest disk.old → CrashStages slot (D.state disk.old) (D.state disk.new) }
+        → OnOk result (HasFields (D.state disk.new).reading (start image.now.slot) image.now.sequence
+        image.now.body.items) }
+    ensures no_log { D.honest disk.old → OnOk result (HasNoLog image.now.slot (D.state disk.new)) }
+    ensures rest { D.honest disk.old
+        → KeepsBeside image.now.slot (length image.now.body.items) (D.state disk.old) (D.state disk.new) }
+    ensures gate { D.honest disk.old
+        → OnOk result (ClosesGate (start image.now.slot) (D.state disk.old) (D.state disk.new)) }
+    ensures same { D.honest disk.old
+        → OnOk result (Stages image.now.slot (D.state disk.old).reading (D.state disk.new).reading) }
+    ensures any_moment { D.honest disk.old → CrashStages image.now.slot (D.state disk.old) (D.state disk.new) }
     ensures cause { D.honest disk.old → HasCause (D.state disk.old) (D.state disk.new) result }
 {
-    close_gate(disk, slot.start())?;
-    write_image(disk, slot, sequence, body)
+    close_gate(disk, image.slot.start())?;
+    write_image(disk, image)
 }

@@ -302,7 +302,7 @@ impl<D: Disk> Images<D> {
             D.Disk self.old (image_of image.slot image.body.items image.sequence) result self.new }
         ensures faults { IsErr result → IsErrOf result Device }
     {
-        place_image(&mut self.disk, image.slot, image.sequence, &image.body)?;
+        place_image(&mut self.disk, &image)?;
         self.prepared = Some(image);
         Ok(())
     }

@@ -14,11 +14,13 @@ pub const THIRD: u64 = 65_536;
 
 pub const FOURTH: u64 = 196_608;
 
-/// Where the fields of a slot begin, counted from its gate.
+/// Where the sequence of a slot stands, counted from its gate.
 pub const SEQUENCE: u64 = 1;
 
+/// Where the length of its body stands, counted from its gate.
 pub const LENGTH: u64 = 9;
 
+/// Where its body begins, counted from its gate.
 pub const BODY: u64 = 13;
 
 /// Where the log of a slot of layout 1 begins, with its gate.
@@ -48,8 +50,8 @@ impl Layout {
         }
     }
 
-    /// Where the log of a slot begins, counted from its gate.
-    pub(crate) fn log(self) -> u64
+    /// Where the log of a slot begins, counted from its gate: 16,384 or 81,920.
+    pub fn log(self) -> u64
         ensures { result ≡ log_place self }
     {
         match self {

@@ -8,12 +8,14 @@ mod formatting;
 mod image;
 mod images;
 mod layout;
+mod memory;
 mod reading;
 mod slot;
 mod spans;
 
 pub use fault::ImageFault;
 pub use images::Images;
-pub use layout::Layout;
+pub use layout::{BODY, LENGTH, Layout, SEQUENCE};
+pub use memory::new_disk;
 pub use reading::{Head, Heads, read_heads};
 pub use slot::Slot;

@@ -1,8 +1,8 @@
 -- What an append did, by what its two steps did.
 use Rattle.pos_log.proofs.Common.{Appends, CountsFaults, DiskState, Err, Ghosts, HasNotFailed, HoldsMore, HoldsRecords, IsLogReady, IsReady, KeepsRecords}
-use Rattle.pos_log.proofs.Common.{KeepsSpan, LeavesOnly, List, Ok, PutsBytes, Rises, SameBut, View, [], ap, arith, followed_by, inl, layout_of, length, log_of}
-use Rattle.pos_log.proofs.Common.{log_over, log_place, part, part-splice, places, rules, slot_size, span_length, spelling, spliced_same, tail_of}
-use Rattle.pos_log.proofs.Common.{text_behind_gate, weaker, wider, ℕ, ⊎_elim, ◌++◌, ◌+◌, ◌-◌, ◌<◌, ◌^◌, ◌∙◌, ◌∷◌, ◌≡◌, ◌≤◌}
+use Rattle.pos_log.proofs.Common.{KeepsSpan, LeavesOnly, List, Ok, PutsBytes, Rises, SameBut, View, [], arith, followed_by, inl, layout_of, length, log_of}
+use Rattle.pos_log.proofs.Common.{log_over, log_place, part, part-splice, places, rules, slot_size, span_length, spelling, spliced_same, text_behind_gate}
+use Rattle.pos_log.proofs.Common.{weaker, wider, ℕ, ⊎_elim, ◌++◌, ◌+◌, ◌-◌, ◌<◌, ◌^◌, ◌∙◌, ◌∷◌, ◌≡◌, ◌≤◌}
 use Rattle.pos_disk.specs.Keeps.{KeepsDisk}
 use Rattle.pos_image.proofs.Changes.{opened_gate}
 use Rattle.pos_log.proofs.Holding.{either_more, kept_records, opened_more, spelling_length}
@@ -32,10 +32,7 @@ module _ {D : Type 0} (bound : Ghosts D) (images : View D) (tail : ℕ) (group :
 
   -- whatever records the span holds, they end there
   place_is : bound.honest images.disk → (groups : List (List ℕ)) → HoldsRecords groups (log_of old.reading) → place ≡ length (spelling groups)
-  place_is honest groups holds =
-      let found = ready.records honest in
-      let at = found.2 ∙ ap (tail_of (layout_of images.slot)) (one_log found.0 groups (log_of old.reading) found.1 holds) in
-      omega arith
+  place_is honest groups holds = grind (arith, one_log)
 
   -- and the record fits behind them, with a gate
   in_span : bound.honest images.disk → place + 6 + length group ≤ length (log_of old.reading)
@@ -48,9 +45,7 @@ module _ {D : Type 0} (bound : Ghosts D) (images : View D) (tail : ℕ) (group :
   failed : (end : D) (now : View D) → now ≡ record images { disk = end } → (bound.honest images.disk → IsKept (bound.state end))
       → KeepsDisk bound images.disk end → (bound.honest images.disk → Rises old.failures (bound.state end).failures)
       → Appends bound (log_over images tail) group (Err fault.Device) (log_over now tail)
-  failed end now is moments keeps rises =
-      let small : slot_size (layout_of images.slot) < tail + 6 + length group → ⊥ = λ over. omega arith in
-      rw is (search (rules, moments, keeps, rises, small))
+  failed end now is moments keeps rises = grind arith
 
   module _ (disk : D) (puts : WritesThrough bound images images.disk (place + 1) (text_behind_gate group) disk) where
     -- at any moment of the first step
@@ -76,9 +71,7 @@ module _ {D : Type 0} (bound : Ghosts D) (images : View D) (tail : ℕ) (group :
           (spliced_same (log_of old.reading) (text_behind_gate group) (place + 1) (omega (arith, in_span honest))))
 
       there : bound.honest images.disk → part (place + 1) (5 + length group) (log_of (bound.state disk).reading) ≡ text_behind_gate group
-      there honest =
-          rw (← (text_length group), put honest) (part-splice (log_of old.reading) (text_behind_gate group) (place + 1)
-          (omega (arith, in_span honest, text_length group)))
+      there honest = grind (arith, text_length, part-splice, in_span)
 
       -- and of the second
       all_moments : bound.honest images.disk → IsKept (bound.state end)
@@ -92,11 +85,7 @@ module _ {D : Type 0} (bound : Ghosts D) (images : View D) (tail : ℕ) (group :
 
       pub failed_open : (now : View D) → now ≡ record images { disk = end } → (bound.honest disk → Rises (bound.state disk).failures (bound.state end).failures)
           → Appends bound (log_over images tail) group (Err fault.Device) (log_over now tail)
-      failed_open now is rises = failed end now is all_moments both_keep (λ honest.
-          let first = puts.keeps.later honest in
-          let second = opens.keeps.later (puts.keeps.honest.0 honest) in
-          let rose = rises (puts.keeps.honest.0 honest) in
-          grind arith)
+      failed_open now is rises = grind (arith, failed, all_moments, both_keep)
 
       module _ (opened : bound.honest disk → PutsBytes place (165 ∷ []) (bound.state disk) (bound.state end)) where
         more : bound.honest images.disk → HoldsMore (log_of old.reading) group (log_of (bound.state end).reading)

@@ -21,6 +21,5 @@ pub use Rattle.pos_image.specs.Images.{CountsFaults, HasEither, IsReady, IsSound
 pub use Rattle.pos_image.specs.Layout.{is_open, layout_of, log_place, log_size, slot_size}
 pub use Rattle.pos_image.specs.Standing.{HasNewImage, ShowsImage, log_of}
 pub use Rattle.pos_log.specs.Logs.{Appends, HasNoRecords, HasOldOrNew, IsLogReady, KeepsRecords, Renews, log_over}
-pub use Rattle.pos_log.specs.Records.{BeginsWith, HasLength, HoldsMore, HoldsRecords, HoldsSome, IsShort, end_of, record_spelling, spelling, tail_of}
-pub use Rattle.pos_log.specs.Records.{text_behind_gate}
+pub use Rattle.pos_log.specs.Records.{BeginsWith, HasLength, HoldsMore, HoldsRecords, HoldsSome, IsShort, end_of, record_spelling, spelling, text_behind_gate}
 pub use Rattle.pos_log.specs.Writing.{KeepsSpan, PutsBytes}

@@ -1,9 +1,8 @@
 -- Whether a span holds records is decided by reading them.
 use Rattle.pos_log.proofs.Common.{BeginsWith, HasLength, HoldsSome, List, [], ap, arith, cases_Bool, cases_lt, from_be_bytes, from_be_bytes-to_be_bytes_4}
-use Rattle.pos_log.proofs.Common.{get_or, inl, inr, length, nat_eq, not_from_Decides, part, refl, subst, suc, sym, to_be_bytes, w32, zero, ℕ, ⊎_elim, ◌++◌, ◌+◌}
-use Rattle.pos_log.proofs.Common.{◌<◌, ◌^◌, ◌∙◌, ◌∷◌, ◌≡◌, ◌≤◌, ◌⊎◌}
+use Rattle.pos_log.proofs.Common.{get_or, inl, inr, length, nat_eq, not_from_Decides, part, refl, subst, suc, sym, w32, zero, ℕ, ⊎_elim, ◌++◌, ◌+◌, ◌<◌, ◌∙◌}
+use Rattle.pos_log.proofs.Common.{◌∷◌, ◌≡◌, ◌≤◌, ◌⊎◌}
 use Rattle.std.proofs.lemmas.Slice.Eq.{bytes_eq-Decides}
-use Rattle.std.specs.Str.{bytes_eq}
 use Rattle.pos_log.proofs.Holding.{all_read, begins_more, open_byte}
 use Rattle.pos_log.proofs.Parsing.{begins, none_held}
 
@@ -13,18 +12,7 @@ the_length span at n has = sym (from_be_bytes-to_be_bytes_4 n has.few) ∙ ap (f
 
 -- whether a record of this length fits at a place with the gate behind it
 has_or_not : (span : List ℕ) (at n : ℕ) → HasLength span at n ⊎ (HasLength span at n → ⊥)
-has_or_not span at n =
-    let spelled = bytes_eq-Decides (part (at + 1) 4 span) (to_be_bytes w32 n) in
-    elim (cases_lt n (2 ^ 32)) [
-      | inr many ↦ inr (λ has. absurd (omega (arith, many, has.few)))
-      | inl few ↦ elim (cases_lt (length span) (at + 6 + n)) [
-        | inl short ↦ inr (λ has. absurd (omega (arith, short, has.fits)))
-        | inr fits ↦ elim (cases_Bool (bytes_eq (part (at + 1) 4 span) (to_be_bytes w32 n))) [
-          | inl same ↦ inl (record { few = few; length_is = spelled.0 same; fits = fits })
-          | inr other ↦ inr (λ has. not_from_Decides _ spelled other has.length_is)
-        ]
-      ]
-    ]
+has_or_not span at n = grind (arith, bytes_eq-Decides, cases_lt, cases_Bool, not_from_Decides)
 
 -- and whether any does
 length_or_none : (span : List ℕ) (at : ℕ) → ((n : ℕ) × HasLength span at n) ⊎ ((n : ℕ) → HasLength span at n → ⊥)

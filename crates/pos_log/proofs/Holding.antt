@@ -54,18 +54,11 @@ begins_more groups at n span group begins gate has is =
     let end_is = begins.end_is in
     let here = record_here at span group gate (rw long has.length_is) (rw long (sym is)) (omega arith) in
     let total : at + (5 + n) ≡ at + (1 + (4 + length group)) = omega arith in
-    record {
-      short = all_more groups group begins.short (omega arith);
-      end_is = omega arith;
-      front = rw (total, take-add at (1 + (4 + length group)) span, begins.front, here) (sym (spelling_more groups group));
-      inside = omega arith;
-    }
+    grind (arith, all_more, take-add, spelling_more)
 
 -- what is read up to a closed gate is all that is there
 pub all_read : (groups : List (List ℕ)) (at : ℕ) (span : List ℕ) → BeginsWith groups at span → is_open span at ≡ false → HoldsRecords groups span
-all_read groups at span begins shut =
-    let end_is = begins.end_is in
-    record { short = begins.short; front = rw (← end_is) begins.front; inside = rw (← end_is) begins.inside; behind = rw (← end_is) shut }
+all_read groups at span begins shut = grind arith
 
 -- what changes from the gate behind the records on, while that gate is closed, leaves the records
 kept_shut : (groups : List (List ℕ)) {old new : List ℕ} {at n : ℕ} → HoldsRecords groups old → SameBut at n old new

@@ -3,6 +3,7 @@ use Rattle.pos_log.proofs.Common.{AllByRecursion, BeginsWith, HasLength, HoldsSo
 use Rattle.pos_log.proofs.Common.{get_or-drop, length, length-append, length-drop, nat_eq, nat_tests, part, record_spelling, refl, spelling, suc, sym, take}
 use Rattle.pos_log.proofs.Common.{take-append-drop, take_at, ℕ, ◌++◌, ◌<◌, ◌∙◌, ◌∷◌, ◌≡◌}
 use Rattle.pos_log.proofs.Unique.{others_follow, span_split}
+use Rattle.std.proofs.lemmas.Grind.{common_steps}
 
 -- nothing has been read yet
 pub begins : (span : List ℕ) → 0 < length span → BeginsWith [] 0 span
@@ -11,8 +12,7 @@ begins span some = record { short = tt; end_is = refl; front = refl; inside = so
 refused : (others : List (List ℕ)) (at : ℕ) (span : List ℕ) (gate : ℕ) (behind : List ℕ) → at < length span → AllByRecursion IsShort others
     → drop at span ≡ spelling others ++ gate ∷ behind → nat_eq gate 165 ≡ false → get_or span at 0 ≡ 165
     → ((n : ℕ) → HasLength span at n → ⊥) → ⊥
-refused [] at span gate behind inside short is shut byte none =
-    grind (arith, nat_tests, get_or-drop at span 0 0, ap (λ (l : List ℕ). get_or l 0 0) is)
+refused [] at span gate behind inside short is shut byte none = grind (arith, common_steps, nat_tests, get_or-drop)
 refused (group ∷ others) at span gate behind inside short is shut byte none =
     let two = length-append (record_spelling group ++ spelling others) (gate ∷ behind) in
     let one = length-append (record_spelling group) (spelling others) in
@@ -35,7 +35,4 @@ none_held groups at span begins byte none (all, holds) =
 -- a span that was read whole
 pub whole_read : (read out items span : List ℕ) (n size : ℕ) → n ≡ size → length out ≡ size → length span ≡ size
     → read ≡ take n (out ++ drop (length out) items) → out ≡ part 0 (length out) span → read ≡ span
-whole_read read out items span n size n_is out_long span_long read_is out_is =
-    let one : n ≡ length out = omega arith in
-    let two : length out ≡ length span = omega arith in
-    cc (take_at out (drop (length out) items) (length out) refl, append-nil span, take_at span [] (length span) refl)
+whole_read read out items span n size n_is out_long span_long read_is out_is = grind (arith, common_steps, take_at, append-nil)

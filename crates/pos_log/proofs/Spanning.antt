@@ -1,6 +1,6 @@
 -- A write into the log span, up to its sync.
 use Rattle.pos_log.proofs.Common.{DiskState, IsSound, KeepsSpan, LeavesOnly, List, Result, ShowsImage, View, followed_by, layout_of, length, log_of, weaker, ℕ}
-use Rattle.pos_log.proofs.Common.{⊎_elim, ◌∙◌, ◌≡◌}
+use Rattle.pos_log.proofs.Common.{◌≡◌, arith}
 use Rattle.pos_image.specs.Spans.{KeepsImage, MayHold, WritesSpan, span_of}
 
 module _ {D : Type 0} (images : View D) (at : ℕ) (bytes : List ℕ) {T E : Type 0} (result : Result T E) (old mid : DiskState) (sound : IsSound old images)
@@ -8,18 +8,10 @@ module _ {D : Type 0} (images : View D) (at : ℕ) (bytes : List ℕ) {T E : Typ
   -- a crash leaves a span that differs within the range of the write only
   keeps_span : (c : List ℕ) → ShowsImage (layout_of images.slot) images.body images.sequence c → MayHold (span_of images mid) (log_of c)
       → KeepsSpan (layout_of images.slot) images.body images.sequence at (length bytes) (log_of old.reading) c
-  keeps_span c image may = record {
-    image = image;
-    log = record {
-      same_length = may.same_length ∙ writes.same_length;
-      elsewhere = λ i outside. may.settled i (λ loose. ⊎_elim (sound.at_rest _) outside (writes.loose i loose)) ∙ writes.elsewhere i outside;
-    };
-  }
+  keeps_span c image may = grind arith
 
   -- at any moment of the write, and of the sync after it
   pub sync_moments : LeavesOnly old mid (KeepsImage images (span_of images mid)) → (now : View D) (disk : D) → now ≡ record images { disk = disk }
       → (new : DiskState) → LeavesOnly mid new (KeepsImage now (span_of now mid))
       → LeavesOnly old new (KeepsSpan (layout_of images.slot) images.body images.sequence at (length bytes) (log_of old.reading))
-  sync_moments written now disk is new synced =
-      followed_by old mid new _ (weaker old mid _ _ (λ c keeps. keeps_span c keeps.image keeps.log) written)
-      (weaker mid new _ _ (λ c keeps. keeps_span c keeps.image keeps.log) (rw is at synced))
+  sync_moments written now disk is new synced = grind (arith, followed_by, weaker, keeps_span)

@@ -30,8 +30,7 @@ others_follow (group ∷ groups) (one ∷ all) rest gate behind short short_all 
 -- a span is its records, the gate behind them, and what follows
 pub span_split : (groups : List (List ℕ)) (span : List ℕ) → HoldsRecords groups span
     → span ≡ spelling groups ++ get_or span (length (spelling groups)) 0 ∷ drop (suc (length (spelling groups))) span
-span_split groups span holds =
-    cc (take-append-drop (length (spelling groups)) span, holds.front, drop-cons span (length (spelling groups)) 0 holds.inside)
+span_split groups span holds = grind (arith, take-append-drop, drop-cons)
 
 none_follow : (groups all others : List (List ℕ)) (gate : ℕ) (rest behind : List ℕ) → all ≡ groups ++ others
     → gate ∷ rest ≡ spelling others ++ behind → nat_eq gate 165 ≡ false → groups ≡ all

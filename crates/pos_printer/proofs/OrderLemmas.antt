@@ -1,5 +1,5 @@
 -- What comes of an order that a printer was given.
-use Rattle.std.proofs.Common.{◌≡◌, List, Ok, refl}
+use Rattle.std.proofs.Common.{◌≡◌, List, Ok, arith, refl}
 use Rattle.std.specs.Prelude.{ℕ}
 use Rattle.pos_service.specs.declared.order.Order.{Order}
 use Rattle.pos_service.specs.declared.order.Reply.{Reply}
@@ -14,8 +14,7 @@ use Rattle.pos_printer.proofs.ReplyLemmas.{same_covered, same_ended}
 
 -- the controls once they have heard what has changed at a place
 abbrev pub heard_at : ℕ → PeripheralState → PeripheralState → List Control → List Control
-heard_at place s t controls =
-    all_listening place (heard_signs (signs_of s.kind s.plant) (signs_of t.kind t.plant)) controls
+heard_at place s t controls = all_listening place (heard_signs (signs_of s.kind s.plant) (signs_of t.kind t.plant)) controls
 
 -- they have heard of signs that are those of the printer
 pub heard_of : (place : ℕ) (s t : PeripheralState) (a b : Signs) (old mid new : List Control) → a ≡ signs_of s.kind s.plant
@@ -39,21 +38,4 @@ ordered_done given place s t old new asked heard = record {
 -- it has not done it: its cover is open, its paper doesn't suffice, its line has failed, or it is off
 pub ordered_undone : (said : Reply) → (said ≡ reply.Done → ⊥) → (given : Order) (place : ℕ) (s t : PeripheralState) (old : List Control)
     → Asked s given (Ok said) t → Ordered given place said old (hardware_of s) old (hardware_of t)
-ordered_undone reply.Done undone given place s t old asked = absurd (undone refl)
-ordered_undone reply.CoverOpen undone given place s t old asked = record {
-  plant = asked.answer.0;
-  same = same_hardware s t old asked.kind (same_covered given s.plant t.plant asked.answer.0) asked.answer.1;
-}
-ordered_undone reply.PaperEnd undone given place s t old asked = record {
-  plant = asked.answer.0;
-  same = same_hardware s t old asked.kind (same_ended given s.plant t.plant asked.answer.0) asked.answer.1;
-}
-ordered_undone reply.LineFault undone given place s t old asked = record {
-  failures = asked.answer.1;
-  hardware = rw (asked.kind, asked.answer.0) refl;
-  controls = refl;
-}
-ordered_undone reply.Offline undone given place s t old asked = record {
-  plant = asked.answer.0;
-  same = same_hardware s t old asked.kind asked.answer.0.1 asked.answer.1;
-}
+ordered_undone said undone given place s t old asked = grind (arith, same_covered, same_ended)

@@ -1,10 +1,9 @@
 -- Work on the request of the control that holds a printer.
 use Rattle.std.proofs.Common.{◌≡◌, ◌∙◌, ℕ, ◌<◌, ◌≤◌, Bool, true, cond, List, All, Ok, get_or, set, length, ap, arith, refl, subst, sym}
 use Rattle.std.proofs.lemmas.List.{length-map, map-set}
-use Rattle.std.proofs.lemmas.Option.{get_or_from_slice_get, slice_get-get_or, slice_get-map, slice_get_within, MatchOption-at_some}
-use Rattle.std.proofs.lemmas.Bool.{false≢true}
+use Rattle.std.proofs.lemmas.Option.{get_or_from_slice_get, slice_get-get_or, slice_get-map, slice_get_within, MatchOption-at_some, option_and_then_some}
 use Rattle.std.specs.Option.{option_and_then, option_map}
-use Rattle.std.specs.Prelude.{Option, Some, None, Result, IsSome, IsTrue, MatchOption, MatchResult, is_some, slice_get, slice_set}
+use Rattle.std.specs.Prelude.{Option, Some, None, Result, IsTrue, MatchOption, is_some, slice_get, slice_set}
 use Rattle.pos_service.specs.declared.memory.NoMemory.{NoMemory}
 use Rattle.pos_service.specs.declared.order.Order.{Order}
 use Rattle.pos_service.specs.declared.signs.Signs.{Signs}
@@ -18,29 +17,19 @@ use Rattle.pos_service.specs.Deeds.{Ordered}
 use Rattle.pos_service.specs.Kinds.{is_printer}
 use Rattle.pos_service.specs.Output.{request_to_do}
 use Rattle.pos_service.specs.Peripherals.{Asked, PeripheralState, signs_of}
-use Rattle.pos_service.specs.PrinterCalls.{after_work, first_request, due_request, worked_by, WorksAt, WorksOn}
-use Rattle.pos_service.specs.Hardware.{Hardware, SameHardware, hardware_of}
+use Rattle.pos_service.specs.PrinterCalls.{after_work, first_request, worked_by, WorksAt}
+use Rattle.pos_service.specs.Hardware.{hardware_of}
 use Rattle.pos_service.specs.Statuses.{heard_signs}
 use Rattle.pos_common.specs.KeptControls.{KeptControl, HasRoom, controls_of, work_events}
 use Rattle.pos_common.proofs.KeptLemmas.{control_at}
 use Rattle.pos_printer.specs.Requests.{HasRequest}
 use Rattle.pos_printer.proofs.OrderLemmas.{heard_of, ordered_done, ordered_undone}
 
--- there is a request to do
-pub works : (at : Option ℕ) (holder place : ℕ) (outcome : Result Worked NoMemory) (old new : List Control) (before after : Hardware)
-    (request : ℕ × Order) → at ≡ Some holder → is_printer before.kind ≡ true
-    → option_and_then (first_request place) (slice_get old holder) ≡ Some request
-    → MatchResult outcome (λ result. WorksOn (due_request holder request) place result old before new after)
-    (λ want. SameHardware old before new after) → WorksAt at place outcome old before new after
-works at holder place outcome old new before after request is printer found h = rw (is, printer, found) h
-
 -- the request to do is the one that is done
 of_request : (o : Option (ℕ × Order)) (id i : ℕ) (old new : List Control) (control : Control)
     → option_map (λ (request : ℕ × Order). request.0) o ≡ Some id → new ≡ slice_set old i (completed id control)
     → MatchOption o ⊥ (λ request. (worked.Done id ≡ worked.Done request.0) × (new ≡ slice_set old i (completed request.0 control)))
-of_request None id i old new control is h = absurd cc
-of_request (Some request) id i old new control is h =
-    let same : id ≡ request.0 = cc in (ap worked.Done same, h ∙ ap (λ n. slice_set old i (completed n control)) same)
+of_request o id i old new control is h = grind arith
 
 -- a held control whose request is done is a change of the machine's control
 pub completed_in : (hs : List KeptControl) (i : ℕ) (d g : KeptControl) (id : ℕ) → i < length hs
@@ -61,31 +50,20 @@ pub record IsFirst (place holder : ℕ) (request : ℕ × Order) (controls : Lis
   pub there : slice_get controls holder ≡ Some control
   pub first : first_request place control ≡ Some request
 
+some_of : {A : Type 0} (o : Option A) → is_some o ≡ true → (x : A) × (o ≡ Some x)
+some_of None is = absurd cc
+some_of (Some x) is = (x, refl)
+
 -- there is such a request
 pub first_found : (place holder : ℕ) (cs : List Control) → is_some (option_and_then (first_request place) (slice_get cs holder)) ≡ true
     → (request : ℕ × Order) × IsFirst place holder request cs
-first_found place holder cs h = by_control (slice_get cs holder) refl h
-  where
-    by_request : (x : Control) → slice_get cs holder ≡ Some x → (r : Option (ℕ × Order)) → first_request place x ≡ r → is_some r ≡ true
-        → (request : ℕ × Order) × IsFirst place holder request cs
-    by_request x e None first some = absurd (false≢true some)
-    by_request x e (Some request) first some = (request, record { control = x; there = e; first = first })
-
-    by_control : (o : Option Control) → slice_get cs holder ≡ o → is_some (option_and_then (first_request place) o) ≡ true
-        → (request : ℕ × Order) × IsFirst place holder request cs
-    by_control None e some = absurd (false≢true some)
-    by_control (Some x) e some = by_request x e (first_request place x) refl some
-
--- it is the request that the machine works on
-pub first_is : (place holder : ℕ) (request : ℕ × Order) (cs : List Control) → IsFirst place holder request cs
-    → option_and_then (first_request place) (slice_get cs holder) ≡ Some request
-first_is place holder request cs f = rw f.there f.first
+first_found place holder cs h =
+    let found = some_of (option_and_then (first_request place) (slice_get cs holder)) h in
+    option_and_then_some (first_request place) (slice_get cs holder) found.0 found.1
+    (λ control there first. (found.0, record { control = control; there = there; first = first }))
 
 first_of : (b : Bool) (o : Option (ℕ × Order)) (request : ℕ × Order) → cond b o None ≡ Some request → (o ≡ Some request) × (b ≡ true)
 first_of b o request is = grind arith
-
-same_first : (b : Bool) (place : ℕ) (u v : Signs) (x : Control) → first_request place (cond b (heard_signs u v x) x) ≡ first_request place x
-same_first b place u v x = grind arith
 
 -- it still is once the controls have heard
 pub first_heard : (place holder : ℕ) (request : ℕ × Order) (u v : Signs) (old new : List Control) → IsFirst place holder request old
@@ -93,7 +71,7 @@ pub first_heard : (place holder : ℕ) (request : ℕ × Order) (u v : Signs) (o
 first_heard place holder request u v old new f is = record {
   control = if_listening place (heard_signs u v) f.control;
   there = rw (is, slice_get-map (if_listening place (heard_signs u v)) old holder, f.there);
-  first = same_first (listens place f.control) place u v f.control ∙ f.first;
+  first = grind arith;
 }
 
 -- the control as it is held
@@ -113,10 +91,7 @@ has_request place holder count request hs f most room =
     let listening = first_of (listens place f.control) (request_to_do f.control.writer.output) request f.first in
     let is = ap (λ (x : Control). request_to_do x.writer.output) held.1 ∙ listening.0 in
     let spare = room holder d held.0 (subst (λ (x : Control). IsTrue (listens place x)) (sym held.1) listening.1) in
-    rw (slice_get-get_or hs holder d held.0) (some_is (request_to_do (get_or hs holder d).control.writer.output) request is, omega (arith, most, spare))
-  where
-    some_is : (o : Option (ℕ × Order)) (r : ℕ × Order) → o ≡ Some r → IsSome o
-    some_is o r is = rw is refl
+    rw (slice_get-get_or hs holder d held.0) (grind (arith, is), omega (arith, most, spare))
 
 -- the order that the printer is given is that of the request
 pub first_asked : (place holder : ℕ) (request : ℕ × Order) (hs : List KeptControl) (d : KeptControl) (outcome : Result Reply NoMemory) (s t : PeripheralState)
@@ -133,26 +108,7 @@ pub first_done : (place holder : ℕ) (request : ℕ × Order) (mid new : List C
     (λ r. (result ≡ worked.Done r.0) × (new ≡ slice_set mid holder (completed r.0 control))))
     → (result ≡ worked.Done request.0) × MatchOption (slice_get mid holder) ⊥ (λ control. new ≡ slice_set mid holder (completed request.0 control))
 first_done place holder request mid new result f h =
-    let to_do = (first_of (listens place f.control) (request_to_do f.control.writer.output) request f.first).0 in
-    let of_control = MatchOption-at_some ⊥
-    (λ (control : Control). MatchOption (request_to_do control.writer.output) ⊥
-    (λ r. (result ≡ worked.Done r.0) × (new ≡ slice_set mid holder (completed r.0 control)))) f.control f.there h in
-    let of_request = MatchOption-at_some ⊥
-    (λ (r : ℕ × Order). (result ≡ worked.Done r.0) × (new ≡ slice_set mid holder (completed r.0 f.control))) request to_do of_control in
-    (of_request.0, rw f.there of_request.1)
-
--- work by its parts
-pub works_on : (holder place : ℕ) (said : Reply) (result : Worked) (old mid new : List Control) (before after : Hardware) (request : ℕ × Order)
-    → Ordered request.1 place said old before mid after
-    → MatchOption (slice_get mid holder) ⊥ (λ control. new ≡ slice_set mid holder (after_work request.0 said control))
-    → result ≡ worked_by request.0 said → WorksOn (due_request holder request) place result old before new after
-works_on holder place said result old mid new before after request ordered changed answered = record {
-  said = said;
-  controls = mid;
-  ordered = ordered;
-  worked = changed;
-  answer = answered;
-}
+    grind (arith, first_of (listens place f.control) (request_to_do f.control.writer.output) request f.first)
 
 -- what there is of a request to do: room for its event
 pub room_for_first : (place holder : ℕ) (old : List Control) (hs : List KeptControl)
@@ -162,25 +118,6 @@ room_for_first place holder old hs found same room =
     let f = first_found place holder old found in
     has_request place holder work_events f.0 hs (subst (IsFirst place holder f.0) (sym same) f.1) (omega arith) room
 
--- work on a request that the printer does
-pub does : (at : Option ℕ) (holder place : ℕ) (result : Worked) (old mid new : List Control) (hs : List KeptControl) (d : KeptControl) (s t : PeripheralState)
-    (a b : Signs) → at ≡ Some holder → is_printer s.kind ≡ true → is_some (option_and_then (first_request place) (slice_get old holder)) ≡ true
-    → controls_of hs ≡ old → MatchOption (first_request place (get_or hs holder d).control) ⊥ (λ r. Asked s r.1 (Ok reply.Done) t)
-    → a ≡ signs_of s.kind s.plant → b ≡ signs_of t.kind t.plant → mid ≡ all_listening place (heard_signs a b) (controls_of hs)
-    → MatchOption (slice_get mid holder) ⊥
-    (λ control. MatchOption (request_to_do control.writer.output) ⊥
-    (λ r. (result ≡ worked.Done r.0) × (new ≡ slice_set mid holder (completed r.0 control))))
-    → WorksAt at place (Ok result) old (hardware_of s) new (hardware_of t)
-does at holder place result old mid new hs d s t a b is printer found same asked was now said done =
-    let heard_all = heard_of place s t a b old (controls_of hs) mid was now same said in
-    let f = first_found place holder old found in
-    let given = first_asked place holder f.0 hs d (Ok reply.Done) s t (subst (IsFirst place holder f.0) (sym same) f.1) asked in
-    let still = first_heard place holder f.0 (signs_of s.kind s.plant) (signs_of t.kind t.plant) old mid f.1 heard_all in
-    let worked = first_done place holder f.0 mid new result still done in
-    works at holder place (Ok result) old new (hardware_of s) (hardware_of t) f.0 is printer (first_is place holder f.0 old f.1)
-    (works_on holder place reply.Done result old mid new (hardware_of s) (hardware_of t) f.0
-    (ordered_done f.0.1 place s t old mid given heard_all) worked.1 worked.0)
-
 -- what is said of a request that the printer doesn't do, and what becomes of its control
 undone_said : (said : Reply) → (said ≡ reply.Done → ⊥) → (id holder : ℕ) (result : Worked) (old new : List Control)
     → result ≡ worked.Failed (code_by said) (extended_by said)
@@ -188,18 +125,40 @@ undone_said : (said : Reply) → (said ≡ reply.Done → ⊥) → (id holder : 
     → (result ≡ worked_by id said) × MatchOption (slice_get old holder) ⊥ (λ control. new ≡ slice_set old holder (after_work id said control))
 undone_said said undone id holder result old new answer changed = grind arith
 
--- work on a request that the printer doesn't do
-pub fails : (at : Option ℕ) (holder place : ℕ) (said : Reply) (result : Worked) (old new : List Control) (hs : List KeptControl) (d : KeptControl)
-    (s t : PeripheralState) → (said ≡ reply.Done → ⊥) → at ≡ Some holder → is_printer s.kind ≡ true
-    → is_some (option_and_then (first_request place) (slice_get old holder)) ≡ true → controls_of hs ≡ old
-    → MatchOption (first_request place (get_or hs holder d).control) ⊥ (λ r. Asked s r.1 (Ok said) t)
-    → result ≡ worked.Failed (code_by said) (extended_by said)
-    → MatchOption (slice_get (controls_of hs) holder) ⊥
-    (λ control. new ≡ slice_set (controls_of hs) holder (output_failed (code_by said) (extended_by said) control))
-    → WorksAt at place (Ok result) old (hardware_of s) new (hardware_of t)
-fails at holder place said result old new hs d s t undone is printer found same asked answer changed =
-    let f = first_found place holder old found in
-    let given = first_asked place holder f.0 hs d (Ok said) s t (subst (IsFirst place holder f.0) (sym same) f.1) asked in
-    let told = undone_said said undone f.0.0 holder result old new answer (rw same at changed) in
-    works at holder place (Ok result) old new (hardware_of s) (hardware_of t) f.0 is printer (first_is place holder f.0 old f.1)
-    (works_on holder place said result old old new (hardware_of s) (hardware_of t) f.0 (ordered_undone said undone f.0.1 place s t old given) told.1 told.0)
+module _ (at : Option ℕ) (holder place : ℕ) (result : Worked) (old new : List Control) (hs : List KeptControl) (d : KeptControl) (s t : PeripheralState)
+    (is : at ≡ Some holder) (printer : is_printer s.kind ≡ true)
+    (found : is_some (option_and_then (first_request place) (slice_get old holder)) ≡ true) (same : controls_of hs ≡ old) where
+  -- work on a request, by what the printer has said
+  works_so : (said : Reply) (mid : List Control) (f : (request : ℕ × Order) × IsFirst place holder request old)
+      → Ordered f.0.1 place said old (hardware_of s) mid (hardware_of t) → result ≡ worked_by f.0.0 said
+      → MatchOption (slice_get mid holder) ⊥ (λ control. new ≡ slice_set mid holder (after_work f.0.0 said control))
+      → WorksAt at place (Ok result) old (hardware_of s) new (hardware_of t)
+  works_so said mid f ordered answered changed = rw (is, printer, f.1.there, f.1.first)
+      (record { said = said; controls = mid; ordered = ordered; worked = changed; answer = answered })
+
+  -- on a request that it does
+  pub does : (mid : List Control) (a b : Signs) → MatchOption (first_request place (get_or hs holder d).control) ⊥ (λ r. Asked s r.1 (Ok reply.Done) t)
+      → a ≡ signs_of s.kind s.plant → b ≡ signs_of t.kind t.plant → mid ≡ all_listening place (heard_signs a b) (controls_of hs)
+      → MatchOption (slice_get mid holder) ⊥
+      (λ control. MatchOption (request_to_do control.writer.output) ⊥
+      (λ r. (result ≡ worked.Done r.0) × (new ≡ slice_set mid holder (completed r.0 control))))
+      → WorksAt at place (Ok result) old (hardware_of s) new (hardware_of t)
+  does mid a b asked was now said done =
+      let heard_all = heard_of place s t a b old (controls_of hs) mid was now same said in
+      let f = first_found place holder old found in
+      let given = first_asked place holder f.0 hs d (Ok reply.Done) s t (subst (IsFirst place holder f.0) (sym same) f.1) asked in
+      let still = first_heard place holder f.0 (signs_of s.kind s.plant) (signs_of t.kind t.plant) old mid f.1 heard_all in
+      let worked = first_done place holder f.0 mid new result still done in
+      works_so reply.Done mid f (ordered_done f.0.1 place s t old mid given heard_all) worked.0 worked.1
+
+  -- on a request that it doesn't do
+  pub fails : (said : Reply) → (said ≡ reply.Done → ⊥) → MatchOption (first_request place (get_or hs holder d).control) ⊥ (λ r. Asked s r.1 (Ok said) t)
+      → result ≡ worked.Failed (code_by said) (extended_by said)
+      → MatchOption (slice_get (controls_of hs) holder) ⊥
+      (λ control. new ≡ slice_set (controls_of hs) holder (output_failed (code_by said) (extended_by said) control))
+      → WorksAt at place (Ok result) old (hardware_of s) new (hardware_of t)
+  fails said undone asked answer changed =
+      let f = first_found place holder old found in
+      let given = first_asked place holder f.0 hs d (Ok said) s t (subst (IsFirst place holder f.0) (sym same) f.1) asked in
+      let told = undone_said said undone f.0.0 holder result old new answer (rw same at changed) in
+      works_so said old f (ordered_undone said undone f.0.1 place s t old given) told.0 told.1

@@ -1,15 +1,11 @@
 -- What is faulty in a document, by its two lists.
-use Rattle.pos_profile.proofs.Common.{Category, Contents, Data, Entry, HardTotals, IfSome, IsFlawedList, IsLowest, IsMistake, IsRead, IsSoundEntry}
-use Rattle.pos_profile.proofs.Common.{IsSoundList, IsSoundProfile, List, Members, Mistaken, None, Option, Reason, Role, Some}
-use Rattle.pos_profile.proofs.Common.{Spare, [], add-one, allowed, ap, arith, cases_lt, entries_of, entry_of}
-use Rattle.pos_profile.proofs.Common.{false, inl, inr, is_faulty, is_refused, is_refused_after, is_repeated, is_root, is_totals}
-use Rattle.pos_profile.proofs.Common.{key_of, length, length-map, map, mistake_at, names_of}
-use Rattle.pos_profile.proofs.Common.{option_map, refl, slice_get, slice_get-map, suc, sym, take, take-append-le, true}
-use Rattle.pos_profile.proofs.Common.{values_at, zero, ℕ, ◌++◌, ◌+◌, ◌-◌, ◌<◌, ◌∙◌, ◌∷◌, ◌≡◌}
-use Rattle.pos_profile.specs.declared.listing.Flaw.{Flaw}
+use Rattle.pos_profile.proofs.Common.{Category, Contents, Data, Entry, IsFlawedList, IsLowest, IsMistake, IsRead, IsSoundList, IsSoundProfile, List, Members}
+use Rattle.pos_profile.proofs.Common.{Option, Reason, Some, Spare, [], add-one, allowed, ap, arith, entries_of, entry_of, false, is_faulty, is_refused}
+use Rattle.pos_profile.proofs.Common.{is_refused_after, is_repeated, is_root, is_totals, key_of, length, length-map, map, mistake_at, names_of, option_map}
+use Rattle.pos_profile.proofs.Common.{refl, slice_get, slice_get-map, suc, sym, take, take-append-le, true, values_at, zero, ℕ, ◌++◌, ◌+◌, ◌-◌, ◌<◌, ◌∙◌, ◌∷◌}
+use Rattle.pos_profile.proofs.Common.{◌≡◌}
 use Rattle.pos_profile.specs.declared.role.Role.TheVariants.{Device}
-use Rattle.pos_profile.specs.declared.root.DocumentFault.{DocumentFault}
-use Rattle.pos_profile.proofs.ListLemmas.{before_end, none_past}
+use Rattle.pos_profile.proofs.ListLemmas.{none_past}
 use Rattle.pos_profile.proofs.SoundLemmas.{entry_sound, list_sound}
 
 -- the entries of both lists
@@ -18,13 +14,12 @@ both root = entries_of Device root ++ entries_of Spare root
 
 faultless : (root : Members) (limit : ℕ) → is_root root ≡ true → ((n : ℕ) → n < limit → is_refused (both root) n ≡ false) → (n : ℕ) → n < limit + 1
     → is_faulty root n ≡ false
-faultless root limit is sound zero less = rw is
-faultless root limit is sound (suc n) less = sound n (omega arith)
+faultless root limit is sound n less = grind (arith, sound (n - 1))
 
 -- entries are numbered from 1
 numbered : (root : Members) (place number : ℕ) → is_root root ≡ true → number ≡ place + 1 → IsLowest (is_refused (both root)) place
     → IsLowest (is_faulty root) number
-numbered root place number is from lowest = rw from (record { here = rw add-one lowest.here; below = faultless root place is lowest.below })
+numbered root place number is from lowest = grind (arith, faultless root place is lowest.below)
 
 get_front : (front back : List (Option Entry)) (n : ℕ) → n < length front → slice_get (front ++ back) n ≡ slice_get front n
 get_front [] back n less = absurd (omega arith)
@@ -42,18 +37,12 @@ refused_front front back n less = rw (get_front front back n less, take-append-l
 
 -- a spare isn't Hard Totals
 plain_spare : (category : Category) → allowed Spare category ≡ Some category → is_totals category ≡ false
-plain_spare HardTotals is = absurd cc
-plain_spare _ is = refl
+plain_spare category is = grind arith
 
 -- whether a spare is refused doesn't hang on what stands before it
 after_spare : (earlier others : List (Option Entry)) (value : Option Data)
     → is_refused_after earlier (option_map (entry_of Spare) value) ≡ is_refused_after others (option_map (entry_of Spare) value)
-after_spare earlier others None = refl
-after_spare earlier others (Some value) = by (entry_of Spare value) (entry_sound Spare value)
-  where
-    by : (entry : Option Entry) → IfSome entry (IsSoundEntry Spare) → is_refused_after earlier (Some entry) ≡ is_refused_after others (Some entry)
-    by None sound = refl
-    by (Some entry) sound = rw (plain_spare entry.category sound.category)
+after_spare earlier others value = grind (arith, entry_sound Spare, plain_spare)
 
 refused_back : (front : List (Option Entry)) (values : List Data) (n k : ℕ) → k ≡ length front + n
     → is_refused (front ++ map (entry_of Spare) values) k ≡ is_refused (map (entry_of Spare) values) n
@@ -63,37 +52,23 @@ refused_back front values n k e =
 
 -- the lowest of the devices is the lowest of both
 lowest_front : (front back : List (Option Entry)) (place : ℕ) → IsLowest (is_refused front) place → IsLowest (is_refused (front ++ back)) place
-lowest_front front back place lowest =
-    let less = before_end (is_refused front) (length front) place (none_past front) lowest.here in
-    record {
-      here = refused_front front back place less ∙ lowest.here;
-      below = λ n before. refused_front front back n (omega arith) ∙ lowest.below n before;
-    }
+lowest_front front back place lowest = grind (arith, refused_front front back, none_past front place)
 
 both_sound : (front : List (Option Entry)) (values : List Data) (limit : ℕ) → ((n : ℕ) → is_refused front n ≡ false)
     → ((n : ℕ) → n < limit → is_refused (map (entry_of Spare) values) n ≡ false) → (n : ℕ) → n < length front + limit
     → is_refused (front ++ map (entry_of Spare) values) n ≡ false
 both_sound front values limit first second n less =
-    elim (cases_lt n (length front)) [
-      | inl here ↦ refused_front front (map (entry_of Spare) values) n here ∙ first n
-      | inr after ↦ refused_back front values (n - length front) n (omega arith) ∙ second (n - length front) (omega arith)
-    ]
+    grind (arith, refused_front front (map (entry_of Spare) values) n, refused_back front values (n - length front) n, first n, second (n - length front))
 
 -- where no device is refused, the lowest of the spares is the lowest of both
 lowest_back : (front : List (Option Entry)) (values : List Data) (place : ℕ) → ((n : ℕ) → is_refused front n ≡ false)
     → IsLowest (is_refused (map (entry_of Spare) values)) place → IsLowest (is_refused (front ++ map (entry_of Spare) values)) (length front + place)
-lowest_back front values place first lowest =
-    record { here = refused_back front values place (length front + place) refl ∙ lowest.here; below = both_sound front values place first lowest.below }
+lowest_back front values place first lowest = grind (arith, refused_back front values place, both_sound front values place first lowest.below)
 
 -- where no device and no spare is refused, none of both is
 neither : (front : List (Option Entry)) (values : List Data) → ((n : ℕ) → is_refused front n ≡ false)
     → ((n : ℕ) → is_refused (map (entry_of Spare) values) n ≡ false) → (n : ℕ) → is_refused (front ++ map (entry_of Spare) values) n ≡ false
-neither front values first second n = both_sound front values (n + 1) first (λ k _. second k) n (omega arith)
-
--- a mistake is at another spelling of its flaw
-pub listed_at : (before : ℕ) (role : Role) {flaw other : Flaw} {fault : DocumentFault} → flaw ≡ other
-    → fault ≡ Mistaken (mistake_at before role flaw.place flaw.reason) → fault ≡ Mistaken (mistake_at before role other.place other.reason)
-listed_at before role same is = is ∙ ap (λ (f : Flaw). Mistaken (mistake_at before role f.place f.reason)) same
+neither front values first second n = grind (arith, both_sound front values (n + 1))
 
 module _ (root : Members) (is : is_root root ≡ true) where
   -- a device is the first mistake
@@ -139,9 +114,7 @@ profile_sound root contents read names =
     record {
       devices = list_sound Device (values_at (key_of Device) root) contents.devices read.devices;
       spares = list_sound Spare (values_at (key_of Spare) root) contents.spares read.spares;
-      totals = λ place. rw (← read.devices) (elim (cases_lt place (length front)) [
-        | inl less ↦ sym (refused_front front (entries_of Spare root) place less) ∙ read.sound (suc place)
-        | inr past ↦ none_past front place past
-      ]);
+      totals = λ place. rw (← read.devices)
+          (grind (arith, refused_front front (entries_of Spare root) place, none_past front place, read.sound (suc place)));
       names = names;
     }

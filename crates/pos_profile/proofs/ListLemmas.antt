@@ -1,85 +1,67 @@
 -- Reading a list of a profile, entry by entry.
 use Rattle.pos_profile.proofs.Common.{Bool, Bor, Data, Entry, IsFlawedList, IsFlawedValue, IsSoundList, List, None, Option, Reason, Role, Some, Value, []}
-use Rattle.pos_profile.proofs.Common.{and_parts, ap, arith, bytes_eq, cases_lt, cond, entry_of, false, false≢true, get_or, get_or_from_slice_get, inl, inr}
-use Rattle.pos_profile.proofs.Common.{is_refused, is_refused_after, is_repeated, is_totals, is_totals_entry, length, length-map, list_any, map, map-append}
-use Rattle.pos_profile.proofs.Common.{names_of, not, not-true, refl, slice_get, slice_get-map, slice_get_past, slice_get_read, slice_get_within, sym, take}
-use Rattle.pos_profile.proofs.Common.{take_all, take_more, true, view, ℕ, ◌++◌, ◌+◌, ◌<◌, ◌^◌, ◌||◌, ◌∙◌, ◌∷◌, ◌≡◌, ◌≤◌}
+use Rattle.pos_profile.proofs.Common.{and_parts, arith, bytes_eq, common_steps, entry_of, false, get_or, gets, is_refused, is_refused_after, is_repeated}
+use Rattle.pos_profile.proofs.Common.{is_totals, is_totals_entry, length, length-map, list_any, map, map-append, names_of, not, refl, slice_get, slice_get-map}
+use Rattle.pos_profile.proofs.Common.{slice_get_past, slice_get_within, sym, take, take_all, true, view, ℕ, ◌++◌, ◌+◌, ◌<◌, ◌^◌, ◌∙◌, ◌∷◌, ◌≡◌, ◌≤◌}
 use Rattle.indexmap.specs.IndexSet.{insert_key}
 use Rattle.pos_profile.specs.declared.mistake.Reason.TheVariants.{SecondHardTotals}
 
 -- the front of a list with the next element
 pub take_next : {A : Type 0} (xs : List A) (place : ℕ) (x : A) → slice_get xs place ≡ Some x → take (place + 1) xs ≡ take place xs ++ x ∷ []
-take_next xs place x at = rw (take_more xs place x (slice_get_within xs place x at), get_or_from_slice_get xs place x x at)
+take_next xs place x at = grind (arith, common_steps, gets, slice_get_within)
 
 -- a test of what is made of some elements
-pub any_mapped : {A B : Type 0} (test : B → Bool) (f : A → B) (xs : List A) → list_any (λ x. test (f x)) xs ≡ list_any test (map f xs)
+pub any_mapped : {A B : Type 0} (test : B → Bool) (f : A → B) (xs : List A) → list_any test (map f xs) ≡ list_any (λ x. test (f x)) xs
 any_mapped test f [] = refl
-any_mapped test f (x ∷ xs) = ap (λ rest. test (f x) || rest) (any_mapped test f xs)
+any_mapped test f (x ∷ xs) = rw (any_mapped test f xs)
 
 -- a place that passes a test is before those of which none does
 pub before_end : (test : ℕ → Bool) (count place : ℕ) → ((n : ℕ) → count ≤ n → test n ≡ false) → test place ≡ true → place < count
-before_end test count place past is = elim (cases_lt place count) [
-  | inl less ↦ less
-  | inr end ↦ absurd (false≢true (sym (past place end) ∙ is))
-]
+before_end test count place past is = grind (arith, past place)
 
 -- no place past the end is refused
 pub none_past : (found : List (Option Entry)) (place : ℕ) → length found ≤ place → is_refused found place ≡ false
 none_past found place past = rw (slice_get_past found place past)
 
-module _ (role : Role) (items : List Value) (place : ℕ) (item : Value) (within : place < length items) (at : item ≡ get_or items place item) where
-  abbrev values : List Data
-  values = map view items
+-- the value at a place of a list
+pub value_at : (items : List Value) (place : ℕ) (item : Value) → place < length items → item ≡ get_or items place item
+    → slice_get (map view items) place ≡ Some (view item)
+value_at items place item within at = grind (arith, gets, slice_get-map)
 
-  value_at : slice_get values place ≡ Some (view item)
-  value_at = rw (slice_get-map view items place, slice_get_read items (length items) place item refl within at)
-
-  entry_at : (next : Option Entry) → entry_of role (view item) ≡ next → slice_get (map (entry_of role) values) place ≡ Some next
-  entry_at next is = rw (slice_get-map (entry_of role) values place, value_at, is)
+module _ (role : Role) (values : List Data) (place : ℕ) (value : Data) (at : slice_get values place ≡ Some value)
+    (before : (n : ℕ) → n < place → is_refused (map (entry_of role) values) n ≡ false) where
+  entry_at : (next : Option Entry) → entry_of role value ≡ next → slice_get (map (entry_of role) values) place ≡ Some next
+  entry_at next is = rw (slice_get-map (entry_of role) values place, at, is)
 
   -- the first value that isn't sound by itself
-  pub flawed_at : (why : Reason) → IsFlawedValue role (view item) why → ((n : ℕ) → n < place → is_refused (map (entry_of role) values) n ≡ false)
-      → place < 2 ^ 62 → IsFlawedList role values place why
-  flawed_at why flawed before small =
-      let here : slice_get (map (entry_of role) values) place ≡ Some None = entry_at None flawed.unsound in
-      record {
-        lowest = record { here = rw here; below = before };
-        has = rw value_at (flawed.has (take place (map (entry_of role) values)));
-        small = small;
-      }
+  pub flawed_at : (why : Reason) → IsFlawedValue role value why → place < 2 ^ 62 → IsFlawedList role values place why
+  flawed_at why flawed small = grind (arith, at, entry_at None)
 
-  module _ (entry : Entry) (is : entry_of role (view item) ≡ Some entry) (read : List Entry)
+  module _ (entry : Entry) (is : entry_of role value ≡ Some entry) (read : List Entry)
       (so_far : map (λ entry. Some entry) read ≡ take place (map (entry_of role) values)) where
-    -- the verdict on the next entry, which is sound by itself
-    pub refused_at : (verdict : Bool) → is_refused_after (map (λ entry. Some entry) read) (Some (Some entry)) ≡ verdict
-        → is_refused (map (entry_of role) values) place ≡ verdict
-    refused_at verdict refused =
-        let here : slice_get (map (entry_of role) values) place ≡ Some (Some entry) = entry_at (Some entry) is in
-        rw (← so_far, here) refused
-
     -- the first value that is a second one of Hard Totals
-    pub second_at : is_refused_after (map (λ entry. Some entry) read) (Some (Some entry)) ≡ true
-        → ((n : ℕ) → n < place → is_refused (map (entry_of role) values) n ≡ false) → place < 2 ^ 62 → IsFlawedList role values place SecondHardTotals
-    second_at refused before small =
+    pub second_at : is_refused_after (map (λ entry. Some entry) read) (Some (Some entry)) ≡ true → place < 2 ^ 62
+        → IsFlawedList role values place SecondHardTotals
+    second_at refused small =
         let parts = and_parts (is_totals entry.category) (list_any is_totals_entry (map (λ entry. Some entry) read)) refused in
         record {
-          lowest = record { here = refused_at true refused; below = before };
-          has = rw (value_at, is) (parts.0, rw (← so_far) parts.1);
+          lowest = grind (arith, entry_at (Some entry));
+          has = rw (at, is, ← so_far) parts;
           small = small;
         }
 
-    -- one more entry
+    -- one more entry, which isn't refused
     pub taken : map (λ e. Some e) (read ++ entry ∷ []) ≡ take (place + 1) (map (entry_of role) values)
-    taken =
-        rw (map-append (λ e. Some e) read (entry ∷ []), so_far, take_next (map (entry_of role) values) place (Some entry) (entry_at (Some entry) is))
+    taken = grind (arith, map-append, take_next, entry_at (Some entry))
+
+    pub goes_on : is_refused_after (map (λ entry. Some entry) read) (Some (Some entry)) ≡ false
+        → (n : ℕ) → n < place + 1 → is_refused (map (entry_of role) values) n ≡ false
+    goes_on refused n less = grind (arith, entry_at (Some entry), before n)
 
 -- a test that nothing passes up to a place behind the last passes nowhere
 none_passes : (test : ℕ → Bool) (count place : ℕ) → ((n : ℕ) → count ≤ n → test n ≡ false) → count ≤ place
     → ((n : ℕ) → n < place → test n ≡ false) → (n : ℕ) → test n ≡ false
-none_passes test count place past end below n = elim (cases_lt n place) [
-  | inl here ↦ below n here
-  | inr after ↦ past n (omega arith)
-]
+none_passes test count place past end below n = grind (arith, below n, past n)
 
 -- all entries were read
 pub all_read : (role : Role) (values : List Data) (read : List Entry) (place : ℕ) → length values ≤ place
@@ -99,24 +81,16 @@ module _ (lent : Bor (List ℕ)) (keys : List (Bor (List ℕ))) (names : List (L
     (added : is_new ≡ not (list_any (λ (other : Bor (List ℕ)). bytes_eq lent.now other.now) keys)) where
   pub repeated_at : is_repeated names place ≡ not is_new
   repeated_at =
-      rw (at, ← so_far, ← any_mapped (bytes_eq lent.now) (λ (other : Bor (List ℕ)). other.now) keys, added)
-      (double (list_any (λ (other : Bor (List ℕ)). bytes_eq lent.now other.now) keys))
-    where
-      double : (b : Bool) → b ≡ not (not b)
-      double true = refl
-      double false = refl
+      grind (arith, any_mapped)
 
   -- it gets one more
   pub names_taken : is_new ≡ true → map (λ (name : Bor (List ℕ)). name.now) (insert_key (λ q k. bytes_eq q.now k.now) keys lent) ≡ take (place + 1) names
-  names_taken is =
-      ap (λ b. map (λ (name : Bor (List ℕ)). name.now) (cond b keys (keys ++ lent ∷ []))) (not-true _ (sym added ∙ is))
-      ∙ rw (map-append (λ (name : Bor (List ℕ)). name.now) keys (lent ∷ []), so_far, take_next names place lent.now at)
+  names_taken is = grind (arith, map-append, take_next)
 
 -- the name at a place of a list of entries
 pub name_at : (entries : List Entry) (place : ℕ) (entry : Entry) (name : List ℕ) → place < length entries → entry ≡ get_or entries place entry
     → name ≡ entry.name → slice_get (names_of entries) place ≡ Some name
-name_at entries place entry name within at is =
-    rw (slice_get-map (λ (e : Entry). e.name) entries place, slice_get_read entries (length entries) place entry refl within at, is)
+name_at entries place entry name within at is = grind (arith, gets, slice_get-map)
 
 -- no name past the end is repeated
 none_repeated : (names : List (List ℕ)) (place : ℕ) → length names ≤ place → is_repeated names place ≡ false

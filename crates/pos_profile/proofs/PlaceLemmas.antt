@@ -1,8 +1,7 @@
 -- The index of a registry finds each name at its first place.
-use Rattle.pos_profile.proofs.Common.{Bool, IfSome, IfSome_then, List, None, Option, Planned, Some, [], ap, arith, bytes_eq, cond, cond_both, false}
-use Rattle.pos_profile.proofs.Common.{false≢true, first_of, get_or, is_some, length, length-take-le, lookup, map, option_map, place_from, place_of, refl}
-use Rattle.pos_profile.proofs.Common.{slice_get, slice_get-map, slice_get_read, slice_get_within, suc, take, true, where_same, ℕ, ◌++◌, ◌+◌, ◌<◌}
-use Rattle.pos_profile.proofs.Common.{◌∙◌, ◌∷◌, ◌≡◌}
+use Rattle.pos_profile.proofs.Common.{Bool, IfSome, List, None, Option, Planned, Some, [], arith, common_steps, cond, false, false≢true, first_of, get_or, gets}
+use Rattle.pos_profile.proofs.Common.{is_some, length, lookup, map, place_from, place_of, refl, slice_get, slice_get-map, slice_get_within, take, true}
+use Rattle.pos_profile.proofs.Common.{where_same, ℕ, ◌++◌, ◌+◌, ◌<◌, ◌∷◌, ◌≡◌}
 use Rattle.std.proofs.lemmas.Slice.Eq.{bytes_eq-Decides}
 use Rattle.pos_profile.proofs.ListLemmas.{take_next}
 
@@ -15,27 +14,19 @@ cond_first false at long short later is = is
 -- the place of a name in a list with one more name
 place_longer : (at : ℕ) (name : List ℕ) (names : List (List ℕ)) (noted : List ℕ) (end : ℕ) → end ≡ at + length names
     → place_from at name (names ++ noted ∷ []) ≡ first_of (place_from at name names) (where_same name noted end)
-place_longer at name [] noted end is =
-    let same : at ≡ end = omega (arith, is) in
-    ap (λ n. where_same name noted n) same
-place_longer at name (first ∷ names) noted end is =
-    cond_first (bytes_eq name first) at (place_from (at + 1) name (names ++ noted ∷ [])) (place_from (at + 1) name names) (where_same name noted end)
-    (place_longer (at + 1) name names noted end (omega (arith, is)))
+place_longer at name [] noted end is = grind arith
+place_longer at name (first ∷ names) noted end is = grind (arith, place_longer (at + 1) name names noted end (omega (arith, is)))
 
 -- the place of a name among one more of a list's names
 pub place_more : (names : List (List ℕ)) (place : ℕ) (noted : List ℕ) → slice_get names place ≡ Some noted → (name : List ℕ)
     → place_of (take (place + 1) names) name ≡ first_of (place_of (take place names) name) (where_same name noted place)
 place_more names place noted at name =
-    let count : length (take place names) ≡ place = length-take-le place names (omega (arith, slice_get_within names place noted at)) in
-    rw (take_next names place noted at) (place_longer 0 name (take place names) noted place (omega (arith, count)))
+    rw (take_next names place noted at) (place_longer 0 name (take place names) noted place (grind (arith, common_steps, slice_get_within)))
 
 -- a place that is found is one of the list
 place_bound : (at : ℕ) (name : List ℕ) (names : List (List ℕ)) → IfSome (place_from at name names) (λ place. place < at + length names)
 place_bound at name [] = tt
-place_bound at name (first ∷ names) =
-    let rest = place_from (at + 1) name names in
-    cond_both (bytes_eq name first) (Some at) rest (λ o. IfSome o (λ place. place < at + suc (length names))) (λ _. omega arith)
-    (λ _. IfSome_then rest (place_bound (at + 1) name names) (λ place less. omega arith))
+place_bound at name (first ∷ names) = grind (arith, place_bound (at + 1) name names)
 
 pub place_within : (names : List (List ℕ)) (name : List ℕ) (place : ℕ) → place_of names name ≡ Some place → place < length names
 place_within names name place found = let bound = rw found at (place_bound 0 name names) in omega (arith, bound)
@@ -49,20 +40,15 @@ found_first true place None is = absurd (false≢true (is refl))
 -- a name that has a place is noted already
 pub already : (found : List ℕ → Option ℕ) (noted : List ℕ) (place : ℕ) → is_some (found noted) ≡ true → (name : List ℕ)
     → found name ≡ first_of (found name) (where_same name noted place)
-already found noted place there name =
-    found_first (bytes_eq name noted) place (found name) (λ same. rw ((bytes_eq-Decides name noted).0 same) there)
+already found noted place there name = grind (arith, bytes_eq-Decides name noted)
 
 -- a list of entries with one more
 pub lookup_more : {K : Type 0} (test : K → Bool) (entries : List (K × ℕ)) (key : K) (place : ℕ)
     → lookup test (entries ++ (key, place) ∷ []) ≡ first_of (lookup test entries) (cond (test key) (Some place) None)
 lookup_more test [] key place = refl
-lookup_more test (entry ∷ entries) key place =
-    cond_first (test entry.0) entry.1 (lookup test (entries ++ (key, place) ∷ [])) (lookup test entries) (cond (test key) (Some place) None)
-    (lookup_more test entries key place)
+lookup_more test (entry ∷ entries) key place = grind (arith, lookup_more test entries key place)
 
 -- the name at a place of a plan
 pub planned_name : (plan : List Planned) (place : ℕ) (planned : Planned) → place < length plan → planned ≡ get_or plan place planned
     → slice_get (map (λ (p : Planned). p.name) plan) place ≡ Some planned.name
-planned_name plan place planned within at =
-    slice_get-map (λ (p : Planned). p.name) plan place
-    ∙ ap (option_map (λ (p : Planned). p.name)) (slice_get_read plan (length plan) place planned refl within at)
+planned_name plan place planned within at = grind (arith, gets, slice_get-map)

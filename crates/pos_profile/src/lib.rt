@@ -4,6 +4,7 @@
 
 mod built;
 mod category;
+mod ending;
 mod entry;
 mod explaining;
 mod fault;
@@ -24,6 +25,7 @@ mod table;
 mod text;
 mod variation;
 
+pub use ending::end_all;
 pub use entry::Entry;
 pub use explaining::find_mistake;
 pub use fault::ProfileFault;

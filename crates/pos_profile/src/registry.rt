@@ -1,10 +1,10 @@
-ghost use Rattle.std.specs.Prelude.{◌≡◌, ◌≢◌, ◌≤◌, [], None, Some, true, false, IfOk, IfErr, is_some, map, length, vec_capacity};
+ghost use Rattle.std.specs.Prelude.{◌≡◌, ◌≢◌, ◌<◌, ◌≤◌, [], None, Some, true, false, IfOk, IfErr, IfSome, is_some, slice_get, map, length, vec_capacity};
 ghost use Rattle.std.specs.Option.{option_map};
 ghost use Rattle.std.specs.Borrow.{sem};
 ghost use Rattle.pos_service.specs.Hardware.{StaysInService};
 ghost use Rattle.pos_profile.specs.Lending.{registry_lends, registry_with};
 ghost use Rattle.pos_profile.specs.Places.{IsIndexOf, place_of};
-ghost use Rattle.pos_profile.specs.Registries.{Attaches, Detaches, IsRegistrySound, MayServe, devices, devices_of, kind_at, names_of, parked, planned_of, standing_at, vacant, vacant_devices, with_peripheral};
+ghost use Rattle.pos_profile.specs.Registries.{Attaches, Detaches, IsNamed, IsRegistrySound, MayServe, device_of, devices, devices_of, kind_at, names_of, parked, planned_of, standing_at, vacant, vacant_devices, with_peripheral};
 
 use crate::laws::is_profile;
 use crate::places::Places;
@@ -134,16 +134,28 @@ impl<P: Peripheral> Registry<P> {
         self.slots[place].serving()
     }
 
-    /// Hands out what serves the device at a place, which is vacant then; None where it is vacant, or no place.
+    /// The first device with a name, and its place.
+    fn named(&self, name: &[u8]) -> Option<(usize, &Slot<P>)>
+        requires { IsRegistrySound P.Peripheral self.now }
+        ensures place { option_map (λ found. found.0) result
+            ≡ place_of (names_of (devices P.Peripheral self.now)) name.now }
+        ensures device { IfSome result (λ found.
+            slice_get (devices P.Peripheral self.now) found.0 ≡ Some (device_of P.Peripheral found.1.now)) }
+        ensures named { IfSome result (λ found.
+            IsNamed (devices P.Peripheral self.now) name.now (device_of P.Peripheral found.1.now)) }
+    {
+        let place = self.find(name)?;
+        Some((place, &self.slots[place]))
+    }
+
+    /// Hands out what serves the device at a place, which is vacant then; None where it is vacant.
     fn take(&mut self, place: usize) -> Option<P>
         requires sound { IsRegistrySound P.Peripheral self.old }
+        requires within { place < length (devices P.Peripheral self.old) }
         ensures taken { option_map P.Peripheral.state result ≡ standing_at (devices P.Peripheral self.old) place }
         ensures vacated { devices P.Peripheral self.new ≡ with_peripheral (devices P.Peripheral self.old) place None }
         ensures sound { IsRegistrySound P.Peripheral self.new }
     {
-        if place >= self.slots.len() {
-            return None;
-        }
         self.slots[place].peripheral.take()
     }
 
@@ -174,10 +186,9 @@ impl<P: Peripheral> Registry<P> {
         ensures handed_back { IfErr result (λ refusal. refusal.1 ≡ peripheral) }
         ensures sound { IsRegistrySound P.Peripheral self.new }
     {
-        let Some(place) = self.find(name) else {
+        let Some((place, slot)) = self.named(name) else {
             return Err((AttachFault::Unknown, peripheral));
         };
-        let slot = &self.slots[place];
         if slot.peripheral.is_some() {
             return Err((AttachFault::InUse, peripheral));
         }
@@ -199,10 +210,10 @@ impl<P: Peripheral> Registry<P> {
             (devices P.Peripheral self.new) }
         ensures sound { IsRegistrySound P.Peripheral self.new }
     {
-        let Some(place) = self.find(name) else {
+        let Some((place, slot)) = self.named(name) else {
             return Err(DetachFault::Unknown);
         };
-        if self.slots[place].peripheral.is_none() {
+        if slot.peripheral.is_none() {
             return Err(DetachFault::Vacant);
         }
         if is_open {

@@ -1,7 +1,7 @@
 ghost use Rattle.std.specs.Prelude.{◌≡◌, false, IfOk};
 ghost use Rattle.pos_profile.specs.Registries.{IsRegistrySound};
 
-use pos_profile::{Profile, Registry, Slot};
+use pos_profile::{Profile, Registry, Slot, end_all};
 use pos_service::{NoMemory, Peripheral, PeripheralBox};
 use pos_sims::PlainDrawer;
 use std::alloc::Global;
@@ -46,23 +46,14 @@ fn detaches(registry: &mut Registry<PeripheralBox>, name: &[u8]) -> bool
     }
 }
 
-/// Ends slots and their peripherals: how many had one, each out of service.
-fn end_all(mut slots: Vec<Slot<PeripheralBox>>) -> usize
-    requires { Unit {0} }
-{
+/// How many slots have a peripheral that is out of service.
+fn count_parked(slots: &[Slot<PeripheralBox>]) -> usize {
     let mut parked: usize = 0;
-    while let Some(slot) = slots.pop() {
-        let Slot {
-            name: _,
-            kind: _,
-            peripheral,
-        } = slot;
-        if let Some(peripheral) = peripheral {
+    for slot in slots {
+        if let Some(peripheral) = &slot.peripheral {
             parked = parked.saturating_add(usize::from(peripheral.is_parked()));
-            peripheral.end();
         }
     }
-    slots.destroy_empty();
     parked
 }
 
@@ -76,9 +67,11 @@ fn a_drawer_is_exchanged(rt: HostRuntime) {
     let attached = attaches(&mut registry, b"d1", PeripheralBox::new(first));
     let detached = detaches(&mut registry, b"d1");
     let attached_then = attaches(&mut registry, b"d1", PeripheralBox::new(second));
-    let ended = end_all(registry.into_entries());
+    let entries = registry.into_entries();
+    let parked = count_parked(&entries);
+    end_all(entries);
     assert_eq!(rt;
-        (attached, detached, attached_then, ended),
+        (attached, detached, attached_then, parked),
         (true, true, true, 1)
     );
 }

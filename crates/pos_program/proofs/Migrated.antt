@@ -41,29 +41,28 @@ module _ {D : Type 0} (bound : Ghosts D) (disk : D) where
     -- what was found, by its own layout or by layout 2, is one of the candidates, or one that was moved
     found_or_moved : (bytes : List ℕ) → StandsForOneOf (Stands layout files sequence ∷ Stands Layout2 files 1 ∷ []) bytes
         → StandsForEither candidates (map moved candidates) bytes
-    found_or_moved bytes stands =
-        ⊎_elim (λ was. inl (among candidates (Stands layout files sequence) bytes one.found was))
-        (λ rest. ⊎_elim (λ is. inr (among (map moved candidates) (Stands Layout2 files 1) bytes (one_moved candidates
-        (Stands layout files sequence) one.found) is))
-        (λ no. absurd no) rest) stands
+    found_or_moved bytes (inl was) = inl (among candidates _ bytes one.found was)
+    found_or_moved bytes (inr (inl is)) = inr (among (map moved candidates) _ bytes (one_moved candidates _ one.found) is)
+    found_or_moved bytes (inr (inr never)) = absurd never
 
     -- a crash of the recovery
     moments : LeavesOnly (bound.state disk) (bound.state mid) (StandsForEither candidates (map moved candidates))
-    moments =
-        weaker (bound.state disk) (bound.state mid) (StandsForEither candidates candidates) (StandsForEither candidates (map moved candidates))
-        (λ bytes stands. inl (⊎_elim (λ was. was) (λ is. is) stands)) one.passes.any_moment
+    moments = weaker (bound.state disk) (bound.state mid) (StandsForEither candidates candidates) (StandsForEither candidates (map moved candidates))
+        (λ bytes. ⊎_elim (λ was. inl was) (λ is. inl is)) one.passes.any_moment
 
     -- a crash at any moment of both calls, where one of the migration leaves these
-    at_any_moment : (new : D) (after : List Standing)
+    ends : (new : D) (result : Result (Unit {0}) StoreFault) (after : List Standing)
         → ((bytes : List ℕ) → StandsForOneOf after bytes → StandsForOneOf (Stands layout files sequence ∷ Stands Layout2 files 1 ∷ []) bytes)
         → Passes (bound.state mid) (bound.state new) (Stands layout files sequence ∷ []) after
-        → LeavesOnly (bound.state disk) (bound.state new) (StandsForEither candidates (map moved candidates))
-    at_any_moment new after are passes =
-        followed_by (bound.state disk) (bound.state mid) (bound.state new) (StandsForEither candidates (map moved candidates)) moments
-        (weaker (bound.state mid) (bound.state new) (StandsForEither (Stands layout files sequence ∷ []) after)
-        (StandsForEither candidates (map moved candidates))
-        (λ bytes stands. found_or_moved bytes (⊎_elim (λ was. ⊎_elim (λ this. inl this) (λ no. absurd no) was) (λ is. are bytes is) stands))
-        passes.any_moment)
+        → AnswersMove candidates (bound.state disk) result (bound.state new) → MovesOneOf candidates (bound.state disk) (bound.state new) result
+    ends new result after are passes answer = record {
+      answer = answer;
+      any_moment = followed_by (bound.state disk) (bound.state mid) (bound.state new) (StandsForEither candidates (map moved candidates)) moments
+          (weaker (bound.state mid) (bound.state new) (StandsForEither (Stands layout files sequence ∷ []) after)
+          (StandsForEither candidates (map moved candidates))
+          (λ bytes. ⊎_elim (⊎_elim (λ this. found_or_moved bytes (inl this)) (λ no. absurd no)) (λ is. found_or_moved bytes (are bytes is))) passes.any_moment);
+      now = λ bytes may. found_or_moved bytes (are bytes (passes.now bytes may));
+    }
 
     -- nothing was moved
     stays : (why : StoreFault) (new : StoreView D) → new ≡ record { disk = mid; layout = layout; state = Ready files sequence; tail = tail }
@@ -82,17 +81,13 @@ module _ {D : Type 0} (bound : Ghosts D) (disk : D) where
         let now : Passes (bound.state mid) (bound.state new.disk) (Stands layout files sequence ∷ []) (Stands Layout2 files 1 ∷ []) =
         subst (Passes (bound.state mid) (bound.state new.disk) (Stands layout files sequence ∷ []))
         (ap (λ (v : StoreView D). settled v.layout v.state (Stands layout files sequence ∷ Stands Layout2 files 1 ∷ [])) same) passes in
-        record {
-          answer = record {
-            files = files;
-            sequence = sequence;
-            found = rw first at one.found;
-            at_rest = subst (λ (s : StoreState). WhenReady s (IsAtRest (bound.state new.disk))) (ap (λ (v : StoreView D). v.state) same) at_rest;
-            now = now.now;
-          };
-          any_moment = at_any_moment new.disk (Stands Layout2 files 1 ∷ []) (λ bytes is. inr is) now;
-          now = λ bytes may. found_or_moved bytes (inr (now.now bytes may));
-        }
+        ends new.disk (Ok tt) (Stands Layout2 files 1 ∷ []) (λ bytes is. inr is) now (record {
+          files = files;
+          sequence = sequence;
+          found = rw first at one.found;
+          at_rest = subst (λ (s : StoreState). WhenReady s (IsAtRest (bound.state new.disk))) (ap (λ (v : StoreView D). v.state) same) at_rest;
+          now = now.now;
+        })
 
     -- the disk failed
     fails : (new : StoreView D) → new.state ≡ Off
@@ -101,14 +96,8 @@ module _ {D : Type 0} (bound : Ghosts D) (disk : D) where
         → Rises (bound.state mid).failures (bound.state new.disk).failures
         → MovesOneOf candidates (bound.state disk) (bound.state new.disk) (Err fault.Device)
     fails new off passes rises =
-        let both = Stands layout files sequence ∷ Stands Layout2 files 1 ∷ [] in
-        let now : Passes (bound.state mid) (bound.state new.disk) (Stands layout files sequence ∷ []) both =
-        rw off at passes in
-        record {
-          answer = subst (λ n. Rises n (bound.state new.disk).failures) (⊎_elim (λ no. absurd cc) (λ same. same) (recovers.counts honest)) rises;
-          any_moment = at_any_moment new.disk both (λ bytes is. is) now;
-          now = λ bytes may. found_or_moved bytes (now.now bytes may);
-        }
+        ends new.disk (Err fault.Device) (Stands layout files sequence ∷ Stands Layout2 files 1 ∷ []) (λ bytes is. is) (rw off at passes)
+        (subst (λ n. Rises n (bound.state new.disk).failures) (⊎_elim (λ no. absurd cc) (λ same. same) (recovers.counts honest)) rises)
 
     -- what a migration of what was found answers, by its layout
     found_moves : (by : Layout) → layout ≡ by → (result : Result (Unit {0}) StoreFault) (new : StoreView D)

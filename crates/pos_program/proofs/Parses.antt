@@ -43,8 +43,7 @@ accepted app line words same known kinds = rw same at (kinds (ap is_simple_and_f
 -- and hold the path of an option
 pub held : (app line : App) (words : List Text) (rows : List Row) (option path : Text) → app ≡ line → IsKnown line
     → (is_simple app ≡ true → rows ≡ matches_of app words) → first_of option rows ≡ Some path → path_of line option words ≡ Some path
-held app line words rows option path same known found value =
-    rw (← same, ← found (ap is_simple same ∙ known.1)) value
+held app line words rows option path same known found value = rw (← same, ← found (ap is_simple same ∙ known.1)) value
 
 -- the text of the first word
 pub first_named : {X : Type 0} (text : X → Text) (words : List X) (word : X) (told name : Text) → slice_get words 0 ≡ Some word → told ≡ text word

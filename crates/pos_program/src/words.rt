@@ -129,37 +129,27 @@ fn disk_path<'a, S: AsStr>(
     Ok(disk)
 }
 
-// What the words of `format` ask for.
-fn format_task<'a, S: AsStr>(alloc: Global, words: &'a [S]) -> Result<Task<'a>, ChoiceFault<'a>>
-    requires { Names (codes "format") (map S.text words.now) }
+// What the words of a command that has a disk alone ask for.
+fn disk_task<'a, S: AsStr>(
+    alloc: Global,
+    command: &'a str,
+    words: &'a [S],
+) -> Result<Task<'a>, ChoiceFault<'a>>
+    requires command { NamesDisk command.now }
+    requires named { Names command.now (map S.text words.now) }
     ensures { Chooses (map S.text words.entry.now) result }
 {
-    match disk_path(alloc, "format", words) {
-        Ok(disk) => Ok(Task::Format { disk }),
-        Err(fault) => Err(fault),
+    let disk = match disk_path(alloc, command, words) {
+        Ok(disk) => disk,
+        Err(fault) => return Err(fault),
+    };
+    if command == "format" {
+        return Ok(Task::Format { disk });
     }
-}
-
-// What the words of `migrate` ask for.
-fn migrate_task<'a, S: AsStr>(alloc: Global, words: &'a [S]) -> Result<Task<'a>, ChoiceFault<'a>>
-    requires { Names (codes "migrate") (map S.text words.now) }
-    ensures { Chooses (map S.text words.entry.now) result }
-{
-    match disk_path(alloc, "migrate", words) {
-        Ok(disk) => Ok(Task::Migrate { disk }),
-        Err(fault) => Err(fault),
+    if command == "migrate" {
+        return Ok(Task::Migrate { disk });
     }
-}
-
-// What the words of `files` ask for.
-fn files_task<'a, S: AsStr>(alloc: Global, words: &'a [S]) -> Result<Task<'a>, ChoiceFault<'a>>
-    requires { Names (codes "files") (map S.text words.now) }
-    ensures { Chooses (map S.text words.entry.now) result }
-{
-    match disk_path(alloc, "files", words) {
-        Ok(disk) => Ok(Task::Files { disk }),
-        Err(fault) => Err(fault),
-    }
+    Ok(Task::Files { disk })
 }
 
 // Whether a first word asks for help.
@@ -183,14 +173,8 @@ pub fn choice<'a, S: AsStr>(alloc: Global, words: &'a [S]) -> Result<Task<'a>, C
     if name == "run" {
         return run_task(alloc, words);
     }
-    if name == "format" {
-        return format_task(alloc, words);
-    }
-    if name == "migrate" {
-        return migrate_task(alloc, words);
-    }
-    if name == "files" {
-        return files_task(alloc, words);
+    if name == "format" || name == "migrate" || name == "files" {
+        return disk_task(alloc, name, words);
     }
     if is_help(name) {
         return Err(ChoiceFault::Help);

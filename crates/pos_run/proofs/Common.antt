@@ -3,43 +3,39 @@ pub use Rattle.pos_counter.proofs.Runs.{machine_runs, one_beside, one_step, runs
 pub use Rattle.pos_counter.specs.Counters.{IsCounterSound, IsRun, IsStep, IsStepBeside, machine}
 pub use Rattle.pos_counter.specs.Machine.{Device, Machine, device_at, hardware_in, hardware_named, kind_in, kind_named, machine_with, place_from, place_of}
 pub use Rattle.pos_counter.specs.Machine.{with_standing}
-pub use Rattle.pos_counter.specs.Steps.{Answered, Attach, Attached, CallOf, Delivered, Detach, Detached, Full, InputTo, Made, NewControl, NoDevice}
-pub use Rattle.pos_counter.specs.Steps.{NotAttached, NotDetached, OutOfMemory, Request, Response, Run, Shown, Snapshot, Step, TakenIn, WorkOn, Worked}
-pub use Rattle.pos_counter.specs.Steps.{WrongInput}
+pub use Rattle.pos_counter.specs.Steps.{Attach, Attached, NotAttached, Request, Response, Run, Step}
 pub use Rattle.pos_counter.specs.Totals.{TotalsPart}
 pub use Rattle.pos_counter.specs.declared.counter.Counter.{Counter}
 pub use Rattle.pos_disk.specs.declared.device.Disk.{Ghosts as DiskGhosts}
 pub use Rattle.pos_profile.specs.Kinds.{kind_of}
 pub use Rattle.pos_profile.specs.declared.entry.Entry.{Entry}
 pub use Rattle.pos_run.specs.Carried.{RunsThrough, session_of}
-pub use Rattle.pos_run.specs.Names.{ControlNames, names_of, number_named}
+pub use Rattle.pos_run.specs.Names.{names_of, number_named}
 pub use Rattle.pos_run.specs.Running.{Finishes, RunsScript, ScriptLeaves, Stops, begun_with, carried_steps, device_with, lines_read, new_totals, off_over}
 pub use Rattle.pos_run.specs.Running.{script_steps}
-pub use Rattle.pos_run.specs.Simulating.{HoldsOnlyIf, IsDeviceFor, IsSimulable, IsSimulatedFor, RunsOverProfile, device_for, new_device, simulated_all}
-pub use Rattle.pos_run.specs.Simulating.{simulated_devices, simulated_for, state_of, wrapped_by, wrapped_state}
+pub use Rattle.pos_run.specs.Simulating.{HoldsOnlyIf, IsDeviceFor, IsSimulable, RunsOverProfile, device_for, new_device, simulated_all, simulated_devices}
+pub use Rattle.pos_run.specs.Simulating.{simulated_for, state_of, wrapped_by, wrapped_state}
 pub use Rattle.pos_run.specs.Spares.{AreSparesSound, IsEmptyAt, IsInService, SpareStates, spare_at, spares_in, states_in, with_spare}
-pub use Rattle.pos_run.specs.Streams.{Reads, Streams, Writing, answers_of, found, may_read, most_reads, reading_of, streams_of}
-pub use Rattle.pos_run.specs.Transcript.{AskingBecomes, CarriesOut, Leads, LineBecomes, LinesPrint, Outcome, ReadingBecomes, RequestBecomes, Session}
-pub use Rattle.pos_run.specs.Transcript.{Transcript, begun_session, gives_name, passed_over, rebuke, request_of, responded, session_after, session_with}
-pub use Rattle.pos_run.specs.Transcript.{turned_down}
+pub use Rattle.pos_run.specs.Streams.{Reads, Writing, answers_of, may_read, most_reads, reading_of, streams_of}
+pub use Rattle.pos_run.specs.Transcript.{CarriesOut, Leads, LineBecomes, LinesPrint, ReadingBecomes, Session, begun_session, gives_name, rebuke, request_of}
+pub use Rattle.pos_run.specs.Transcript.{session_after, session_with}
 pub use Rattle.pos_run.specs.declared.reading.ReadState.TheVariants.{Ended, Failed, Open}
 pub use Rattle.pos_run.specs.declared.scripts.RunFault.{RunFault}
 pub use Rattle.pos_run.specs.declared.wrapped.Wrapped.{Wrapped}
-pub use Rattle.pos_script.specs.LineBuffers.{EndsInput, IsLine, Kept, StandsFor}
-pub use Rattle.pos_script.specs.Lines.{complete_lines, is_quiet, is_well_spelled, last_line, pieces, unfinished, words_of}
+pub use Rattle.pos_script.specs.LineBuffers.{EndsInput, IsLine, StandsFor}
+pub use Rattle.pos_script.specs.Lines.{complete_lines, last_line, pieces, unfinished}
 pub use Rattle.pos_script.specs.Writing.{Writes}
 pub use Rattle.pos_service.specs.Hardware.{Hardware, hardware_of}
 pub use Rattle.pos_service.specs.Peripherals.{PeripheralState}
 pub use Rattle.pos_service.specs.declared.category.Category.{Category}
 pub use Rattle.pos_service.specs.declared.kind.Kind.{Kind}
 pub use Rattle.pos_service.specs.declared.peripheral.Peripheral.{Ghosts}
-pub use Rattle.std.proofs.Common.{All, Bool, IfSome, List, None, Ok, Option, Some, [], ap, append-nil, append_assoc, arith, cond, drop, false, get_or, inl}
-pub use Rattle.std.proofs.Common.{inr, is_some, length, length-take, map, min, option_and_then, option_map, refl, replicate, rules, set, slice_get, subst}
-pub use Rattle.std.proofs.Common.{suc, sym, take, true, vec_capacity, vec_len, zero, ℕ, ◌++◌, ◌+◌, ◌-◌, ◌<◌, ◌^◌, ◌||◌, ◌∙◌, ◌∷◌, ◌≡◌, ◌≤◌, ◌⊎◌}
+pub use Rattle.std.proofs.Common.{All, Bool, IfSome, List, None, Ok, Option, Some, [], ap, append-nil, append_assoc, arith, cond, drop, false, get_or, inl, inr}
+pub use Rattle.std.proofs.Common.{is_some, length, length-take, map, min, option_and_then, option_map, refl, replicate, rules, set, slice_get, subst, suc, sym}
+pub use Rattle.std.proofs.Common.{take, true, vec_capacity, vec_len, zero, ℕ, ◌++◌, ◌+◌, ◌-◌, ◌<◌, ◌^◌, ◌∙◌, ◌∷◌, ◌≡◌, ◌≤◌, ◌⊎◌}
 pub use Rattle.std.proofs.KnownBytes.{Appends-kept, Appends-nil, Appends-trans, Consumes-kept, Consumes-nil, Consumes-trans}
-pub use Rattle.std.proofs.lemmas.Bool.{cases_Bool, false≢true, ltb-true, or_parts}
-pub use Rattle.std.proofs.lemmas.List.{drop_all, drop_more, get_or-map, length-map, map-append, map-set, set_past, take-map, take_all, take_more}
+pub use Rattle.std.proofs.lemmas.Bool.{false≢true, or_parts}
+pub use Rattle.std.proofs.lemmas.List.{drop_all, drop_more, get_or-map, length-map, map-append, map-set, take-map, take_all, take_more}
 pub use Rattle.std.proofs.lemmas.Slice.Eq.{bytes_eq-Decides}
-pub use Rattle.std.specs.Bool.{MatchBool}
 pub use Rattle.std.specs.Io.KnownBytes.{Appends, Consumes, Keeps}
-pub use Rattle.std.specs.Prelude.{Err, IsTrue, MatchOption, MatchResult, Result, bytes_eq, codes}
+pub use Rattle.std.specs.Prelude.{Err, IsTrue, MatchResult, Result, bytes_eq, codes}

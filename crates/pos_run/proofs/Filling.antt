@@ -1,11 +1,10 @@
 -- The devices of a profile, which are served one after another by what is simulated for them.
-use Rattle.pos_run.proofs.Common.{Attach, Attached, Device, Entry, Hardware, Kind, List, Machine}
-use Rattle.pos_run.proofs.Common.{None, NotAttached, Option, PeripheralState, Response, Some, Step, TotalsPart}
-use Rattle.pos_run.proofs.Common.{[], ap, append-nil, append_assoc, arith, begun_with, bytes_eq, bytes_eq-Decides, cond, device_at}
-use Rattle.pos_run.proofs.Common.{device_for, device_with, drop, drop_all, drop_more, false, false≢true, get_or, hardware_in, hardware_named, hardware_of}
-use Rattle.pos_run.proofs.Common.{inl, inr, is_some, kind_in, kind_named, kind_of, length, machine_with, map, new_device, or_parts, place_from, place_of}
-use Rattle.pos_run.proofs.Common.{refl, replicate, simulated_devices, simulated_for, slice_get, suc, sym, take, take-map, take_all, true}
-use Rattle.pos_run.proofs.Common.{with_standing, ℕ, ◌++◌, ◌+◌, ◌<◌, ◌∙◌, ◌∷◌, ◌≡◌, ◌≤◌, ◌⊎◌}
+use Rattle.pos_run.proofs.Common.{Attach, Attached, Device, Entry, Hardware, Kind, List, Machine, None, NotAttached, Option, PeripheralState, Response, Some}
+use Rattle.pos_run.proofs.Common.{Step, TotalsPart, [], ap, append-nil, append_assoc, arith, begun_with, bytes_eq, bytes_eq-Decides, cond, device_at}
+use Rattle.pos_run.proofs.Common.{device_for, device_with, drop, drop_all, drop_more, false, false≢true, get_or, hardware_in, hardware_named, hardware_of, inl}
+use Rattle.pos_run.proofs.Common.{inr, is_some, kind_in, kind_named, kind_of, length, machine_with, map, new_device, or_parts, place_from, place_of, refl}
+use Rattle.pos_run.proofs.Common.{replicate, simulated_devices, simulated_for, slice_get, suc, sym, take, take-map, take_all, true, with_standing, ℕ, ◌++◌, ◌+◌}
+use Rattle.pos_run.proofs.Common.{◌<◌, ◌∙◌, ◌∷◌, ◌≡◌, ◌≤◌, ◌⊎◌}
 use Rattle.pos_counter.specs.KeptDevices.{device_of, profile_devices, totals_devices, totals_name}
 use Rattle.pos_profile.proofs.ListLemmas.{name_at}
 use Rattle.pos_profile.specs.Profiles.{is_repeated, names_of}
@@ -117,12 +116,10 @@ there_behind (first ∷ front) device back = there_behind front device back
 
 -- what is simulated of a kind is of that kind, and there is nothing only where there is no kind
 kind_fits : (kind : Option Kind) (lines : ℕ) (state : PeripheralState) → option_map (λ is. new_device is lines) kind ≡ Some state → kind ≡ Some state.kind
-kind_fits None lines state is = absurd cc
-kind_fits (Some kind) lines state is = ap (λ (s : PeripheralState). Some s.kind) (the_same is)
+kind_fits kind lines state is = grind arith
 
 no_kind : (kind : Option Kind) (lines : ℕ) → option_map (λ is. new_device is lines) kind ≡ None → kind ≡ None
-no_kind None lines is = refl
-no_kind (Some kind) lines is = absurd cc
+no_kind kind lines is = grind arith
 
 -- the name of an entry isn't that of an earlier one
 unnamed_before : (entries : List Entry) (i : ℕ) (entry : Entry) → i < length entries → entry ≡ get_or entries i entry

@@ -4,7 +4,6 @@ pub mod SpareLemmas
 pub mod Sessions
 pub mod Finishing
 pub mod ReadLemmas
-pub mod PieceLemmas
 pub mod Starting
 pub mod Filling
 pub mod Profiling

@@ -1,8 +1,7 @@
 -- The entries of a profile, what is simulated for them in its wrappers, and the spares.
-use Rattle.pos_run.proofs.Common.{All, Bool, Category, Entry, HoldsOnlyIf, IsDeviceFor, IsInService, IsSimulable, IsSimulatedFor, Kind, List, None, Option}
-use Rattle.pos_run.proofs.Common.{PeripheralState, Some, Wrapped, [], ap, arith, false, get_or, kind_of, length, map-append, min, new_device, refl}
-use Rattle.pos_run.proofs.Common.{simulated_all, simulated_for, state_of, subst, sym, take, take_more, true, wrapped_by, wrapped_state, ℕ, ◌++◌, ◌+◌, ◌-◌}
-use Rattle.pos_run.proofs.Common.{◌<◌, ◌^◌, ◌∙◌, ◌∷◌, ◌≡◌, ◌≤◌}
+use Rattle.pos_run.proofs.Common.{All, Bool, Category, Entry, HoldsOnlyIf, IsDeviceFor, IsInService, IsSimulable, Kind, List, None, Option, PeripheralState}
+use Rattle.pos_run.proofs.Common.{Some, Wrapped, [], ap, arith, false, get_or, kind_of, length, map-append, min, new_device, refl, simulated_all, simulated_for}
+use Rattle.pos_run.proofs.Common.{state_of, subst, sym, take, take_more, true, wrapped_by, wrapped_state, ℕ, ◌++◌, ◌+◌, ◌-◌, ◌<◌, ◌^◌, ◌∙◌, ◌∷◌, ◌≡◌, ◌≤◌}
 use Rattle.pos_profile.specs.Numbers.{has_number}
 use Rattle.pos_profile.specs.OptionalKeys.{has_option}
 use Rattle.pos_profile.specs.Soundness.{IsInItsRange, IsSoundEntry}
@@ -29,15 +28,10 @@ module _ (entries : List Entry) (i : ℕ) (entry : Entry) (lt : i < length entri
 
 -- what is simulated is in service, and was given no order yet
 new_serves : (kind : Option Kind) (lines : ℕ) → IsInService (option_map (λ is. new_device is lines) kind)
-new_serves None lines = tt
-new_serves (Some kind) lines = refl
+new_serves kind lines = grind arith
 
 new_is_fresh : (kind : Option Kind) (lines : ℕ) (state : PeripheralState) → Some state ≡ option_map (λ is. new_device is lines) kind → state.orders ≡ 0
-new_is_fresh None lines state is = absurd cc
-new_is_fresh (Some kind) lines state is = ap (λ (s : PeripheralState). s.orders) (same_Some state (new_device kind lines) is)
-
-pub state_serves : (entry : Entry) (state : PeripheralState) → Some state ≡ simulated_for entry → state.is_parked ≡ false
-state_serves entry state is = subst IsInService (sym is) (new_serves (kind_of entry) entry.lines)
+new_is_fresh kind lines state is = grind arith
 
 pub state_is_fresh : (entry : Entry) (state : PeripheralState) → Some state ≡ simulated_for entry → state.orders ≡ 0
 state_is_fresh entry state is = new_is_fresh (kind_of entry) entry.lines state is
@@ -52,9 +46,7 @@ lines_within _ lines none = omega (arith, none)
 
 -- an entry has a ring only where its category may have one
 only_if : (may holds : Bool) → (holds ≡ true → may ≡ true) → HoldsOnlyIf may holds
-only_if true holds is = tt
-only_if false true is = sym (is refl)
-only_if false false is = refl
+only_if may holds is = grind arith
 
 pub simulable : (role : Role) (entries : List Entry) (i : ℕ) (entry : Entry) → All (IsSoundEntry role) entries → i < length entries
     → entry ≡ get_or entries i entry → IsSimulable entry
@@ -101,10 +93,6 @@ wrapped_begins entry device is =
 
 module _ (entry : Entry) (device : Simulation) (made : Wrapped) (simulates : IsDeviceFor entry (Some device))
     (is : made ≡ wrapped_by entry.flaky entry.recorded device) where
-  -- a device in its wrappers is what is simulated for its entry
-  pub simulated : IsSimulatedFor entry (Some made)
-  simulated = record { device = Some device; simulates = simulates; wrapped = ap (λ (w : Wrapped). Some w) is }
-
-  -- and begins as that
+  -- a device in its wrappers begins as what is simulated for its entry
   pub simulated_begins : Some (wrapped_state made) ≡ simulated_for entry
   simulated_begins = ap (λ (w : Wrapped). Some (wrapped_state w)) is ∙ wrapped_begins entry device simulates.state

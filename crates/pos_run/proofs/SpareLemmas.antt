@@ -1,42 +1,29 @@
 -- The spares, where one is taken or put back.
 use Rattle.pos_run.proofs.Common.{All, Ghosts, IfSome, IsEmptyAt, IsInService, List, None, Option, PeripheralState, Some, SpareStates, [], ap, arith, false}
-use Rattle.pos_run.proofs.Common.{get_or, get_or-map, length, length-map, map-set, option_and_then, option_map, refl, set, set_past, slice_get, spare_at}
-use Rattle.pos_run.proofs.Common.{states_in, suc, sym, with_spare, zero, ℕ, ◌<◌, ◌∙◌, ◌∷◌, ◌≡◌}
+use Rattle.pos_run.proofs.Common.{get_or, get_or-map, length, length-map, map-set, option_and_then, option_map, refl, set, slice_get, spare_at, states_in, suc}
+use Rattle.pos_run.proofs.Common.{sym, with_spare, zero, ℕ, ◌<◌, ◌∙◌, ◌∷◌, ◌≡◌}
 use Rattle.std.proofs.lemmas.List.Elements.{All-set}
-use Rattle.std.proofs.lemmas.Option.{slice_get-map, slice_get_past, slice_get_read, slice_get_within}
-
--- a number behind the last has no spare
-pub none_past : (spares : SpareStates) (number : ℕ) → length spares < number → spare_at spares number ≡ None
-none_past spares zero past = refl
-none_past spares (suc place) past = ap (option_and_then (λ spare. spare)) (slice_get_past spares place (omega (arith, past)))
-
-pub stays_past : (spares : SpareStates) (number : ℕ) → length spares < number → spares ≡ with_spare spares number None
-stays_past spares zero past = refl
-stays_past spares (suc place) past = sym (set_past spares place None (omega (arith, past)))
+use Rattle.std.proofs.lemmas.Option.{slice_get-map, slice_get_read, slice_get_within}
 
 -- an empty place stays one
 vacated : (spares : SpareStates) (place : ℕ) → option_and_then (λ spare. spare) (slice_get spares place) ≡ None → set spares place None ≡ spares
 vacated [] place none = refl
-vacated (None ∷ spares) zero none = refl
-vacated (Some state ∷ spares) zero none = cc
+vacated (first ∷ spares) zero none = grind arith
 vacated (first ∷ spares) (suc place) none = ap (λ (ss : SpareStates). first ∷ ss) (vacated spares place none)
 
 pub none_taken : (spares : SpareStates) (number : ℕ) → spare_at spares number ≡ None → with_spare spares number None ≡ spares
-none_taken spares zero none = refl
-none_taken spares (suc place) none = vacated spares place none
+none_taken spares number none = grind (arith, vacated)
 
 -- a spare that is put back is where it was
 returned : (spares : SpareStates) (place : ℕ) (state : PeripheralState) → option_and_then (λ spare. spare) (slice_get spares place) ≡ Some state
     → set (set spares place None) place (Some state) ≡ spares
 returned [] place state there = cc
-returned (None ∷ spares) zero state there = cc
-returned (Some first ∷ spares) zero state there = ap (λ (s : Option PeripheralState). s ∷ spares) (sym there)
+returned (first ∷ spares) zero state there = grind arith
 returned (first ∷ spares) (suc place) state there = ap (λ (ss : SpareStates). first ∷ ss) (returned spares place state there)
 
 pub put_back : (spares : SpareStates) (number : ℕ) (state : PeripheralState) → spare_at spares number ≡ Some state
     → with_spare (with_spare spares number None) number (Some state) ≡ spares
-put_back spares zero state there = cc
-put_back spares (suc place) state there = returned spares place state there
+put_back spares number state there = grind (arith, returned)
 
 -- the place of one that was taken is empty
 emptied : (spares : SpareStates) (place : ℕ) (state : PeripheralState) → option_and_then (λ spare. spare) (slice_get spares place) ≡ Some state

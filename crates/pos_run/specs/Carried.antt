@@ -4,14 +4,15 @@ use Rattle.pos_disk.specs.declared.device.Disk.{Ghosts as DiskGhosts}
 use Rattle.pos_service.specs.declared.peripheral.Peripheral.{Ghosts}
 use Rattle.pos_counter.specs.declared.counter.Counter.{Counter}
 use Rattle.pos_store.specs.Standing.{Standing}
-use Rattle.pos_counter.specs.Counters.{IsRun, RunsAnyhow, RunsFrom}
+use Rattle.pos_counter.specs.Counters.{IsRun, IsStep, IsStepBeside, RunsAnyhow, RunsFrom}
 use Rattle.pos_counter.specs.Leaving.{IsSettled, Leaves}
 use Rattle.pos_counter.specs.Steps.{Request, Response}
 use Rattle.pos_run.specs.declared.names.Names.{Names}
 use Rattle.pos_run.specs.declared.spares.Spares.{Spares}
+use Rattle.pos_script.specs.declared.arguments.LineFault.{LineFault}
 use Rattle.pos_script.specs.declared.reply.Reply.{Reply}
-use Rattle.pos_run.specs.Names.{ControlNames, names_of}
-use Rattle.pos_run.specs.Spares.{SpareStates, spares_in}
+use Rattle.pos_run.specs.Names.{names_of}
+use Rattle.pos_run.specs.Spares.{spares_in}
 use Rattle.pos_script.specs.declared.line_buffer.Line.{Line}
 use Rattle.pos_script.specs.LineBuffers.{IsLine, Kept, StandsFor}
 use Rattle.pos_script.specs.Lines.{complete_lines, lines_of}
@@ -19,7 +20,7 @@ use Rattle.pos_script.specs.Arguments.{Reading}
 use Rattle.pos_script.specs.Commands.{LineRequest}
 use Rattle.pos_script.specs.Text.{reply_text}
 use Rattle.pos_script.specs.Writing.{Writes}
-use Rattle.pos_run.specs.Transcript.{Session, session_with, CarriesOut, AskingBecomes, ReadingBecomes}
+use Rattle.pos_run.specs.Transcript.{Session, session_with, CarriesOut, AskingBecomes, ReadBecomes, ReadingBecomes}
 use Rattle.pos_run.specs.declared.scripts.RunFault.{RunFault}
 use Rattle.pos_run.specs.Running.{Finishes, RunsScript, Stops, script_steps}
 use Rattle.pos_run.specs.Streams.{Streams, Writing}
@@ -28,38 +29,35 @@ use Rattle.pos_run.specs.Streams.{Streams, Writing}
 abbrev pub session_of : {P : Type 0} → Ghosts P → Names → Spares P → Session
 session_of peripherals names spares = session_with (names_of names) (spares_in peripherals spares)
 
--- what a line asks is carried out on a counter, with a session before and one after, and replied to
-abbrev pub CarriesOutAsking : {D P : Type 0} → DiskGhosts D → Ghosts P
-    → Counter D P → Session → LineRequest → Reply → Session → Counter D P → Type 0
-CarriesOutAsking bound peripherals old session asking reply after new =
-    CarriesOut (IsRun bound peripherals) old (AskingBecomes session asking) (Some (reply_text reply)) after new
+-- a counter is asked at most one thing; the totals may have no part in it
+abbrev pub IsAsked : {D P : Type 0} → DiskGhosts D → Ghosts P
+    → Counter D P → List (Request × Response) → Counter D P → Type 0
+IsAsked bound peripherals old [] new = new ≡ old
+IsAsked bound peripherals old (step ∷ []) new =
+    IsStep bound peripherals old step.0 step.1 new ⊎ IsStepBeside peripherals old step.0 step.1 new
+IsAsked bound peripherals old (step ∷ more ∷ steps) new = ⊥
 
--- what a line asks of a control is carried out, with these names of controls before and after, whatever the spares are
-abbrev pub CarriesOutAtControl : {D P : Type 0} → DiskGhosts D → Ghosts P
-    → Counter D P → Names → LineRequest → Reply → Names → Counter D P → Type 0
-CarriesOutAtControl bound peripherals old names asking reply after new = (spares : SpareStates)
-    → CarriesOutAsking bound peripherals old (session_with (names_of names) spares) asking reply
-    (session_with (names_of after) spares) new
+-- What a line asks is carried out on a counter, with a session before and one after, and replied to.
+pub record CarriesOutAsking {D P : Type 0} (bound : DiskGhosts D) (peripherals : Ghosts P) (old : Counter D P)
+    (session : Session) (asking : LineRequest) (reply : Reply) (left : Session) (new : Counter D P) : Type 0 where
+  pub carried : CarriesOut (IsAsked bound peripherals) old (AskingBecomes session asking) (Some (reply_text reply))
+      left new
 
--- what a line asks of a device is carried out, whatever the session is, which stays
-abbrev pub CarriesOutAtDevice : {D P : Type 0} → DiskGhosts D → Ghosts P
-    → Counter D P → LineRequest → Reply → Counter D P → Type 0
-CarriesOutAtDevice bound peripherals old asking reply new =
-    (session : Session) → CarriesOutAsking bound peripherals old session asking reply session new
+-- What was read of a line's words is asked, or why they weren't is told, and the reply is written as far as it can be.
+pub record CarriesOutRead {D P E : Type 0} (bound : DiskGhosts D) (peripherals : Ghosts P) (old : Counter D P)
+    (session : Session) (read : Result LineRequest LineFault) (before after : Option (List ℕ))
+    (result : Result (Unit {0}) E) (left : Session) (new : Counter D P) : Type 0 where
+  pub reply : List ℕ
+  pub carried : CarriesOut (IsRun bound peripherals) old (ReadBecomes session read) (Some reply) left new
+  pub written : Writes before after (reply ++ 10 ∷ []) result
 
--- what a line asks with a spare is carried out, with these spares before and after, whatever the names of controls are
-abbrev pub CarriesOutWithSpare : {D P : Type 0} → DiskGhosts D → Ghosts P
-    → Counter D P → SpareStates → LineRequest → Reply → SpareStates → Counter D P → Type 0
-CarriesOutWithSpare bound peripherals old spares asking reply after new = (names : ControlNames)
-    → CarriesOutAsking bound peripherals old (session_with names spares) asking reply (session_with names after) new
-
--- what was read of a line's words is carried out and replied to, and the reply is written as far as it can be
-abbrev pub CarriesOutReading : {D P E : Type 0} → DiskGhosts D → Ghosts P
-    → Counter D P → Session → Reading LineRequest → Option (List ℕ) → Option (List ℕ) → Result (Unit {0}) E → Session
-    → Counter D P → Type 0
-CarriesOutReading bound peripherals old session reading before after result left new =
-    (reply : List ℕ) × CarriesOut (IsRun bound peripherals) old (ReadingBecomes session reading) (Some reply) left new
-    × Writes before after (reply ++ 10 ∷ []) result
+-- What may be read of a line's words is carried out and replied to, and the reply is written as far as it can be.
+pub record CarriesOutReading {D P E : Type 0} (bound : DiskGhosts D) (peripherals : Ghosts P) (old : Counter D P)
+    (session : Session) (reading : Reading LineRequest) (before after : Option (List ℕ))
+    (result : Result (Unit {0}) E) (left : Session) (new : Counter D P) : Type 0 where
+  pub reply : List ℕ
+  pub carried : CarriesOut (IsRun bound peripherals) old (ReadingBecomes session reading) (Some reply) left new
+  pub written : Writes before after (reply ++ 10 ∷ []) result
 
 -- lines are carried out from one session to another, all of them or as far as they can be written
 abbrev pub CarriesOutLines : {D P E : Type 0} → DiskGhosts D → Ghosts P

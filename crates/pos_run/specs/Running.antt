@@ -1,5 +1,5 @@
 -- What a run of a script leaves (docs/CONSOLE.md, "The program").
-use Rattle.std.specs.Prelude.{◌≡◌, ◌++◌, ◌<◌, ◌∷◌, ◌⊎◌, [], ℕ, false, length, replicate, List, Option, Some, None, Result, Ok, Err, option_map}
+use Rattle.std.specs.Prelude.{◌≡◌, ◌++◌, ◌∷◌, ◌⊎◌, [], ℕ, false, length, replicate, List, Option, Some, None, Result, Ok, Err, option_map}
 use Rattle.std.proofs.Common.{inl, inr}
 use Rattle.std.specs.Io.KnownBytes.{Appends, Consumes, IsAtEnd}
 use Rattle.pos_counter.specs.Machine.{Device, Machine}
@@ -19,6 +19,7 @@ use Rattle.pos_run.specs.declared.scripts.RunFault.{RunFault}
 use Rattle.pos_run.specs.declared.scripts.RunFault.TheVariants as fault
 use Rattle.pos_script.specs.Lines.{complete_lines, lines_of}
 use Rattle.pos_script.specs.Text.{printed}
+use Rattle.pos_script.specs.Writing.{IsCut}
 use Rattle.pos_run.specs.Streams.{Reading, Streams, Writing, may_read}
 use Rattle.pos_run.specs.Transcript.{Leads, Session, Transcript, CarriesOut, LineBecomes}
 
@@ -29,6 +30,13 @@ pub record Finishes {C : Type 0} (Runs : Leads C) (old : C) (session : Session) 
   pub transcript : Transcript Runs old session lines text left new
   pub written : Appends before after text
 
+-- A line was carried out, and of what it prints a front is written, but not all.
+pub record StopsAt {C : Type 0} (Runs : Leads C) (old : C) (session : Session) (line : List ℕ)
+    (before after : Option (List ℕ)) (left : Session) (new : C) : Type 0 where
+  pub reply : Option (List ℕ)
+  pub carried : CarriesOut Runs old (LineBecomes session line) reply left new
+  pub cut : IsCut before after (printed reply)
+
 -- A write failed at a line: the earlier lines were carried out and their text is written; the line was carried out too,
 -- and of what it prints a front is written, but not all; no later line was carried out.
 pub record Stops {C : Type 0} (Runs : Leads C) (old : C) (session : Session) (lines : List (List ℕ))
@@ -36,18 +44,12 @@ pub record Stops {C : Type 0} (Runs : Leads C) (old : C) (session : Session) (li
   pub earlier : List (List ℕ)
   pub line : List ℕ
   pub later : List (List ℕ)
-  pub text : List ℕ
+  pub contents : Option (List ℕ)
   pub between : Session
   pub mid : C
-  pub reply : Option (List ℕ)
-  pub front : List ℕ
-  pub back : List ℕ
   pub split : lines ≡ earlier ++ line ∷ later
-  pub transcript : Transcript Runs old session earlier text between mid
-  pub carried : CarriesOut Runs mid (LineBecomes between line) reply left new
-  pub cut : printed reply ≡ front ++ back
-  pub unwritten : 0 < length back
-  pub written : Appends before after (text ++ front)
+  pub done : Finishes Runs old session earlier before contents between mid
+  pub failed : StopsAt Runs mid between line contents after left new
 
 -- the lines that were read, by the bytes that were: those that a line feed ended, and at the end the last one too
 abbrev pub lines_read : ReadState → List ℕ → List (List ℕ)
@@ -84,7 +86,7 @@ abbrev pub carried_steps : {C : Type 0} (Runs : Leads C) (old : C) (session : Se
 carried_steps Runs old session lines before after (Ok u) left new (done, held) = done.transcript.steps
 carried_steps Runs old session lines before after (Err fault.Read) left new (done, held) = done.transcript.steps
 carried_steps Runs old session lines before after (Err fault.Write) left new (inl stops) =
-    stops.transcript.steps ++ stops.carried.steps
+    stops.done.transcript.steps ++ stops.failed.carried.steps
 carried_steps Runs old session lines before after (Err fault.Write) left new (inr done) = done.transcript.steps
 carried_steps Runs old session lines before after (Err fault.NoMemory) left new same = []
 

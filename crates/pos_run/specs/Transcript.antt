@@ -1,15 +1,16 @@
 -- What a script asks of the machine, and what it prints (docs/CONSOLE.md, "Answers").
-use Rattle.std.specs.Prelude.{◌≡◌, ℕ, ◌⊎◌, ◌++◌, ◌∷◌, [], Bool, true, false, List, Option, Some, None, MatchOption, IsTrue, is_some, option_map, if◌then◌else◌}
+use Rattle.std.specs.Prelude.{◌≡◌, ℕ, ◌⊎◌, ◌++◌, ◌∷◌, [], Bool, true, false, List, Option, Some, None, MatchOption, Result, Ok, Err, IsTrue, is_some, option_map, if◌then◌else◌}
 use Rattle.std.specs.Bool.{MatchBool}
 use Rattle.pos_service.specs.Hardware.{hardware_of}
 use Rattle.pos_counter.specs.Steps.{Request, Response, NewControl, CallOf, InputTo, Deliver, Snapshot, WorkOn, Attach, Detach, Made, Attached}
+use Rattle.pos_script.specs.declared.arguments.LineFault.{LineFault}
 use Rattle.pos_script.specs.declared.reply.Reply.TheVariants as reply
 use Rattle.pos_script.specs.Lines.{is_quiet}
 use Rattle.pos_script.specs.Arguments.{Reading}
 use Rattle.pos_script.specs.Commands.{LineRequest, asked_by}
 use Rattle.pos_run.specs.Names.{ControlNames, number_named}
 use Rattle.pos_run.specs.Spares.{SpareStates, spare_at, with_spare}
-use Rattle.pos_script.specs.Text.{printed, reply_text, response_text}
+use Rattle.pos_script.specs.Text.{fault_text, printed, reply_text, response_text}
 
 -- What a script has: the names of its controls, and its spares.
 pub record Session : Type 0 where
@@ -96,6 +97,16 @@ ReadingBecomes session reading outcome =
     MatchOption reading.value (outcome ≡ turned_down session (reply_text reply.BadLine))
     (λ asking. (IsTrue reading.is_kept × (outcome ≡ turned_down session (reply_text reply.Memory)))
     ⊎ AskingBecomes session asking outcome)
+
+-- what a line asks, if its words were read
+abbrev pub asked_as : {A : Type 0} → (A → LineRequest) → Result A LineFault → Result LineRequest LineFault
+asked_as make (Ok value) = Ok (make value)
+asked_as make (Err why) = Err why
+
+-- what becomes of a line that asks this, or by why its words weren't read
+abbrev pub ReadBecomes : Session → Result LineRequest LineFault → Outcome → Type 0
+ReadBecomes session (Ok asking) outcome = AskingBecomes session asking outcome
+ReadBecomes session (Err why) outcome = outcome ≡ turned_down session (fault_text why)
 
 -- what becomes of a line
 abbrev pub LineBecomes : Session → List ℕ → Outcome → Type 0

@@ -4,11 +4,9 @@ ghost use Rattle.pos_counter.specs.Counters.{IsCounterSound, IsStepBeside};
 ghost use Rattle.pos_counter.specs.Steps.{Attach, Response};
 ghost use Rattle.pos_service.specs.Hardware.{hardware_of};
 
-use crate::ending::Ends;
-use pos_counter::{Counter, Ended};
+use pos_counter::Counter;
 use pos_disk::Disk;
-use pos_profile::Slot;
-use pos_service::Peripheral;
+use pos_service::{Ends, Peripheral};
 
 /// Attaches a peripheral in service to the device of a name. One that is refused is ended.
 pub fn offer<D: Disk, P: Peripheral + Ends>(counter: &mut Counter<D, P>, name: &[u8], peripheral: P)
@@ -23,27 +21,9 @@ pub fn offer<D: Disk, P: Peripheral + Ends>(counter: &mut Counter<D, P>, name: &
     }
 }
 
-/// Ends devices and their peripherals.
-fn end_all<P: Ends>(mut entries: Vec<Slot<P>>)
-    requires { Unit {0} }
-{
-    while let Some(entry) = entries.pop() {
-        let Slot {
-            name: _,
-            kind: _,
-            peripheral,
-        } = entry;
-        if let Some(peripheral) = peripheral {
-            peripheral.end();
-        }
-    }
-    entries.destroy_empty();
-}
-
 /// Shuts a counter down, and ends what is left of it.
 pub fn end_counter<D: Disk + Drop, P: Peripheral + Ends>(counter: Counter<D, P>)
     requires { IsCounterSound P.Peripheral counter }
 {
-    let Ended { disk: _, entries } = counter.shutdown();
-    end_all(entries);
+    let _disk = counter.shutdown().end();
 }

@@ -4,14 +4,13 @@ ghost use Rattle.pos_run.specs.Carried.{CarriesOutLines, session_of};
 ghost use Rattle.pos_run.specs.Spares.{AreSparesSound};
 ghost use Rattle.pos_script.specs.Lines.{lines_of};
 
-use crate::ending::Ends;
 use crate::names::Names;
 use crate::scripts::{carry_out_last, carry_out_piece};
 use crate::spares::Spares;
 use pos_counter::Counter;
 use pos_disk::Disk;
 use pos_script::{LineBuffer, WriteFault};
-use pos_service::Peripheral;
+use pos_service::{Ends, Peripheral};
 use std::alloc::Global;
 use std::io::Write;
 

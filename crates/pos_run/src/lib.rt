@@ -4,7 +4,6 @@
 
 mod answers;
 mod devices;
-mod ending;
 mod given;
 mod lines;
 mod mounting;
@@ -19,7 +18,6 @@ mod wrapped;
 
 pub use answers::AnswerWriter;
 pub use devices::end_counter;
-pub use ending::Ends;
 pub use given::carry_out_lines;
 pub use mounting::{AsSimulated, Mount};
 pub use names::Names;

@@ -5,7 +5,6 @@ ghost use Rattle.pos_run.specs.Streams.{streams_of};
 
 use crate::answers::AnswerWriter;
 use crate::devices::{end_counter, offer};
-use crate::ending::Ends;
 use crate::mounting::{AsSimulated, Mount};
 use crate::reading::ScriptReader;
 use crate::scripts::{RunFault, run};
@@ -15,7 +14,7 @@ use pos_counter::Counter;
 use pos_disk::Disk;
 use pos_profile::laws::is_profile;
 use pos_profile::{Entry, Profile};
-use pos_service::{NoMemory, Peripheral};
+use pos_service::{Ends, NoMemory, Peripheral};
 use std::alloc::Global;
 use std::io::{Read, Write};
 

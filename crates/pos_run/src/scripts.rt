@@ -9,7 +9,6 @@ ghost use Rattle.pos_run.specs.Streams.{answers_of, streams_of, writing_of};
 ghost use Rattle.pos_run.specs.Transcript.{begun_session, session_with};
 
 use crate::answers::AnswerWriter;
-use crate::ending::Ends;
 use crate::lines::carry_out_words;
 use crate::names::Names;
 use crate::reading::{ReadFault, ScriptReader};
@@ -17,7 +16,7 @@ use crate::spares::Spares;
 use pos_counter::Counter;
 use pos_disk::Disk;
 use pos_script::{Line, LineBuffer, Reply, WriteFault, print_reply};
-use pos_service::Peripheral;
+use pos_service::{Ends, Peripheral};
 use std::alloc::Global;
 use std::io::{Read, Write};
 use thiserror::Error;

@@ -3,7 +3,7 @@ ghost use Rattle.std.specs.Prelude.{◌≡◌, false};
 ghost use Rattle.pos_run.specs.Simulating.{state_of, wrapped_by, wrapped_state};
 
 use crate::simulation::Simulation;
-use pos_service::{Input, Kind, NoMemory, Order, Peripheral, Reply, Signs, Snapshot, Taken};
+use pos_service::{Ends, Input, Kind, NoMemory, Order, Peripheral, Reply, Signs, Snapshot, Taken};
 use pos_sims::{Flaky, Recorder};
 
 /// A simulated peripheral with the wrappers that its entry asks for. One type has them all, so that a counter's devices
@@ -104,5 +104,11 @@ impl Peripheral for Wrapped {
             Wrapped::Recorded(recorder) => recorder.is_parked(),
             Wrapped::Both(recorder) => recorder.is_parked(),
         }
+    }
+}
+
+impl Ends for Wrapped {
+    fn end(self) {
+        drop(self);
     }
 }

@@ -2,9 +2,10 @@
 //! with one growth refused all is as with none.
 ghost use Rattle.pos_counter.specs.Counters.{IsCounterSound};
 
-use crate::runs::{NEVER, Pieces, Room, formatted};
+use crate::runs::{NEVER, Pieces, Room};
 use pos_counter::Counter;
 use pos_disk::MemDisk;
+use pos_image::new_disk;
 use pos_profile::Profile;
 use pos_run::{AnswerWriter, RunFault, ScriptReader, Spares, end_counter, run};
 use pos_service::{Peripheral, PeripheralBox};
@@ -35,7 +36,7 @@ fn ran(
 fn a_run_is_begun_once_more(rt: HostRuntime) -> Result<(), Fail> {
     let alloc = rt.alloc();
     let profile = Profile::built(alloc)?;
-    let disk = formatted(alloc)?;
+    let disk = new_disk(alloc)?;
     let Ok(mut counter) = Counter::new(alloc, &profile, Vec::new(alloc), disk) else {
         return Err(Fail::new("no memory for a counter"));
     };

@@ -1,13 +1,12 @@
 ghost use Rattle.std.specs.Prelude.{None};
 
 use pos_counter::Counter;
-use pos_disk::MemDisk;
-use pos_image::Images;
+use pos_image::new_disk;
 use pos_profile::Profile;
 use pos_run::{AnswerWriter, RunFault, ScriptReader, Spares, end_counter, run, run_over_profile};
 use pos_service::{Form, Peripheral, PeripheralBox, Snapshot};
 use pos_sims::PlainDrawer;
-use std::alloc::{AllocError, Global};
+use std::alloc::Global;
 use std::io;
 use std::io::{ErrorKind, Read, Write};
 use std::test::Fail;
@@ -111,12 +110,6 @@ impl Write for Room {
 /// No call of this number comes.
 pub const NEVER: usize = usize::MAX;
 
-/// A disk that is formatted.
-pub fn formatted(alloc: Global) -> Result<MemDisk, AllocError> {
-    let disk = MemDisk::new(alloc, vec![in alloc; 0u8; 327_680]?)?;
-    Images::format(disk).map_err(|_| AllocError)
-}
-
 const SCRIPT: &[u8] = b"show d2\nattach r1 1\n\nnew a CashDrawer\r\nget a State";
 
 const TEXT: &[u8] = b"bad device\nrefused InUse\nok\nok 1\n";
@@ -124,7 +117,7 @@ const TEXT: &[u8] = b"bad device\nrefused InUse\nok\nok 1\n";
 /// How a run over the built profile ends.
 fn ran(alloc: Global, reader: &mut Pieces, room: &mut Room) -> Result<Result<(), RunFault>, Fail> {
     let profile = Profile::built(alloc)?;
-    let disk = formatted(alloc)?;
+    let disk = new_disk(alloc)?;
     let mut reader = ScriptReader::new(reader);
     let mut writer = AnswerWriter::new(alloc, room)?;
     Ok(run_over_profile(alloc, &mut reader, &mut writer, &profile, disk))
@@ -203,7 +196,7 @@ fn drawer_after(
 ) -> Result<(Result<(), RunFault>, bool), Fail> {
     let profile = Profile::built(alloc)?;
     let drawer: Box<dyn Peripheral + Drop> = Box::new(alloc, PlainDrawer::new())?;
-    let disk = formatted(alloc)?;
+    let disk = new_disk(alloc)?;
     let mut reader = ScriptReader::new(reader);
     let mut writer = AnswerWriter::new(alloc, room)?;
     let Ok(mut counter) = Counter::new(alloc, &profile, Vec::new(alloc), disk) else {

@@ -1,5 +1,5 @@
 -- How a script falls into lines where it comes in pieces.
-use Rattle.std.proofs.Common.{◌≡◌, ◌++◌, ◌∷◌, ℕ, ◌<◌, List, [], Bool, true, false, not, cond, eqb, length, ap, sym, ◌∙◌, refl, arith, append-nil, ◌&&◌}
+use Rattle.std.proofs.Common.{◌≡◌, ◌++◌, ◌∷◌, ℕ, ◌<◌, List, [], true, length, ap, ◌∙◌, refl, arith, append-nil}
 use Rattle.std.specs.List.{list_all}
 use Rattle.pos_script.specs.LineBuffers.{is_no_feed}
 use Rattle.pos_script.specs.Lines.{onto_first, pieces, lines_in, ended_in, last_in, last_line, complete_lines, unfinished, without_cr}
@@ -20,43 +20,34 @@ front_some : (xs : List ℕ) (ps : List (List ℕ)) → 0 < length ps → 0 < le
 front_some xs [] lt = absurd (omega (arith, lt))
 front_some xs (p ∷ ps) lt = rw (front_onto_one xs p ps) (omega arith)
 
-glue_onto : (b : ℕ) (ps qs : List (List ℕ)) → 0 < length ps → onto_first b (glue ps qs) ≡ glue (onto_first b ps) qs
-glue_onto b ps qs lt = grind arith
-
-glue_next : (p : List ℕ) (ps qs : List (List ℕ)) → 0 < length ps → glue (p ∷ ps) qs ≡ p ∷ glue ps qs
-glue_next p ps qs lt = grind arith
-
-glue_cut : (c b : ℕ) (xs ys : List ℕ) (t : Bool) → eqb b c ≡ t → pieces c (xs ++ ys) ≡ glue (pieces c xs) (pieces c ys)
-    → pieces c (b ∷ (xs ++ ys)) ≡ glue (pieces c (b ∷ xs)) (pieces c ys)
-glue_cut c b xs ys true is h = rw (is, h) (sym (glue_next [] (pieces c xs) (pieces c ys) (some_piece c xs)))
-glue_cut c b xs ys false is h = rw (is, h) (glue_onto b (pieces c xs) (pieces c ys) (some_piece c xs))
-
 pieces_append : (c : ℕ) (xs ys : List ℕ) → pieces c (xs ++ ys) ≡ glue (pieces c xs) (pieces c ys)
 pieces_append c [] ys = refl
-pieces_append c (x ∷ xs) ys = glue_cut c x xs ys (eqb x c) refl (pieces_append c xs ys)
+pieces_append c (x ∷ xs) ys =
+    let some = some_piece c xs in
+    let h = pieces_append c xs ys in
+    grind arith
 
 glue_some : (ps qs : List (List ℕ)) → 0 < length qs → 0 < length (glue ps qs)
 glue_some [] qs lt = lt
 glue_some (p ∷ []) qs lt = front_some p qs lt
 glue_some (p ∷ q ∷ ps) qs lt = omega arith
 
-ended_next : (p : List ℕ) (ps : List (List ℕ)) → 0 < length ps → ended_in (p ∷ ps) ≡ without_cr p ∷ ended_in ps
-ended_next p ps lt = grind arith
-
-last_next : (p : List ℕ) (ps : List (List ℕ)) → 0 < length ps → last_in (p ∷ ps) ≡ last_in ps
-last_next p ps lt = grind arith
-
 -- the pieces that are ended among the pieces of two texts, and the last
 ended_glue : (ps qs : List (List ℕ)) → 0 < length ps → 0 < length qs → ended_in (glue ps qs) ≡ ended_in ps ++ ended_in (front_onto (last_in ps) qs)
 ended_glue [] qs some lt = absurd (omega (arith, some))
 ended_glue (p ∷ []) qs some lt = refl
-ended_glue (p ∷ q ∷ ps) qs some lt = ended_next p (glue (q ∷ ps) qs) (glue_some (q ∷ ps) qs lt)
-    ∙ ap (λ x. without_cr p ∷ x) (ended_glue (q ∷ ps) qs (omega arith) lt)
+ended_glue (p ∷ q ∷ ps) qs some lt =
+    let more = glue_some (q ∷ ps) qs lt in
+    let h = ended_glue (q ∷ ps) qs (omega arith) lt in
+    grind arith
 
 last_glue : (ps qs : List (List ℕ)) → 0 < length ps → 0 < length qs → last_in (glue ps qs) ≡ last_in (front_onto (last_in ps) qs)
 last_glue [] qs some lt = absurd (omega (arith, some))
 last_glue (p ∷ []) qs some lt = refl
-last_glue (p ∷ q ∷ ps) qs some lt = last_next p (glue (q ∷ ps) qs) (glue_some (q ∷ ps) qs lt) ∙ last_glue (q ∷ ps) qs (omega arith) lt
+last_glue (p ∷ q ∷ ps) qs some lt =
+    let more = glue_some (q ∷ ps) qs lt in
+    let h = last_glue (q ∷ ps) qs (omega arith) lt in
+    grind arith
 
 lines_behind : (xs ys : List ℕ) → complete_lines (xs ++ ys) ≡ complete_lines xs ++ ended_in (front_onto (unfinished xs) (pieces 10 ys))
 lines_behind xs ys = ap ended_in (pieces_append 10 xs ys) ∙ ended_glue (pieces 10 xs) (pieces 10 ys) (some_piece 10 xs) (some_piece 10 ys)
@@ -65,24 +56,15 @@ rest_behind : (xs ys : List ℕ) → unfinished (xs ++ ys) ≡ last_in (front_on
 rest_behind xs ys = ap last_in (pieces_append 10 xs ys) ∙ last_glue (pieces 10 xs) (pieces 10 ys) (some_piece 10 xs) (some_piece 10 ys)
 
 -- what is unfinished has no line feed
-last_cut : (c x : ℕ) (xs : List ℕ) (ps : List (List ℕ)) (t : Bool) → eqb x c ≡ t → 0 < length ps → pieces c (last_in ps) ≡ last_in ps ∷ []
-    → pieces c (last_in (cond t ([] ∷ ps) (onto_first x ps))) ≡ last_in (cond t ([] ∷ ps) (onto_first x ps)) ∷ []
-last_cut c x xs ps t is lt h = grind arith
-
 last_whole : (c : ℕ) (xs : List ℕ) → pieces c (last_in (pieces c xs)) ≡ last_in (pieces c xs) ∷ []
 last_whole c [] = refl
-last_whole c (x ∷ xs) = last_cut c x xs (pieces c xs) (eqb x c) refl (some_piece c xs) (last_whole c xs)
+last_whole c (x ∷ xs) = let some = some_piece c xs in let h = last_whole c xs in grind arith
 
 pub go_on_lines : (front piece : List ℕ) → complete_lines (front ++ piece) ≡ complete_lines front ++ complete_lines (unfinished front ++ piece)
-go_on_lines front piece =
-    let u = unfinished front in
-    lines_behind front piece ∙ ap (λ x. complete_lines front ++ x)
-    (sym (lines_behind u piece ∙ ap (λ ps. ended_in ps ++ ended_in (front_onto (last_in ps) (pieces 10 piece))) (last_whole 10 front)))
+go_on_lines front piece = rw (lines_behind front piece, lines_behind (unfinished front) piece, last_whole 10 front) refl
 
 pub go_on_rest : (front piece : List ℕ) → unfinished (front ++ piece) ≡ unfinished (unfinished front ++ piece)
-go_on_rest front piece =
-    let u = unfinished front in
-    rest_behind front piece ∙ sym (rest_behind u piece ∙ ap (λ ps. last_in (front_onto (last_in ps) (pieces 10 piece))) (last_whole 10 front))
+go_on_rest front piece = rw (rest_behind front piece, rest_behind (unfinished front) piece, last_whole 10 front) refl
 
 pub two_parts : (ps : List (List ℕ)) → lines_in ps ≡ ended_in ps ++ last_line (last_in ps)
 two_parts [] = refl
@@ -90,35 +72,25 @@ two_parts (p ∷ []) = refl
 two_parts (p ∷ q ∷ ps) = ap (λ x. without_cr p ∷ x) (two_parts (q ∷ ps))
 
 -- bytes without a line feed are one piece
-no_feed_step : (b : ℕ) (bs : List ℕ) (t : Bool) → eqb b 10 ≡ t → (not t && list_all is_no_feed bs) ≡ true →
-    (list_all is_no_feed bs ≡ true → pieces 10 bs ≡ bs ∷ []) → pieces 10 (b ∷ bs) ≡ (b ∷ bs) ∷ []
-no_feed_step b bs t is h more = grind arith
-
 pub one_piece : (bs : List ℕ) → list_all is_no_feed bs ≡ true → pieces 10 bs ≡ bs ∷ []
 one_piece [] h = refl
-one_piece (b ∷ bs) h = no_feed_step b bs (eqb b 10) refl h (one_piece bs)
+one_piece (b ∷ bs) h = let more = one_piece bs in grind arith
 
 -- behind what was read, bytes without a line feed
 pub adds_lines : (read bytes : List ℕ) → list_all is_no_feed bytes ≡ true → complete_lines (read ++ bytes) ≡ complete_lines read
-adds_lines read bytes h =
-    lines_behind read bytes ∙ ap (λ ps. complete_lines read ++ ended_in (front_onto (unfinished read) ps)) (one_piece bytes h)
-    ∙ ap (λ ps. complete_lines read ++ ended_in ps) (front_onto_one (unfinished read) bytes []) ∙ append-nil (complete_lines read)
+adds_lines read bytes h = rw (lines_behind read bytes, one_piece bytes h, front_onto_one (unfinished read) bytes []) (append-nil (complete_lines read))
 
 pub adds_rest : (read bytes : List ℕ) → list_all is_no_feed bytes ≡ true → unfinished (read ++ bytes) ≡ unfinished read ++ bytes
-adds_rest read bytes h =
-    rest_behind read bytes ∙ ap (λ ps. last_in (front_onto (unfinished read) ps)) (one_piece bytes h) ∙ ap last_in (front_onto_one (unfinished read) bytes [])
+adds_rest read bytes h = rw (rest_behind read bytes, one_piece bytes h, front_onto_one (unfinished read) bytes []) refl
 
 -- and such bytes with a line feed behind them
 ended_piece : (bytes : List ℕ) → list_all is_no_feed bytes ≡ true → pieces 10 (bytes ++ 10 ∷ []) ≡ bytes ∷ [] ∷ []
-ended_piece bytes h = pieces_append 10 bytes (10 ∷ []) ∙ ap (λ ps. glue ps ([] ∷ [] ∷ [])) (one_piece bytes h) ∙ front_onto_nil bytes ([] ∷ [])
+ended_piece bytes h = rw (pieces_append 10 bytes, one_piece bytes h) (front_onto_nil bytes ([] ∷ []))
 
 pub ends_lines : (read bytes : List ℕ) → list_all is_no_feed bytes ≡ true
     → complete_lines (read ++ (bytes ++ 10 ∷ [])) ≡ complete_lines read ++ without_cr (unfinished read ++ bytes) ∷ []
 ends_lines read bytes h =
-    lines_behind read (bytes ++ 10 ∷ []) ∙ ap (λ ps. complete_lines read ++ ended_in (front_onto (unfinished read) ps)) (ended_piece bytes h)
-    ∙ ap (λ ps. complete_lines read ++ ended_in ps) (front_onto_one (unfinished read) bytes ([] ∷ []))
+    rw (lines_behind read (bytes ++ 10 ∷ []), ended_piece bytes h, front_onto_one (unfinished read) bytes ([] ∷ [])) refl
 
 pub ends_rest : (read bytes : List ℕ) → list_all is_no_feed bytes ≡ true → unfinished (read ++ (bytes ++ 10 ∷ [])) ≡ []
-ends_rest read bytes h =
-    rest_behind read (bytes ++ 10 ∷ []) ∙ ap (λ ps. last_in (front_onto (unfinished read) ps)) (ended_piece bytes h)
-    ∙ ap last_in (front_onto_one (unfinished read) bytes ([] ∷ []))
+ends_rest read bytes h = rw (rest_behind read (bytes ++ 10 ∷ []), ended_piece bytes h, front_onto_one (unfinished read) bytes ([] ∷ [])) refl

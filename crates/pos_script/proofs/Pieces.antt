@@ -1,6 +1,5 @@
 -- Pieces of a text, and its lines and words.
-use Rattle.std.proofs.Common.{◌≡◌, ◌++◌, ◌∷◌, ℕ, ◌+◌, ◌<◌, ◌≤◌, List, [], Bool, true, false, cond, eqb, get_or, take, drop, length, ap, sym, ◌∙◌, refl}
-use Rattle.std.proofs.Common.{arith}
+use Rattle.std.proofs.Common.{◌≡◌, ◌++◌, ◌∷◌, ℕ, ◌+◌, ◌<◌, ◌≤◌, List, [], true, false, eqb, get_or, take, drop, length, ap, ◌∙◌, refl, arith}
 use Rattle.std.proofs.lemmas.List.{drop_more, take_more, drop_all, take_all}
 use Rattle.pos_script.specs.Lines.{onto_first, pieces}
 
@@ -21,33 +20,19 @@ front_onto_nil (x ∷ xs) ps = ap (onto_first x) (front_onto_nil xs ps)
 pub front_more : (c : ℕ) (text : List ℕ) (i : ℕ) (d : ℕ) → i < length text → eqb (get_or text i d) c ≡ false
     → pieces c text ≡ front_onto (take i text) (pieces c (drop i text)) → pieces c text ≡ front_onto (take (i + 1) text) (pieces c (drop (i + 1) text))
 front_more c text i d lt ne h =
-    let b = get_or text i d in
-    let rest = pieces c (drop (i + 1) text) in
-    let here : pieces c (drop i text) ≡ onto_first b rest = ap (pieces c) (drop_more text i d lt) ∙ ap (λ t. cond t ([] ∷ rest) (onto_first b rest)) ne in
-    h ∙ ap (front_onto (take i text)) here ∙ sym (front_onto_push (take i text) b rest) ∙ ap (λ xs. front_onto xs rest) (sym (take_more text i d lt))
+    rw (take_more text i d lt, front_onto_push) (h ∙ ap (front_onto (take i text)) (rw (drop_more text i d lt, ne) refl))
 
 -- a byte that is a cut
 pub front_cut : (c : ℕ) (text : List ℕ) (i : ℕ) (d : ℕ) → i < length text → eqb (get_or text i d) c ≡ true
     → pieces c text ≡ front_onto (take i text) (pieces c (drop i text)) → pieces c text ≡ take i text ∷ pieces c (drop (i + 1) text)
-front_cut c text i d lt eq h =
-    let b = get_or text i d in
-    let rest = pieces c (drop (i + 1) text) in
-    let here : pieces c (drop i text) ≡ [] ∷ rest = ap (pieces c) (drop_more text i d lt) ∙ ap (λ t. cond t ([] ∷ rest) (onto_first b rest)) eq in
-    h ∙ ap (front_onto (take i text)) here ∙ front_onto_nil (take i text) rest
+front_cut c text i d lt eq h = h ∙ rw (drop_more text i d lt, eq) (front_onto_nil (take i text) (pieces c (drop (i + 1) text)))
 
 -- no cut at all
 pub front_end : (c : ℕ) (text : List ℕ) (i : ℕ) → length text ≤ i → pieces c text ≡ front_onto (take i text) (pieces c (drop i text))
     → pieces c text ≡ text ∷ []
-front_end c text i le h =
-    h ∙ ap (λ xs. front_onto (take i text) (pieces c xs)) (drop_all i text le) ∙ front_onto_nil (take i text) [] ∙ ap (λ xs. xs ∷ []) (take_all i text le)
+front_end c text i le h = rw (drop_all i text le, take_all i text le) at h ∙ front_onto_nil text []
 
 -- there is always a piece
-onto_first_some : (b : ℕ) (ps : List (List ℕ)) → 0 < length (onto_first b ps)
-onto_first_some b ps = grind arith
-
-cond_some : (t : Bool) (xs ys : List (List ℕ)) → 0 < length xs → 0 < length ys → 0 < length (cond t xs ys)
-cond_some t xs ys h k = grind arith
-
 pub some_piece : (c : ℕ) (text : List ℕ) → 0 < length (pieces c text)
 some_piece c [] = omega arith
-some_piece c (b ∷ bs) = cond_some (eqb b c) _ _ (omega arith) (onto_first_some b (pieces c bs))
+some_piece c (b ∷ bs) = grind arith

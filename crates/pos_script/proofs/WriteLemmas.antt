@@ -8,7 +8,7 @@ use Rattle.std.proofs.lemmas.List.Concat.{flat_map-append}
 use Rattle.std.proofs.KnownBytes.{Appends-trans}
 use Rattle.hex.specs.Hex.{encode_with, encode_lower}
 use Rattle.pos_script.specs.Glyphs.{characters_text}
-use Rattle.pos_script.specs.Writing.{Writes}
+use Rattle.pos_script.specs.Writing.{IsCut, Writes}
 
 -- where one part is cut, so is the whole
 cut_at : {X : Type 0} (f : X → List ℕ) (ps : List X) (i : ℕ) (d : X) (bytes front back : List ℕ) → i < length ps → bytes ≡ f (get_or ps i d)
@@ -39,18 +39,9 @@ hex_of_glyphs character (glyph ∷ glyphs) = ap (λ rest. encode_lower (characte
 longer : (xs ys : List ℕ) → 0 < length xs → 0 < length (xs ++ ys)
 longer xs ys lt = omega (arith, length-append xs ys)
 
--- A front of a text is written and not all of it.
-abbrev pub Fails : Option (List ℕ) → Option (List ℕ) → List ℕ → Type 0
-Fails old new text = (front : List ℕ) × (back : List ℕ) × (text ≡ front ++ back) × (0 < length back) × Appends old new front
-
--- a fault behind a text that was written
-fails_behind : (a b c : Option (List ℕ)) (first second : List ℕ) → Appends a b first → Fails b c second → Fails a c (first ++ second)
-fails_behind a b c first second done w =
-    (first ++ w.0, w.1, ap (λ x. first ++ x) w.2 ∙ sym (append_assoc first w.0 w.1), w.3, Appends-trans a b c first w.0 done w.4)
-
 -- a fault before the rest of a text
 pub failed_front : {F : Type 0} (Q : F → Type 0) (a b : Option (List ℕ)) (first rest : List ℕ) (result : Result (Unit {0}) F) → IsErrAnd result Q
-    → Fails a b first → Writes a b (first ++ rest) result
+    → IsCut a b first → Writes a b (first ++ rest) result
 failed_front Q a b first rest (Ok u) is w = absurd is
 failed_front Q a b first rest (Err f) is w = (w.0, w.1 ++ rest, ap (λ x. x ++ rest) w.2 ∙ append_assoc w.0 w.1 rest, longer w.1 rest w.3, w.4)
 
@@ -58,11 +49,12 @@ failed_front Q a b first rest (Err f) is w = (w.0, w.1 ++ rest, ap (λ x. x ++ r
 pub behind : {F : Type 0} (a b c : Option (List ℕ)) (first second : List ℕ) (result : Result (Unit {0}) F) → Appends a b first
     → Writes b c second result → Writes a c (first ++ second) result
 behind a b c first second (Ok u) done w = Appends-trans a b c first second done w
-behind a b c first second (Err e) done w = fails_behind a b c first second done w
+behind a b c first second (Err e) done w =
+    (first ++ w.0, w.1, ap (λ x. first ++ x) w.2 ∙ sym (append_assoc first w.0 w.1), w.3, Appends-trans a b c first w.0 done w.4)
 
 -- a fault between a text that was written and one that was to be
 pub failed_between : {F : Type 0} (Q : F → Type 0) (a b c : Option (List ℕ)) (first second third : List ℕ) (result : Result (Unit {0}) F)
-    → IsErrAnd result Q → Appends a b first → Fails b c second → Writes a c (first ++ (second ++ third)) result
+    → IsErrAnd result Q → Appends a b first → IsCut b c second → Writes a c (first ++ (second ++ third)) result
 failed_between Q a b c first second third result is done w =
     behind a b c first (second ++ third) result done (failed_front Q b c second third result is w)
 
@@ -74,7 +66,7 @@ behind_two a b c d first second third result one two w = behind a b d first (sec
 -- a fault at one of the parts of a text that are written one after another
 pub failed_part : {X F : Type 0} (Q : F → Type 0) (a b c : Option (List ℕ)) (f : X → List ℕ) (ps : List X) (i : ℕ) (d : X) (bytes : List ℕ)
     (result : Result (Unit {0}) F) → IsErrAnd result Q → i < length ps → bytes ≡ f (get_or ps i d) → Appends a b (flat_map f (take i ps))
-    → Fails b c bytes → Writes a c (flat_map f ps) result
+    → IsCut b c bytes → Writes a c (flat_map f ps) result
 failed_part Q a b c f ps i d bytes (Ok u) is lt at done w = absurd is
 failed_part Q a b c f ps i d bytes (Err e) is lt at done w =
     (_, _, cut_at f ps i d bytes w.0 w.1 lt at w.2, longer w.1 _ w.3, Appends-trans a b c _ w.0 done w.4)

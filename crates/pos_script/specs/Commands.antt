@@ -16,7 +16,7 @@ use Rattle.pos_script.specs.declared.command.DeviceVerb.{DeviceVerb}
 use Rattle.pos_script.specs.declared.command.DeviceVerb.TheVariants as device_verb
 use Rattle.pos_script.specs.declared.command.Verb.{Verb}
 use Rattle.pos_script.specs.declared.command.Verb.TheVariants as verb
-use Rattle.pos_script.specs.Arguments.{Reading, misshapen, become, none, one, from_none, from_one, from_two, from_three}
+use Rattle.pos_script.specs.Arguments.{Reading, misshapen, become, one, from_none, from_one, from_two, from_three}
 use Rattle.pos_service.specs.Names.{is_device_name}
 use Rattle.pos_script.specs.Words.{bytes_shape, category_shape, count_shape, device_shape, number_shape, property_shape, value_shape, error_reply_shape}
 use Rattle.pos_script.specs.Methods.{call_of}
@@ -86,7 +86,7 @@ line_of (verb.Call by) name words = become (λ call. request.CallOf name call) (
 line_of verb.Input name words = become (λ input. request.InputTo name input) (happening words)
 line_of verb.Deliver name words = become (λ reply. request.Deliver name reply) (reply_of words)
 line_of verb.Attach name words = become (λ spare. request.Attach name spare) (one count_shape words)
-line_of (verb.Device by) name words = become (λ u. asked_of by name) (none words)
+line_of (verb.Device by) name words = become (λ by. asked_of by name) (from_none by words)
 
 -- the verbs, and their words
 abbrev pub verbs : List (List ℕ × Verb)

@@ -9,7 +9,7 @@ use crate::arguments::{DeviceName, LineFault, read_none, read_one, read_three, r
 use crate::lines::next_word;
 use crate::methods::read_call;
 use pos_service::words::is;
-use pos_service::{Call, Category, ErrorReply, Input, Name, is_device_name};
+use pos_service::{Call, Category, ErrorReply, Input, LentBytes, is_device_name};
 use std::alloc::Global;
 
 /// The verb of a line that asks a call, behind which stands the control's name.
@@ -65,7 +65,7 @@ pub struct Command<'a> {
     /// Its verb.
     pub verb: Verb,
     /// The name of a control or a device: 1 to 16 letters of ASCII, digits or hyphens.
-    pub name: Name<'a>,
+    pub name: LentBytes<'a>,
     /// The text behind it.
     pub words: &'a [u8],
 }
@@ -110,7 +110,7 @@ pub fn read_command(line: &[u8]) -> Option<Command<'_>>
     let verb = named_verb(word)?;
     Some(Command {
         verb,
-        name: Name::new(name),
+        name: LentBytes::from_slice(name),
         words,
     })
 }

@@ -1,4 +1,4 @@
-ghost use Rattle.std.specs.Prelude.{◌++◌, ◌∷◌, [], codes};
+ghost use Rattle.std.specs.Prelude.{◌≡◌, ◌++◌, ◌∷◌, [], codes};
 ghost use Rattle.std.specs.Fmt.{signed_decimal};
 ghost use Rattle.pos_script.specs.Writing.{Writes};
 ghost use Rattle.pos_script.specs.Glyphs.{cells_text};
@@ -203,25 +203,25 @@ fn print_worked<W: Write>(writer: &mut W, worked: Worked) -> Result<(), WriteFau
     }
 }
 
-/// Writes why a peripheral was not attached.
-fn print_attach_fault<W: Write>(writer: &mut W, fault: AttachFault) -> Result<(), WriteFault>
-    ensures { Writes (W.contents writer.old) (W.contents writer.new) (attach_text fault ++ 10 ∷ []) result }
+/// Why a peripheral was not attached, as a line.
+fn attach_line(fault: AttachFault) -> &'static str
+    ensures { result.now ≡ attach_text fault ++ 10 ∷ [] }
 {
     match fault {
-        AttachFault::Unknown => write_parts(writer, &["refused Unknown\n"]),
-        AttachFault::KindDiffers => write_parts(writer, &["refused KindDiffers\n"]),
-        AttachFault::InUse => write_parts(writer, &["refused InUse\n"]),
+        AttachFault::Unknown => "refused Unknown\n",
+        AttachFault::KindDiffers => "refused KindDiffers\n",
+        AttachFault::InUse => "refused InUse\n",
     }
 }
 
-/// Writes why a peripheral was not detached.
-fn print_detach_fault<W: Write>(writer: &mut W, fault: DetachFault) -> Result<(), WriteFault>
-    ensures { Writes (W.contents writer.old) (W.contents writer.new) (detach_text fault ++ 10 ∷ []) result }
+/// Why a peripheral was not detached, as a line.
+fn detach_line(fault: DetachFault) -> &'static str
+    ensures { result.now ≡ detach_text fault ++ 10 ∷ [] }
 {
     match fault {
-        DetachFault::Unknown => write_parts(writer, &["refused Unknown\n"]),
-        DetachFault::Vacant => write_parts(writer, &["refused Vacant\n"]),
-        DetachFault::InUse => write_parts(writer, &["refused InUse\n"]),
+        DetachFault::Unknown => "refused Unknown\n",
+        DetachFault::Vacant => "refused Vacant\n",
+        DetachFault::InUse => "refused InUse\n",
     }
 }
 
@@ -241,9 +241,9 @@ fn print_response<W: Write>(writer: &mut W, response: Response<()>) -> Result<()
         Response::Delivered(event) => print_delivered(writer, event),
         Response::Shown(snapshot) => print_plant(writer, snapshot),
         Response::Attached => write_parts(writer, &["ok\n"]),
-        Response::NotAttached(fault, _) => print_attach_fault(writer, fault),
+        Response::NotAttached(fault, _) => write_parts(writer, &[attach_line(fault)]),
         Response::Detached(_) => write_parts(writer, &["ok\n"]),
-        Response::NotDetached(fault) => print_detach_fault(writer, fault),
+        Response::NotDetached(fault) => write_parts(writer, &[detach_line(fault)]),
         Response::OutOfMemory => write_parts(writer, &["memory\n"]),
     }
 }

@@ -106,10 +106,10 @@ pub fn decode(alloc: Global, word: &[u8]) -> Result<Bytes, NoMemory>
     ensures { IfOk result (λ bytes. bytes_named word.now ≡ Some bytes) }
 {
     if is(word, "-") {
-        return Ok(Bytes::new(Vec::new(alloc)));
+        return Ok(Bytes::from_vec(Vec::new(alloc)));
     }
     match hex::decode(alloc, word) {
-        Ok(bytes) => Ok(Bytes::new(bytes)),
+        Ok(bytes) => Ok(Bytes::from_vec(bytes)),
         Err(_) => Err(NoMemory),
     }
 }

@@ -1,8 +1,7 @@
 -- Among names of some lengths a word of such a length is found as among all.
-use Rattle.std.proofs.Common.{◌≡◌, ◌∙◌, ◌∷◌, ℕ, List, [], Bool, true, inl, inr, length, true≢false, ap, sym, refl}
+use Rattle.std.proofs.Common.{◌≡◌, ◌∷◌, ℕ, List, [], Bool, true, length, refl, arith}
 use Rattle.std.specs.Prelude.{filter, bytes_eq}
 use Rattle.std.specs.Map.{lookup}
-use Rattle.std.proofs.lemmas.Bool.{cases_Bool}
 use Rattle.pos_service.specs.declared.property.Property.{Property}
 use Rattle.pos_service.specs.Properties.{property_named, names_of, property_names}
 use Rattle.pos_service.proofs.WordLemmas.{differ_in_length}
@@ -10,10 +9,7 @@ use Rattle.pos_service.proofs.WordLemmas.{differ_in_length}
 among : (is_length : ℕ → Bool) (names : List (List ℕ × Property)) (word : List ℕ) → is_length (length word) ≡ true
     → lookup (bytes_eq word) (filter (λ name. is_length (length name.0)) names) ≡ lookup (bytes_eq word) names
 among is_length [] word long = refl
-among is_length (name ∷ names) word long = elim (cases_Bool (is_length (length name.0))) [
-  | inl is ↦ rw (is, among is_length names word long)
-  | inr is ↦ rw (is, among is_length names word long, differ_in_length word name.0 (λ same. true≢false (sym long ∙ ap is_length same ∙ is)))
-]
+among is_length (name ∷ names) word long = grind (arith, among is_length names word long, differ_in_length)
 
 pub as_long : (is_length : ℕ → Bool) (word : List ℕ) → is_length (length word) ≡ true → lookup (bytes_eq word) (names_of is_length) ≡ property_named word
 as_long is_length word long = among is_length property_names word long

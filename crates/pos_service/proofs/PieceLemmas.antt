@@ -7,8 +7,7 @@ use Rattle.pos_service.specs.declared.receipt_text.Piece.TheVariants as piece
 
 -- the bytes that belong to what began before them are passed over
 pub past : (n : ℕ) (bs : List ℕ) → pieces_past n bs ≡ pieces (drop n bs)
-past zero [] = refl
-past zero (b ∷ bs) = refl
+past zero bs = grind arith
 past (suc n) [] = refl
 past (suc n) (b ∷ bs) = past n bs
 

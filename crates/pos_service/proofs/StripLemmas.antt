@@ -1,5 +1,5 @@
 -- A text on the strip, byte by byte.
-use Rattle.std.proofs.Common.{◌≡◌, ◌≢◌, ◌++◌, ◌∷◌, ℕ, suc, ◌+◌, ◌*◌, ◌/◌, ◌%◌, ◌<◌, List, [], length, take, get_or, ap, refl, arith, append_assoc}
+use Rattle.std.proofs.Common.{◌≡◌, ◌≢◌, ◌++◌, ◌∷◌, ℕ, ◌+◌, ◌*◌, ◌/◌, ◌%◌, ◌<◌, List, [], length, take, get_or, ap, refl, arith, append_assoc}
 use Rattle.std.proofs.lemmas.Bool.Decides.{nat_tests}
 use Rattle.std.proofs.lemmas.List.{append-nil, length-append, take_more}
 use Rattle.std.proofs.lemmas.Nat.{div-add-mod'}
@@ -21,10 +21,7 @@ first_full columns place some e =
 
 -- elsewhere it stands at the place
 pub first_free : (columns : ℕ) (place : Place) → place.column < columns → place_of columns place 0 ≡ place
-first_free columns place lt =
-    let column : place.column + 0 ≡ place.column = omega arith in
-    let row : place.row + 0 ≡ place.row = omega arith in
-    rw (column, div-eq_of_lt lt, mod-eq_of_lt lt, row)
+first_free columns place lt = grind (arith, div-eq_of_lt lt, mod-eq_of_lt lt)
 
 -- where a run stands that begins behind character k of another
 place_behind : (columns : ℕ) (start : Place) (k j : ℕ) → 0 < columns
@@ -39,32 +36,27 @@ run_behind : (columns : ℕ) (start : Place) (k j : ℕ) (run : List ℕ) → 0 
     → run_from columns (right_of (place_of columns start k)) j run ≡ run_from columns start (k + 1 + j) run
 run_behind columns start k j [] some = refl
 run_behind columns start k j (b ∷ run) some =
-    let next : k + 1 + (j + 1) ≡ k + 1 + j + 1 = omega arith in
-    rw (place_behind columns start k j some, run_behind columns start k (j + 1) run some, next)
+    grind (arith, place_behind columns start k j some, run_behind columns start k (j + 1) run some)
 
 run_append : (columns : ℕ) (start : Place) (k : ℕ) (run more : List ℕ)
     → run_from columns start k (run ++ more) ≡ run_from columns start k run ++ run_from columns start (k + length run) more
-run_append columns start k [] more = ap (λ n. run_from columns start n more) (omega arith)
-run_append columns start k (b ∷ run) more =
-    let next : k + suc (length run) ≡ k + 1 + length run = omega arith in
-    rw (run_append columns start (k + 1) run more, next)
+run_append columns start k [] more = grind arith
+run_append columns start k (b ∷ run) more = grind (arith, run_append columns start (k + 1) run more)
 
 with_run_append : (columns : ℕ) (run more : List ℕ) (strip : Strip) → 0 < columns
     → with_run columns (run ++ more) strip ≡ with_run columns more (with_run columns run strip)
 with_run_append columns [] more strip some = refl
 with_run_append columns (b ∷ run) [] strip some = rw (append-nil run)
 with_run_append columns (b ∷ run) (c ∷ more) strip some =
-    let count : length (run ++ c ∷ more) ≡ length run + 1 + length more = omega (arith, length-append run (c ∷ more)) in
     let last = place_behind columns strip.place (length run) (length more) some in
     let behind = run_behind columns strip.place (length run) 0 (c ∷ more) some in
-    let all = run_append columns strip.place 0 (b ∷ run) (c ∷ more) in
-    grind (arith, append_assoc)
+    grind (arith, append_assoc, run_append, length-append)
 
 text_behind : (columns : ℕ) (run more bytes : List ℕ) (strip : Strip) → 0 < columns
     → with_text columns (run ++ more) bytes strip ≡ with_text columns more bytes (with_run columns run strip)
 text_behind columns run more [] strip some = with_run_append columns run more strip some
 text_behind columns run more (b ∷ bytes) strip some =
-    rw (with_run_append columns run more strip some, append_assoc, text_behind columns run (more ++ b ∷ []) bytes strip some)
+    grind (arith, with_run_append, append_assoc, text_behind columns run (more ++ b ∷ []) bytes strip some)
 
 -- a text behind another
 pub with_text_append : (columns : ℕ) (run xs ys : List ℕ) (strip : Strip) → 0 < columns

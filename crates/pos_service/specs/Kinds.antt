@@ -27,27 +27,18 @@ is_printer (kind.Printer chars near) = true
 
 -- the rows of what stands at a device: 0 where that is no display
 abbrev pub rows_of : Option Kind → ℕ
-rows_of None = 0
-rows_of (Some kind.Drawer) = 0
-rows_of (Some kind.Scanner) = 0
 rows_of (Some (kind.Display rows columns)) = rows
-rows_of (Some (kind.Printer chars near)) = 0
+rows_of at = 0
 
 -- the columns of what stands at a device: 0 where that is no display
 abbrev pub columns_of : Option Kind → ℕ
-columns_of None = 0
-columns_of (Some kind.Drawer) = 0
-columns_of (Some kind.Scanner) = 0
 columns_of (Some (kind.Display rows columns)) = columns
-columns_of (Some (kind.Printer chars near)) = 0
+columns_of at = 0
 
 -- the characters of a line of what stands at a device: 0 where that is no printer
 abbrev pub chars_of : Option Kind → ℕ
-chars_of None = 0
-chars_of (Some kind.Drawer) = 0
-chars_of (Some kind.Scanner) = 0
-chars_of (Some (kind.Display rows columns)) = 0
 chars_of (Some (kind.Printer chars near)) = chars
+chars_of at = 0
 
 -- at how many lines of paper a printer is near their end: 0 where a device is none
 abbrev pub near_of : Kind → ℕ

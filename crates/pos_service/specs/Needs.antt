@@ -12,14 +12,12 @@ use Rattle.pos_service.specs.Refusals.{Row, when}
 -- it asks that no other control holds the device
 abbrev pub needs_no_other : ClaimNeed → Bool
 needs_no_other claim_need.Any = false
-needs_no_other claim_need.NoOther = true
-needs_no_other claim_need.Own = true
+needs_no_other need = true
 
 -- it asks that somebody holds the device
 abbrev pub needs_holder : ClaimNeed → Bool
-needs_holder claim_need.Any = false
-needs_holder claim_need.NoOther = false
 needs_holder claim_need.Own = true
+needs_holder need = false
 
 -- The table of what is asked of the control with a number, whose device has this holder: that it is open, that its
 -- category has it, the claim, that the device is enabled, and then the rest.

@@ -279,15 +279,13 @@ paper_level near left = if left == 0 then paper.Empty else (if nat_le left near 
 
 -- the paper has ended (property RecEmpty)
 abbrev pub is_empty : PaperLevel → Bool
-is_empty paper.Good = false
-is_empty paper.NearEnd = false
 is_empty paper.Empty = true
+is_empty level = false
 
 -- the paper is near its end, or has ended (property RecNearEnd)
 abbrev pub is_near_end : PaperLevel → Bool
 is_near_end paper.Good = false
-is_near_end paper.NearEnd = true
-is_near_end paper.Empty = true
+is_near_end level = true
 
 -- Items may be kept in two flat lists: where the lines end and the cuts are, and all characters, those of the line
 -- buffer last.

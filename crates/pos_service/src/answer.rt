@@ -1,5 +1,5 @@
-use crate::bytes::Bytes;
 use crate::code::Code;
+use pos_bytes::Bytes;
 
 /// A value of a property, and what a call gives back.
 #[derive(Drop)]

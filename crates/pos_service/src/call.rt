@@ -2,10 +2,10 @@ ghost use Rattle.std.specs.Prelude.{◌≡◌};
 ghost use Rattle.pos_service.specs.Calls.{own_row, row_of, needs_of};
 
 use crate::answer::Value;
-use crate::bytes::Bytes;
 use crate::category::Category;
 use crate::needs::{ClaimNeed, Needs};
 use crate::property::Property;
+use pos_bytes::Bytes;
 
 /// A call of an application on one of its controls.
 #[derive(Drop)]

@@ -1,8 +1,8 @@
 ghost use Rattle.std.specs.Prelude.{◌≡◌};
 ghost use Rattle.pos_service.specs.Peripherals.{input_fits};
 
-use crate::bytes::Bytes;
 use crate::kind::Kind;
+use pos_bytes::Bytes;
 
 /// What happens at a peripheral from outside.
 #[derive(Drop)]

@@ -5,11 +5,11 @@ ghost use Rattle.pos_service.specs.Displays.{is_cursor_place, is_display_text, m
 ghost use Rattle.pos_service.specs.Kinds.{columns_of, rows_of};
 ghost use Rattle.pos_service.specs.Peripherals.{order_arguments, order_fits, order_word, place_at};
 
-use crate::bytes::{Bytes, LentBytes};
 use crate::code::{Code, EPTR_COVER_OPEN, EPTR_REC_EMPTY};
 use crate::display_text::{Attribute, Direction, is_text_of_display};
 use crate::kind::{Kind, columns_of, rows_of};
 use crate::receipt_text::is_printable;
+use pos_bytes::{Bytes, LentBytes};
 
 /// What a control asks of a peripheral.
 #[derive(Drop)]

@@ -1,5 +1,6 @@
 ghost use Rattle.std.specs.Prelude.{◌≡◌, true, false};
 
+use crate::ending::Ends;
 use crate::input::{Input, Taken};
 use crate::kind::Kind;
 use crate::memory::NoMemory;
@@ -51,6 +52,12 @@ impl Drop for PeripheralBox {
     {
         let PeripheralBox { device } = self;
         drop(device);
+    }
+}
+
+impl Ends for PeripheralBox {
+    fn end(self) {
+        PeripheralBox::end(self);
     }
 }
 

@@ -4,9 +4,9 @@ use crate::category::Category;
 use crate::event::{ErrorReply, Event};
 use crate::exchange_fault::{AttachFault, DetachFault};
 use crate::input::Input;
-use crate::name::Name;
 use crate::plant::Snapshot;
 use crate::worked::Worked;
+use pos_bytes::LentBytes;
 
 /// What may be asked of a counter. Devices are named by their names.
 ///
@@ -20,17 +20,17 @@ pub enum Request<'a, N, C, P> {
     /// A call of an application on its control.
     CallOf(C, Call),
     /// Something happens at a device.
-    InputTo(Name<'a>, Input),
+    InputTo(LentBytes<'a>, Input),
     /// The first request of output that waits for a device is to be done.
-    WorkOn(Name<'a>),
+    WorkOn(LentBytes<'a>),
     /// The event that may be delivered to a control, with the application's answer to an ErrorEvent.
     Deliver(C, ErrorReply),
     /// What a device is physically.
-    Snapshot(Name<'a>),
+    Snapshot(LentBytes<'a>),
     /// A peripheral is to serve a device.
-    Attach(Name<'a>, P),
+    Attach(LentBytes<'a>, P),
     /// A device is to be vacant.
-    Detach(Name<'a>),
+    Detach(LentBytes<'a>),
 }
 
 /// What a counter answers to a request. `P` is a peripheral that is handed out.

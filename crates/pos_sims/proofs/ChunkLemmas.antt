@@ -1,8 +1,7 @@
 -- Laying character by character makes what the chunks of whole segments make.
-use Rattle.pos_sims.proofs.Common.{Item, List, PrintedCharacter, Printout, SegmentCharacter, [], after_items, append_assoc, arith, cases_lt, cases_order}
-use Rattle.pos_sims.proofs.Common.{characters_of, drop, drop-append-le, drop_at, first_alignment, in_chunks, inl, inr, le-leb, length, length-map}
-use Rattle.pos_sims.proofs.Common.{length_push, lt-leb, map_push, nat_tests, overflowed, put, refl, suc, sym, take-append-le, take_at, zero, ℕ, ◌++◌, ◌-◌}
-use Rattle.pos_sims.proofs.Common.{◌<◌, ◌∙◌, ◌∷◌, ◌≡◌, ◌≤◌}
+use Rattle.pos_sims.proofs.Common.{Item, List, PrintedCharacter, Printout, SegmentCharacter, [], after_items, append_assoc, arith, cases_order, characters_of}
+use Rattle.pos_sims.proofs.Common.{drop, drop-append-le, drop_at, first_alignment, in_chunks, inl, inr, le-leb, length, length-map, length_push, lt-leb}
+use Rattle.pos_sims.proofs.Common.{map_push, nat_tests, overflowed, put, refl, suc, take-append-le, take_at, zero, ℕ, ◌++◌, ◌<◌, ◌∷◌, ◌≡◌, ◌≤◌}
 use Rattle.pos_service.specs.declared.receipt_text.Alignment.{Alignment}
 use Rattle.std.proofs.Common.{length-drop}
 
@@ -28,23 +27,12 @@ first_pushed segment s lt = grind arith
 -- a chunk that has room
 more_fits : (most chars : ℕ) (segment : List SegmentCharacter) (s : SegmentCharacter) → length segment < chars
     → in_chunks (suc most) chars (segment ++ s ∷ []) ≡ put chars s.alignment s.character (in_chunks most chars segment)
-more_fits most chars segment s lt =
-    let count : length (characters_of segment) ≡ length segment = length-map segment (λ x. x.character) in
-    rw (fitting most chars segment (omega arith), fitting (suc most) chars (segment ++ s ∷ []) (omega (arith, length_push segment s)), map_push)
-    (grind (arith, nat_tests))
+more_fits most chars segment s lt = grind (arith, nat_tests, fitting, length_push, map_push, length-map)
 
 -- a chunk that is full
 more_ends : (most chars : ℕ) (segment : List SegmentCharacter) (s : SegmentCharacter) → 0 < chars → length segment ≡ chars
     → in_chunks (suc most) chars (segment ++ s ∷ []) ≡ put chars s.alignment s.character (in_chunks most chars segment)
-more_ends most chars segment s some e =
-    let count : length (characters_of segment) ≡ chars = length-map segment (λ x. x.character) ∙ e in
-    rw (
-      fitting most chars segment (omega arith),
-      passing most chars (segment ++ s ∷ []) (omega (arith, length_push segment s)),
-      drop_at segment (s ∷ []) chars e,
-      take_at segment (s ∷ []) chars e,
-      fitting most chars (s ∷ []) (omega arith),
-    ) (grind (arith, nat_tests))
+more_ends most chars segment s some e = grind (arith, nat_tests, fitting, passing, drop_at, take_at, length_push, length-map)
 
 -- one more character behind a segment
 pub chunked_more : (most chars : ℕ) (segment : List SegmentCharacter) (s : SegmentCharacter) → 0 < chars → length segment ≤ most
@@ -55,22 +43,12 @@ chunked_more (suc most) chars segment s some le = elim (cases_order (length segm
   | inr (inl lt) ↦ more_fits (suc most) chars segment s lt
   | inr (inr gt) ↦
       let rest = drop chars segment in
-      let left : length rest ≡ length segment - chars = length-drop chars segment in
-      rw (
-        passing (suc most) chars (segment ++ s ∷ []) (omega (arith, length_push segment s)),
-        passing most chars segment gt,
-        drop-append-le chars segment (s ∷ []) (omega arith),
-        take-append-le chars segment (s ∷ []) (omega arith),
-        first_pushed rest s (omega arith),
-        chunked_more most chars rest s some (omega arith),
-      )
-      (sym (put_behind chars (overflowed chars segment ∷ []) s.alignment s.character (in_chunks most chars rest)))
+      let more = chunked_more most chars rest s some (omega (arith, length-drop chars segment)) in
+      grind (arith, passing, drop-append-le, take-append-le, first_pushed, put_behind, length_push, length-drop, more)
 ]
 
 -- a segment that has begun has a last chunk that has begun
 pub chunked_some : (most chars : ℕ) (segment : List SegmentCharacter) → 0 < length segment → 0 < length (in_chunks most chars segment).buffer
 chunked_some zero chars segment lt = omega (arith, length-map segment (λ (x : SegmentCharacter). x.character))
-chunked_some (suc most) chars segment lt = elim (cases_lt chars (length segment)) [
-  | inl gt ↦ rw (passing most chars segment gt) (chunked_some most chars (drop chars segment) (omega (arith, length-drop chars segment)))
-  | inr le ↦ rw (fitting (suc most) chars segment le) (omega (arith, length-map segment (λ (x : SegmentCharacter). x.character)))
-]
+chunked_some (suc most) chars segment lt =
+    grind (arith, nat_tests, chunked_some most chars (drop chars segment), length-drop, length-map segment (λ (x : SegmentCharacter). x.character))

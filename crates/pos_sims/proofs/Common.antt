@@ -6,18 +6,17 @@ pub use Rattle.pos_service.specs.Receipts.{CutAt, Item, Line, Printout, SegmentC
 pub use Rattle.pos_service.specs.Receipts.{chunks_of, first_alignment, in_chunks, in_style, items_from, lines_if_begun, lines_needed, lines_of, overflowed}
 pub use Rattle.pos_service.specs.Receipts.{pieces, pieces_in, plain, printed_by, printed_from}
 pub use Rattle.pos_service.specs.declared.display_text.Attribute.{Attribute}
+pub use Rattle.pos_service.specs.declared.display_text.Direction.{Direction}
 pub use Rattle.pos_service.specs.declared.display_text.DisplayCell.{DisplayCell}
 pub use Rattle.pos_service.specs.declared.display_text.Place.{Place}
 pub use Rattle.pos_service.specs.declared.receipt_text.Piece.{Piece}
 pub use Rattle.pos_service.specs.declared.receipt_text.PrintedCharacter.{PrintedCharacter}
 pub use Rattle.pos_sims.specs.Rings.{IsAbove, IsBelow, StandsAt, blanked, shown_on, turned}
-pub use Rattle.pos_sims.specs.Tapes.{Adds, Extends, Work, add_cut, end_begun, end_full, end_line, ended, pieces_asked, printed_on, put, request_on, step}
-pub use Rattle.pos_sims.specs.Tapes.{steps, work_of}
-pub use Rattle.pos_sims.specs.Windows.{Follows, IsWithin, MovesToEnd, MovesToFront, SameSize, ShiftsToEnd, ShiftsToFront, display_of, is_character}
-pub use Rattle.pos_sims.specs.Windows.{with_run_at}
+pub use Rattle.pos_sims.specs.Tapes.{Adds, Extends, Work, add_cut, end_begun, end_line, ended, pieces_asked, printed_on, put, request_on, step, steps, work_of}
+pub use Rattle.pos_sims.specs.Windows.{Follows, IsWithin, MovesToEnd, MovesToFront, SameSize, ShiftsToEnd, ShiftsToFront, display_of, is_character, with_run_at}
 pub use Rattle.pos_sims.specs.declared.laying.Manner.{Manner}
-pub use Rattle.std.proofs.Common.{Bool, List, [], ap, append_assoc, arith, cond, drop, false, get_or, inl, inr, length, refl, replicate, set, suc, sym, take}
-pub use Rattle.std.proofs.Common.{true, zero, ℕ, ◌%◌, ◌&&◌, ◌*◌, ◌++◌, ◌+◌, ◌-◌, ◌<◌, ◌∙◌, ◌∷◌, ◌≡◌, ◌≢◌, ◌≤◌, ◌⊎◌}
+pub use Rattle.std.proofs.Common.{List, [], ap, append_assoc, arith, drop, false, get_or, inl, inr, length, refl, replicate, rules, set, suc, take, true, zero}
+pub use Rattle.std.proofs.Common.{ℕ, ◌%◌, ◌&&◌, ◌*◌, ◌++◌, ◌+◌, ◌-◌, ◌<◌, ◌∙◌, ◌∷◌, ◌≡◌, ◌≢◌, ◌≤◌, ◌⊎◌}
 pub use Rattle.std.proofs.Math.Nat.{mul-le-mul_right}
 pub use Rattle.std.proofs.Math.Seq.{take-add}
 pub use Rattle.std.proofs.lemmas.Bool.{and_parts, cases_eq, cases_lt, cases_order, le-leb, lt-leb}
@@ -27,4 +26,4 @@ pub use Rattle.std.proofs.lemmas.List.{get_or-replicate, get_or-set_other, get_o
 pub use Rattle.std.proofs.lemmas.List.{length-drop, length-map, length-replicate, length-set, length-take, length_push, map_push, take-append-drop}
 pub use Rattle.std.proofs.lemmas.List.{take-append-le, take-replicate, take_at, take_more, take_rest, with_items_is}
 pub use Rattle.std.specs.List.{list_all}
-pub use Rattle.std.specs.Prelude.{Err, Some, if◌then◌else◌, nat_le, nat_lt, ◌==◌}
+pub use Rattle.std.specs.Prelude.{Some, if◌then◌else◌, nat_le, nat_lt, ◌==◌}

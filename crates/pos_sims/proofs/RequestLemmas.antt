@@ -1,18 +1,11 @@
 -- A run over the pieces makes what the definition by segments says.
 use Rattle.pos_sims.proofs.Common.{CutAt, Item, Line, List, Piece, PrintedCharacter, Printout, SegmentCharacter, Style, Work, [], add_cut, after_items, ap}
-use Rattle.pos_sims.proofs.Common.{append-nil, append_assoc, arith, begun_segment, characters_of, chunks_of, end_begun, end_full, end_line, ended, in_style}
-use Rattle.pos_sims.proofs.Common.{length, length-map, length_push, lines_if_begun, lines_needed, lines_of, plain, printed_by, printed_from, put, refl}
-use Rattle.pos_sims.proofs.Common.{replicate, step, steps, suc, sym, ℕ, ◌++◌, ◌+◌, ◌-◌, ◌<◌, ◌∙◌, ◌∷◌, ◌≡◌, ◌≤◌}
+use Rattle.pos_sims.proofs.Common.{append-nil, append_assoc, arith, begun_segment, characters_of, chunks_of, end_begun, end_line, ended, in_style, length}
+use Rattle.pos_sims.proofs.Common.{length-map, length_push, lines_if_begun, lines_needed, lines_of, plain, printed_by, printed_from, put, refl, replicate, step}
+use Rattle.pos_sims.proofs.Common.{steps, suc, ℕ, ◌++◌, ◌+◌, ◌-◌, ◌<◌, ◌∙◌, ◌∷◌, ◌≡◌, ◌≤◌}
 use Rattle.std.proofs.lemmas.List.Sums.{fold-append}
 use Rattle.pos_service.specs.declared.receipt_text.Piece.TheVariants as piece
 use Rattle.pos_sims.proofs.ChunkLemmas.{chunked_more, put_behind, chunked_some, fitting}
-
--- a piece that is no change of style keeps the style
-style_full : (chars : ℕ) (work : Work) → (end_full chars work).style ≡ work.style
-style_full chars work = grind arith
-
-style_begun : (work : Work) → (end_begun work).style ≡ work.style
-style_begun work = grind arith
 
 made_put : (chars byte : ℕ) (work : Work)
     → (step chars work (piece.Character byte)).made ≡ put chars work.style.alignment (in_style work.style byte).character work.made
@@ -42,17 +35,17 @@ same_made : (chars : ℕ) → 0 < chars → (ps : List Piece) (work : Work) (sty
     → (steps chars work ps).made ≡ after_items items (printed_from chars style segment ps)
 same_made chars some [] work style segment items is h = h
 same_made chars some (piece.Character byte ∷ ps) work style segment items is h =
-    same_made chars some ps (step chars work (piece.Character byte)) style (segment ++ in_style style byte ∷ []) items (style_full chars work ∙ is)
-    (made_put chars byte work ∙ rw (is, h) (put_segment chars some style byte segment items))
+    same_made chars some ps (step chars work (piece.Character byte)) style (segment ++ in_style style byte ∷ []) items (grind arith)
+    (grind (arith, made_put, put_segment chars some style byte segment items))
 same_made chars some (piece.LineEnd ∷ ps) work style segment items is h =
     same_made chars some ps (end_line work) style [] (items ++ lines_of chars style.alignment segment) is
-    (rw (is, h) (ended_segment chars style items segment)) ∙ simp append_assoc
+    (grind (arith, ended_segment)) ∙ simp append_assoc
 same_made chars some (piece.Return ∷ ps) work style segment items is h =
-    same_made chars some ps (end_begun work) style [] (items ++ lines_if_begun chars style.alignment segment) (style_begun work ∙ is)
-    (rw (← is) (begun_made chars work segment items h)) ∙ simp append_assoc
+    same_made chars some ps (end_begun work) style [] (items ++ lines_if_begun chars style.alignment segment) (grind arith)
+    (grind (arith, begun_made chars work segment items h)) ∙ simp append_assoc
 same_made chars some (piece.Cut n ∷ ps) work style segment items is h =
     same_made chars some ps (add_cut n (end_begun work)) style [] (items ++ (lines_if_begun chars style.alignment segment ++ CutAt n ∷ []))
-    (style_begun work ∙ is) (rw (begun_made chars work segment items h, is) (simp (append_assoc, append-nil))) ∙ simp append_assoc
+    (grind arith) (rw (begun_made chars work segment items h, is) (simp (append_assoc, append-nil))) ∙ simp append_assoc
 same_made chars some (piece.Bold ∷ ps) work style segment items is h =
     same_made chars some ps (step chars work piece.Bold) _ segment items (rw is) h
 same_made chars some (piece.Align to ∷ ps) work style segment items is h =
@@ -75,22 +68,16 @@ counts_step chars work p = grind (arith, lines_more)
 
 counts : (chars : ℕ) (ps : List Piece) (work : Work) → Counts work (steps chars work ps)
 counts chars [] work = record { lines = refl; rises = omega arith }
-counts chars (p ∷ ps) work =
-    let one = counts_step chars work p in
-    let more = counts chars ps (step chars work p) in
-    record { lines = omega arith; rises = omega arith }
+counts chars (p ∷ ps) work = grind (arith, counts_step chars work p, counts chars ps (step chars work p))
 
 -- paper that ends within the pieces ends before their end
 pub past_front : (chars : ℕ) (work all : Work) (front back ps : List Piece) (limit : ℕ) → ps ≡ front ++ back → steps chars work ps ≡ all
     → limit < (steps chars work front).used → limit < all.used
-past_front chars work all front back ps limit e is lt =
-    let more = counts chars back (steps chars work front) in
-    let same : steps chars (steps chars work front) back ≡ all = sym (fold-append (step chars) work front back) ∙ rw (← e) is in
-    omega (arith, ap (λ (w : Work). w.used) same)
+past_front chars work all front back ps limit e is lt = grind (arith, fold-append, counts chars back (steps chars work front))
 
 -- one line end of some
 pub next_line : (count i : ℕ) → i < count → replicate (count - i) piece.LineEnd ≡ piece.LineEnd ∷ replicate (count - (i + 1)) piece.LineEnd
-next_line count i lt = ap (λ n. replicate n piece.LineEnd) (let e : count - i ≡ suc (count - (i + 1)) = omega arith in e)
+next_line count i lt = grind arith
 
 begun_characters : (buffer : List PrintedCharacter) → characters_of (begun_segment buffer) ≡ buffer
 begun_characters [] = refl
@@ -99,9 +86,7 @@ begun_characters (character ∷ buffer) = rw (begun_characters buffer)
 -- a request begins with one chunk, the old buffer
 begins_so : (chars : ℕ) (items : List Item) (buffer : List PrintedCharacter) → length buffer ≤ chars
     → record { items = items; buffer = buffer } ≡ after_items items (chunks_of chars (begun_segment buffer))
-begins_so chars items buffer le =
-    let short : length (begun_segment buffer) ≤ chars = omega (arith, length-map {A = PrintedCharacter} {B = SegmentCharacter}) in
-    rw (fitting (length (begun_segment buffer)) chars (begun_segment buffer) short, append-nil, begun_characters)
+begins_so chars items buffer le = grind (arith, fitting, append-nil, begun_characters, length-map)
 
 -- what a request prints, and how many lines it uses
 pub request_run : (chars : ℕ) (made : Printout) (ps : List Piece) → 0 < chars → length made.buffer ≤ chars →

@@ -1,9 +1,8 @@
 -- Cells in turn: what a ring shows as its rows are blanked and its first row changes.
-use Rattle.pos_service.specs.declared.display_text.Direction.{Direction}
-use Rattle.pos_sims.proofs.Common.{Attribute, Bool, DisplayCell, IsAbove, IsBelow, List, MovesToEnd, MovesToFront, Scrolls, ShiftsToEnd, ShiftsToFront}
-use Rattle.pos_sims.proofs.Common.{StandsAt, ap, arith, blank, blanked, cases_lt, cell_at, cond, display_of, drop, ext_get_or, get_or, get_or-replicate}
-use Rattle.pos_sims.proofs.Common.{if◌then◌else◌, inl, inr, length, length-append, length-drop, length-replicate, length-take, mul-le-mul_right, nat_le}
-use Rattle.pos_sims.proofs.Common.{nat_lt, nat_tests, refl, take, true, turned, with_run_at, ℕ, ◌&&◌, ◌*◌, ◌+◌, ◌-◌, ◌<◌, ◌∙◌, ◌≡◌, ◌≤◌, ◌⊎◌}
+use Rattle.pos_sims.proofs.Common.{Attribute, Direction, DisplayCell, IsAbove, IsBelow, List, MovesToEnd, MovesToFront, Scrolls, ShiftsToEnd, ShiftsToFront}
+use Rattle.pos_sims.proofs.Common.{StandsAt, ap, arith, blank, blanked, cases_lt, cell_at, display_of, drop, ext_get_or, get_or, get_or-replicate}
+use Rattle.pos_sims.proofs.Common.{if◌then◌else◌, inl, inr, length, length-append, length-drop, length-replicate, length-take, mul-le-mul_right, nat_le, nat_lt}
+use Rattle.pos_sims.proofs.Common.{nat_tests, refl, take, turned, with_run_at, ℕ, ◌&&◌, ◌*◌, ◌+◌, ◌-◌, ◌<◌, ◌∙◌, ◌≡◌, ◌≤◌, ◌⊎◌}
 use Rattle.pos_service.specs.declared.display_text.Direction.TheVariants as direction
 use Rattle.pos_sims.proofs.RunLemmas.{parts, run_at, run_count}
 use Rattle.pos_sims.proofs.ScrollLemmas.{moved_cell}
@@ -21,8 +20,7 @@ turned_at s k cells le lt = grind (arith, parts)
 
 blanked_at : (s w k : ℕ) (cells : List DisplayCell) → s + w ≤ length cells
     → get_or (blanked s w cells) k blank ≡ (if nat_le s k && nat_lt k (s + w) then blank else get_or cells k blank)
-blanked_at s w k cells le =
-    grind (arith, nat_tests, parts, get_or-replicate, length-replicate)
+blanked_at s w k cells le = grind (arith, nat_tests, parts, get_or-replicate, length-replicate)
 
 blanked_count : (s w : ℕ) (cells : List DisplayCell) → s + w ≤ length cells → length (blanked s w cells) ≡ length cells
 blanked_count s w cells le = grind (arith, length-append, length-take, length-drop, length-replicate)
@@ -53,10 +51,7 @@ pub feeds : (rows columns first below : ℕ) (cells next : List DisplayCell) →
     ShiftsToFront columns (turned (first * columns) cells) (turned (below * columns) next)
 feeds rows columns first below cells next count lt is by =
     let within = mul-le-mul_right {m = first + 1} {n = rows} columns (omega arith) in
-    feeds_cells (first * columns) columns (below * columns) cells next (omega arith) is (elim by [
-      | inl on ↦ inl (rw on.1 (omega arith))
-      | inr round ↦ inr (rw (count, ← round.0) (omega arith), rw round.1 (omega arith))
-    ])
+    feeds_cells (first * columns) columns (below * columns) cells next (omega arith) is (grind arith)
 
 -- the row above the first is the first, and is blanked
 pub feeds_back : (rows columns first above : ℕ) (cells next : List DisplayCell) → length cells ≡ rows * columns → first < rows →
@@ -64,78 +59,63 @@ pub feeds_back : (rows columns first above : ℕ) (cells next : List DisplayCell
     ShiftsToEnd columns (turned (first * columns) cells) (turned (above * columns) next)
 feeds_back rows columns first above cells next count lt is by =
     let within = mul-le-mul_right {m = above + 1} {n = rows} columns (omega arith) in
-    feeds_cells_back (first * columns) columns (above * columns) cells next (omega arith) is (elim by [
-      | inl top ↦ inl (rw top.0 (omega arith), rw (count, ← top.1) (omega arith))
-      | inr under ↦ inr (rw (← under) (omega arith))
-    ])
+    feeds_cells_back (first * columns) columns (above * columns) cells next (omega arith) is (grind arith)
 
 -- a row of the window is a row of the ring
-row_of : (rows columns first row : ℕ) → first < rows → row < rows
-    → (r : ℕ) × (r < rows) × ((cells : List DisplayCell) (column : ℕ) → length cells ≡ rows * columns → column < columns
-    → cell_at columns (turned (first * columns) cells) row column ≡ cell_at columns cells r column)
-row_of rows columns first row lt r =
+row_at : (rows columns first row r column : ℕ) (cells : List DisplayCell) → first < rows → row < rows → r < rows
+    → length cells ≡ rows * columns → (first + row ≡ r) ⊎ (first + row ≡ r + rows) → column < columns
+    → cell_at columns (turned (first * columns) cells) row column ≡ cell_at columns cells r column
+row_at rows columns first row r column cells lt within inside count is c =
     let le = mul-le-mul_right {m = first} {n = rows} columns (omega arith) in
-    elim (cases_lt (first + row) rows) [
-      | inl on ↦ (
-        first + row,
-        on,
-        λ cells column count c.
-            let inside = in_rows rows columns (first + row) column c in
-            let at = turned_at (first * columns) (row * columns + column) cells (omega arith) (omega (arith, in_rows rows columns row column c)) in
-            grind arith,
-      )
-      | inr round ↦ (
-        first + row - rows,
-        omega arith,
-        λ cells column count c.
-            let at = turned_at (first * columns) (row * columns + column) cells (omega arith) (omega (arith, in_rows rows columns row column c)) in
-            let whole = ap (λ n. n * columns) (let e : first + row ≡ first + row - rows + rows = omega arith in e) in
-            grind arith,
-      )
-    ]
+    let at = turned_at (first * columns) (row * columns + column) cells (omega arith) (omega (arith, in_rows rows columns row column c)) in
+    let whole = λ (n : ℕ) (e : first + row ≡ n). ap (λ (k : ℕ). k * columns) e in
+    grind (arith, in_rows rows columns r column c, whole r, whole (r + rows))
+
+row_of : (rows first row : ℕ) → first < rows → row < rows → (r : ℕ) × (r < rows) × ((first + row ≡ r) ⊎ (first + row ≡ r + rows))
+row_of rows first row lt within = elim (cases_lt (first + row) rows) [
+  | inl on ↦ (first + row, on, inl refl)
+  | inr round ↦ (first + row - rows, omega arith, inr (omega arith))
+]
 
 module _ (rows columns first units : ℕ) (old new : List DisplayCell) (lt : first < rows) (count : length old ≡ rows * columns)
     (count' : length new ≡ rows * columns) where
-  -- within the rows the cells move in turn as they move in the ring
-  across : (row column to : ℕ) (t : Bool) → row < rows → column < columns → (t ≡ true → to < columns)
-      → ((r : ℕ) → r < rows → cell_at columns new r column ≡ cond t (cell_at columns old r to) blank)
-      → cell_at columns (turned (first * columns) new) row column ≡ cond t (cell_at columns (turned (first * columns) old) row to) blank
-  across row column to t r c inside each =
-      let at = row_of rows columns first row lt r in
-      at.2 new column count' c ∙ each at.0 at.1 ∙ grind (arith, at.2 old to count)
-
   abbrev pub Turns : Direction → Type 0
   Turns way = Scrolls (display_of rows columns (turned (first * columns) old)) way units (display_of rows columns (turned (first * columns) new))
 
-  -- to the left, within the rows
+  -- within the rows the cells move in turn as they move in the ring, to the left
   pub turned_left : MovesToFront columns units old new → Turns direction.Left
   turned_left moved = record {
     rows = refl;
     columns = refl;
     count = turned_count (first * columns) new ∙ count';
-    cells = λ row column r c. across row column (column + units) (nat_lt (column + units) columns) r c (λ t. grind (arith, nat_tests))
-        (λ at in_range. moved_cell direction.Left rows columns units at column old new count moved in_range c);
+    cells = λ row column r c.
+        let (to, within, is) = row_of rows first row lt r in
+        let was = row_at rows columns first row to (column + units) old lt r within count is in
+        let now = row_at rows columns first row to column new lt r within count' is c in
+        grind (arith, nat_tests, now, was, moved_cell direction.Left rows columns units to column old new count moved within c);
   }
 
-  -- to the right, within the rows
+  -- and to the right
   pub turned_right : MovesToEnd columns units old new → Turns direction.Right
   turned_right moved = record {
     rows = refl;
     columns = refl;
     count = turned_count (first * columns) new ∙ count';
-    cells = λ row column r c. across row column (column - units) (nat_le units column) r c (λ t. omega arith)
-        (λ at in_range. moved_cell direction.Right rows columns units at column old new count moved in_range c);
+    cells = λ row column r c.
+        let (to, within, is) = row_of rows first row lt r in
+        let was = row_at rows columns first row to (column - units) old lt r within count is in
+        let now = row_at rows columns first row to column new lt r within count' is c in
+        grind (arith, nat_tests, now, was, moved_cell direction.Right rows columns units to column old new count moved within c);
   }
 
 -- a run that has room in its row has it in the ring
 ring_room : (rows columns first row column start count place long : ℕ) → start ≡ first * columns → count ≡ rows * columns → first < rows → row < rows →
     column + long ≤ columns → 1 ≤ long → StandsAt (row * columns + column) start count place → place + long ≤ count
 ring_room rows columns first row column start count place long e f first_lt lt room some stands =
-    let front = in_rows rows columns (first + row) column (omega arith) in
     let end = in_rows rows columns (first + row) (column + long - 1) (omega arith) in
     let last = in_rows rows columns row (column + long - 1) (omega arith) in
     let within = mul-le-mul_right {m = first + 1} {n = rows} columns (omega arith) in
-    omega arith
+    grind (arith, in_rows rows columns (first + row) column)
 
 -- a run of characters in turn, where its row isn't cut
 pub run_turned : (rows columns first row column start place : ℕ) (attribute : Attribute) (run : List ℕ) (cells : List DisplayCell)
@@ -151,8 +131,5 @@ run_turned rows columns first row column start place attribute run cells e count
     let old_count = turned_count start cells in
     let new_count = turned_count start now in (
       fits,
-      ext_get_or blank _ _ (new_count ∙ same ∙ omega (arith, run_count (row * columns + column) attribute run (turned start cells) (omega arith))) (λ k h.
-          let new = turned_at start k now in
-          let old = turned_at start k cells in
-          grind (arith, nat_tests, run_at)),
+      ext_get_or blank _ _ (grind (arith, run_count)) (λ k h. grind (arith, nat_tests, run_at, turned_at start k now, turned_at start k cells)),
     )

@@ -1,9 +1,9 @@
 -- A run of characters on a window, and the strip that it follows.
-use Rattle.pos_sims.proofs.Common.{Attribute, DisplayCell, Follows, IsWithin, List, Manner, Place, Strip, [], and_parts, arith, blank, cases_eq, cell_with}
-use Rattle.pos_sims.proofs.Common.{drop, ext_get_or, false, get_or, get_or-append_right, get_or-drop, get_or-map, get_or-set_other, get_or-take}
-use Rattle.pos_sims.proofs.Common.{get_or_append_left, if◌then◌else◌, inl, inr, is_character, length, length-append, length-drop, length-map, length-set}
-use Rattle.pos_sims.proofs.Common.{length-take, list_all, nat_le, nat_lt, nat_tests, place_at, set, strip_at, suc, sym, take, take-add, take-append-drop}
-use Rattle.pos_sims.proofs.Common.{text_from, true, with_run_at, with_text, with_text_append, ℕ, ◌&&◌, ◌*◌, ◌+◌, ◌-◌, ◌<◌, ◌∙◌, ◌∷◌, ◌≡◌, ◌≢◌, ◌≤◌}
+use Rattle.pos_sims.proofs.Common.{Attribute, DisplayCell, Follows, IsWithin, List, Manner, Place, Strip, [], and_parts, arith, blank, cell_with, drop}
+use Rattle.pos_sims.proofs.Common.{ext_get_or, false, get_or, get_or-append_right, get_or-drop, get_or-map, get_or-set_other, get_or-take, get_or_append_left}
+use Rattle.pos_sims.proofs.Common.{if◌then◌else◌, is_character, length, length-append, length-drop, length-map, length-set, length-take, list_all, nat_le}
+use Rattle.pos_sims.proofs.Common.{nat_lt, nat_tests, place_at, set, strip_at, take, take-add, take-append-drop, text_from, true, with_run_at, with_text}
+use Rattle.pos_sims.proofs.Common.{with_text_append, ℕ, ◌&&◌, ◌*◌, ◌+◌, ◌-◌, ◌<◌, ◌∙◌, ◌∷◌, ◌≡◌, ◌≢◌, ◌≤◌}
 use Rattle.std.proofs.lemmas.Grind.{get_or-set_at}
 use Rattle.pos_sims.proofs.WindowLemmas.{in_rows, placed_here}
 
@@ -19,39 +19,19 @@ run_count at attribute run cells le = grind (arith, length-append, length-take, 
 pub run_at : (at : ℕ) (attribute : Attribute) (run : List ℕ) (cells : List DisplayCell) (k : ℕ) → at + length run ≤ length cells
     → get_or (with_run_at at attribute run cells) k blank
     ≡ (if nat_le at k && nat_lt k (at + length run) then cell_with attribute (get_or run (k - at) 0) else get_or cells k blank)
-run_at at attribute run cells k le =
-    grind (arith, nat_tests, parts, get_or-map, length-map)
+run_at at attribute run cells k le = grind (arith, nat_tests, parts, get_or-map, length-map)
 
 -- a character more behind a run
 pub run_more : (at : ℕ) (attribute : Attribute) (run : List ℕ) (cells : List DisplayCell) (n : ℕ) → at + length run ≤ length cells → n < length run
     → set (with_run_at at attribute (take n run) cells) (at + n) (cell_with attribute (get_or run n 0)) ≡ with_run_at at attribute (take (n + 1) run) cells
-run_more at attribute run cells n le lt =
-    let one : length (take n run) ≡ n = omega (arith, length-take n run) in
-    let two : length (take (n + 1) run) ≡ n + 1 = omega (arith, length-take (n + 1) run) in
-    let old = with_run_at at attribute (take n run) cells in
-    let was = run_count at attribute (take n run) cells (omega arith) in
-    let is = run_count at attribute (take (n + 1) run) cells (omega arith) in
-    let b = cell_with attribute (get_or run n 0) in
-    ext_get_or blank _ _ (length-set old (at + n) b ∙ was ∙ sym is) (λ k h.
-    rw (run_at at attribute (take (n + 1) run) cells k (omega arith)) (elim (cases_eq k (at + n)) [
-      | inl e ↦ get_or-set_at old (at + n) k b blank e (omega arith) ∙ grind (arith, nat_tests, get_or-take)
-      | inr e ↦ get_or-set_other old (at + n) k b blank e ∙ run_at at attribute (take n run) cells k (omega arith)
-          ∙ grind (arith, nat_tests, get_or-take)
-    ]))
+run_more at attribute run cells n le lt = ext_get_or blank _ _ (grind (arith, parts, length-set, length-map)) (λ k h.
+    grind (arith, nat_tests, parts, run_at, get_or-set_at, get_or-set_other, length-set))
 
 -- a character before a run
 run_first : (at : ℕ) (attribute : Attribute) (b : ℕ) (run : List ℕ) (cells : List DisplayCell) → at + length (b ∷ run) ≤ length cells
     → with_run_at (at + 1) attribute run (set cells at (cell_with attribute b)) ≡ with_run_at at attribute (b ∷ run) cells
-run_first at attribute b run cells le =
-    let first = cell_with attribute b in
-    let same = length-set cells at first in
-    let was = run_count (at + 1) attribute run (set cells at first) (omega arith) in
-    let is = run_count at attribute (b ∷ run) cells (omega arith) in
-    ext_get_or blank _ _ (was ∙ same ∙ sym is) (λ k h.
-    run_at (at + 1) attribute run (set cells at first) k (omega arith) ∙ rw (run_at at attribute (b ∷ run) cells k (omega arith)) (elim (cases_eq k at) [
-      | inl e ↦ rw (get_or-set_at cells at k first blank e (omega arith)) (grind (arith, nat_tests))
-      | inr e ↦ rw (get_or-set_other cells at k first blank e) (grind (arith, nat_tests))
-    ]))
+run_first at attribute b run cells le = ext_get_or blank _ _ (grind (arith, parts, length-set, length-map)) (λ k h.
+    grind (arith, nat_tests, parts, run_at, get_or-set_at, get_or-set_other, length-set))
 
 -- a row has no room for a character only where it is full
 pub row_full : (b column columns : ℕ) → b ≢ 10 → b ≢ 13 → column ≤ columns → (column < columns → is_character b ≡ false) → column ≡ columns
@@ -75,14 +55,7 @@ run_here manner old (b ∷ run) cells strip place within all room h =
     let parts = and_parts (is_character b) (list_all is_character run) all in
     let first = cell_with manner.attribute b in
     let inside = in_rows manner.rows manner.columns place.row (place.column + length run) (omega arith) in
-    let next : place.row * manner.columns + (place.column + 1) ≡ at + 1 = omega arith in
-    let column : place.column + 1 + length run ≡ place.column + suc (length run) = omega arith in
     let one = placed_here manner old cells strip place b within (omega arith) (grind (arith, nat_tests)) (grind (arith, nat_tests)) h in
-    rw (
-      ← run_first at manner.attribute b run cells (omega (arith, within.count, within.row)),
-      with_text_append manner.columns [] (b ∷ []) run strip within.some,
-      ← column,
-      ← next,
-    )
-    (run_here manner old run (set cells at first) (with_text manner.columns [] (b ∷ []) strip) (place_at place.row (place.column + 1))
-    (record { count = length-set cells at first ∙ within.count; some = within.some; row = within.row; column = omega arith }) parts.1 (omega arith) one)
+    let rest = run_here manner old run (set cells at first) (with_text manner.columns [] (b ∷ []) strip) (place_at place.row (place.column + 1))
+    (record { count = length-set cells at first ∙ within.count; some = within.some; row = within.row; column = omega arith }) parts.1 (omega arith) one in
+    grind (arith, rest, run_first at manner.attribute b run cells, with_text_append manner.columns [] (b ∷ []) run strip)

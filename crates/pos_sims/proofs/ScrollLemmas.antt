@@ -1,7 +1,6 @@
 -- Cells that move within parts of the list are rows and columns that move.
-use Rattle.pos_sims.proofs.Common.{Display, DisplayCell, List, MovesToEnd, MovesToFront, SameSize, Scrolls, ShiftsToEnd, ShiftsToFront, arith, blank, cell_at}
-use Rattle.pos_sims.proofs.Common.{display_of, if◌then◌else◌, length, nat_le, nat_tests, scrolled_at, ℕ, ◌*◌, ◌+◌, ◌-◌, ◌<◌, ◌∙◌, ◌≡◌}
-use Rattle.pos_service.specs.declared.display_text.Direction.{Direction}
+use Rattle.pos_sims.proofs.Common.{Direction, Display, DisplayCell, List, MovesToEnd, MovesToFront, SameSize, Scrolls, ShiftsToEnd, ShiftsToFront, arith, blank}
+use Rattle.pos_sims.proofs.Common.{cell_at, display_of, if◌then◌else◌, length, nat_le, nat_tests, refl, scrolled_at, ℕ, ◌*◌, ◌+◌, ◌-◌, ◌<◌, ◌∙◌, ◌≡◌}
 use Rattle.std.proofs.lemmas.Nat.{mod-mul-add}
 use Rattle.pos_service.specs.declared.display_text.Direction.TheVariants as direction
 use Rattle.pos_sims.proofs.WindowLemmas.{in_rows}
@@ -42,3 +41,9 @@ scrolls direction units old new count size moved = record {
   count = size.count ∙ count;
   cells = λ row column. moved_cell direction old.rows old.columns units row column old.cells new.cells count moved;
 }
+
+-- of a display whose cells are given
+pub scrolls_sized : (direction : Direction) (units rows columns : ℕ) (old new : List DisplayCell) → length old ≡ rows * columns → length new ≡ length old
+    → Moves direction columns units old new → Scrolls (display_of rows columns old) direction units (display_of rows columns new)
+scrolls_sized direction units rows columns old new count same moved =
+    scrolls direction units (display_of rows columns old) (display_of rows columns new) count (record { rows = refl; columns = refl; count = same }) moved

@@ -13,11 +13,7 @@ pub items_of_more : (marks : List Mark) (characters more : List PrintedCharacter
     → items_from marks (characters ++ more) ≡ items_from marks characters
 items_of_more [] characters more le = refl
 items_of_more (mark.Line a n ∷ marks) characters more le =
-    rw (
-      take-append-le n characters more (omega arith),
-      drop-append-le n characters more (omega arith),
-      items_of_more marks (drop n characters) more (omega (arith, length-drop n characters)),
-    )
+    grind (arith, take-append-le, drop-append-le, items_of_more marks (drop n characters) more, length-drop)
 items_of_more (mark.Cut n ∷ marks) characters more le = rw (items_of_more marks characters more le)
 
 -- marks behind marks
@@ -33,7 +29,7 @@ characters_append (mark.Line b m ∷ marks) more = omega (arith, characters_appe
 characters_append (mark.Cut m ∷ marks) more = characters_append marks more
 
 extends_more : {X : Type 0} (xs ys zs : List X) → Extends xs ys → Extends ys zs → Extends xs zs
-extends_more xs ys zs a b = record { more = a.more ++ b.more; is = b.is ∙ rw (a.is, append_assoc) }
+extends_more xs ys zs a b = record { more = a.more ++ b.more; is = grind (arith, append_assoc) }
 
 pub adds_more : {a b c : Tape} → Adds a b → Adds b c → Adds a c
 adds_more {a = a} {b = b} {c = c} h k = record {

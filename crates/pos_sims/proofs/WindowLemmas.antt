@@ -1,9 +1,8 @@
 -- The window of a strip: a row further, and a character more.
 use Rattle.pos_sims.proofs.Common.{Attribute, Display, DisplayCell, Follows, IsWithin, List, Manner, Place, Placed, SameSize, ShiftsToFront, Some, Strip, []}
-use Rattle.pos_sims.proofs.Common.{arith, blank, cases_eq, cases_lt, cell_at, cell_with, character_text, fed, first_free, first_full, get_or}
-use Rattle.pos_sims.proofs.Common.{get_or-set_other, get_or-set_same, get_or_past, if◌then◌else◌, inl, inr, last_at, length, mul-le-mul_right, nat_tests}
-use Rattle.pos_sims.proofs.Common.{place_at, refl, right_of, rows_above, set, shown_at, strip_at, with_text, ℕ, ◌&&◌, ◌*◌, ◌++◌, ◌+◌, ◌<◌, ◌==◌, ◌∙◌, ◌∷◌}
-use Rattle.pos_sims.proofs.Common.{◌≡◌, ◌≢◌, ◌≤◌, ◌⊎◌}
+use Rattle.pos_sims.proofs.Common.{arith, blank, cases_eq, cell_at, cell_with, character_text, fed, first_free, first_full, get_or, get_or-set_other}
+use Rattle.pos_sims.proofs.Common.{get_or-set_same, get_or_past, if◌then◌else◌, last_at, length, mul-le-mul_right, nat_tests, place_at, refl, right_of}
+use Rattle.pos_sims.proofs.Common.{rows_above, set, shown_at, strip_at, with_text, ℕ, ◌&&◌, ◌*◌, ◌++◌, ◌+◌, ◌<◌, ◌==◌, ◌∙◌, ◌∷◌, ◌≡◌, ◌≢◌, ◌≤◌, ◌⊎◌}
 use Rattle.std.proofs.lemmas.Nat.{same_from_place}
 
 abbrev placed_at : Place → ℕ → Placed
@@ -12,10 +11,8 @@ placed_at at character = record { at = at; character = character }
 -- a row is one of so many exactly where its places are
 pub in_rows : (rows columns row column : ℕ) → column < columns
     → ((row < rows) × (row * columns + column < rows * columns)) ⊎ ((rows ≤ row) × (rows * columns ≤ row * columns + column))
-in_rows rows columns row column c = elim (cases_lt row rows) [
-  | inl inside ↦ inl (inside, omega (arith, mul-le-mul_right {m = row + 1} {n = rows} columns (omega arith)))
-  | inr outside ↦ inr (outside, omega (arith, mul-le-mul_right columns outside))
-]
+in_rows rows columns row column c =
+    grind (arith, mul-le-mul_right {m = row + 1} {n = rows} columns, mul-le-mul_right {m = rows} {n = row} columns)
 
 -- what stands at a place once another character is placed
 last_more : (placed : List Placed) (at : Place) (b row column : ℕ)
@@ -53,11 +50,11 @@ scrolled manner old cells next strip place within last moved h =
     let at = h.row in
     let lt = within.row in
     let above = rows_above manner.rows strip.place in
-    let more : rows_above manner.rows (fed strip).place ≡ above + 1 = omega arith in
     let see = shown_at manner.columns manner.attribute old strip.placed in
     record {
-      window = rw more (scrolled_window manner.rows manner.columns above cells next see within.count
-          (shifted cells next manner.columns moved) h.window h.below);
+      window = λ row column.
+          let now = scrolled_window manner.rows manner.columns above cells next see within.count (shifted cells next manner.columns moved) in
+          grind (arith, now h.window h.below row column);
       below = λ row column le. h.below row column (omega arith);
       row = omega arith;
       column = refl;
@@ -70,9 +67,8 @@ placed_cell : (columns at row column above b : ℕ) (attribute : Attribute) (old
     → cell_at columns (set cells at (cell_with attribute b)) row column
     ≡ shown_at columns attribute old (placed ++ placed_at end b ∷ []) (row + above) column
 placed_cell columns at row column above b attribute old cells placed place end is lt free c e f was =
-    rw (shown_more columns attribute old placed end b (row + above) column)
-    (let one = same_from_place place.row place.column row column columns free c in
-    grind (arith, nat_tests, get_or-set_same, get_or-set_other, cases_eq (row * columns + column) at))
+    let one = same_from_place place.row place.column row column columns free c in
+    grind (arith, nat_tests, shown_more, get_or-set_same, get_or-set_other, one, cases_eq (row * columns + column) at)
 
 -- a character for which there is room
 text_free : (columns b : ℕ) (strip : Strip) → strip.place.column < columns → b ≢ 10 → b ≢ 13
@@ -87,15 +83,12 @@ pub placed_here : (manner : Manner) (old cells : List DisplayCell) (strip : Stri
 placed_here manner old cells strip place b within free e f h =
     let columns = manner.columns in
     let across = h.column in
-    let row = h.row in
-    let lt = within.row in
     let at = place.row * columns + place.column in
-    let in_range : at < length cells = omega (arith, within.count, in_rows manner.rows columns place.row place.column free) in
+    let in_range : at < length cells = omega (arith, within.count, within.row, in_rows manner.rows columns place.row place.column free) in
     rw (text_free columns b strip (omega arith) e f) (record {
       window = λ row column r c. placed_cell columns at row column (rows_above manner.rows strip.place) b
           manner.attribute old cells strip.placed place strip.place refl in_range free c h.row across (h.window row column r c);
-      below = λ row column le c. shown_more columns manner.attribute old strip.placed strip.place b row column
-          ∙ grind (arith, nat_tests, h.below row column le c);
+      below = λ row column le c. grind (arith, nat_tests, shown_more, h.below row column le c, h.row);
       row = h.row;
       column = omega arith;
     })

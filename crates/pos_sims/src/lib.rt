@@ -7,6 +7,7 @@ mod laying;
 mod line_display;
 mod plain_drawer;
 mod plain_scanner;
+mod power;
 mod printing;
 mod recorder;
 mod ring;

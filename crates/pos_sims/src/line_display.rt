@@ -3,6 +3,7 @@ ghost use Rattle.pos_service.specs.Displays.{blank_display};
 ghost use Rattle.pos_service.specs.Peripherals.{Asked, Fed, order_fits};
 ghost use Rattle.pos_sims.specs.LineDisplays.{display_state, state_on};
 
+use crate::power::passes_by;
 use crate::ring::Ring;
 use crate::screen::Screen;
 use crate::window::Window;
@@ -108,25 +109,8 @@ impl<S: Screen> Peripheral for LineDisplay<S> {
             (state self.old).is_parked ≡ false → Fed (state self.old) input.now result (state self.new) }
         ensures takes_no_memory { IsOk result }
     {
-        if let Input::PowerMoved(is_on) = input {
-            self.powered = *is_on;
-            return Ok(Taken::Quiet);
-        }
-        if !self.powered {
-            return Ok(Taken::Quiet);
-        }
-        match input {
-            Input::DrawerMoved(_)
-            | Input::Scan {
-                kind: _,
-                bytes: _,
-                label: _,
-            }
-            | Input::ScanFault
-            | Input::CoverMoved(_)
-            | Input::PaperLoaded(_)
-            | Input::PowerMoved(_) => Ok(Taken::Quiet),
-        }
+        let _ = passes_by(&mut self.powered, input);
+        Ok(Taken::Quiet)
     }
 
     fn snapshot(&self) -> Result<Snapshot, NoMemory> {

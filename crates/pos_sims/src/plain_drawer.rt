@@ -2,6 +2,7 @@ ghost use Rattle.std.specs.Prelude.{◌≡◌, true, false, IsOk, IfOk};
 ghost use Rattle.pos_service.specs.Peripherals.{Asked, Fed, input_fits, order_fits};
 ghost use Rattle.pos_sims.specs.Drawers.{drawer_state, state_of};
 
+use crate::power::passes_by;
 use pos_service::{
     Form, Input, Kind, NoMemory, Order, PaperLevel, Peripheral, Plant, Reply, Signs, Snapshot,
     Taken,
@@ -69,11 +70,7 @@ impl Peripheral for PlainDrawer {
             Fed (state_of self.old) input.now result (state_of self.new) }
         ensures takes_no_memory { IsOk result }
     {
-        if let Input::PowerMoved(is_on) = input {
-            self.powered = *is_on;
-            return Ok(Taken::Quiet);
-        }
-        if !self.powered {
+        if passes_by(&mut self.powered, input) {
             return Ok(Taken::Quiet);
         }
         match input {

@@ -219,38 +219,34 @@ fn crash_by_fill(alloc: Global, stops: &[(bool, MemDisk)]) -> Result<[[u32; 4]; 
     ])
 }
 
-// A recovery is seven calls, and is tried again. A commit is four, the last two of which open the gate of its record:
-// they alone may leave the files after a commit that wasn't acknowledged.
+// A recovery is seven calls, and is tried again. A commit by a record is four, the last two of which open the gate of
+// its record: they alone may leave the files after a commit that wasn't acknowledged. One that makes an image is seven
+// calls, or nine where a gate is closed first; the last two open the new gate.
 #[test]
-fn each_stop_of_an_append(rt: HostRuntime) -> Result<(), Fail> {
-    let stops = stop_at_each(rt.alloc(), (&[], None), 11, 1)?;
-    let counts = crash_by_fill(rt.alloc(), &stops)?;
-    assert_eq!(rt;
-        counts,
-        [[0, 7, 4, 0], [0, 7, 3, 1], [0, 7, 2, 2], [0, 7, 4, 0]]
-    );
-    Ok(())
-}
-
-// A commit that makes an image is seven calls, or nine where a gate is closed first; the last two open the new gate.
-#[test]
-fn each_stop_of_an_image(rt: HostRuntime) -> Result<(), Fail> {
-    let stops = stop_at_each(rt.alloc(), (&[], Some(LOG)), 14, 1)?;
-    let counts = crash_by_fill(rt.alloc(), &stops)?;
-    assert_eq!(rt;
-        counts,
-        [[0, 7, 7, 0], [0, 7, 6, 1], [0, 7, 5, 2], [0, 7, 7, 0]]
-    );
-    Ok(())
-}
-
-#[test]
-fn each_stop_of_a_later_image(rt: HostRuntime) -> Result<(), Fail> {
-    for fail in [1, 3] {
-        let stops = stop_at_each(rt.alloc(), (&AGAIN, Some(SECOND + LOG)), 16, fail)?;
+fn each_stop_of_a_commit(rt: HostRuntime) -> Result<(), Fail> {
+    let nothing: &[u8] = &[];
+    let (by_record, by_image) = ((nothing, None), (nothing, Some(LOG)));
+    let by_later_image: (&[u8], Option<usize>) = (&AGAIN, Some(SECOND + LOG));
+    let later = [[0, 7, 9, 0], [0, 7, 8, 1], [0, 7, 7, 2], [0, 7, 9, 0]];
+    for (before, calls, fail, wanted) in [
+        (
+            by_record,
+            11,
+            1,
+            [[0, 7, 4, 0], [0, 7, 3, 1], [0, 7, 2, 2], [0, 7, 4, 0]],
+        ),
+        (
+            by_image,
+            14,
+            1,
+            [[0, 7, 7, 0], [0, 7, 6, 1], [0, 7, 5, 2], [0, 7, 7, 0]],
+        ),
+        (by_later_image, 16, 1, later),
+        (by_later_image, 16, 3, later),
+    ] {
+        let stops = stop_at_each(rt.alloc(), before, calls, fail)?;
         let counts = crash_by_fill(rt.alloc(), &stops)?;
-        let wanted = [[0, 7, 9, 0], [0, 7, 8, 1], [0, 7, 7, 2], [0, 7, 9, 0]];
-        assert_eq!(rt; counts, wanted, "{fail}");
+        assert_eq!(rt; counts, wanted, "{calls} calls, {fail} faults");
     }
     Ok(())
 }

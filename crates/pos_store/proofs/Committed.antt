@@ -1,9 +1,9 @@
 -- What an append or a renewal of the log means for the files.
 use Rattle.pos_store.proofs.Common.{Appends, Change, Commits, CountsNow, Err, File, Ghosts, HasNotFailed, HasOldOrNew, HoldsFiles, IsDirectory, IsExhausted}
 use Rattle.pos_store.proofs.Common.{IsGroup, IsLast, IsLogReady, IsReady, IsStep, KeepsDisk, KeepsRecords, Layout, Layout1, Layout2, LeavesOnly, List, LogView}
-use Rattle.pos_store.proofs.Common.{Ok, Ready, Renews, Rises, Stands, StandsForEither, StandsForOneOf, [], ap, arith, body_limit, false, fits_behind}
-use Rattle.pos_store.proofs.Common.{group_spelling, inl, inr, layout_of, left_by, length, limits_of, log_over, longest, outcome_of_all, refl, sequence_after}
-use Rattle.pos_store.proofs.Common.{spelling, sym, tail_after, true, view_of, weaker, ℕ, ⊎_elim, ◌+◌, ◌∙◌, ◌∷◌, ◌≡◌, ◌≢◌, ◌≤◌}
+use Rattle.pos_store.proofs.Common.{Ok, Renews, Rises, Stands, StandsForEither, StandsForOneOf, [], ap, arith, body_limit, false, fits_behind, group_spelling}
+use Rattle.pos_store.proofs.Common.{inl, inr, layout_of, left_by, length, limits_of, log_over, longest, outcome_of_all, refl, sequence_after, spelling}
+use Rattle.pos_store.proofs.Common.{tail_after, true, view_of, weaker, ℕ, ⊎_elim, ◌+◌, ◌∙◌, ◌∷◌, ◌≡◌, ◌≢◌, ◌≤◌}
 use Rattle.pos_store.proofs.FilesOnDisk.{shows_now, still_holds, holds_more, holds_new, old_or_new_holds, leaves_files, ready_with}
 use Rattle.pos_image.specs.Standing as image
 use Rattle.pos_store.specs.declared.fault.StoreFault.TheVariants as fault
@@ -54,18 +54,12 @@ module _ {D : Type 0} {bound : Ghosts D} {log : LogView D} {files after : List F
       → Around log.images.sequence c
   appending_stands honest c keeps =
       let holds = given.holds honest in
-      ⊎_elim
-      (λ old. inl (inl (still_holds holds (shows honest) c keeps.image old)))
-      (λ more. inr (inl (holds_more holds (shows honest) c step keeps.image more)))
-      (keeps.log holds.texts holds.log)
+      grind (arith, still_holds holds (shows honest) c, holds_more holds (shows honest) c step, keeps.log holds.texts)
 
   -- the old image with its records, or the new one with none
   pub renewing_stands : (body : List ℕ) → IsDirectory (limits_of layout) after → body ≡ spelling after → bound.honest log.images.disk → (c : List ℕ)
       → HasOldOrNew log.images (image.log_of (bound.state log.images.disk).reading) layout body (log.images.sequence + 1) c → Around (log.images.sequence + 1) c
-  renewing_stands body sound spelled honest c either =
-      ⊎_elim (λ old. inl (inl old)) (λ new. inr (inl new))
-      (old_or_new_holds log.images files after (bound.state log.images.disk).reading layout body (log.images.sequence + 1) c (given.holds honest)
-      (shows honest) sound spelled either)
+  renewing_stands body sound spelled honest c either = grind (arith, old_or_new_holds, shows)
 
   -- a commit that met a fault of the disk
   pub failed_commits : (failed : D) (now : Layout) (then_sequence : ℕ) → now ≡ layout
@@ -103,18 +97,7 @@ module _ {D : Type 0} {bound : Ghosts D} {log : LogView D} {files after : List F
         → (bound.honest log.images.disk → HasNotFailed (bound.state log.images.disk) (bound.state new.images.disk))
         → KeepsDisk bound log.images.disk new.images.disk
         → Commits bound (ready_with log files) changes (Ok tt) (ready_with new after)
-    put_commits then_sequence kept is same tail more ready holds any_moment counts keeps = record {
-      answer = rw given.outcome (more, ap (λ (n : ℕ). Ready after n) (same ∙ sym is), tail);
-      layout = kept;
-      unchanged = λ err. absurd cc;
-      crash = λ h. record {
-        any_moment = rw same (any_moment h);
-        now = rw kept at (leaves_files bound new.images after ready holds (keeps.honest.0 h));
-      };
-      device = λ h is. absurd cc;
-      counts = λ h. inr (counts h);
-      keeps = keeps;
-    }
+    put_commits then_sequence kept is same tail more ready holds any_moment counts keeps = grind (arith, kept, leaves_files)
 
     module _ (fits : fits_behind layout log.tail changes ≡ true) (appends : Appends bound log (group_spelling changes) (Ok tt) new) where
       same_sequence : new.images.sequence ≡ log.images.sequence
@@ -135,26 +118,18 @@ module _ {D : Type 0} {bound : Ghosts D} {log : LogView D} {files after : List F
           (appends.records was holds.texts holds.log))
 
       pub appended_commits : Commits bound (ready_with log files) changes (Ok tt) (ready_with new after)
-      appended_commits = put_commits log.images.sequence kept (rw fits refl) same_sequence
-          (ap (λ (l : LogView D). l.tail) appends.appended ∙ (rw fits refl))
-          (λ exhausted. let over = exhausted.0 in cc) appends.ready.images appended_holds
-          (λ h. weaker (bound.state log.images.disk) (bound.state new.images.disk) _ _ (appending_stands h) (appends.any_moment h))
-          (λ h. ⊎_elim (λ is. absurd cc) (λ same. same) (appends.counts h))
-          appends.keeps
+      appended_commits =
+          let moments = λ (h : bound.honest log.images.disk). weaker _ _ _ _ (appending_stands h) (appends.any_moment h) in
+          grind (arith, put_commits log.images.sequence, kept, same_sequence, appended_holds)
 
     module _ (over : fits_behind layout log.tail changes ≡ false) (body : List ℕ) (sound : IsDirectory (limits_of layout) after)
         (spelled : body ≡ spelling after) (renews : Renews bound log layout body (log.images.sequence + 1) (Ok tt) new) where
       -- a group for which the image was renewed
       pub renewed_holds : HasAfter
-      renewed_holds honest =
-          rw (renews.layout_is, renews.sequence_is) (holds_new layout after (log.images.sequence + 1) body (bound.state new.images.disk).reading sound spelled
-          (renews.image (renews.keeps.honest.1 honest)))
+      renewed_holds honest = grind (arith, holds_new)
 
       pub renewed_commits : ¬ (IsLast log.images.sequence)
           → Commits bound (ready_with log files) changes (Ok tt) (ready_with new after)
-      renewed_commits more = put_commits (log.images.sequence + 1) renews.layout_is (rw over refl) renews.sequence_is
-          (renews.tail_is ∙ (rw over refl))
-          (λ exhausted. more exhausted.1) renews.ready.images renewed_holds
-          (λ h. weaker (bound.state log.images.disk) (bound.state new.images.disk) _ _ (renewing_stands body sound spelled h) (renews.any_moment h))
-          (λ h. ⊎_elim (λ is. absurd cc) (λ same. same) (renews.counts h))
-          renews.keeps
+      renewed_commits more =
+          let moments = λ (h : bound.honest log.images.disk). weaker _ _ _ _ (renewing_stands body sound spelled h) (renews.any_moment h) in
+          grind (arith, put_commits (log.images.sequence + 1), renewed_holds)

@@ -30,7 +30,7 @@ pub use Rattle.pos_log.proofs.Unique.{one_log}
 pub use Rattle.pos_log.specs.Logs.{Appends, HasNoRecords, HasOldOrNew, IsLogReady, KeepsRecords, LogView, Renews, log_over}
 pub use Rattle.pos_log.specs.Records.{HoldsRecords, HoldsSome}
 pub use Rattle.pos_log.specs.declared.fault.LogFault.{LogFault}
-pub use Rattle.pos_store.specs.Commits.{Commits, IsExhausted, IsLast, IsUnmade, PutsDown, fits_behind, left_by, sequence_after, tail_after}
+pub use Rattle.pos_store.specs.Commits.{Commits, IsExhausted, IsLast, IsUnmade, fits_behind, left_by, sequence_after, tail_after}
 pub use Rattle.pos_store.specs.Faults.{Tells, TellsLog, broken}
 pub use Rattle.pos_store.specs.Layouts.{limits_of}
 pub use Rattle.pos_store.specs.Migrations.{AnswersMigration, Migrates}
@@ -40,6 +40,6 @@ pub use Rattle.pos_store.specs.Standing.{StandsForOneOf, Unformatted}
 pub use Rattle.pos_store.specs.StoreViews.{HasItsFiles, LeavesItsFiles, Off, Ready, StoreState, StoreView, settled, view_of}
 pub use Rattle.pos_store.specs.declared.fault.StoreFault.{StoreFault}
 pub use Rattle.std.proofs.Common.{Bool, Err, Global, IsErr, IsErrOf, IsOk, List, None, Ok, OnOk, Option, Result, Some, Vec, [], add-one, ap, arith, cond, drop}
-pub use Rattle.std.proofs.Common.{drop-cons, drop_at, false, get_or, inl, inr, leb-true, length, map, refl, rules, subst, suc, sym, take_at, true, ℕ, ⊎_elim}
-pub use Rattle.std.proofs.Common.{◌++◌, ◌+◌, ◌<◌, ◌↔◌, ◌∙◌, ◌∷◌, ◌≡◌, ◌≢◌, ◌≤◌, ◌⊎◌}
+pub use Rattle.std.proofs.Common.{drop-cons, drop_at, false, get_or, inl, inr, leb-true, length, map, refl, rules, subst, sym, take_at, true, ℕ, ⊎_elim, ◌++◌}
+pub use Rattle.std.proofs.Common.{◌+◌, ◌<◌, ◌↔◌, ◌∙◌, ◌∷◌, ◌≡◌, ◌≢◌, ◌≤◌, ◌⊎◌}
 pub use Rattle.std.specs.List.{AllByRecursion}

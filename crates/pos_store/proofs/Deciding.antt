@@ -43,7 +43,7 @@ spelled_bytes (group ∷ groups) each = (
 )
 
 text_bytes : (groups : List (List ℕ)) (span : List ℕ) → IsBytes span → log.HoldsRecords groups span → AllByRecursion IsBytes groups
-text_bytes groups span each holds = spelled_bytes groups (subst IsBytes holds.front (IsBytes-take _ span each))
+text_bytes groups span each holds = spelled_bytes groups (rw (← holds.front) (IsBytes-take _ span each))
 
 -- some files are the ones after a text, or none are
 abbrev StepOrNone : Limits → List File → List ℕ → Type 0
@@ -106,8 +106,7 @@ module _ (bytes : List ℕ) (each : IsBytes bytes) (layout : Layout) where
 
   with_body : (body : List ℕ) (sequence : ℕ) → image.image_on bytes ≡ image.OneImage layout body sequence → (read : Option (List File))
       → directory_at (limits_of layout) body ≡ read → (standing : Standing) × StandsFor standing bytes
-  with_body body sequence is None read =
-      (Damaged, no_body_stands bytes layout body sequence is (λ spelled. no_body (limits_of layout) body spelled.0 (writable layout) read spelled.1 spelled.2))
+  with_body body sequence is None read = grind (arith, no_body_stands, no_body, writable)
   with_body body sequence is (Some base) read = with_base base body sequence is read
 
 module _ (bytes : List ℕ) (each : IsBytes bytes) where

@@ -1,7 +1,7 @@
 -- What a new image of layout 2 in the place of one of layout 1 means for the files.
 use Rattle.pos_store.proofs.Common.{AnswersMigration, CountsNow, Err, File, Ghosts, HasOldOrNew, HoldsFiles, IsDirectory, IsErrOf, IsLogReady, Layout1, Layout2}
-use Rattle.pos_store.proofs.Common.{LeavesOnly, List, LogView, MayLeave, Migrates, Ok, Ready, Renews, Stands, StandsForEither, StandsForOneOf, StoreFault, []}
-use Rattle.pos_store.proofs.Common.{arith, inl, inr, layout_of, limits_of, refl, spelling, view_of, weaker, ℕ, ⊎_elim, ◌∙◌, ◌∷◌, ◌≡◌}
+use Rattle.pos_store.proofs.Common.{List, LogView, MayLeave, Migrates, Ok, Ready, Renews, Stands, StandsForEither, StoreFault, [], arith, inr, layout_of}
+use Rattle.pos_store.proofs.Common.{limits_of, spelling, view_of, weaker, ℕ, ⊎_elim, ◌∷◌, ◌≡◌}
 use Rattle.pos_store.proofs.FilesOnDisk.{shows_now, holds_new, old_or_new_holds, leaves_files, ready_with}
 use Rattle.pos_store.proofs.Passing.{stays}
 use Rattle.pos_image.specs.Standing as image
@@ -19,14 +19,7 @@ module _ {D : Type 0} (bound : Ghosts D) (log : LogView D) (files : List File) (
       → ((c : List ℕ) → bound.honest log.images.disk → (bound.state log.images.disk).left_since (bound.state log.images.disk).moment c
       → MayLeave (bound.state log.images.disk) c)
       → Migrates bound (ready_with log files) (Err cause) (ready_with log files)
-  refused_migrates cause answer none only = record {
-    answer = answer;
-    crash = λ h. stays (bound.state log.images.disk) (Stands (layout_of log.images.slot) files log.images.sequence ∷ []) (λ c. only c h)
-        (leaves_files bound log.images files ready.images holds h);
-    device = λ h is. absurd (none is);
-    counts = λ h. inr refl;
-    keeps = record { size = refl; honest = ((λ h. h), (λ h. h)); later = λ h. omega arith };
-  }
+  refused_migrates cause answer none only = grind (arith, stays, leaves_files)
 
 -- A log of layout 1 that is ready, with files, and a body that spells them for layout 2.
 pub record Moves {D : Type 0} (bound : Ghosts D) (log : LogView D) (files : List File) (body : List ℕ) : Type 0 where
@@ -44,23 +37,14 @@ module _ {D : Type 0} {bound : Ghosts D} {log : LogView D} {files : List File} {
   -- the old image with its records, or the new one with none
   moving_stands : bound.honest log.images.disk → (c : List ℕ)
       → HasOldOrNew log.images (image.log_of (bound.state log.images.disk).reading) Layout2 body 1 c → Around c
-  moving_stands honest c either =
-      ⊎_elim (λ old. inl (inl old)) (λ new. inr (inl new))
-      (old_or_new_holds log.images files files (bound.state log.images.disk).reading Layout2 body 1 c (moves.holds honest)
-      (shows_now bound log.images moves.ready.images honest) moves.sound moves.spelled either)
-
-  among : (c : List ℕ) → Around c
-      → StandsForOneOf (Stands (layout_of log.images.slot) files log.images.sequence ∷ Stands Layout2 files 1 ∷ []) c
-  among c either = ⊎_elim (λ old. ⊎_elim (λ this. inl this) (λ none. absurd none) old) (λ new. inr new) either
+  moving_stands honest c either = grind (arith, old_or_new_holds, shows_now)
 
   module _ (new : LogView D) where
     -- a migration that moved the files
     module _ (renews : Renews bound log Layout2 body 1 (Ok tt) new) where
       pub moved_holds : bound.honest new.images.disk
           → HoldsFiles (layout_of new.images.slot) files new.images.sequence (bound.state new.images.disk).reading
-      moved_holds honest =
-          rw (renews.layout_is, renews.sequence_is) (holds_new Layout2 files 1 body (bound.state new.images.disk).reading moves.sound moves.spelled
-          (renews.image (renews.keeps.honest.1 honest)))
+      moved_holds honest = grind (arith, holds_new)
 
       pub moved_migrates : Migrates bound (ready_with log files) (Ok tt) (ready_with new files)
       moved_migrates = record {
@@ -84,16 +68,4 @@ module _ {D : Type 0} {bound : Ghosts D} {log : LogView D} {files : List File} {
     pub failed_migrates : Renews bound log Layout2 body 1 (Err images.Device) new
         → (bound.honest log.images.disk → (bytes : List ℕ) → CountsNow (bound.state new.images.disk) (bound.state log.images.disk).moment bytes)
         → Migrates bound (ready_with log files) (Err fault.Device) (view_of (which.Off new.images.disk (layout_of new.images.slot)))
-    failed_migrates renews counts =
-        let moments : bound.honest log.images.disk → LeavesOnly (bound.state log.images.disk) (bound.state new.images.disk) Around =
-        λ h. weaker (bound.state log.images.disk) (bound.state new.images.disk) _ _ (moving_stands h) (renews.any_moment h) in
-        record {
-          answer = rw moves.first (refl, renews.same_layout refl ∙ moves.first);
-          crash = λ h. record {
-            any_moment = weaker (bound.state log.images.disk) (bound.state new.images.disk) _ _ (λ c either. inr (among c either)) (moments h);
-            now = λ bytes may. among bytes ((moments h).each bytes (counts h bytes (moments h).later may));
-          };
-          device = λ h is. renews.device h refl;
-          counts = λ h. inl refl;
-          keeps = renews.keeps;
-        }
+    failed_migrates renews counts = grind (arith, weaker, moving_stands)

@@ -23,21 +23,11 @@ pub off_recovers : {D : Type 0} (bound : Ghosts D) (disk : D) (layout : Layout) 
     → (bound.honest disk → IsErrOf result fault.Device ⊎ HasNotFailed (bound.state disk) (bound.state new.disk))
     → KeepsDisk bound disk new.disk
     → Recovers bound (view_of (which.Off disk layout)) result new
-off_recovers bound disk layout result new finds kept watches now ends device counts keeps = record {
-  ready = tt;
-  answer = finds;
-  one_of = λ h candidates leaves. recovers_one candidates (bound.state disk) (bound.state new.disk) result new.layout new.state
-      (finds_so (DiskStandsFor bound disk) (λ standing. StandsFor standing (bound.state disk).reading) (λ standing stands. stands h) result new.layout
-      new.state finds)
-      (watches h) leaves;
-  layout = kept;
-  tail = ends;
-  reading = λ h. (watches h).reading;
-  now = now;
-  device = device;
-  counts = counts;
-  keeps = keeps;
-}
+off_recovers bound disk layout result new finds kept watches now ends device counts keeps =
+    let stands = λ (h : bound.honest disk).
+    finds_so (DiskStandsFor bound disk) (λ standing. StandsFor standing (bound.state disk).reading) (λ standing stands. stands h) result _ new.state finds in
+    let one_of = λ (h : bound.honest disk) (candidates : List Standing). recovers_one candidates _ _ result new.layout new.state (stands h) (watches h) in
+    grind (arith, watches)
 
 -- a recovery that was refused for another cause than a fault of the disk
 pub refused_recovers : {D : Type 0} (bound : Ghosts D) (disk end : D) (layout : Layout) (cause : StoreFault)
@@ -63,28 +53,17 @@ told_alone cause told tells = ((λ is. grind arith), (λ is. grind arith))
 
 -- a damaged image is damage
 pub damaged_stands : (bytes : List ℕ) → image_on bytes ≡ image.DamagedImage → StandsFor Damaged bytes
-damaged_stands bytes same = (
-  (λ none. let other = sym same ∙ none in cc other),
-  (λ layout files sequence holds. let is = sym same ∙ holds.shows in cc),
-)
+damaged_stands bytes same = grind arith
 
 -- and so is one whose body spells no directory
 pub no_body_stands : (bytes : List ℕ) (layout : Layout) (body : List ℕ) (sequence : ℕ) → image_on bytes ≡ image.OneImage layout body sequence
     → ¬ (IsBody (limits_of layout) body) → StandsFor Damaged bytes
-no_body_stands bytes layout body sequence same none = (
-  (λ empty. let is = sym same ∙ empty in cc),
-  (λ by files after holds.
-      let shown = same_image layout by body (spelling holds.base) sequence after (sym same ∙ holds.shows) in
-      none (holds.base, rw (← shown.0) at holds.directory, shown.1)),
-)
+no_body_stands bytes layout body sequence same none = grind (arith, same_image)
 
 -- one behind which no records stand
 pub no_log_stands : (bytes : List ℕ) (layout : Layout) (body : List ℕ) (sequence : ℕ) → image_on bytes ≡ image.OneImage layout body sequence
     → ¬ (HoldsSome (image.log_of bytes)) → StandsFor Damaged bytes
-no_log_stands bytes layout body sequence same none = (
-  (λ empty. let is = sym same ∙ empty in cc),
-  (λ by files after holds. none (holds.texts, holds.log)),
-)
+no_log_stands bytes layout body sequence same none = grind arith
 
 -- and one whose records spell no applicable groups
 pub no_groups_stand : (bytes : List ℕ) (layout : Layout) (body : List ℕ) (sequence : ℕ) (base : List File) (texts : List (List ℕ))
@@ -130,10 +109,7 @@ both_keep bound old mid new first second = search (rules, first, second)
 -- failures that rose in a later call rose since an earlier one
 pub later : {D : Type 0} (bound : Ghosts D) (old mid new : D) → KeepsDisk bound old mid → KeepsDisk bound mid new → bound.honest old
     → Rises (bound.state mid).failures (bound.state new).failures → Rises (bound.state old).failures (bound.state new).failures
-later bound old mid new first second honest rises =
-    let one = first.later honest in
-    let two = second.later (first.honest.0 honest) in
-    grind arith
+later bound old mid new first second honest rises = grind arith
 
 -- damage and want of memory are no faults of the disk
 pub not_device : (cause : StoreFault) → (cause ≡ fault.Damaged) ⊎ (cause ≡ fault.NoMemory) → IsErrOf {T = Unit {0}} (Err cause) fault.Device → ⊥

@@ -6,12 +6,7 @@ ghost use Rattle.pos_image.specs.Standing.{is_tied, current_on, image_on, Damage
 ghost use Rattle.pos_survey.specs.Damages.{Breaks};
 
 use crate::fault::{Rule, SurveyFault};
-use pos_image::{Heads, Slot};
-
-// Where the sequence and the length of a slot stand, counted from its gate.
-const SEQUENCE: u64 = 1;
-
-const LENGTH: u64 = 9;
+use pos_image::{Heads, LENGTH, SEQUENCE, Slot};
 
 // The slot of the current image, if there is one.
 fn current_slot(heads: Heads) -> Slot

@@ -9,7 +9,7 @@ ghost use Rattle.pos_survey.specs.Damages.{HasLongIn, log_begins};
 
 use crate::fault::{Rule, SurveyFault};
 use pos_disk::{Disk, MemDisk};
-use pos_image::{Images, Layout, Slot};
+use pos_image::{Images, Slot};
 use pos_log::{Log, LogFault, find_damage};
 use std::alloc::Global;
 
@@ -17,11 +17,7 @@ use std::alloc::Global;
 pub fn log_begins(slot: Slot) -> u64
     ensures { result ≡ log_begins slot }
 {
-    let at = match slot.layout() {
-        Layout::Layout1 => 16_384,
-        Layout::Layout2 => 81_920,
-    };
-    slot.start() + at
+    slot.start() + slot.layout().log()
 }
 
 // The record of the log in this slot that doesn't fit.

@@ -14,7 +14,7 @@ use crate::fault::{Rule, SurveyFault};
 use crate::image::tell_damage;
 use pos_dir::{Directory, DirectoryFault, decode, find_flaw};
 use pos_disk::{Disk, MemDisk};
-use pos_image::{ImageFault, Images, read_heads};
+use pos_image::{BODY, ImageFault, Images, read_heads};
 use pos_store::limits_of;
 use std::alloc::Global;
 
@@ -49,9 +49,6 @@ pub fn open_images(alloc: Global, bytes: &[u8]) -> Result<Images<MemDisk>, Surve
         },
     }
 }
-
-// Where the body of a slot begins, counted from its gate.
-const BODY: u64 = 13;
 
 /// The files that the body of the current image spells.
 pub fn read_files(alloc: Global, images: &Images<MemDisk>) -> Result<Directory, SurveyFault>

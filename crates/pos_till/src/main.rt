@@ -7,10 +7,10 @@ mod drawer;
 
 use anyhow::bail;
 use drawer::Drawer;
-use pos_counter::{Counter, Ended};
+use pos_counter::Counter;
 use pos_disk::MemDisk;
-use pos_image::Images;
-use pos_profile::{Profile, Slot};
+use pos_image::new_disk;
+use pos_profile::Profile;
 use pos_service::{
     Answer, Bytes, Call, Category, ErrorReply, Event, NoMemory, Peripheral, PeripheralBox,
     Property, Value,
@@ -48,26 +48,10 @@ fn open_drawer<P: Peripheral>(
     Ok(())
 }
 
-/// Ends the devices of a counter that was shut down, and their drivers.
-fn end_all(mut entries: Vec<Slot<PeripheralBox>>) {
-    while let Some(entry) = entries.pop() {
-        let Slot {
-            name: _,
-            kind: _,
-            peripheral,
-        } = entry;
-        if let Some(peripheral) = peripheral {
-            peripheral.end();
-        }
-    }
-    entries.destroy_empty();
-}
-
 fn main(rt: HostRuntime) -> anyhow::Result<()> {
     let alloc = rt.alloc();
     let profile = Profile::from_text(alloc, PROFILE)?;
-    let disk = MemDisk::new(alloc, vec![in alloc; 0; 327_680]?)?;
-    let disk = Images::format(disk).map_err(|refusal| refusal.0)?;
+    let disk = new_disk(alloc)?;
     let driver = Box::new(alloc, Drawer::new())?;
     let Ok(mut counter) = Counter::new(alloc, &profile, Vec::new(alloc), disk) else {
         bail!("no memory for the counter");
@@ -76,7 +60,6 @@ fn main(rt: HostRuntime) -> anyhow::Result<()> {
         refused.end();
     }
     let outcome = open_drawer(&rt, &mut counter);
-    let Ended { disk: _, entries } = counter.shutdown();
-    end_all(entries);
+    counter.shutdown().end();
     outcome
 }

@@ -1,11 +1,10 @@
 -- Where a control has claimed the area, no other has claimed a file.
 use Rattle.pos_totals.proofs.Common.{AllByRecursion, AreApart, FileChange, Holdings, IfSome, IfSome_then, IsSound, Layout, List, None, Option, PlainFile, Some}
-use Rattle.pos_totals.proofs.Common.{State, StoreOff, StoreReady, Tag, [], arith, cases_Bool, false, foreign_area, given_after, is_area_taken, is_foreign}
-use Rattle.pos_totals.proofs.Common.{is_foreign_claim, is_own, length, list_any, map, nat_eq, nat_tests, new_tag, refl, suc, tag_claimed, tag_released}
-use Rattle.pos_totals.proofs.Common.{tags_from, totals_of, with_tags, zero, ℕ, ⊎_elim, ◌+◌, ◌∷◌, ◌≡◌}
-use Rattle.std.specs.Prelude.{Bool, cond}
-use Rattle.pos_totals.proofs.Grouped.{neither}
+use Rattle.pos_totals.proofs.Common.{State, StoreOff, StoreReady, Tag, Whose, [], ap, arith, false, foreign_area, given_after, is_area_taken, is_foreign}
+use Rattle.pos_totals.proofs.Common.{is_foreign_claim, length, list_any, list_any-map, map, nat_tests, new_tag, reclaimed, refl, suc, sym, tag_of, tags_from}
+use Rattle.pos_totals.proofs.Common.{totals_of, with_tags, zero, ℕ, ◌+◌, ◌∙◌, ◌∷◌, ◌≡◌}
 use Rattle.pos_totals.proofs.Handled.{all_with, all_without}
+use Rattle.pos_totals.proofs.Pairs.{tags_in}
 use Rattle.pos_dir.specs.declared.change.Change.TheVariants as file
 
 -- nobody but the holder has claimed a file
@@ -33,42 +32,33 @@ pub apart_new : (area : Option ℕ) (first count : ℕ) → IsApart area (tags_f
 apart_new None first count = tt
 apart_new (Some holder) first count = no_other_new holder first count
 
--- the tag with another claim, where a test meets it
-abbrev pub retagged : (Tag → Bool) → Option ℕ → Tag → Tag
-retagged test claim tag = cond (test tag) (record tag { claim = claim }) tag
+-- tags have another claim, which isn't that of another than the holder
+no_other_reclaimed : (whose : Whose) (holder : ℕ) (claim : Option ℕ) (tags : List Tag) → is_foreign holder claim ≡ false → NoOther holder tags
+    → NoOther holder (map (reclaimed whose claim) tags)
+no_other_reclaimed whose holder claim [] own apart = tt
+no_other_reclaimed whose holder claim (tag ∷ tags) own apart = (grind (arith, nat_tests, apart.0), no_other_reclaimed whose holder claim tags own apart.1)
 
--- files are claimed
-no_other_claimed : (test : Tag → Bool) (holder : ℕ) (claim : Option ℕ) (tags : List Tag) → is_foreign holder claim ≡ false → NoOther holder tags
-    → NoOther holder (map (retagged test claim) tags)
-no_other_claimed test holder claim [] own apart = tt
-no_other_claimed test holder claim (tag ∷ tags) own apart =
-    (grind (arith, nat_tests, apart.0), no_other_claimed test holder claim tags own apart.1)
+pub apart_reclaimed : (whose : Whose) (area claim : Option ℕ) (tags : List Tag) → IfSome area (λ holder. is_foreign holder claim ≡ false)
+    → IsApart area tags → IsApart area (map (reclaimed whose claim) tags)
+apart_reclaimed whose None claim tags own apart = tt
+apart_reclaimed whose (Some holder) claim tags own apart = no_other_reclaimed whose holder claim tags own apart
 
-pub apart_claimed : (area : Option ℕ) (control number : ℕ) (tags : List Tag) → is_foreign control area ≡ false → IsApart area tags
-    → IsApart area (map (tag_claimed number (Some control)) tags)
-apart_claimed None control number tags own apart = tt
-apart_claimed (Some holder) control number tags own apart =
-    no_other_claimed (λ tag. nat_eq tag.handle number) holder (Some control) tags (grind (arith, nat_tests)) apart
+-- the area is no longer claimed by a control
+pub apart_left : (state : State) (area : Option ℕ) (control : ℕ) (tags : List Tag) → AreApart state area tags
+    → AreApart state (foreign_area control area) tags
+apart_left state area control tags apart = grind (arith, nat_tests)
 
-pub apart_released : (area : Option ℕ) (number : ℕ) (tags : List Tag) → IsApart area tags → IsApart area (map (tag_claimed number None) tags)
-apart_released area number tags apart = IfSome_then area apart
-    (λ holder own. no_other_claimed (λ tag. nat_eq tag.handle number) holder None tags refl own)
-
--- all of a control is released
-pub apart_dropped : (area : Option ℕ) (control : ℕ) (tags : List Tag) → IsApart area tags
-    → IsApart (foreign_area control area) (map (tag_released control) tags)
-apart_dropped None control tags apart = tt
-apart_dropped (Some holder) control tags apart =
-    ⊎_elim (λ is. rw is tt) (λ is. rw is (no_other_claimed (λ tag. is_own control tag.claim) holder None tags refl apart)) (cases_Bool (nat_eq holder control))
+-- the tags' claims are those of the files
+pub foreign_tags : (control : ℕ) (tags : List Tag) (files : List PlainFile) → length tags ≡ length files
+    → list_any (λ tag. is_foreign control tag.claim) tags ≡ list_any (is_foreign_claim control) (with_tags tags files)
+foreign_tags control tags files same =
+    ap (list_any (λ tag. is_foreign control tag.claim)) (sym (tags_in tags files same))
+    ∙ list_any-map tag_of (λ tag. is_foreign control tag.claim) (with_tags tags files)
 
 -- the area is claimed where no other control has claimed a file
-no_other_left : (control : ℕ) (tags : List Tag) (files : List PlainFile) → length tags ≡ length files
-    → list_any (is_foreign_claim control) (with_tags tags files) ≡ false → NoOther control tags
-no_other_left control [] files same none = tt
-no_other_left control (tag ∷ tags) [] same none = absurd (omega (arith, same))
-no_other_left control (tag ∷ tags) (file ∷ files) same none =
-    let both = neither (is_foreign control tag.claim) (list_any (is_foreign_claim control) (with_tags tags files)) none in
-    (both.0, no_other_left control tags files (omega (arith, same)) both.1)
+no_other_left : (control : ℕ) (tags : List Tag) → list_any (λ tag. is_foreign control tag.claim) tags ≡ false → NoOther control tags
+no_other_left control [] none = tt
+no_other_left control (tag ∷ tags) none = (grind (arith, nat_tests), no_other_left control tags (grind (arith, nat_tests)))
 
 pub sound_claimed : {layout : Layout} (state : State) (holdings : Holdings) (control : ℕ) → is_area_taken (totals_of state holdings) control ≡ false
     → IsSound layout state holdings → IsSound layout state (record holdings { area = Some control })
@@ -77,7 +67,8 @@ sound_claimed (StoreReady files sequence) holdings control free sound = record {
   found = sound.found;
   handles = sound.handles;
   buffers = sound.buffers;
-  apart = no_other_left control holdings.handles.given files sound.handles.count (neither (is_foreign control holdings.area) _ free).1;
+  apart = no_other_left control holdings.handles.given
+      (foreign_tags control holdings.handles.given files sound.handles.count ∙ grind (arith, nat_tests, free));
 }
 
 -- the same of the files
@@ -90,9 +81,3 @@ no_other_file holder (tag ∷ tags) (file ∷ files) apart = (apart.0, no_other_
 pub files_apart : (area : Option ℕ) (tags : List Tag) (files : List PlainFile) → IsApart area tags
     → IfSome area (λ holder. AllByRecursion (λ file. is_foreign_claim holder file ≡ false) (with_tags tags files))
 files_apart area tags files apart = IfSome_then area apart (λ holder own. no_other_file holder tags files own)
-
--- what holds of the tags holds where the store is ready
-pub apart_so : (state : State) (area later : Option ℕ) (tags others : List Tag) → (IsApart area tags → IsApart later others)
-    → AreApart state area tags → AreApart state later others
-apart_so StoreOff area later tags others so apart = tt
-apart_so (StoreReady files sequence) area later tags others so apart = so apart

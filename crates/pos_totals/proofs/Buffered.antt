@@ -1,27 +1,25 @@
 -- Changes that are buffered: they stay so whatever changes the files, and all of them make one group.
 use Rattle.pos_totals.proofs.Common.{AllByRecursion, AreDistinct, Change, Create, Delete, Edit, File, FileEdit, FitsEach, HaveBuffers, IsBuffered, IsGiven}
-use Rattle.pos_totals.proofs.Common.{Layout, List, MayHold, Mode, None, Off, Ok, Option, Ready, Rename, Some, [], ap, arith, change_rows, edited, eqb-true}
-use Rattle.pos_totals.proofs.Common.{false, files_after, files_after_all, find, first_refusal, fits, fits_file, group_of, handles_of, is_called, is_named}
-use Rattle.pos_totals.proofs.Common.{is_none, is_of_none, length, limits_of, list_any, nat_abs, nat_tests, negsuc, next_after, next_after_all, not}
-use Rattle.pos_totals.proofs.Common.{outcome_of_all, plain, pos, refl, replicate, slice_set, subst, suc, sym, tags_of, totals_limits, transaction_at, true}
-use Rattle.pos_totals.proofs.Common.{with_each, without_transactions, zero, ℕ, ℤ, ◌+◌, ◌∙◌, ◌∷◌, ◌≡◌, ◌≤◌}
+use Rattle.pos_totals.proofs.Common.{Layout, List, MayHold, Mode, None, Off, Ok, Option, Ready, Rename, Some, [], ap, arith, called, edited, false, files_after}
+use Rattle.pos_totals.proofs.Common.{files_after_all, find, fits, fits_file, following, group_of, handles_of, is_called, is_named, is_of_none, length}
+use Rattle.pos_totals.proofs.Common.{limits_of, list_any, nat_abs, nat_tests, next_after, next_after_all, not, outcome_of_all, plain, refl, replicate}
+use Rattle.pos_totals.proofs.Common.{slice_set, subst, suc, sym, tag_of, tags_of, transaction_at, true, with_each, without_transactions, zero, ℕ, ℤ, ◌+◌, ◌∙◌}
+use Rattle.pos_totals.proofs.Common.{◌∷◌, ◌≡◌, ◌≤◌}
 use Rattle.pos_totals.proofs.Edited.{keeps_size}
-use Rattle.pos_totals.proofs.Grouped.{made_edit, edit_fits, neither, some_of, fitting, only_called}
-use Rattle.pos_totals.proofs.Handled.{all_so, all_with, same_tags}
-use Rattle.pos_totals.proofs.Outlined.{outline, outlines, same_buffered, same_group, same_gone, same_distinct, outlines_kept, all_files, one_meets, found_has}
-use Rattle.pos_totals.proofs.Outlined.{all_left}
+use Rattle.pos_totals.proofs.Grouped.{IsUnrefused, made_edit, edit_fits, some_of, fitting, only_called}
+use Rattle.pos_totals.proofs.Handled.{all_so, all_with}
+use Rattle.pos_totals.proofs.Outlined.{outline, outlines, same_buffered, same_group, same_distinct, one_meets, found_has, all_left}
+use Rattle.pos_totals.proofs.Places.{kept}
 
 -- ---- whatever changes the files
 
 given_more : (next later : ℕ) (handle : ℤ) → next ≤ later → IsGiven next handle → IsGiven later handle
-given_more next later (pos h) more given = omega (arith, given, more)
-given_more next later (negsuc n) more given = absurd given
+given_more next later handle more given = grind arith
 
 -- no given handle is that of a new file
 new_handle : (next : ℕ) (handle : ℤ) (name bytes : List ℕ) → IsGiven next handle
     → is_called handle (record { handle = next; name = name; bytes = bytes; claim = None }) ≡ true → ⊥
-new_handle next (pos h) name bytes given called = let same = eqb-true next h called in omega (arith, given, same)
-new_handle next (negsuc n) name bytes given called = absurd given
+new_handle next handle name bytes given called = grind (arith, nat_tests)
 
 -- an edit that fits the file with a handle fits each such file
 pub all_fit : (files : List File) (handle : ℤ) (edit : FileEdit) → AreDistinct (handles_of files) → fits_file (find (is_called handle) files) edit ≡ true
@@ -33,39 +31,29 @@ all_fit files handle edit distinct fit =
 -- an edit that fits keeps all sizes
 edits_keep : (files : List File) (handle : ℤ) (edit : FileEdit) → FitsEach files handle edit
     → outlines (with_each (is_called handle) (λ file. record file { bytes = edited edit file.bytes }) files) ≡ outlines files
-edits_keep files handle edit fit =
-    outlines_kept (is_called handle) (λ file. record file { bytes = edited edit file.bytes }) files
-    (all_so (λ file. is_called handle file ≡ true → fits (length file.bytes) edit ≡ true)
-    (λ file. is_called handle file ≡ true → outline (record file { bytes = edited edit file.bytes }) ≡ outline file) files
-    (λ file fit called. ap (λ size. (file.handle, size)) (keeps_size edit file.bytes (fit called))) fit)
+edits_keep [] handle edit fit = refl
+edits_keep (first ∷ files) handle edit fit = grind (arith, nat_tests, fit.0, keeps_size edit first.bytes, edits_keep files handle edit fit.1)
 
 -- what is buffered stays so after a change that nothing refuses
-pub buffered_after : (layout : Layout) (files : List File) (control : ℕ) (spent : Option ℕ) (change : Change) (next : ℕ) (buffered : Change)
-    → AreDistinct (handles_of files) → first_refusal (change_rows (totals_limits layout) files control spent change) ≡ None
-    → IsBuffered files next buffered → IsBuffered (files_after next files change) (next_after next change) buffered
-buffered_after layout files control spent (Create name size) next (Edit handle edit) distinct unrefused is = (
+pub buffered_after : {layout : Layout} {files : List File} {next control : ℕ} {spent : Option ℕ} (change buffered : Change)
+    → IsUnrefused layout files next control spent change → IsBuffered files next buffered
+    → IsBuffered (files_after next files change) (next_after next change) buffered
+buffered_after {files = files} {next = next} (Create name size) (Edit handle edit) may is = (
   given_more next (next + 1) handle (omega arith) is.0,
   all_with (λ file. is_called handle file ≡ true → fits (length file.bytes) edit ≡ true) files _ is.1
       (λ called. absurd (new_handle next handle name (replicate (nat_abs size) 0) is.0 called)),
   is.2,
 )
-buffered_after layout files control spent (Delete name) next (Edit handle edit) distinct unrefused is =
-    (is.0, all_left _ (λ file. not (is_named name file)) files is.1, is.2)
-buffered_after layout files control spent (Rename other name) next (Edit handle edit) distinct unrefused is =
+buffered_after {files = files} (Delete name) (Edit handle edit) may is = (is.0, all_left _ (λ file. not (is_named name file)) files is.1, is.2)
+buffered_after {files = files} {next = next} (Rename other name) (Edit handle edit) may is =
     same_buffered files (files_after next files (Rename other name)) next (Edit handle edit)
-    (sym (outlines_kept (is_called other) (λ file. record file { name = name }) files (all_files _ files (λ file called. refl)))) is
-buffered_after layout files control spent (Edit other done) next (Edit handle edit) distinct unrefused is =
+    (sym (kept outline (is_called other) (λ file. record file { name = name }) files (λ file. refl))) is
+buffered_after {files = files} {next = next} (Edit other done) (Edit handle edit) may is =
     same_buffered files (files_after next files (Edit other done)) next (Edit handle edit)
-    (sym (edits_keep files other done (all_fit files other done distinct (edit_fits layout files control spent other done unrefused)))) is
-buffered_after layout files control spent change next other distinct unrefused is = absurd is
+    (sym (edits_keep files other done (all_fit files other done may.theirs.distinct (edit_fits other done may)))) is
+buffered_after change other may is = absurd is
 
 -- ---- one group of all that is buffered
-
--- the others are buffered as before
-others_buffered : (files after : List File) (next : ℕ) (changes : List Change) → outlines after ≡ outlines files
-    → AllByRecursion (IsBuffered files next) changes → AllByRecursion (IsBuffered after next) changes
-others_buffered files after next changes same all =
-    all_so (IsBuffered files next) (IsBuffered after next) changes (λ change is. same_buffered files after next change (sym same) is) all
 
 -- what is buffered keeps handles, claims and sizes, and the next handle
 pub keeps_all : (files : List File) (next : ℕ) (changes : List Change) → AllByRecursion (IsBuffered files next) changes
@@ -74,8 +62,9 @@ pub keeps_all : (files : List File) (next : ℕ) (changes : List Change) → All
 keeps_all files next [] all = (refl, refl, refl)
 keeps_all files next (Edit handle edit ∷ changes) all =
     let same = edits_keep files handle edit all.0.1 in
-    let rest = keeps_all (files_after next files (Edit handle edit)) next changes (others_buffered files _ next changes same all.1) in
-    (rest.0 ∙ same, rest.1 ∙ same_tags (is_called handle) (λ file. record file { bytes = edited edit file.bytes }) files (λ file. refl), rest.2)
+    let rest = keeps_all (files_after next files (Edit handle edit)) next changes
+    (all_so _ _ changes (λ change is. same_buffered files _ next change (sym same) is) all.1) in
+    (rest.0 ∙ same, rest.1 ∙ kept tag_of (is_called handle) (λ file. record file { bytes = edited edit file.bytes }) files (λ file. refl), rest.2)
 keeps_all files next (other ∷ changes) all = absurd all.0
 
 -- where no file is gone, the group of all that is buffered makes of the plain files those after it
@@ -85,16 +74,16 @@ pub makes_all : (layout : Layout) (files : List File) (next : ℕ) (changes : Li
 makes_all layout files next [] distinct all there = refl
 makes_all layout files next (Edit handle edit ∷ changes) distinct all there =
     let after = files_after next files (Edit handle edit) in
-    let both = neither (is_none (find (is_called handle) files)) (list_any (is_of_none files) changes) there in
-    let there = both.0 in
     let found = some_of (find (is_called handle) files) (grind (arith, nat_tests)) in
     let fit : fits_file (find (is_called handle) files) edit ≡ true =
     ap (λ (o : Option File). fits_file o edit) found.1
     ∙ found_has (is_called handle) (λ file. fits (length file.bytes) edit ≡ true) files found.0 all.0.1 found.1 in
     let same = edits_keep files handle edit all.0.1 in
-    rw (made_edit layout files handle edit next distinct fit, same_group files after next changes (sym same) all.1)
-    (makes_all layout after next changes (same_distinct files after (sym same) distinct) (others_buffered files after next changes same all.1)
-    (sym (same_gone files after next changes (sym same) all.1) ∙ both.1))
+    let alike = same_group files after next changes (sym same) all.1 in
+    rw (made_edit layout files handle edit next distinct fit, alike.0)
+    (makes_all layout after next changes (same_distinct files after (sym same) distinct)
+    (all_so _ _ changes (λ change is. same_buffered files after next change (sym same) is) all.1)
+    (sym alike.1 ∙ grind (arith, nat_tests, there)))
 makes_all layout files next (other ∷ changes) distinct all there = absurd all.0
 
 -- ---- what all controls hold

@@ -1,34 +1,22 @@
 -- What an edit does to its file, to the directory, and to the handles.
-use Rattle.pos_totals.proofs.Common.{FileChange, FileEdit, HasPlace, Limits, List, Ok, PlainFile, Some, Tag, arith, cond-true, drop, edit_change}
-use Rattle.pos_totals.proofs.Common.{edit_in, edited, false, fits, following, given_after, is_range, is_some, lacks, leb-true, length, length-append}
-use Rattle.pos_totals.proofs.Common.{length-drop, length-replicate, length-take, nat_abs, nat_le, negsuc, outcome, pos, refl, slice_get, slice_set, take, true}
-use Rattle.pos_totals.proofs.Common.{value_after, ℕ, ℤ, ◌++◌, ◌+◌, ◌≡◌}
+use Rattle.pos_totals.proofs.Common.{FileChange, FileEdit, HasPlace, Limits, List, Ok, PlainFile, Some, Tag, arith, edit_change, edit_in, edited, false, fits}
+use Rattle.pos_totals.proofs.Common.{following, given_after, is_some, lacks, length, length-append, length-drop, length-replicate, length-take, nat_abs}
+use Rattle.pos_totals.proofs.Common.{nat_tests, outcome, refl, slice_get, slice_set, true, value_after, ℕ, ◌+◌, ◌≡◌, ◌≤◌}
 use Rattle.pos_service.specs.declared.answer.Value.TheVariants as value
 use Rattle.pos_totals.specs.Edits.{SetAll, Write}
-
-range_end : (size : ℕ) (offset : ℤ) (count : ℕ) → is_range size offset (pos count) ≡ true → nat_le (nat_abs offset + count) size ≡ true
-range_end size (pos offset) count fits = fits
-range_end size (negsuc n) count fits = absurd cc
 
 -- one that fits keeps the size of its file
 pub keeps_size : (edit : FileEdit) (old : List ℕ) → fits (length old) edit ≡ true → length (edited edit old) ≡ length old
 keeps_size (Write offset bytes) old fit =
-    let within = leb-true _ _ (range_end (length old) offset (length bytes) fit) in
-    let rest = drop (nat_abs offset + length bytes) old in
-    omega (
-      arith,
-      length-append (take (nat_abs offset) old ++ bytes) rest,
-      length-append (take (nat_abs offset) old) bytes,
-      length-take (nat_abs offset) old,
-      length-drop (nat_abs offset + length bytes) old,
-    )
+    let within : nat_abs offset + length bytes ≤ length old = grind (arith, nat_tests) in
+    omega (arith, length-append {A = ℕ}, length-take {A = ℕ}, length-drop {A = ℕ})
 keeps_size (SetAll n) old fit = length-replicate (length old) (nat_abs n)
 
 -- the directory after it has the file with the bytes after it
 pub makes_edit : (limits : Limits) (files : List PlainFile) (index : ℕ) (edit : FileEdit) (file : PlainFile) → slice_get files index ≡ Some file
     → fits (length file.bytes) edit ≡ true
     → outcome limits files (edit_change index edit) ≡ Ok (slice_set files index (record file { bytes = edited edit file.bytes }))
-makes_edit limits files index (Write offset bytes) file at fit = rw at (cond-true _ _ _ (range_end (length file.bytes) offset (length bytes) fit))
+makes_edit limits files index (Write offset bytes) file at fit = rw at (grind (arith, nat_tests))
 makes_edit limits files index (SetAll n) file at fit = rw at refl
 
 -- the change of the directory is read as an edit

@@ -1,7 +1,9 @@
 -- What a search through the directory, or through the tags, finds among the files with their tags.
-use Rattle.pos_totals.proofs.Common.{DirectoryView, File, HasDirectory, Holdings, IsDirectory, IsSound, Layout, List, None, PlainFile, Some, State, StoreOff}
-use Rattle.pos_totals.proofs.Common.{StoreReady, Tag, [], ap, arith, bytes_eq, cond, eqb-true, false, find, index_of, is_called, is_named, is_natural, length}
-use Rattle.pos_totals.proofs.Common.{limits_of, nat_eq, negsuc, not, pos, position_or_len, refl, store_files_of, sym, with_tags, ℕ, ℤ, ◌+◌, ◌∙◌, ◌∷◌, ◌≡◌}
+use Rattle.pos_totals.proofs.Common.{DirectoryView, File, Found, HasDirectory, Holdings, IfSome, IsDirectory, IsSound, Layout, List, None, Option, PlainFile}
+use Rattle.pos_totals.proofs.Common.{Some, State, StoreOff, StoreReady, Tag, [], ap, arith, bytes_eq, cond, false, file_of, find, find_at, index_of, is_called}
+use Rattle.pos_totals.proofs.Common.{is_named, is_natural, length, limits_of, nat_eq, nat_tests, not, option_map, pos, position_or_len, prefix_len-le-length}
+use Rattle.pos_totals.proofs.Common.{refl, slice_get_past, store_files_of, sym, with_tags, ℕ, ℤ, ◌+◌, ◌∙◌, ◌∷◌, ◌≡◌}
+use Rattle.pos_totals.proofs.Pairs.{length-with_tags}
 use Rattle.pos_totals.proofs.Places.{found_meets}
 
 pub index_by_name : (tags : List Tag) (files : List PlainFile) (name : List ℕ) → length tags ≡ length files
@@ -18,16 +20,19 @@ index_by_handle (first ∷ tags) (file ∷ files) handle same =
     ap (λ n. cond (not (nat_eq first.handle handle)) (1 + n) 0) (index_by_handle tags files handle (omega (arith, same)))
 index_by_handle tags files handle same = absurd (omega (arith, same))
 
+-- what a search through the tags, or through the directory, finds
+pub ruleset searched = (index_by_name, index_by_handle, length-with_tags, prefix_len-le-length, find_at, slice_get_past, nat_tests)
+
 -- no file has a handle below 0
 pub none_below : (handle : ℤ) (files : List File) → is_natural handle ≡ false → find (is_called handle) files ≡ None
-none_below (pos n) files negative = absurd cc
-none_below (negsuc n) [] negative = refl
-none_below (negsuc n) (first ∷ files) negative = none_below (negsuc n) files negative
+none_below handle [] negative = refl
+none_below handle (first ∷ files) negative = grind (arith, nat_tests, none_below handle files negative)
 
 -- a file that was found has the handle
-pub called_is : (handle : ℤ) (files : List File) (file : File) → find (is_called handle) files ≡ Some file → handle ≡ pos file.handle
-called_is (pos n) files file found = ap pos (sym (eqb-true file.handle n (found_meets (is_called (pos n)) files file found)))
-called_is (negsuc n) files file found = absurd (let meets = found_meets (is_called (negsuc n)) files file found in cc)
+pub called_found : (handle : ℤ) (files : List File) (found : Option Found) → option_map file_of found ≡ find (is_called handle) files
+    → IfSome found (λ f. handle ≡ pos f.handle)
+called_found handle files None is = tt
+called_found handle files (Some f) is = grind (arith, nat_tests, found_meets (is_called handle) files (file_of f) (sym is))
 
 -- a store that shows files is ready: they are a directory within the limits of the layout that was found, and each has a tag
 pub shows : {layout : Layout} (state : State) (holdings : Holdings) (directory : DirectoryView) → IsSound layout state holdings

@@ -1,44 +1,36 @@
 -- The tags after a change are those of the files after it, their handles distinct and below the next one.
-use Rattle.pos_totals.proofs.Common.{AllByRecursion, AreDistinct, AreHandles, Bool, Change, Create, Delete, Edit, File, FileChange, Layout, List, None, Option}
-use Rattle.pos_totals.proofs.Common.{Rename, Tag, [], ap, are_distinct, arith, change_rows, drop-nil, edited, file_change, files_after, first_refusal}
-use Rattle.pos_totals.proofs.Common.{following, given_after, given_by, index_of, is_called, is_named, length, length-map, map-append, nat_abs, nat_tests}
-use Rattle.pos_totals.proofs.Common.{new_tag, next_after, numbers_of, plain, plain_file, refl, remove, replicate, suc, sym, tag_of, tags_of, take-nil}
-use Rattle.pos_totals.proofs.Common.{totals_limits, true, value_after, with_each, zero, ℕ, ◌++◌, ◌+◌, ◌<◌, ◌∙◌, ◌∷◌, ◌≡◌}
+use Rattle.pos_totals.proofs.Common.{AllByRecursion, AreDistinct, AreHandles, Change, Create, Delete, Edit, File, FileChange, Layout, List, Option, Rename, Tag}
+use Rattle.pos_totals.proofs.Common.{[], ap, arith, drop-nil, edited, file_change, files_after, following, given_after, given_by, handles_of, index_of}
+use Rattle.pos_totals.proofs.Common.{is_called, is_create, is_named, lacks, last_number, length, length-map, map-append, map-map, nat_eq, new_tag, next_after}
+use Rattle.pos_totals.proofs.Common.{numbers_of, plain, plain_file, refl, remove, suc, sym, tag_of, tags_of, take-nil, value_after, zero, ℕ, ◌&&◌, ◌++◌, ◌+◌}
+use Rattle.pos_totals.proofs.Common.{◌<◌, ◌∙◌, ◌∷◌, ◌≡◌}
 use Rattle.pos_totals.proofs.Edited.{keeps_handles}
-use Rattle.pos_totals.proofs.Grouped.{deleted, only_named, map-remove}
-use Rattle.pos_totals.proofs.Places.{one_gone}
+use Rattle.pos_totals.proofs.Grouped.{IsUnrefused, deleted, only_named, map-remove}
+use Rattle.pos_totals.proofs.Places.{kept, one_gone}
 use Rattle.pos_dir.specs.declared.change.Change.TheVariants as file
 
 -- ---- the files' tags
 
--- a change of files that keeps their handles and claims
-pub same_tags : (test : File → Bool) (change : File → File) (files : List File) → ((file : File) → tag_of (change file) ≡ tag_of file)
-    → tags_of (with_each test change files) ≡ tags_of files
-same_tags test change [] keeps = refl
-same_tags test change (first ∷ files) keeps = grind (arith, nat_tests, keeps first, same_tags test change files keeps)
+module _ {layout : Layout} {files : List File} {next control : ℕ} {spent : Option ℕ} where
+  pub given_is : (change : Change) → IsUnrefused layout files next control spent change
+      → given_after (tags_of files) next (file_change files change) ≡ tags_of (files_after next files change)
+  given_is (Create name size) may = simp map-append
+  given_is (Delete name) may =
+      let found = deleted name may in
+      rw (one_gone (is_named name) files found.0 (only_named files name may.theirs.directory.distinct) found.1, map-remove) refl
+  given_is (Rename handle name) may = sym (kept tag_of (is_called handle) (λ file. record file { name = name }) files (λ file. refl))
+  given_is (Edit handle edit) may =
+      (keeps_handles (index_of (is_called handle) files) edit).given (tags_of files) next
+      ∙ sym (kept tag_of (is_called handle) (λ file. record file { bytes = edited edit file.bytes }) files (λ file. refl))
 
-pub given_is : (layout : Layout) (files : List File) (control : ℕ) (spent : Option ℕ) (change : Change) (next : ℕ) → are_distinct (plain files) ≡ true
-    → first_refusal (change_rows (totals_limits layout) files control spent change) ≡ None
-    → given_after (tags_of files) next (file_change files change) ≡ tags_of (files_after next files change)
-given_is layout files control spent (Create name size) next distinct unrefused =
-    sym (map-append tag_of files (record { handle = next; name = name; bytes = replicate (nat_abs size) 0; claim = None } ∷ []))
-given_is layout files control spent (Delete name) next distinct unrefused =
-    let found = deleted layout files control spent name unrefused in
-    sym (map-remove tag_of files (index_of (is_named name) files))
-    ∙ ap tags_of (sym (one_gone (is_named name) files found.0 (only_named files name distinct) found.1))
-given_is layout files control spent (Rename handle name) next distinct unrefused =
-    sym (same_tags (is_called handle) (λ file. record file { name = name }) files (λ file. refl))
-given_is layout files control spent (Edit handle edit) next distinct unrefused =
-    (keeps_handles (index_of (is_called handle) files) edit).given (tags_of files) next
-    ∙ sym (same_tags (is_called handle) (λ file. record file { bytes = edited edit file.bytes }) files (λ file. refl))
-
-pub next_is : (files : List File) (change : Change) (next : ℕ) → following next (file_change files change) ≡ next_after next change
-next_is files (Edit handle edit) next = (keeps_handles (index_of (is_called handle) files) edit).next next
-next_is files other next = refl
-
-pub value_is : (files : List File) (change : Change) (next : ℕ) → value_after next (file_change files change) ≡ given_by next change
-value_is files (Edit handle edit) next = (keeps_handles (index_of (is_called handle) files) edit).value next
-value_is files other next = refl
+-- what a change lacks, uses up and gives of the numbers
+pub numbers_are : (files : List File) (change : Change) (next : ℕ) → let made = file_change files change in
+    (lacks next made ≡ (is_create change && nat_eq next last_number)) × (following next made ≡ next_after next change)
+    × (value_after next made ≡ given_by next change)
+numbers_are files (Edit handle edit) next =
+    let keeps = keeps_handles (index_of (is_called handle) files) edit in
+    (keeps.lack next, keeps.next next, keeps.value next)
+numbers_are files other next = (refl, refl, refl)
 
 -- ---- facts of all handles
 
@@ -81,15 +73,14 @@ handles_after (file.Delete index) tags next distinct below = rw (map-remove (λ 
 handles_after other tags next distinct below = (distinct, below)
 
 -- The tags after a change are tags of the files after it.
-pub are_after : (layout : Layout) (files : List File) (control : ℕ) (spent : Option ℕ) (change : Change) (next : ℕ) → are_distinct (plain files) ≡ true
-    → AreHandles (tags_of files) (plain files) next → first_refusal (change_rows (totals_limits layout) files control spent change) ≡ None
+pub are_after : {layout : Layout} {files : List File} {next control : ℕ} {spent : Option ℕ} (change : Change)
+    → IsUnrefused layout files next control spent change
     → AreHandles (given_after (tags_of files) next (file_change files change)) (plain (files_after next files change))
     (following next (file_change files change))
-are_after layout files control spent change next distinct handles unrefused =
-    let after = handles_after (file_change files change) (tags_of files) next handles.distinct handles.below in
-    record {
-      count = ap length (given_is layout files control spent change next distinct unrefused) ∙ length-map (files_after next files change) tag_of
-          ∙ sym (length-map (files_after next files change) plain_file);
+are_after {files = files} {next = next} change may =
+    let numbers : numbers_of (tags_of files) ≡ handles_of files = map-map (λ (tag : Tag). tag.handle) tag_of files in
+    let after = handles_after (file_change files change) (tags_of files) next (rw numbers may.theirs.distinct) (rw numbers may.theirs.below) in record {
+      count = ap length (given_is change may) ∙ length-map (files_after next files change) tag_of ∙ sym (length-map (files_after next files change) plain_file);
       distinct = after.0;
       below = after.1;
     }

@@ -5,11 +5,9 @@ mod Claimed
 mod Committed
 mod Common
 mod Edited
-mod Ended
 mod Found
 mod Grouped
 mod Handled
-mod Largest
 mod Numbered
 mod Outlined
 mod Pairs

@@ -1,6 +1,6 @@
 -- Files numbered from a handle on.
 use Rattle.pos_totals.proofs.Common.{AllByRecursion, AreDistinct, AreHandles, List, PlainFile, [], ap, arith, called, length, new_tag, numbered, numbers_of}
-use Rattle.pos_totals.proofs.Common.{refl, suc, tags_from, with_tags, zero, ℕ, ◌++◌, ◌+◌, ◌<◌, ◌∙◌, ◌∷◌, ◌≡◌, ◌≤◌}
+use Rattle.pos_totals.proofs.Common.{refl, suc, tags_from, with_tags, zero, ℕ, ◌++◌, ◌+◌, ◌<◌, ◌∷◌, ◌≡◌, ◌≤◌}
 
 pub with_numbers : (files : List PlainFile) (next : ℕ) → with_tags (tags_from next (length files)) files ≡ numbered next files
 with_numbers [] next = refl
@@ -32,6 +32,4 @@ are_numbers files next = record {
 -- one number more at the end
 pub tags_more : (first count : ℕ) → tags_from first count ++ new_tag (first + count) ∷ [] ≡ tags_from first (count + 1)
 tags_more first zero = ap (λ n. new_tag n ∷ []) (omega arith)
-tags_more first (suc count) =
-    ap (λ n. (new_tag first ∷ tags_from (first + 1) count) ++ new_tag n ∷ []) (let e : first + suc count ≡ first + 1 + count = omega arith in e)
-    ∙ ap (λ ts. new_tag first ∷ ts) (tags_more (first + 1) count) ∙ ap (tags_from first) (let e : suc (count + 1) ≡ suc count + 1 = omega arith in e)
+tags_more first (suc count) = grind (arith, tags_more (first + 1) count)

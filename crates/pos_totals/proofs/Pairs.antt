@@ -1,7 +1,7 @@
 -- Files and their tags in one list.
-use Rattle.pos_totals.proofs.Common.{File, List, None, PlainFile, Some, Tag, [], ap, arith, handles_of, length, length-map, map-map, numbers_of, option_map}
-use Rattle.pos_totals.proofs.Common.{plain, plain_file, refl, same_Some, slice_get, suc, sum_by-cons, sym, tag_of, tags_of, total_size, with_tags, zero, ℕ, ◌∙◌}
-use Rattle.pos_totals.proofs.Common.{◌∷◌, ◌≡◌, ◌≤◌}
+use Rattle.pos_totals.proofs.Common.{File, List, None, Option, PlainFile, Some, Tag, [], ap, arith, called, get_or-le-sum_by, get_or_from_slice_get, handles_of}
+use Rattle.pos_totals.proofs.Common.{length, length-map, map-map, nat_tests, numbers_of, plain, plain_file, refl, slice_get, slice_get-get_or, slice_get_past}
+use Rattle.pos_totals.proofs.Common.{slice_get_within, suc, sym, tag_of, tags_of, total_size, with_tags, zero, ℕ, ◌∙◌, ◌∷◌, ◌≡◌, ◌≤◌}
 
 pub plain_of : (tags : List Tag) (files : List PlainFile) → length tags ≡ length files → plain (with_tags tags files) ≡ files
 plain_of [] [] same = refl
@@ -25,28 +25,28 @@ pub length-with_tags : (tags : List Tag) (files : List PlainFile) → length tag
 length-with_tags tags files same =
     sym (length-map (with_tags tags files) plain_file) ∙ ap (λ (fs : List PlainFile). length fs) (plain_of tags files same)
 
--- a file and its tag at an index
-pub pair_at : (tags : List Tag) (files : List PlainFile) (i : ℕ) (tag : Tag) (name bytes : List ℕ) → slice_get tags i ≡ Some tag
-    → option_map (λ file. file.name) (slice_get files i) ≡ Some name
-    → option_map (λ file. file.bytes) (slice_get files i) ≡ Some bytes
-    → slice_get (with_tags tags files) i ≡ Some (record { handle = tag.handle; name = name; bytes = bytes; claim = tag.claim })
-pair_at [] files i tag name bytes at named held = absurd cc
-pair_at (first ∷ tags) [] i tag name bytes at named held = absurd cc
-pair_at (first ∷ tags) (file ∷ files) zero tag name bytes at named held = cc
-pair_at (first ∷ tags) (file ∷ files) (suc i) tag name bytes at named held = pair_at tags files i tag name bytes at named held
+-- a file at an index, and its tag
+abbrev called_at : Option Tag → Option PlainFile → Option File
+called_at None file = None
+called_at (Some tag) None = None
+called_at (Some tag) (Some file) = Some (called tag file)
+
+pub pair_at : (tags : List Tag) (files : List PlainFile) (i : ℕ) → slice_get (with_tags tags files) i ≡ called_at (slice_get tags i) (slice_get files i)
+pair_at [] files i = refl
+pair_at (tag ∷ tags) [] zero = refl
+pair_at (tag ∷ tags) [] (suc i) = grind (arith, nat_tests)
+pair_at (tag ∷ tags) (file ∷ files) zero = refl
+pair_at (tag ∷ tags) (file ∷ files) (suc i) = pair_at tags files i
+
+pub ruleset placed = (pair_at, slice_get-get_or, slice_get_past, nat_tests)
 
 -- the bytes of one file are at most those of all
-pub one_of_sum : (files : List PlainFile) (i : ℕ) (bytes : List ℕ) → option_map (λ file. file.bytes) (slice_get files i) ≡ Some bytes
-    → length bytes ≤ total_size files
-one_of_sum [] i bytes held = absurd cc
-one_of_sum (file ∷ files) zero bytes held =
-    omega (arith, sum_by-cons (λ (x : PlainFile). length x.bytes) file files, ap (λ (b : List ℕ). length b) (same_Some file.bytes bytes held))
-one_of_sum (file ∷ files) (suc i) bytes held = omega (arith, sum_by-cons (λ (x : PlainFile). length x.bytes) file files, one_of_sum files i bytes held)
+pub one_of_sum : (files : List PlainFile) (i : ℕ) (file : PlainFile) → slice_get files i ≡ Some file → length file.bytes ≤ total_size files
+one_of_sum files i file at = omega (
+  arith,
+  get_or-le-sum_by (λ (x : PlainFile). length x.bytes) files i file (slice_get_within files i file at),
+  ap (λ (x : PlainFile). length x.bytes) (get_or_from_slice_get files i file file at),
+)
 
--- an index that no file has
-pub none_at : (tags : List Tag) (files : List PlainFile) (i : ℕ) {A : Type 0} (f : PlainFile → A) → length tags ≡ length files
-    → option_map f (slice_get files i) ≡ None → slice_get (with_tags tags files) i ≡ None
-none_at [] files i f same none = refl
-none_at (first ∷ tags) [] i f same none = refl
-none_at (first ∷ tags) (file ∷ files) zero f same none = absurd cc
-none_at (first ∷ tags) (file ∷ files) (suc i) f same none = none_at tags files i f (omega (arith, same)) none
+-- what files with their tags have of the files, and of the tags
+pub ruleset paired = (plain_of, tags_in, length-with_tags)

@@ -1,33 +1,40 @@
 -- A group that is put on the disk: what the store did, and what it says of the totals.
-use Rattle.pos_totals.proofs.Common.{Answer, AreHandles, AreTheirFiles, Bool, Change, Commits, Decided, DiskState, Done, Err, File, FileChange, Ghosts}
-use Rattle.pos_totals.proofs.Common.{HasDirectory, HasFailed, HaveBuffers, Holdings, IsAmong, IsApplicable, IsDirectory, IsDone, IsExhausted, IsOneGroup}
-use Rattle.pos_totals.proofs.Common.{IsReady, IsSound, KeepsDisk, Layout, LeavesItsFiles, LeavesOneOf, LeavesTheirFiles, List, MayLeave, Mode, NoMemory, None}
-use Rattle.pos_totals.proofs.Common.{Off, Ok, Option, Passes, PlainFile, PutsDown, PutsGroup, Ready, Result, Row, RunsOut, Some, Standing, Stands, StandsFor}
-use Rattle.pos_totals.proofs.Common.{StandsForOneOf, State, StoreFault, StoreOff, StoreReady, StoreView, Totals, Value, WhenOff, [], after_changes, answer_of}
-use Rattle.pos_totals.proofs.Common.{ap, arith, before_or_after, cond, eq-eqb, eqb-true, false, files_after_all, files_of, first_refusal, fits_behind, group_of}
-use Rattle.pos_totals.proofs.Common.{in_doubt, inl, inr, last_number, limits_of, map, mode_of, nat_eq, nat_tests, never_failed, next_sequences, outcome_of_all}
-use Rattle.pos_totals.proofs.Common.{plain, refl, sequence_after, settled, stays, store_settled, subst, sym, totals_of, transactions_after, true, view_of}
-use Rattle.pos_totals.proofs.Common.{wider, with_tags, without_transactions, ℕ, ⊎_elim, ◌+◌, ◌∷◌, ◌≡◌, ◌⊎◌}
+use Rattle.pos_totals.proofs.Common.{Answer, AreHandles, AreTheirFiles, Bool, Change, Commits, DiskState, Done, Err, File, FileChange, Ghosts, HasDirectory}
+use Rattle.pos_totals.proofs.Common.{HasFailed, HaveBuffers, Holdings, IsAmong, IsApplicable, IsDirectory, IsDone, IsExhausted, IsOneGroup, IsReady, IsSound}
+use Rattle.pos_totals.proofs.Common.{KeepsDisk, Layout, LeavesItsFiles, LeavesOneOf, LeavesTheirFiles, List, MayLeave, Mode, NoMemory, Off, Ok, Option, Passes}
+use Rattle.pos_totals.proofs.Common.{PlainFile, PutsDown, PutsGroup, Ready, Result, RunsOut, Standing, Stands, StandsFor, StandsForOneOf, State, StoreFault}
+use Rattle.pos_totals.proofs.Common.{StoreOff, StoreReady, StoreView, Totals, Value, WhenOff, [], after_changes, answer_of, ap, arith, before_or_after, cond}
+use Rattle.pos_totals.proofs.Common.{eq-eqb, false, files_after_all, files_of, group_of, in_doubt, inl, inr, last_number, limits_of, map, mode_of, nat_eq}
+use Rattle.pos_totals.proofs.Common.{nat_tests, never_failed, next_sequences, outcome, outcome_of_all, plain, refl, sequence_after, settled, stays}
+use Rattle.pos_totals.proofs.Common.{store_settled, subst, totals_of, transactions_after, true, view_of, wider, with_tags, without_transactions, ℕ, ⊎_elim, ◌∷◌}
+use Rattle.pos_totals.proofs.Common.{◌≡◌, ◌⊎◌}
 use Rattle.pos_totals.proofs.Pairs.{plain_of, numbers_in}
 use Rattle.pos_totals.proofs.Buffered.{none_hold}
 use Rattle.pos_service.specs.declared.answer.Answer.TheVariants as answer
 use Rattle.pos_store.specs.Commits as store
 use Rattle.pos_store.specs.declared.fault.StoreFault.TheVariants as fault
 
--- ---- tables
+-- ---- groups
 
-pub open_table : (rows : List Row) (result : Answer) (Same Done : Type 0) → first_refusal rows ≡ None → Done → Decided rows result Same Done
-open_table rows result Same Done none done = record { outcome = rw none done }
-
-pub closed_table : (rows : List Row) (result refusal : Answer) (Same Done : Type 0) → first_refusal rows ≡ Some refusal → result ≡ refusal → Same
-    → Decided rows result Same Done
-closed_table rows result refusal Same Done some is same = record { outcome = rw some (is, same) }
+-- none is put down where a test fails
+pub where_let : (old : Totals) (b : Bool) (changes : List Change) → (b ≡ true → IsOneGroup old changes) → IsOneGroup old (cond b changes [])
+where_let old true changes one = one refl
+where_let old false changes one = refl
 
 -- ---- the view
 
 -- the holdings after a call whose group the store refused
 abbrev pub refused_holdings : Holdings → StoreFault → Holdings
 refused_holdings holdings cause = record holdings { transactions = transactions_after cause holdings.transactions }
+
+-- the holdings after a call that puts a group down, and what it is answered, by what the store answers
+abbrev pub later_holdings : Holdings → Holdings → Result (Unit {0}) StoreFault → Holdings
+later_holdings holdings done (Ok _) = done
+later_holdings holdings done (Err cause) = refused_holdings holdings cause
+
+abbrev pub answer_by : Value → Result (Unit {0}) StoreFault → Result Answer NoMemory
+answer_by given (Ok _) = Ok (answer.Done given)
+answer_by given (Err cause) = answer_of cause
 
 -- what a store that is sound leaves, in the totals' words
 pub their_files : {layout : Layout} (state : State) (holdings : Holdings) (disk : DiskState) → IsSound layout state holdings
@@ -36,14 +43,17 @@ their_files StoreOff holdings disk sound leaves = tt
 their_files (StoreReady files sequence) holdings disk sound leaves =
     rw (plain_of holdings.handles.given files sound.handles.count, ← sound.found) leaves
 
--- a store that is ready has the layout that was found
-ready_at : {D : Type 0} (disk : D) (layout : Layout) (state : State) (tail : ℕ) (holdings : Holdings) → IsSound layout state holdings
-    → IsReady (mode_of holdings.handles.given state) → (files : List PlainFile) × (sequence : ℕ)
-    × ◌≡◌ {A = StoreView D} (record { disk = disk; layout = layout; state = state; tail = tail })
-    (record { disk = disk; layout = holdings.layout; state = StoreReady files sequence; tail = tail })
-ready_at disk layout StoreOff tail holdings sound ready = absurd ready
-ready_at disk layout (StoreReady files sequence) tail holdings sound ready =
-    (files, sequence, ap (λ (l : Layout). record { disk = disk; layout = l; state = StoreReady files sequence; tail = tail }) sound.found)
+-- a store that is ready, of the layout that was found
+abbrev pub ready_store : {D : Type 0} → D → List PlainFile → ℕ → ℕ → Holdings → StoreView D
+ready_store disk files sequence tail holdings = record { disk = disk; layout = holdings.layout; state = StoreReady files sequence; tail = tail }
+
+pub data IsFound {D : Type 0} (holdings : Holdings) : StoreView D → Type 0 where
+  Found : (disk : D) (files : List PlainFile) (sequence tail : ℕ) → IsFound holdings (ready_store disk files sequence tail holdings)
+
+is_found : {D : Type 0} (disk : D) (layout : Layout) (state : State) (tail : ℕ) (holdings : Holdings) → IsSound layout state holdings
+    → IsReady (mode_of holdings.handles.given state) → IsFound holdings (record { disk = disk; layout = layout; state = state; tail = tail })
+is_found disk layout StoreOff tail holdings sound ready = absurd ready
+is_found disk layout (StoreReady files sequence) tail holdings sound ready = rw sound.found (Found disk files sequence tail)
 
 -- a disk that no call has touched
 pub keeps : {D : Type 0} (bound : Ghosts D) (disk : D) → KeepsDisk bound disk disk
@@ -83,16 +93,9 @@ pub record Begins {D : Type 0} (bound : Ghosts D) (store : StoreView D) (holding
   pub sound : IsSound store.layout store.state holdings
   pub leaves : bound.honest store.disk → LeavesItsFiles store.layout store.state (bound.state store.disk)
 
-pub begin : {D : Type 0} (bound : Ghosts D) (store : StoreView D) (holdings : Holdings)
-    → ((bytes : List ℕ) → bound.honest store.disk → (bound.state store.disk).left_since (bound.state store.disk).moment bytes
-    → MayLeave (bound.state store.disk) bytes) → HasDirectory holdings.layout store.state → IsSound store.layout store.state holdings
-    → (bound.honest store.disk → LeavesItsFiles store.layout store.state (bound.state store.disk)) → Begins bound store holdings
-begin bound store holdings only directory sound leaves = record { only = only; directory = directory; sound = sound; leaves = leaves }
-
 module _ {D : Type 0} {bound : Ghosts D} {store : StoreView D} {holdings : Holdings} (begins : Begins bound store holdings) where
-  pub as_found : IsReady (mode_of holdings.handles.given store.state) → (files : List PlainFile) × (sequence : ℕ)
-      × (store ≡ record { disk = store.disk; layout = holdings.layout; state = StoreReady files sequence; tail = store.tail })
-  as_found ready = ready_at store.disk store.layout store.state store.tail holdings begins.sound ready
+  pub as_found : IsReady (mode_of holdings.handles.given store.state) → IsFound holdings store
+  as_found ready = is_found store.disk store.layout store.state store.tail holdings begins.sound ready
 
   -- a call that leaves all but the transactions as it is, whatever its group
   pub idles : (transactions : List (Option (List Change))) (changes : List Change) (outcome : Result Answer NoMemory)
@@ -115,17 +118,10 @@ module _ {D : Type 0} {bound : Ghosts D} {store : StoreView D} {holdings : Holdi
 
 -- ---- the sequences after a group
 
--- a group that fits keeps the sequence, and one that doesn't has the next one, which the last one hasn't
-one_follows : (sequence : ℕ) (fits last : Bool) → ¬ ((fits ≡ false) × (last ≡ true))
-    → IsAmong (cond fits sequence (sequence + 1)) (cond last (sequence ∷ []) (sequence ∷ (sequence + 1) ∷ []))
-one_follows sequence fits last left = grind (arith, nat_tests)
-
 -- the sequence after a group that a store takes is one of the next ones
 pub follows : (layout : Layout) (tail : ℕ) (changes : List FileChange) (sequence : ℕ) → ¬ (IsExhausted layout tail changes sequence)
     → IsAmong (sequence_after layout tail changes sequence) (next_sequences sequence)
-follows layout tail changes sequence left =
-    one_follows sequence (fits_behind layout tail changes) (nat_eq sequence last_number)
-    (λ both. left (both.0, let last = eqb-true sequence last_number both.1 in omega (arith, last)))
+follows layout tail changes sequence left = grind (arith, nat_tests, left)
 
 -- files with one of these sequences
 stands_among : (layout : Layout) (files : List PlainFile) (sequence : ℕ) (sequences : List ℕ) → IsAmong sequence sequences → (bytes : List ℕ)
@@ -145,9 +141,26 @@ group_applies StoreOff holdings changes sound group = tt
 group_applies (StoreReady files sequence) holdings changes sound group =
     rw (sound.found, (rw (plain_of holdings.handles.given files sound.handles.count) at group)) refl
 
-module _ {D : Type 0} {bound : Ghosts D} {disk : D} {files : List PlainFile} {sequence tail : ℕ} {holdings : Holdings}
-    (begins : Begins bound (record { disk = disk; layout = holdings.layout; state = StoreReady files sequence; tail = tail }) holdings)
-    (change : Change) (changes : List Change) (group : IsOneGroup (totals_of (StoreReady files sequence) holdings) (change ∷ changes)) where
+-- What a call is that puts a group on the disk of a store that is ready: its table answers it by what becomes of the group, and the files after the group are
+-- sound with the holdings that it has then.
+pub record Puts {D : Type 0} (bound : Ghosts D) (disk : D) (files : List PlainFile) (sequence tail : ℕ) (holdings later : Holdings) (change : Change)
+    (changes : List Change) (given : Value) (A : Type 0 → Result Answer NoMemory → Totals → Type 0) : Type 1 where
+  pub begins : Begins bound (ready_store disk files sequence tail holdings) holdings
+  pub group : IsOneGroup (totals_of (StoreReady files sequence) holdings) (change ∷ changes)
+  pub wants : (F : Type 0) → A F (Err (record {})) (totals_of (StoreReady files sequence) holdings)
+  pub does : (F : Type 0) (result : Answer) (totals : Totals) → RunsOut (totals_of (StoreReady files sequence) holdings) result totals
+      ⊎ Done F (totals_of (StoreReady files sequence) (record holdings { transactions = later.transactions })) (change ∷ changes) given result totals
+      → A F (Ok result) totals
+  pub ended : without_transactions later.transactions ≡ without_transactions holdings.transactions
+  pub after : (sequence_then : ℕ)
+      → let files_then = plain (files_after_all holdings.handles.next (with_tags holdings.handles.given files) (change ∷ changes)) in
+      (totals_of (StoreReady files_then sequence_then) later ≡ after_changes (totals_of (StoreReady files sequence)
+      (record holdings { transactions = later.transactions })) (change ∷ changes) sequence_then)
+      × IsSound holdings.layout (StoreReady files_then sequence_then) later
+
+module _ {D : Type 0} {bound : Ghosts D} {disk : D} {files : List PlainFile} {sequence tail : ℕ} {holdings later : Holdings} {change : Change}
+    {changes : List Change} {given : Value} {A : Type 0 → Result Answer NoMemory → Totals → Type 0}
+    (it : Puts bound disk files sequence tail holdings later change changes given A) where
   abbrev layout : Layout
   layout = holdings.layout
 
@@ -160,19 +173,16 @@ module _ {D : Type 0} {bound : Ghosts D} {disk : D} {files : List PlainFile} {se
   abbrev after : List File
   after = files_after_all holdings.handles.next xs (change ∷ changes)
 
-  abbrev old_store : StoreView D
-  old_store = record { disk = disk; layout = layout; state = StoreReady files sequence; tail = tail }
-
-  abbrev ready : Totals
-  ready = totals_of (StoreReady files sequence) holdings
+  abbrev old : StoreView D
+  old = ready_store disk files sequence tail holdings
 
   -- the store has the files without their tags
   plain_is : plain xs ≡ files
-  plain_is = plain_of holdings.handles.given files begins.sound.handles.count
+  plain_is = plain_of holdings.handles.given files it.begins.sound.handles.count
 
   -- what the group makes of the store's files
   made : outcome_of_all (limits_of layout) files all ≡ Ok (plain after)
-  made = rw plain_is at group
+  made = rw plain_is at it.group
 
   abbrev then_sequence : ℕ
   then_sequence = sequence_after layout tail all sequence
@@ -186,67 +196,52 @@ module _ {D : Type 0} {bound : Ghosts D} {disk : D} {files : List PlainFile} {se
       (λ none. absurd none) rest) (rw made at stands))
 
   -- what a crash leaves around the store's commit, by the files of the totals before it and the store's state after it
-  passes : {result : Result (Unit {0}) StoreFault} (new : StoreView D) (state : State) → Commits bound old_store all result new → new.state ≡ state
+  passes : {result : Result (Unit {0}) StoreFault} (new : StoreView D) (state : State) → Commits bound old all result new → new.state ≡ state
       → bound.honest disk
       → Passes (bound.state disk) (bound.state new.disk) (Stands layout (plain xs) sequence ∷ [])
       (store_settled layout state (store.left_by layout files sequence tail all))
   passes new state commits is h = rw (plain_is, ← is) (commits.crash h)
 
   -- what the store's commit answered
-  pub put_down : (result : Result (Unit {0}) StoreFault) (new : StoreView D) → store.Answers (StoreReady files sequence) old_store all result new
-      → PutsDown sequence (plain after) old_store all result new
+  put_down : (result : Result (Unit {0}) StoreFault) (new : StoreView D) → store.Answers (StoreReady files sequence) old all result new
+      → PutsDown sequence (plain after) old all result new
   put_down result new answers = rw made at answers
 
-  -- the answers A that its table leaves a call, by what becomes of the group
-  abbrev Does : StoreView D → (Result Answer NoMemory → Totals → Type 0) → List (Option (List Change)) → Value → Type 0
-  Does new A ended given = (result : Answer) (totals : Totals)
-      → RunsOut ready result totals ⊎ Done (HasFailed bound disk new.disk) (record ready { transactions = ended }) (change ∷ changes) given result totals
-      → A (Ok result) totals
-
-  -- a call that is done, its group being put down
-  pub puts : (new : StoreView D) (A : Result Answer NoMemory → Totals → Type 0) (ended : List (Option (List Change))) (given : Value) (later : Holdings)
-      → Does new A ended given → Commits bound old_store all (Ok tt) new
-      → totals_of (StoreReady (plain after) then_sequence) later ≡ after_changes (record ready { transactions = ended }) (change ∷ changes) then_sequence
-      → A (Ok (answer.Done given)) (totals_of new.state later)
-      × PutsGroup bound (view_of old_store holdings) (change ∷ changes) (Ok (answer.Done given)) (view_of new later)
-  puts new A ended given later does commits totals =
+  -- what the call did: its group is put down, or the store refused it, and the transactions end with the disk
+  pub puts : (new : StoreView D) (result : Result (Unit {0}) StoreFault) → Commits bound old all result new
+      → let outcome = answer_by given result in
+      let now = later_holdings holdings later result in
+      A (HasFailed bound disk new.disk) outcome (totals_of new.state now)
+      × PutsGroup bound (view_of old holdings) (change ∷ changes) outcome (view_of new now) × IsSound new.layout new.state now
+  puts new (Ok _) commits =
       let down = put_down (Ok tt) new commits.answer in
-      rw down.1 (subst (λ (t : Totals). A (Ok (answer.Done given)) t
-      × PutsGroup bound (view_of old_store holdings) (change ∷ changes) (Ok (answer.Done given)) (record { disk = new.disk; totals = t })) (sym totals) (
-        does _ _ (inr (inl (refl, record { sequence = then_sequence; follows = follows layout tail all sequence down.0; totals = refl }))),
+      let both = it.after then_sequence in
+      let now : A (HasFailed bound disk new.disk) (Ok (answer.Done given)) (totals_of (StoreReady (plain after) then_sequence) later)
+      × PutsGroup bound (view_of old holdings) (change ∷ changes) (Ok (answer.Done given))
+      (record { disk = new.disk; totals = totals_of (StoreReady (plain after) then_sequence) later }) = rw both.0 (
+        it.does _ _ _ (inr (inl (refl, record { sequence = then_sequence; follows = follows layout tail all sequence down.0; totals = refl }))),
         record {
-          group = group;
+          group = it.group;
           untouched = λ none. absurd cc;
           unchanged = λ refused. absurd (refused tt);
           crash = λ h left leaves. passes new (StoreReady (plain after) then_sequence) commits down.1 h;
           counts = λ h. inr (never_failed _ _ tt fault.Device (commits.counts h));
           kept = commits.keeps;
         },
-      ))
-
-  -- a call whose group the store refused, the transactions ending with the disk
-  pub fails : (new : StoreView D) (A : Result Answer NoMemory → Totals → Type 0) (ended : List (Option (List Change))) (given : Value) (cause : StoreFault)
-      → Does new A ended given → A (Err (record {})) ready → without_transactions ended ≡ without_transactions holdings.transactions
-      → Commits bound old_store all (Err cause) new
-      → A (answer_of cause) (totals_of new.state (refused_holdings holdings cause))
-      × PutsGroup bound (view_of old_store holdings) (change ∷ changes) (answer_of cause) (view_of new (refused_holdings holdings cause))
-      × IsSound new.layout new.state (refused_holdings holdings cause)
-  fails new A ended given fault.NoMemory does wants none commits =
-      rw (put_down (Err fault.NoMemory) new commits.answer) (wants, rests begins (change ∷ changes) _ group, begins.sound)
-  fails new A ended given fault.Exhausted does wants none commits =
+      ) in
+      rw (down.1, commits.layout) (now.0, now.1, both.1)
+  puts new (Err fault.NoMemory) commits =
+      rw (put_down (Err fault.NoMemory) new commits.answer) (it.wants _, rests it.begins (change ∷ changes) _ it.group, it.begins.sound)
+  puts new (Err fault.Exhausted) commits =
       let down = put_down (Err fault.Exhausted) new commits.answer in
       let last : nat_eq sequence last_number ≡ true = eq-eqb sequence last_number (let l = down.0.1 in omega (arith, l)) in
-      rw down.1 (does _ _ (inl (last, refl, refl)), rests begins (change ∷ changes) _ group, begins.sound)
-  fails new A ended given fault.Device does wants none commits =
+      rw down.1 (it.does _ _ _ (inl (last, refl, refl)), rests it.begins (change ∷ changes) _ it.group, it.begins.sound)
+  puts new (Err fault.Device) commits =
       let down = put_down (Err fault.Device) new commits.answer in
       rw down.1 (
-        does _ _ (inr (inr (
-          refl,
-          λ h. commits.device h refl,
-          ap (λ (ts : List (Option (List Change))). record ready { mode = Off; transactions = ts }) (sym none),
-        ))),
+        rw (← it.ended) (it.does _ _ _ (inr (inr (refl, (λ h. commits.device h refl), refl)))),
         record {
-          group = group;
+          group = it.group;
           untouched = λ none. absurd cc;
           unchanged = λ refused. inl tt;
           crash = λ h left leaves. wider (bound.state disk) (bound.state new.disk) _ _ _ (among down.0) (passes new StoreOff commits down.1 h);
@@ -255,4 +250,4 @@ module _ {D : Type 0} {bound : Ghosts D} {disk : D} {files : List PlainFile} {se
         },
         record { found = tt; handles = tt; buffers = none_hold Off holdings.handles.next holdings.transactions; apart = tt },
       )
-  fails new A ended given other does wants none commits = absurd (put_down (Err other) new commits.answer)
+  puts new (Err other) commits = absurd (put_down (Err other) new commits.answer)

@@ -1,8 +1,8 @@
 -- What a recovery of the totals did, by what the store found and the handles that were left.
 use Rattle.pos_totals.proofs.Common.{Err, FindsFiles, Ghosts, HandleTable, Holdings, IsErrOf, IsSound, Layout, Layout1, LeavesItsFiles, LeavesTheirFiles, List}
-use Rattle.pos_totals.proofs.Common.{Numbers, Ok, PlainFile, Ready, Recovers, RecoveryFault, Result, Some, Standing, Stands, State, StoreFault, StoreOff}
-use Rattle.pos_totals.proofs.Common.{StoreReady, StoreView, ap, arith, false, inl, inr, is_some, last_number, length, mode_of, refl, settles, store_files_of}
-use Rattle.pos_totals.proofs.Common.{store_mode_of, stored, tags_from, told_as, totals_of, true, view_of, with_tags, ℕ, ⊎_elim, ◌+◌, ◌↔◌, ◌≡◌, ◌≤◌}
+use Rattle.pos_totals.proofs.Common.{Numbers, Ok, PlainFile, Recovers, RecoveryFault, Result, Some, Standing, State, StoreFault, StoreOff, StoreReady}
+use Rattle.pos_totals.proofs.Common.{StoreView, arith, false, inl, inr, is_some, length, mode_of, nat_tests, refl, settles, store_files_of, store_mode_of}
+use Rattle.pos_totals.proofs.Common.{stored, tags_from, told_as, totals_of, true, view_of, with_tags, ℕ, ⊎_elim, ◌+◌, ◌↔◌, ◌≡◌}
 use Rattle.pos_totals.proofs.Apart.{apart_new}
 use Rattle.pos_totals.proofs.Buffered.{off_holds}
 use Rattle.pos_totals.proofs.Numbered.{with_numbers, are_numbers}
@@ -36,25 +36,7 @@ ready_recovers bound disk layout (StoreReady files sequence) tail holdings sound
 told_finds : (P : Standing → Type 0) (holdings : Holdings) (why : StoreFault) (result : RecoveryFault) (layout : Layout) (state : State)
     → store.FindsStanding P (Err why) layout state → told_as why ≡ Some result
     → (state ≡ StoreOff) × FindsFiles P (totals_of StoreOff holdings) (Err result) (totals_of StoreOff holdings)
-told_finds P holdings cause.Unformatted result layout state finds tells = let is : fault.Unformatted ≡ result = cc in rw (← is) (finds.1, (finds.0, refl))
-told_finds P holdings cause.Damaged result layout state finds tells = let is : fault.Damaged ≡ result = cc in rw (← is) (finds.1, (finds.0, refl))
-told_finds P holdings cause.NoMemory result layout state finds tells = let is : fault.NoMemory ≡ result = cc in rw (← is) (finds, refl)
-told_finds P holdings cause.Device result layout state finds tells = let is : fault.Device ≡ result = cc in rw (← is) (finds, refl)
-told_finds P holdings other result layout state finds tells = absurd finds
-
--- a fault of a recovery is one that is told
-told : (P : Standing → Type 0) (why : StoreFault) (layout : Layout) (state : State) → store.FindsStanding P (Err why) layout state
-    → is_some (told_as why) ≡ true
-told P cause.Off layout state finds = absurd finds
-told P cause.Exhausted layout state finds = absurd finds
-told P cause.AlreadyLayout2 layout state finds = absurd finds
-told P other layout state finds = refl
-
--- the disk's fault is told as that of the disk, and no other fault is
-same_device : (why : StoreFault) (result : RecoveryFault) → told_as why ≡ Some result
-    → IsErrOf {T = Unit {0}} (Err result) fault.Device ↔ IsErrOf {T = Unit {0}} (Err why) cause.Device
-same_device cause.Device result tells = let is : fault.Device ≡ result = cc in rw (← is) ((λ e. refl), (λ e. refl))
-same_device other result tells = ((λ e. absurd cc), (λ e. absurd cc))
+told_finds P holdings why result layout state finds tells = grind (arith, nat_tests)
 
 -- the holdings with other tags, and with another layout too
 abbrev pub with_table : Holdings → HandleTable → Holdings
@@ -66,21 +48,6 @@ found_by holdings layout table = record holdings { layout = layout; handles = ta
 -- the tags of files that were found
 abbrev found_table : ℕ → ℕ → HandleTable
 found_table next count = record { given = tags_from next count; next = next + count }
-
--- files that got handles
-numbered_finds : (P : Standing → Type 0) (holdings : Holdings) (layout : Layout) (files : List PlainFile) (sequence : ℕ) → P (Stands layout files sequence)
-    → holdings.handles.next + length files ≤ last_number
-    → FindsFiles P (totals_of StoreOff holdings) (Ok tt)
-    (totals_of (StoreReady files sequence) (found_by holdings layout (found_table holdings.handles.next (length files))))
-numbered_finds P holdings layout files sequence found left = record {
-  layout = layout;
-  files = files;
-  sequence = sequence;
-  found = found;
-  handles = left;
-  totals = ap (λ fs. record (totals_of StoreOff holdings) { layout = layout; mode = Ready fs sequence; next = holdings.handles.next + length files })
-      (with_numbers files holdings.handles.next);
-}
 
 -- ---- a recovery of totals that are off, by what is made of a finding whatever P tells
 
@@ -108,80 +75,90 @@ off_recovers holdings recovers told state later finds device now = record {
 
 -- ---- the same for a store in any state
 
+-- a store that is off
+pub data IsOff {D : Type 0} : StoreView D → Type 0 where
+  WasOff : (disk : D) (layout : Layout) (tail : ℕ) → IsOff (record { disk = disk; layout = layout; state = StoreOff; tail = tail })
+
 off_is : {D : Type 0} (disk : D) (layout : Layout) (state : State) (tail : ℕ) → store_mode_of state ≡ mode.Off
-    → ◌≡◌ {A = StoreView D} (record { disk = disk; layout = layout; state = state; tail = tail })
-    (record { disk = disk; layout = layout; state = StoreOff; tail = tail })
-off_is disk layout StoreOff tail off = refl
+    → IsOff (record { disk = disk; layout = layout; state = state; tail = tail })
+off_is disk layout StoreOff tail off = WasOff disk layout tail
 off_is disk layout (StoreReady files sequence) tail off = absurd cc
 
-was_off : {D : Type 0} (old : StoreView D) → store_mode_of old.state ≡ mode.Off
-    → old ≡ record { disk = old.disk; layout = old.layout; state = StoreOff; tail = old.tail }
+pub was_off : {D : Type 0} (old : StoreView D) → store_mode_of old.state ≡ mode.Off → IsOff old
 was_off old off = off_is old.disk old.layout old.state old.tail off
 
-shown : {D : Type 0} (disk : D) (layout : Layout) (state : State) (tail : ℕ) (files : List PlainFile) → store_files_of state ≡ Some files
-    → (sequence : ℕ) × ◌≡◌ {A = StoreView D} (record { disk = disk; layout = layout; state = state; tail = tail })
-    (record { disk = disk; layout = layout; state = StoreReady files sequence; tail = tail })
-shown disk layout StoreOff tail files is = absurd cc
-shown disk layout (StoreReady found sequence) tail files is = (sequence, let same : found ≡ files = cc in rw same refl)
+-- a store that shows files
+pub data Shows {D : Type 0} (files : List PlainFile) : StoreView D → Type 0 where
+  Shown : (disk : D) (layout : Layout) (sequence tail : ℕ)
+      → Shows files (record { disk = disk; layout = layout; state = StoreReady files sequence; tail = tail })
 
-module _ {D : Type 0} {bound : Ghosts D} {old mid : StoreView D} (holdings : Holdings) (off : store_mode_of old.state ≡ mode.Off)
-    (sound : IsSound old.layout old.state holdings) where
+shown_at : {D : Type 0} (disk : D) (layout : Layout) (state : State) (tail : ℕ) (files : List PlainFile) → store_files_of state ≡ Some files
+    → Shows files (record { disk = disk; layout = layout; state = state; tail = tail })
+shown_at disk layout StoreOff tail files is = absurd cc
+shown_at disk layout (StoreReady found sequence) tail files is = let same : found ≡ files = cc in rw (← same) (Shown disk layout sequence tail)
+
+pub shown : {D : Type 0} (mid : StoreView D) (files : List PlainFile) → store_files_of mid.state ≡ Some files → Shows files mid
+shown mid files is = shown_at mid.disk mid.layout mid.state mid.tail files is
+
+module _ {D : Type 0} {bound : Ghosts D} where
   -- the store met a fault
-  pub is_told : (why : StoreFault) → store.Recovers bound old (Err why) mid → is_some (told_as why) ≡ true
-  is_told why recovers = told (store.DiskStandsFor bound old.disk) why mid.layout mid.state (rw (was_off old off) at recovers).answer
+  pub is_told : {old mid : StoreView D} → IsOff old → (why : StoreFault) → store.Recovers bound old (Err why) mid → is_some (told_as why) ≡ true
+  is_told (WasOff disk layout tail) why did = let finds = did.answer in grind (arith, nat_tests)
 
-  pub store_failed : (why : StoreFault) (result : RecoveryFault) → store.Recovers bound old (Err why) mid → told_as why ≡ Some result
+  pub store_failed : {old mid : StoreView D} → IsOff old → (holdings : Holdings) → IsSound old.layout old.state holdings → (why : StoreFault)
+      (result : RecoveryFault) → store.Recovers bound old (Err why) mid → told_as why ≡ Some result
       → Recovers bound (view_of old holdings) (Err result) (view_of mid holdings) × IsSound mid.layout mid.state holdings
-  store_failed why result recovers tells = rw (was_off old off) (
-      let did = rw (was_off old off) at recovers in
-      let none = (told_finds (store.DiskStandsFor bound old.disk) holdings why result mid.layout mid.state did.answer tells).0 in
-      let buffers = (rw (was_off old off) at sound).buffers in
-      let still : IsSound mid.layout mid.state holdings = rw none (record { found = tt; handles = tt; buffers = buffers; apart = tt }) in (
+  store_failed {mid = mid} (WasOff disk layout tail) holdings sound why result did tells =
+      let none = (told_finds (store.DiskStandsFor bound disk) holdings why result mid.layout mid.state did.answer tells).0 in
+      let still : IsSound mid.layout mid.state holdings = rw none (record { found = tt; handles = tt; buffers = sound.buffers; apart = tt }) in (
         off_recovers holdings did (Err result) mid.state holdings
-            (λ P finds. rw none (told_finds P holdings why result mid.layout mid.state finds tells).1) (same_device why result tells)
+            (λ P finds. rw none (told_finds P holdings why result mid.layout mid.state finds tells).1)
+            ((λ e. grind (arith, nat_tests)), (λ e. grind (arith, nat_tests)))
             (λ h. their_files mid.state holdings (bound.state mid.disk) still (did.now h)),
         still,
       )
-      )
 
   -- the files that it found got handles
-  pub store_found : (files : List PlainFile) (table : HandleTable) → store.Recovers bound old (Ok tt) mid → store_files_of mid.state ≡ Some files
+  pub store_found : {old mid : StoreView D} {files : List PlainFile} → IsOff old → Shows files mid → (holdings : Holdings)
+      → IsSound old.layout old.state holdings → (table : HandleTable) → store.Recovers bound old (Ok tt) mid
       → Numbers holdings.handles.given holdings.handles.next (length files) true table.given table.next
       → Recovers bound (view_of old holdings) (Ok tt) (view_of mid (found_by holdings mid.layout table))
       × IsSound mid.layout mid.state (found_by holdings mid.layout table)
-  store_found files table recovers shows numbers =
+  store_found {files = files} (WasOff disk layout tail) (Shown after found sequence end) holdings sound table did numbers = rw (numbers.1, numbers.2) (
       let next = holdings.handles.next in
-      let is = shown mid.disk mid.layout mid.state mid.tail files shows in
-      rw (was_off old off, is.1, numbers.1, numbers.2) (
-      let did = rw (was_off old off, is.1) at recovers in
-      let later = found_by holdings mid.layout (found_table next (length files)) in
-      let still : IsSound mid.layout (StoreReady files is.0) later = record {
+      let later = found_by holdings found (found_table next (length files)) in
+      let still : IsSound found (StoreReady files sequence) later = record {
         found = refl;
         handles = are_numbers files next;
-        buffers = off_holds (with_tags (tags_from next (length files)) files) is.0 next (next + length files) holdings.transactions
-            (rw (was_off old off) at sound).buffers;
+        buffers = off_holds (with_tags (tags_from next (length files)) files) sequence next (next + length files) holdings.transactions sound.buffers;
         apart = apart_new holdings.area next (length files);
       } in (
-        off_recovers holdings did (Ok tt) (StoreReady files is.0) later
-            (λ P finds. numbered_finds P holdings mid.layout files is.0 finds numbers.0) ((λ e. absurd cc), (λ e. absurd cc))
-            (λ h. their_files (StoreReady files is.0) later (bound.state mid.disk) still (did.now h)),
+        off_recovers holdings did (Ok tt) (StoreReady files sequence) later
+            (λ P finds. record {
+              layout = found;
+              files = files;
+              sequence = sequence;
+              found = finds;
+              handles = numbers.0;
+              totals = rw (with_numbers files next) refl;
+            }) ((λ e. absurd cc), (λ e. absurd cc))
+            (λ h. their_files (StoreReady files sequence) later (bound.state after) still (did.now h)),
         still,
       )
       )
 
   -- they are too many
-  pub store_found_more : (files : List PlainFile) (table : HandleTable) (new : StoreView D) → store.Recovers bound old (Ok tt) mid
-      → store_files_of mid.state ≡ Some files
+  pub store_found_more : {old mid : StoreView D} {files : List PlainFile} → IsOff old → Shows files mid → (holdings : Holdings)
+      → IsSound old.layout old.state holdings → (table : HandleTable) (new : StoreView D) → store.Recovers bound old (Ok tt) mid
       → Numbers holdings.handles.given holdings.handles.next (length files) false table.given table.next
       → new ≡ record { disk = mid.disk; layout = Layout1; state = StoreOff; tail = 0 }
       → Recovers bound (view_of old holdings) (Err fault.Handles) (view_of new (with_table holdings table))
       × IsSound new.layout new.state (with_table holdings table)
-  store_found_more files table new recovers shows numbers turned =
-      let is = shown mid.disk mid.layout mid.state mid.tail files shows in
-      rw (was_off old off, turned, numbers.1, numbers.2) (
+  store_found_more {files = files} (WasOff disk layout tail) (Shown after found sequence end) holdings sound table new did numbers turned =
+      rw (turned, numbers.1, numbers.2) (
         let many = numbers.0 in
-            off_recovers holdings (rw (was_off old off, is.1) at recovers) (Err fault.Handles) StoreOff holdings
-            (λ P finds. (record { layout = mid.layout; files = files; sequence = is.0; found = finds; handles = λ few. omega (arith, few, many) }, refl))
+            off_recovers holdings did (Err fault.Handles) StoreOff holdings
+            (λ P finds. (record { layout = found; files = files; sequence = sequence; found = finds; handles = λ few. omega (arith, few, many) }, refl))
             ((λ e. absurd cc), (λ e. absurd cc)) (λ h. tt),
-        record { found = tt; handles = tt; buffers = (rw (was_off old off) at sound).buffers; apart = tt },
+        record { found = tt; handles = tt; buffers = sound.buffers; apart = tt },
       )

@@ -13,6 +13,8 @@ use Rattle.pos_service.specs.Refusals.{Row, when, Decided}
 use Rattle.pos_totals.specs.HardTotals.{File, Change, Totals, with_transaction, with_files}
 use Rattle.pos_totals.specs.declared.arranging.Arrangement.{Arrangement as Asked}
 use Rattle.pos_totals.specs.declared.arranging.Arrangement.TheVariants as asked
+use Rattle.pos_totals.specs.declared.claims.Claiming.{Claiming}
+use Rattle.pos_totals.specs.declared.claims.Claiming.TheVariants as claiming
 use Rattle.pos_totals.specs.TotalsFiles.{is_called, has_file, is_own_file, is_foreign_file, with_each}
 use Rattle.pos_totals.specs.TotalsRows.{while_ready}
 
@@ -38,6 +40,15 @@ arrangement_asked (call.ReleaseFile handle) = Some (ReleaseFile handle)
 arrangement_asked call.BeginTrans = Some BeginTrans
 arrangement_asked call.Rollback = Some Rollback
 arrangement_asked other = None
+
+-- the arrangement of a file's claim that a control makes, and the claim that the file has then
+abbrev pub arrangement_by : ℤ → Claiming → Arrangement
+arrangement_by handle (claiming.Claim timeout) = ClaimFile handle timeout
+arrangement_by handle claiming.Release = ReleaseFile handle
+
+abbrev pub claim_after : ℕ → Claiming → Option ℕ
+claim_after control (claiming.Claim timeout) = Some control
+claim_after control claiming.Release = None
 
 -- a transaction may begin: the control has a place for one, and is in none
 abbrev pub may_begin : Option (Option (List Change)) → Bool

@@ -4,7 +4,7 @@ ghost use Rattle.std.specs.Option.{option_map};
 ghost use Rattle.pos_totals.specs.TotalsArrangements.{Arranges, arrangement_asked, arrangement_of};
 ghost use Rattle.pos_totals.specs.Views.{IsSound, totals_of};
 
-use crate::claims::{claim_file, release_file};
+use crate::claims::{Claiming, claim_file};
 use crate::holdings::Holdings;
 use crate::transacting::{begin_trans, rollback};
 use pos_disk::Disk;
@@ -69,9 +69,17 @@ pub fn arrange<D: Disk>(
 {
     match arrangement {
         Arrangement::ClaimFile { handle, timeout } => {
-            claim_file(store, holdings, control, handle, timeout)
+            claim_file(
+                store,
+                holdings,
+                control,
+                handle,
+                Claiming::Claim { timeout },
+            )
         }
-        Arrangement::ReleaseFile { handle } => release_file(store, holdings, control, handle),
+        Arrangement::ReleaseFile { handle } => {
+            claim_file(store, holdings, control, handle, Claiming::Release)
+        }
         Arrangement::BeginTrans => begin_trans(alloc, store, holdings, control),
         Arrangement::Rollback => rollback(store, holdings, control),
     }

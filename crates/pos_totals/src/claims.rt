@@ -3,131 +3,110 @@ ghost use Rattle.std.specs.Prelude.{◌≡◌};
 ghost use Rattle.std.specs.List.{list_any};
 ghost use Rattle.pos_service.specs.Claims.{is_foreign};
 ghost use Rattle.pos_totals.specs.TotalsClaims.{is_area_taken};
-ghost use Rattle.pos_totals.specs.TotalsArrangements.{Arranges, ClaimFile};
-ghost use Rattle.pos_totals.specs.TotalsArrangements.{ReleaseFile};
+ghost use Rattle.pos_totals.specs.TotalsArrangements.{Arranges, arrangement_by, claim_after};
 ghost use Rattle.pos_totals.specs.TotalsClaims.{ClaimsArea, ReleasesArea};
 ghost use Rattle.pos_totals.specs.Checks.{files_in, AreFiles, LetsThrough, LetsThroughAt};
 ghost use Rattle.pos_totals.specs.Views.{IsSound, totals_of};
 
 use crate::files::{Files, find_handle, see_files};
-use crate::handles::Tag;
+use crate::handles::{Tag, Whose};
 use crate::holdings::Holdings;
 use pos_disk::Disk;
 use pos_service::claims::{is_foreign, is_own, is_timeout};
 use pos_service::{Answer, Code, Value};
 use pos_store::Store;
 
-/// Claims the file with a handle.
+/// What a control asks for of the claim of a file: to make it, or to end it.
+#[derive(Clone, Copy)]
+pub enum Claiming {
+    Claim { timeout: i128 },
+    Release,
+}
+
+impl Claiming {
+    /// The claim that a control then has.
+    fn claim(self, control: usize) -> Option<usize>
+        ensures { result ≡ claim_after control self }
+    {
+        match self {
+            Claiming::Claim { timeout: _ } => Some(control),
+            Claiming::Release => None,
+        }
+    }
+}
+
+/// Makes or ends the claim of the file with a handle.
 pub fn claim_file<D: Disk>(
     store: &Store<D>,
     holdings: &mut Holdings,
     control: usize,
     handle: i128,
-    timeout: i128,
+    claiming: Claiming,
 ) -> Answer
     requires sound { IsSound store.now.layout store.now.state holdings.old }
     ensures sound { IsSound store.now.layout store.now.state holdings.new }
-    ensures arranges { Arranges (totals_of store.now.state holdings.old) control (ClaimFile handle timeout) result
+    ensures arranges { Arranges (totals_of store.now.state holdings.old) control (arrangement_by handle claiming) result
         (totals_of store.now.state holdings.new) }
 {
-    match check_claim(store, holdings, control, handle, timeout) {
+    match check_claim(store, holdings, control, handle, claiming) {
         Ok(number) => {
-            holdings.handles.claim(number, Some(control));
+            let claim = claiming.claim(control);
+            holdings.handles.reclaim(Whose::File(number), claim);
             Answer::Done(Value::Empty)
         }
         Err(refusal) => refusal,
     }
 }
 
-/// Checks a claim by its table, and gives the file's handle.
+/// Checks it by its table, and gives the file's handle.
 fn check_claim<D: Disk>(
     store: &Store<D>,
     holdings: &Holdings,
     control: usize,
     handle: i128,
-    timeout: i128,
+    claiming: Claiming,
 ) -> Result<u64, Answer>
     requires sound { IsSound store.now.layout store.now.state holdings.now }
-    ensures { LetsThroughAt (totals_of store.now.state holdings.now) control (ClaimFile handle timeout) handle result }
+    ensures { LetsThroughAt (totals_of store.now.state holdings.now) control (arrangement_by handle claiming) handle
+        result }
 {
     match see_files(store, holdings) {
-        Some(files) => check_claim_in(files, holdings.area, control, handle, timeout),
+        Some(files) => check_claim_in(files, holdings.area, control, handle, claiming),
         None => Err(Answer::Refused(Code::Failure, 0)),
     }
 }
 
-/// Checks a claim where the totals are ready.
+/// Checks it where the totals are ready.
 fn check_claim_in(
     files: Files<'_>,
     area: Option<usize>,
     control: usize,
     handle: i128,
-    timeout: i128,
+    claiming: Claiming,
 ) -> Result<u64, Answer>
     requires { AreFiles files }
-    ensures { LetsThrough area None (files_in files.entry) control (ClaimFile handle timeout) handle result }
+    ensures { LetsThrough area None (files_in files.entry) control (arrangement_by handle claiming) handle result }
 {
     let Some(found) = find_handle(files, handle) else {
         return Err(Answer::Refused(Code::Illegal, 0));
     };
-    if !is_timeout(timeout) {
-        return Err(Answer::Refused(Code::Illegal, 0));
-    }
-    if is_foreign(control, area) || is_foreign(control, found.claim) {
-        return Err(Answer::Refused(Code::Timeout, 0));
-    }
-    Ok(found.handle)
-}
-
-/// Ends the claim of the file with a handle.
-pub fn release_file<D: Disk>(
-    store: &Store<D>,
-    holdings: &mut Holdings,
-    control: usize,
-    handle: i128,
-) -> Answer
-    requires sound { IsSound store.now.layout store.now.state holdings.old }
-    ensures sound { IsSound store.now.layout store.now.state holdings.new }
-    ensures arranges { Arranges (totals_of store.now.state holdings.old) control (ReleaseFile handle) result
-        (totals_of store.now.state holdings.new) }
-{
-    match check_release(store, holdings, control, handle) {
-        Ok(number) => {
-            holdings.handles.claim(number, None);
-            Answer::Done(Value::Empty)
+    match claiming {
+        Claiming::Claim { timeout } => {
+            if !is_timeout(timeout) {
+                return Err(Answer::Refused(Code::Illegal, 0));
+            }
+            if is_foreign(control, area) || is_foreign(control, found.claim) {
+                return Err(Answer::Refused(Code::Timeout, 0));
+            }
+            Ok(found.handle)
         }
-        Err(refusal) => refusal,
+        Claiming::Release => {
+            if !is_own(control, found.claim) {
+                return Err(Answer::Refused(Code::Illegal, 0));
+            }
+            Ok(found.handle)
+        }
     }
-}
-
-/// Checks a release by its table, and gives the file's handle.
-fn check_release<D: Disk>(
-    store: &Store<D>,
-    holdings: &Holdings,
-    control: usize,
-    handle: i128,
-) -> Result<u64, Answer>
-    requires sound { IsSound store.now.layout store.now.state holdings.now }
-    ensures { LetsThroughAt (totals_of store.now.state holdings.now) control (ReleaseFile handle) handle result }
-{
-    match see_files(store, holdings) {
-        Some(files) => check_release_in(files, control, handle),
-        None => Err(Answer::Refused(Code::Failure, 0)),
-    }
-}
-
-/// Checks a release where the totals are ready.
-fn check_release_in(files: Files<'_>, control: usize, handle: i128) -> Result<u64, Answer>
-    requires { AreFiles files }
-    ensures { LetsThrough None None (files_in files.entry) control (ReleaseFile handle) handle result }
-{
-    let Some(found) = find_handle(files, handle) else {
-        return Err(Answer::Refused(Code::Illegal, 0));
-    };
-    if !is_own(control, found.claim) {
-        return Err(Answer::Refused(Code::Illegal, 0));
-    }
-    Ok(found.handle)
 }
 
 /// Claims the area.

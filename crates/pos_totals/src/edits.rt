@@ -100,7 +100,7 @@ impl OwnedEdit {
                 offset,
                 bytes,
             } => {
-                let bytes = Bytes::from_vec(Vec::from_slice(alloc, bytes.as_slice())?);
+                let bytes = Bytes::from_slice(alloc, bytes.as_slice())?;
                 let offset = *offset;
                 Ok(OwnedEdit::Write { offset, bytes })
             }

@@ -54,6 +54,7 @@ pub fn see_files<'a, D: Disk>(store: &'a Store<D>, holdings: &'a Holdings) -> Op
 }
 
 /// The file at an index.
+#[tactic(auto, using(crate::proofs::Pairs::placed))]
 pub fn get_file<'a>(files: Files<'a>, index: usize) -> Option<Found<'a>>
     requires { AreFiles files }
     ensures file { option_map file_of result ≡ slice_get (files_in files.entry) index }
@@ -80,6 +81,7 @@ pub fn get_file<'a>(files: Files<'a>, index: usize) -> Option<Found<'a>>
 }
 
 /// The file with a name.
+#[tactic(auto, using(crate::proofs::Found::searched))]
 pub fn find_name<'a>(files: Files<'a>, name: &[u8]) -> Option<Found<'a>>
     requires { AreFiles files }
     ensures { FindsFile (is_named name.now) (files_in files.entry) result }
@@ -93,11 +95,21 @@ pub fn find_name<'a>(files: Files<'a>, name: &[u8]) -> Option<Found<'a>>
 /// The file with a handle.
 pub fn find_handle<'a>(files: Files<'a>, handle: i128) -> Option<Found<'a>>
     requires { AreFiles files }
-    ensures { FindsFile (is_called handle) (files_in files.entry) result }
+    ensures finds { FindsFile (is_called handle) (files_in files.entry) result }
+    ensures called { IfSome result (λ found. handle ≡ pos found.handle) }
 {
     let Some(handle) = to_natural(handle) else {
         return None;
     };
+    find_number(files, handle)
+}
+
+/// The same of a handle that isn't below 0.
+#[tactic(auto, using(crate::proofs::Found::searched))]
+fn find_number<'a>(files: Files<'a>, handle: u128) -> Option<Found<'a>>
+    requires { AreFiles files }
+    ensures { FindsFile (is_called (pos handle)) (files_in files.entry) result }
+{
     match search(files.tags, handle) {
         Some(index) => get_file(files, index),
         None => None,
@@ -105,6 +117,7 @@ pub fn find_handle<'a>(files: Files<'a>, handle: i128) -> Option<Found<'a>>
 }
 
 /// The index of the file with a handle; without one it is the number of files.
+#[tactic(auto, using(crate::proofs::Found::searched))]
 pub fn find_index(files: Files<'_>, handle: u64) -> u16
     requires { AreFiles files }
     ensures { result ≡ index_of (is_called (pos handle)) (files_in files.entry) }
@@ -123,6 +136,7 @@ fn search(tags: &[Tag], handle: u128) -> Option<usize>
 }
 
 /// FreeData: how many bytes are left for new files.
+#[tactic(auto, using(crate::proofs::Grouped::paired_size))]
 pub fn measure_free(files: Files<'_>) -> usize
     requires { AreFiles files }
     ensures { result ≡ free_data (limits_in files.entry) (files_in files.entry) }
@@ -131,6 +145,7 @@ pub fn measure_free(files: Files<'_>) -> usize
 }
 
 /// NumberOfFiles.
+#[tactic(auto, using(crate::proofs::Pairs::paired))]
 pub fn count_files(files: Files<'_>) -> usize
     requires { AreFiles files }
     ensures { result ≡ length (files_in files.entry) }

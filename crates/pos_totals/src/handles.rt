@@ -1,7 +1,7 @@
 ghost use Rattle.std.specs.Prelude.{◌≡◌, ◌<◌, ◌≤◌, ◌+◌, ◌^◌, [], map};
 ghost use Rattle.pos_dir.specs.declared.limits.TheConstants.{LAYOUT_2};
 ghost use Rattle.pos_totals.specs.HardTotals.{last_number};
-ghost use Rattle.pos_totals.specs.Tables.{tag_claimed, tag_released};
+ghost use Rattle.pos_totals.specs.Tables.{is_meant, reclaimed};
 ghost use Rattle.pos_totals.specs.Numbering.{tags_from, lacks, given_after, following, value_after, HasPlace, Numbers};
 
 use arrayvec::ArrayVec;
@@ -18,6 +18,13 @@ pub const MOST_FILES: usize = LAYOUT_2.files as usize;
 pub struct Tag {
     pub handle: u64,
     pub claim: Option<usize>,
+}
+
+/// Whose claim is meant: that of the file with a handle, or each that a control has made.
+#[derive(Clone, Copy)]
+pub enum Whose {
+    File(u64),
+    Control(usize),
 }
 
 /// The tags of the files in index order, and the handle that the next new file gets. 18,446,744,073,709,551,615 there
@@ -91,20 +98,11 @@ impl Handles {
         }
     }
 
-    /// Claims the file with a handle for a control, or ends its claim.
-    pub fn claim(&mut self, handle: u64, claim: Option<usize>)
-        ensures given { self.new.given ≡ map (tag_claimed handle claim) self.old.given }
-        ensures next { self.new.next ≡ self.old.next }
+    /// Gives each file that is meant another claim.
+    pub fn reclaim(&mut self, whose: Whose, claim: Option<usize>)
+        ensures { self.new ≡ record { given = map (reclaimed whose claim) self.old.given; next = self.old.next } }
     {
-        claim_tags(self.given.as_mut_slice(), handle, claim);
-    }
-
-    /// Ends all claims of a control.
-    pub fn release_all(&mut self, control: usize)
-        ensures given { self.new.given ≡ map (tag_released control) self.old.given }
-        ensures next { self.new.next ≡ self.old.next }
-    {
-        release_tags(self.given.as_mut_slice(), control);
+        reclaim_tags(self.given.as_mut_slice(), whose, claim);
     }
 
     /// Gives so many files handles from the next one on, where so many are left.
@@ -121,44 +119,35 @@ impl Handles {
     }
 }
 
-/// Gives each tag with a handle another claim.
-fn claim_tags(tags: &mut [Tag], handle: u64, claim: Option<usize>)
-    ensures { tags.new ≡ map (tag_claimed handle claim) tags.old }
+/// Gives each tag that is meant another claim.
+fn reclaim_tags(tags: &mut [Tag], whose: Whose, claim: Option<usize>)
+    ensures { tags.new ≡ map (reclaimed whose claim) tags.old }
 {
     for tag in tags.iter_mut() {
-        *tag = claim_tag(*tag, handle, claim);
+        *tag = reclaim(*tag, whose, claim);
     }
 }
 
-/// The tag with another claim, where it has the handle.
-fn claim_tag(tag: Tag, handle: u64, claim: Option<usize>) -> Tag
-    ensures { result ≡ tag_claimed handle claim tag }
+/// The tag with another claim, where it is meant.
+fn reclaim(tag: Tag, whose: Whose, claim: Option<usize>) -> Tag
+    ensures { result ≡ reclaimed whose claim tag }
 {
-    if tag.handle != handle {
-        return tag;
-    }
-    Tag { handle, claim }
-}
-
-/// Ends all claims of a control.
-fn release_tags(tags: &mut [Tag], control: usize)
-    ensures { tags.new ≡ map (tag_released control) tags.old }
-{
-    for tag in tags.iter_mut() {
-        *tag = release_tag(*tag, control);
-    }
-}
-
-/// The tag without its claim, where the control has made it.
-fn release_tag(tag: Tag, control: usize) -> Tag
-    ensures { result ≡ tag_released control tag }
-{
-    if !is_own(control, tag.claim) {
+    if !is_meant(whose, tag) {
         return tag;
     }
     Tag {
         handle: tag.handle,
-        claim: None,
+        claim,
+    }
+}
+
+/// Whether a tag's claim is meant.
+fn is_meant(whose: Whose, tag: Tag) -> bool
+    ensures { result ≡ is_meant whose tag }
+{
+    match whose {
+        Whose::File(handle) => tag.handle == handle,
+        Whose::Control(control) => is_own(control, tag.claim),
     }
 }
 

@@ -4,6 +4,7 @@ ghost use Rattle.pos_totals.specs.TotalsClaims.{foreign_area, without_control};
 ghost use Rattle.pos_totals.specs.TotalsArrangements.{Arranges, BeginTrans, Rollback};
 ghost use Rattle.pos_totals.specs.Views.{IsSound, totals_of};
 
+use crate::handles::Whose;
 use crate::holdings::Holdings;
 use crate::transactions::Buffer;
 use pos_disk::Disk;
@@ -58,7 +59,7 @@ pub fn drop_control<D: Disk>(store: &Store<D>, holdings: &mut Holdings, control:
     ensures totals { totals_of store.now.state holdings.new
         ≡ without_control (totals_of store.now.state holdings.old) control }
 {
-    holdings.handles.release_all(control);
+    holdings.handles.reclaim(Whose::Control(control), None);
     holdings.area = keep_foreign(holdings.area, control);
     holdings.transactions.set(control, None);
 }

@@ -207,25 +207,9 @@ impl Transactions {
         ensures ok { OnOk result (self.new ≡ with_buffered self.old control change) }
         ensures err { OnErr result (self.new ≡ self.old) }
     {
-        match self.take(control) {
-            Some(mut buffer) => {
-                let outcome = buffer.push(change);
-                self.set(control, Some(buffer));
-                outcome
-            }
+        match &mut self.places[control] {
+            Some(buffer) => buffer.push(change),
             None => unreachable!(),
-        }
-    }
-
-    /// Takes out what a control has buffered, and ends its transaction.
-    fn take(&mut self, control: usize) -> Option<Buffer>
-        ensures taken { result ≡ transaction_at self.old control }
-        ensures ended { self.new ≡ slice_set self.old control None }
-    {
-        if control < self.places.len() {
-            self.places[control].take()
-        } else {
-            None
         }
     }
 

@@ -4,5 +4,4 @@ use Rattle.kijolvar.proofs.kijolvar_errand_failed.Goals as goal
 pub returns : goal.returns
 returns c =
     let (kept, at, same) = c.leave.ensures in
-    let old = c.deref_mut.ensures.value ∙ c.take-session.ensures in
-    (kept, at, rw same (rw old at c.fail.ensures))
+    (kept, at, rw same (rw (c.deref_mut.ensures.value ∙ c.take-session.ensures) at c.fail.ensures))

@@ -6,6 +6,7 @@ use super::EventQueue;
 impl EventQueue {
     /// Deletes the DataEvents and the ErrorEvents of input, and ends the input error state (common chapter,
     /// clearInput).
+    #[tactic(auto, using(crate::proofs::ClearingLemmas::input_deleted))]
     pub fn clear_input(&mut self)
         ensures cleared { self.new.list ≡ input_cleared self.old.list }
         ensures room { self.old.spare ≤ self.new.spare }
@@ -17,6 +18,7 @@ impl EventQueue {
     }
 
     /// Deletes the ErrorEvents of output (common chapter, clearOutput). OutputCompleteEvents stay.
+    #[tactic(auto, using(crate::proofs::ClearingLemmas::errors_deleted))]
     pub fn clear_output(&mut self)
         ensures cleared { self.new.list ≡ output_cleared self.old.list }
         ensures room { self.old.spare ≤ self.new.spare }

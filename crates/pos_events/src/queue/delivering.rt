@@ -34,6 +34,7 @@ impl EventQueue {
     }
 
     /// Takes the first event that doesn't wait.
+    #[tactic(auto, using(crate::proofs::DeliveringLemmas::telling))]
     fn take_told(&mut self) -> Option<Delivery>
         ensures event { result ≡ option_map delivery_of (split false self.old.list.events).deliverable }
         ensures rest { self.new.list ≡ record self.old.list { events = left_by false self.old.list.events } }
@@ -44,6 +45,7 @@ impl EventQueue {
     }
 
     /// Takes the first event, and does to the others what the reply asks.
+    #[tactic(auto, using(crate::proofs::DeliveringLemmas::first_is_input_data))]
     fn take_first(&mut self, reply: ErrorReply) -> Option<Delivery>
         ensures event { result ≡ option_map delivery_of (split true self.old.list.events).deliverable }
         ensures rest { let list = record self.old.list { events = left_by true self.old.list.events } in

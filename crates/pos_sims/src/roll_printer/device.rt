@@ -4,6 +4,7 @@ ghost use Rattle.pos_service.specs.Receipts.{empty_roll};
 ghost use Rattle.pos_sims.specs.ReceiptPrinters.{printer_state, reply_of, state_of};
 
 use super::RollPrinter;
+use crate::power::passes_by;
 use crate::roll::Roll;
 use pos_service::receipt_text::Outcome;
 use pos_service::{
@@ -82,11 +83,7 @@ impl Peripheral for RollPrinter {
             Fed (state_of self.old) input.now result (state_of self.new) }
         ensures takes_no_memory { IsOk result }
     {
-        if let Input::PowerMoved(is_on) = input {
-            self.powered = *is_on;
-            return Ok(Taken::Quiet);
-        }
-        if !self.powered {
+        if passes_by(&mut self.powered, input) {
             return Ok(Taken::Quiet);
         }
         match input {

@@ -1,14 +1,10 @@
-use Rattle.kijolvar.proofs.Common.{Argument, List, Option, ap, arith, codes, filter_map, sym, with_arguments, ℕ, ◌++◌, ◌∙◌}
-use Rattle.pos_service.specs.Peripherals.{order_word}
+use Rattle.kijolvar.proofs.Common.{Argument, List, Option, arith, filter_map, with_arguments, ℕ}
 use Rattle.std.proofs.lemmas.List.{at_drop_more, drop_all}
 use Rattle.kijolvar.proofs.orders.order_line.Goals.{in-Some+in_ok-add_argument, in_default}
 use Rattle.kijolvar.proofs.orders.order_line.Goals as goal
 
 pub loop-argument-init : goal.loop-argument-init
-loop-argument-init c =
-    ap (λ (items : List ℕ). with_arguments items (filter_map (λ (given : Option Argument). given) c.arguments-arguments.result))
-    (c.in_ok-line.ensures ∙ ap (λ (w : List ℕ). c.args.device.now ++ codes " " ++ w) c.word.ensures)
-    ∙ ap (with_arguments (c.args.device.now ++ codes " " ++ order_word c.args.order.now)) c.arguments-arguments.ensures
+loop-argument-init c = grind arith
 
 pub loop-argument-preserved : goal.loop-argument-preserved
 loop-argument-preserved c =
@@ -21,7 +17,4 @@ loop-argument-preserved c =
     ]
 
 pub returns : goal.returns
-returns c =
-    let none = drop_all c.loop-argument.argument-index c.arguments-arguments.result (omega arith) in
-    ap (λ (left : List (Option Argument)). with_arguments c.loop-argument.line.items (filter_map (λ (given : Option Argument). given) left)) (sym none)
-    ∙ c.loop-argument.invariant
+returns c = grind (arith, drop_all c.loop-argument.argument-index c.arguments-arguments.result)

@@ -1,12 +1,12 @@
 -- `give` forgets what a till owns, which C has from then on.
 use Rattle.kijolvar.proofs.Common.{ !, Goes-blank, List, SProp, Stays, Val, WpFn, [], alive, alloc_all, block_ptr, by, drop, emp, ent, enter, fact, fact_i}
 use Rattle.kijolvar.proofs.Common.{feq_i, fjoin, fld, free_all, fsplit, get, get_in, id⊢, keep, leaves, look_at, move, nothing, of_opd, owns, pass_all, plain}
-use Rattle.kijolvar.proofs.Common.{proved_at, qed, raw, refl, returns, sets, split, stay_dropped, stop, sub, subst, suffices, sym, tables, types_at, use0}
-use Rattle.kijolvar.proofs.Common.{vptr, walk_of, whole, yes, ‵, ◌$◌, ◌++◌, ◌∵◌, ◌∷◌, ◌≡◌, ◌⊛◌}
+use Rattle.kijolvar.proofs.Common.{proved_at, qed, raw, refl, returns, sets, split, stay_dropped, stop, sub, subst, suffices, sym, tables, types_at, use0, vptr}
+use Rattle.kijolvar.proofs.Common.{walk_of, whole, yes, ‵, ◌$◌, ◌++◌, ◌∵◌, ◌∷◌, ◌≡◌, ◌⊛◌}
 use Rattle.kijolvar.specs.contracts.till.give.{clauses, ended}
 use Rattle.kijolvar.specs.contracts.till.give.Key.{name as #self}
-use Rattle.kijolvar.proofs.Values.{both, loose_good}
-use Rattle.kijolvar.proofs.Tills.{R, Z, LZ, g, Till, till_out}
+use Rattle.kijolvar.proofs.Values.{both, loose_good, loose_out}
+use Rattle.kijolvar.proofs.Tills.{R, Z, LZ, g, Till, as_loose}
 use Rattle.kijolvar.proofs.till.give.Statement.{statement}
 use Rattle.kijolvar.proofs.till.give.Code as code
 
@@ -19,7 +19,7 @@ give_spec 𝓤 𝓛 𝓜 𝓡 wired =
     let Run : List Val → SProp 𝓤 = λ ws. WpFn 𝓤 H 𝓣.C 𝓣.Λ code.function ws Post in
     let asked = raw ((c z.0.0 z.0.3).requires z.1) in
     qed 𝓛 ((raw (alive 𝓛 ended.signature z.0.0 z.0.1) ⊛ ‵ (owns (types_at ended.signature.params z.0.0) z.0.3 z.0.4)) ∷ asked ∷ []) ∵ split ! $
-    move ! (1 ∷ []) $ fsplit ! $ till_out ! v z.0.4.0 (λ b o h e ws fits.
+    move ! (1 ∷ []) $ fsplit ! $ loose_out R Z LZ g ! (as_loose v) z.0.4.0 (λ b o h e ws fits.
     let w : Val = both (vptr b o) h in let typed = loose_good R Z LZ g b o h fits in
     suffices ! (Run (w ∷ [])) (subst (λ (us : List Val). ent 𝓤 (Run (w ∷ [])) (Run us)) (sym (λ i. ws i ++ [])) (id⊢ 𝓤 (Run (w ∷ [])))) $
     enter ! 𝓣.C 𝓣.Λ code.function (w ∷ []) Post $ alloc_all ! (λ l. pass_all ! refl (typed, tt) $

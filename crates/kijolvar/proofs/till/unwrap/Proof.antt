@@ -5,8 +5,8 @@ use Rattle.kijolvar.proofs.Common.{pass_all, plain, proved_at, qed, raw, refl, r
 use Rattle.kijolvar.proofs.Common.{types_at, use0, vptr, walk_of, whole, yes, ‵, ◌$◌, ◌++◌, ◌∵◌, ◌∷◌, ◌≡◌, ◌⊛◌}
 use Rattle.kijolvar.specs.contracts.till.unwrap.{clauses, ended}
 use Rattle.kijolvar.specs.contracts.till.unwrap.Key.{name as #self}
-use Rattle.kijolvar.proofs.Values.{both, loose_good, loose_in}
-use Rattle.kijolvar.proofs.Tills.{R, Z, LZ, g, Till, till_out}
+use Rattle.kijolvar.proofs.Values.{both, loose_good, loose_in, loose_out}
+use Rattle.kijolvar.proofs.Tills.{R, Z, LZ, g, Till, as_loose}
 use Rattle.kijolvar.proofs.till.unwrap.Statement.{statement}
 use Rattle.kijolvar.proofs.till.unwrap.Code as code
 
@@ -19,7 +19,7 @@ unwrap_spec 𝓤 𝓛 𝓜 𝓡 wired =
     let Run : List Val → SProp 𝓤 = λ ws. WpFn 𝓤 H 𝓣.C 𝓣.Λ code.function ws Post in
     let asked = raw ((c z.0.0 z.0.3).requires z.1) in
     qed 𝓛 ((raw (alive 𝓛 ended.signature z.0.0 z.0.1) ⊛ ‵ (owns (types_at ended.signature.params z.0.0) z.0.3 z.0.4)) ∷ asked ∷ []) ∵ split ! $
-    move ! (1 ∷ []) $ fsplit ! $ till_out ! v z.0.4.0 (λ b o h e ws fits.
+    move ! (1 ∷ []) $ fsplit ! $ loose_out R Z LZ g ! (as_loose v) z.0.4.0 (λ b o h e ws fits.
     let w : Val = both (vptr b o) h in let typed = loose_good R Z LZ g b o h fits in
     suffices ! (Run (w ∷ [])) (subst (λ (us : List Val). ent 𝓤 (Run (w ∷ [])) (Run us)) (sym (λ i. ws i ++ [])) (id⊢ 𝓤 (Run (w ∷ [])))) $
     enter ! 𝓣.C 𝓣.Λ code.function (w ∷ []) Post $ alloc_all ! (λ l. pass_all ! refl (typed, tt) $

@@ -5,8 +5,8 @@ use Rattle.kijolvar.proofs.Common.{pass_all, plain, proved_at, qed, raw, refl, r
 use Rattle.kijolvar.proofs.Common.{types_at, use0, vptr, walk_of, whole, yes, ‵, ◌$◌, ◌++◌, ◌∵◌, ◌∷◌, ◌≡◌, ◌⊛◌}
 use Rattle.kijolvar.specs.contracts.till.wrap.{clauses, ended}
 use Rattle.kijolvar.specs.contracts.till.wrap.Key.{name as #self}
-use Rattle.kijolvar.proofs.Values.{both, Loose, loose_good, loose_out}
-use Rattle.kijolvar.proofs.Tills.{R, Z, LZ, g, till_in}
+use Rattle.kijolvar.proofs.Values.{both, Loose, loose_good, loose_in, loose_out}
+use Rattle.kijolvar.proofs.Tills.{R, Z, LZ, g}
 use Rattle.kijolvar.proofs.till.wrap.Statement.{statement}
 use Rattle.kijolvar.proofs.till.wrap.Code as code
 
@@ -26,7 +26,7 @@ wrap_spec 𝓤 𝓛 𝓜 𝓡 wired =
     sets ! (of_opd ! (get_in ! (fld ! refl (stop !)) (sub ! 0 refl (whole !)))) refl (tt, tt) $
     sets ! (of_opd ! (get_in ! (fld ! refl (stop !)) (sub ! 1 refl (whole !)))) refl fits $
     sets ! (of_opd ! (get ! refl)) refl (tt, tt) $ sets ! (agg ! (and_then ! (get ! refl) (and_then ! (get ! refl) (no_more !)))) refl typed $
-    till_in ! b o h v.alloc v.value $
+    loose_in R Z LZ g ! b o h v.alloc v.value $
     use0 𝓛 (raw (fact 𝓤 (v.value ≡ v.value))) (fact_i 𝓤 (v.value ≡ v.value) (emp 𝓤) refl) $ nothing ! $ nothing ! $ fjoin ! $
     returns ! (look_at ! 0 refl) $ free_all ! refl $ keep ! (4 ∷ 0 ∷ 2 ∷ 1 ∷ []) $
     by ! (leaves 𝓛 ended hs c z w (record { at = block_ptr b o; alloc = v.alloc; session = v.value }) (tt, tt) (tt, tt)))))

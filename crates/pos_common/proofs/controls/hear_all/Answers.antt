@@ -1,5 +1,4 @@
-use Rattle.pos_common.proofs.Common.{All, HasRoom, arith, controls_of, heard_signs, if_listening, length, length-map, sign_events, subst, take_all, ◌+◌, ◌<◌}
-use Rattle.pos_common.proofs.Common.{◌∙◌, ◌≡◌, ◌≤◌}
+use Rattle.pos_common.proofs.Common.{HasRoom, arith, heard_signs, if_listening, length, sign_events, take_all, ◌+◌, ◌<◌}
 use Rattle.pos_common.proofs.KeptLemmas.{mapped_more, first_of_rest, rest_after_set, front_after_set}
 use Rattle.pos_common.proofs.RoomLemmas.{room_left}
 use Rattle.pos_common.proofs.controls.hear_all.Goals as goal
@@ -9,10 +8,9 @@ loop-control-preserved c =
     let hs = c.loop-control.controls in
     let place = c.args.place in
     let lt : c.loop-control.control-index < length hs = omega arith in
-    let n : length (controls_of c.args.controls.now) ≡ length hs = length-map c.args.controls.now _ ∙ omega arith in
     record {
-      heard = mapped_more (if_listening place
-          (heard_signs c.args.old c.args.new)) _ hs _ c.control-item.result _ lt c.hear.ensures.heard c.loop-control.invariant.heard n;
+      heard = mapped_more (if_listening place (heard_signs c.args.old c.args.new)) c.args.controls.now hs _ c.control-item.result _ lt
+          c.hear.ensures.heard c.loop-control.invariant.heard (omega arith);
       room = rest_after_set (HasRoom place sign_events) hs _ _ lt c.loop-control.invariant.room;
       left = λ count all.
           let so_far = c.loop-control.invariant.left count all in
@@ -24,7 +22,4 @@ loop-control-preserved c =
     }
 
 pub returns-clause-room : goal.returns-clause-room
-returns-clause-room c = λ count all.
-    let hs = c.loop-control.controls in
-    let le : length hs ≤ c.loop-control.control-index = omega arith in
-    subst (All (HasRoom c.args.place count)) (take_all c.loop-control.control-index hs le) (c.loop-control.invariant.left count all).0
+returns-clause-room c = λ count all. grind (arith, take_all, c.loop-control.invariant.left count all)

@@ -1,7 +1,6 @@
+use Rattle.pos_counter.proofs.Common.{rules}
 use Rattle.pos_counter.proofs.DeviceLists.{done_there}
 use Rattle.pos_counter.proofs.inputs.input_there.Goals as goal
 
 pub returns-clause-done : goal.returns-clause-done
-returns-clause-done g c =
-    done_there _ _ c.args.devices.now.totals _ _ _ _ c.requires.sound.registry.served c.serving-peripheral.ensures.value
-    (c.serving-peripheral.ensures.devices _) c.take_input.ensures.taken
+returns-clause-done g c = search (rules, done_there, c.serving-peripheral.ensures.devices)

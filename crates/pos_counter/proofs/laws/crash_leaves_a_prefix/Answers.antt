@@ -1,4 +1,5 @@
 -- A crash of a counter's disk leaves a prefix of the history.
+use Rattle.pos_counter.proofs.Common.{rules}
 use Rattle.pos_counter.proofs.PrefixRuns.{has_begun, keeps_prefix, keeps_prefixes}
 use Rattle.pos_counter.proofs.Runs.{runs_from}
 use Rattle.pos_counter.proofs.Serving.{beside_is_step}
@@ -17,5 +18,4 @@ pub returns-clause-moments : goal.returns-clause-moments
 returns-clause-moments g c left steps old = runs_from g.D.Disk _ old c.args.counter.now steps left g.met.D.Disk.only_now
 
 pub returns-clause-beside : goal.returns-clause-beside
-returns-clause-beside g c old request response step =
-    beside_is_step g.D.Disk _ old c.args.counter.now request response (g.met.D.Disk.only_now _) step
+returns-clause-beside g c old request response step = search (rules, beside_is_step, g.met.D.Disk.only_now)

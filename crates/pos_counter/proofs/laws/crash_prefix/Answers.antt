@@ -1,5 +1,5 @@
 -- A crash leaves a prefix of the history.
-use Rattle.pos_counter.proofs.Common.{begun, event_of, history_of, refl}
+use Rattle.pos_counter.proofs.Common.{rules}
 use Rattle.pos_counter.proofs.PrefixRuns.{bytes_along, fits_last, law_after, law_recovers}
 use Rattle.pos_counter.proofs.Prefixes.{fits_inside, fits_start, grows}
 use Rattle.pos_counter.proofs.Steps.{step_fits}
@@ -9,14 +9,10 @@ pub returns-clause-after : goal.returns-clause-after
 returns-clause-after c layout start sequence first last steps run is = law_after layout start sequence first last steps run is
 
 pub returns-clause-inside : goal.returns-clause-inside
-returns-clause-inside c layout start sequence first old steps run request response new step is =
-    let history = history_of layout start first steps old run in
-    let fits = fits_last layout start sequence first old steps run is in
-    fits_inside history old.totals (event_of old request response new) new.totals fits (step_fits history old request response new fits step)
+returns-clause-inside c layout start sequence first old steps run request response new step is = search (rules, fits_last, fits_inside, step_fits)
 
 pub returns-clause-along : goal.returns-clause-along
-returns-clause-along c layout start sequence first last steps run is =
-    bytes_along (begun layout start) first steps last run (fits_start (begun layout start) start sequence first.totals refl is)
+returns-clause-along c layout start sequence first last steps run is = search (rules, bytes_along, fits_start)
 
 pub returns-clause-files : goal.returns-clause-files
 returns-clause-files c layout start sequence first last steps run is left one =

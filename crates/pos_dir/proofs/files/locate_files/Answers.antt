@@ -2,26 +2,6 @@ use Rattle.pos_dir.proofs.Common.{[], arith, directory_at, file_at, items_at, na
 use Rattle.pos_dir.proofs.Items.{length_items, some_read}
 use Rattle.pos_dir.proofs.files.locate_files.Goals as goal
 
-pub returns-in_err-count : goal.returns-in_err-count
-unfolding directory_at
-returns-in_err-count c = grind arith
-
-pub returns-then-count-limits : goal.returns-then-count-limits
-unfolding directory_at
-returns-then-count-limits c = grind (arith, nat_tests, length_items file_at)
-
-pub returns-in_err-end : goal.returns-in_err-end
-unfolding directory_at
-returns-in_err-end c = grind (arith, nat_tests)
-
-pub returns-then-not-is_empty : goal.returns-then-not-is_empty
-unfolding directory_at
-returns-then-not-is_empty c = grind (arith, nat_tests)
-
-pub returns-then-not-are_distinct : goal.returns-then-not-are_distinct
-unfolding directory_at
-returns-then-not-are_distinct c = grind (arith, nat_tests)
-
 pub returns : goal.returns
 unfolding directory_at
 returns c =

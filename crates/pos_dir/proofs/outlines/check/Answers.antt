@@ -1,13 +1,12 @@
-use Rattle.pos_dir.proofs.Common.{List, Option, Outline, answer_by_size, ap, option_map, slice_get, ℕ, ◌∙◌}
-use Rattle.pos_dir.proofs.Outlined.{answered_by_outline}
+use Rattle.pos_dir.proofs.Common.{arith, nat_tests}
+use Rattle.pos_dir.proofs.Outcomes.{answered}
+use Rattle.pos_dir.proofs.Outlined.{same_size}
 use Rattle.pos_dir.proofs.outlines.check.Goals as goal
 
 pub returns-in-Some : goal.returns-in-Some
-returns-in-Some g c =
-    let outlines = c.args.outlines.now.items in
-    let size = c.outline_size.ensures ∙ ap (λ (os : List Outline). option_map (λ o. o.size) (slice_get os c.in-Some.index)) c.as_slice.ensures.value in
-    answered_by_outline c.args.limits outlines c.args.change.now (c.in-Some.index, c.in-Some.least) c.check_size.result c.in-Some.ensures
-    (c.check_size.ensures ∙ ap (λ (s : Option ℕ). answer_by_size s c.in-Some.least) size)
+returns-in-Some g c = λ files same.
+    let did = answered c.args.limits files c.args.change.now (c.in-Some.index, c.in-Some.least) c.in-Some.ensures in
+    grind (arith, nat_tests, did, same_size c.args.outlines.now.items files c.in-Some.index same)
 
 pub returns-in-Delete : goal.returns-in-Delete
 returns-in-Delete g c = rw c.in-Delete.is (c.check_delete.ensures c.args.limits)

@@ -8,15 +8,15 @@ use Rattle.pos_image.proofs.disk_calls.place_image.Goals as goal
 pub returns-in_err-close_gate-clause-any_moment : goal.returns-in_err-close_gate-clause-any_moment
 returns-in_err-close_gate-clause-any_moment g c honest =
     let s0 = g.D.Disk.state c.args.disk.now in
-    let closing : CrashClosing (start c.args.slot) s0 (g.D.Disk.state c.close_gate.new.disk) = first_of
+    let closing : CrashClosing (start c.args.image.now.slot) s0 (g.D.Disk.state c.close_gate.new.disk) = first_of
     (search rules, grind (arith, common_steps) steps 300000) in
-    weaker s0 _ _ _ (closing_stages c.args.slot s0.reading) closing
+    weaker s0 _ _ _ (closing_stages c.args.image.now.slot s0.reading) closing
 
 pub returns-clause-any_moment : goal.returns-clause-any_moment
 returns-clause-any_moment g c honest =
     let s0 = g.D.Disk.state c.args.disk.now in
     let s1 = g.D.Disk.state c.close_gate.new.disk in
-    let slot = c.args.slot in
+    let slot = c.args.image.now.slot in
     let closing : CrashClosing (start slot) s0 s1 = first_of (search rules, grind (arith, common_steps) steps 300000) in
     let same : SameBut (start slot) 1 s0.reading s1.reading = first_of (search rules, grind (arith, common_steps) steps 300000) in
     let shut : is_open s1.reading (start slot) ≡ false = first_of (search rules, grind (arith, common_steps) steps 300000) in

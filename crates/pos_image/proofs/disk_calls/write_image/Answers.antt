@@ -1,4 +1,4 @@
-use Rattle.pos_image.proofs.Common.{DiskState, Slot, ap, arith, layout_of, length, log_place, slot_size, start, ◌+◌, ◌-◌, ◌∙◌}
+use Rattle.pos_image.proofs.Common.{DiskState, Slot, ap, arith, layout_of, length, log_place, rules, slot_size, start, ◌+◌, ◌-◌, ◌∙◌, ◌≡◌}
 use Rattle.pos_image.proofs.Places.{places}
 use Rattle.pos_image.proofs.Staged.{IsRun, fields_written, run_start, run_sync, run_write, where_ok}
 use Rattle.pos_image.proofs.disk_calls.write_image.Given.{Over}
@@ -10,24 +10,24 @@ abbrev IsBehind : Slot → DiskState → DiskState → Type 0
 IsBehind slot old new = IsRun (start slot + 1) (slot_size (layout_of slot) - 1) old new
 
 first_run : (g : Over) (c : After-write g) → g.D.Disk.honest c.args.disk.now
-    → IsBehind c.args.slot (g.D.Disk.state c.args.disk.now) (g.D.Disk.state c.write.new.self)
+    → IsBehind c.args.image.now.slot (g.D.Disk.state c.args.disk.now) (g.D.Disk.state c.write.new.self)
 first_run g c honest =
-    run_write (omega (arith, c.start-at.ensures)) (omega (arith, places c.args.slot, c.start-at.ensures, ap length c.head_of.ensures))
+    run_write (omega (arith, c.start-at.ensures)) (omega (arith, places c.args.image.now.slot, c.start-at.ensures, ap length c.head_of.ensures.bytes))
     (c.write.ensures.writes honest)
     (run_start (c.requires.at_rest honest) (λ f left. g.met.D.Disk.only_now c.args.disk.now f honest left))
 
 second_run : (g : Over) (c : After-write-2 g) → g.D.Disk.honest c.args.disk.now
-    → IsBehind c.args.slot (g.D.Disk.state c.args.disk.now) (g.D.Disk.state c.write.new.self)
-    → IsBehind c.args.slot (g.D.Disk.state c.args.disk.now) (g.D.Disk.state c.write-2.new.self)
+    → IsBehind c.args.image.now.slot (g.D.Disk.state c.args.disk.now) (g.D.Disk.state c.write.new.self)
+    → IsBehind c.args.image.now.slot (g.D.Disk.state c.args.disk.now) (g.D.Disk.state c.write-2.new.self)
 second_run g c honest run =
-    run_write (omega (arith, c.start-at.ensures)) (omega (arith, places c.args.slot, c.start-at.ensures, c.requires.short))
+    run_write (omega (arith, c.start-at.ensures)) (omega (arith, places c.args.image.now.slot, c.start-at.ensures, c.requires.short))
     (c.write-2.ensures.writes (c.write.ensures.honest.0 honest)) run
 
 third_run : (g : Over) (c : After-write-3 g) → g.D.Disk.honest c.args.disk.now
-    → IsBehind c.args.slot (g.D.Disk.state c.args.disk.now) (g.D.Disk.state c.write-2.new.self)
-    → IsBehind c.args.slot (g.D.Disk.state c.args.disk.now) (g.D.Disk.state c.write-3.new.self)
+    → IsBehind c.args.image.now.slot (g.D.Disk.state c.args.disk.now) (g.D.Disk.state c.write-2.new.self)
+    → IsBehind c.args.image.now.slot (g.D.Disk.state c.args.disk.now) (g.D.Disk.state c.write-3.new.self)
 third_run g c honest run =
-    let here = places c.args.slot in
+    let here = places c.args.image.now.slot in
     let log_is = c.log.ensures ∙ ap log_place c.layout.ensures in
     run_write (omega (arith, c.start-at.ensures)) (omega (arith, c.start-at.ensures))
     (c.write-3.ensures.writes (c.write-2.ensures.honest.0 (c.write.ensures.honest.0 honest))) run
@@ -62,6 +62,7 @@ returns-clause-written g c honest =
     let same = (c.sync.ensures.syncs (c.write-3.ensures.honest.0 honest2)).reading in
     let log_is = c.log.ensures ∙ ap log_place c.layout.ensures in
     let whole = g.met.D.Disk.whole c.args.disk.now honest in
-    where_ok c.sync.result _ (rw (same, third, second, first, log_is, c.start-at.ensures)
-    (fields_written (g.D.Disk.state c.args.disk.now).reading c.head_of.result c.args.body.now c.args.slot c.args.sequence
-    (omega (arith, whole, c.requires.large)) c.requires.short c.ranges.sequence.fits c.head_of.ensures))
+    let size : c.len.result ≡ length c.args.image.now.body.items = search rules in
+    where_ok c.sync.result _ (rw (same, third, second, first, log_is, c.start-at.ensures, c.deref.ensures.value)
+    (fields_written (g.D.Disk.state c.args.disk.now).reading c.head_of.result c.args.image.now.body.items c.args.image.now.slot c.args.image.now.sequence
+    (omega (arith, whole, c.requires.large)) c.requires.short c.head_of.ensures.counted (rw size at c.head_of.ensures.bytes)))

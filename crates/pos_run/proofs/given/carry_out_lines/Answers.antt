@@ -1,19 +1,16 @@
-use Rattle.pos_run.proofs.Common.{IsRun, [], ap, last_line, pieces, refl, runs_join, unfinished, ◌++◌, ◌∙◌}
+use Rattle.pos_run.proofs.Common.{[], ap, last_line, pieces, refl, runs_join, unfinished, ◌++◌, ◌∙◌}
 use Rattle.pos_script.proofs.LineLemmas.{two_parts}
 use Rattle.pos_run.proofs.Finishing.{lines_join, stops_more}
 use Rattle.pos_run.proofs.given.carry_out_lines.Goals as goal
 
 pub returns-in_default-clause-lines : goal.returns-in_default-clause-lines
 returns-in_default-clause-lines g c =
-    let Runs = IsRun g.D.Disk g.P.Peripheral in
-    let last = last_line (unfinished c.args.lines.now) in
     let (lines, are, stops, none) = c.in_default.ensures.piece [] (c.clear.ensures [] refl) in
-    rw (two_parts (pieces 10 c.args.lines.now) ∙ ap (λ ls. ls ++ last) are)
-    (stops_more Runs _ _ lines last _ _ _ _ stops)
+    let last = last_line (unfinished c.args.lines.now) in
+    rw (two_parts (pieces 10 c.args.lines.now) ∙ ap (λ ls. ls ++ last) are) (stops_more last stops)
 
 pub returns-clause-lines : goal.returns-clause-lines
 returns-clause-lines g c =
     let (lines, are, done, now) = c.in-Ok.ensures.piece [] (c.clear.ensures [] refl) in
     let (more, in_two, rest) = c.carry_out_last.ensures.last c.args.lines.now now in
-    lines_join (IsRun g.D.Disk g.P.Peripheral) (runs_join g.D.Disk g.P.Peripheral) _ _ lines _ _ _ _ done _ more _ c.carry_out_last.result _ _
-    (in_two ∙ ap (λ ls. ls ++ more) are) rest
+    lines_join (runs_join g.D.Disk g.P.Peripheral) done _ more (rw are at in_two) _ _ _ c.carry_out_last.result rest

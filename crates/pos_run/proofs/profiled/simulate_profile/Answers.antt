@@ -1,5 +1,5 @@
-use Rattle.pos_run.proofs.Common.{None, Some, [], ap, arith, length, machine, map, map-append}
-use Rattle.pos_run.proofs.Common.{option_map, simulated_all, simulated_for, subst, sym, take_all, ◌∙◌, ◌∷◌, ◌≡◌, ◌≤◌}
+use Rattle.pos_run.proofs.Common.{None, Some, [], ap, arith, length, machine, map, map-append, option_map, simulated_all, simulated_for, subst, sym, take_all}
+use Rattle.pos_run.proofs.Common.{◌∙◌, ◌∷◌, ◌≡◌, ◌≤◌}
 use Rattle.pos_profile.specs.declared.role.Role.TheVariants.{Device, Spare}
 use Rattle.pos_run.proofs.Filling.{begins_partly, ends_whole, serves_more, skips}
 use Rattle.pos_run.proofs.Profiling.{all_serve, simulable, spares_more}

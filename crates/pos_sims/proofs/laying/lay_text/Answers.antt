@@ -6,12 +6,7 @@ use Rattle.pos_sims.proofs.laying.lay_text.Goals as goal
 pub loop-done-preserved : goal.loop-done-preserved
 loop-done-preserved g c =
     let bytes = c.args.bytes.now in
-    let i = c.loop-done.done in
-    let laid = rw (take_rest bytes i) at c.lay_front-count.ensures in
-    record {
-      follows = rw (text_further c.args.manner.columns c.args.start bytes i c.lay_front-count.result.1 c.requires.within.some)
-          (laid.follows (g.W.Grid.shown c.args.window.now).cells (text_from c.args.manner.columns c.args.start (take i bytes)) c.loop-done.invariant.follows);
-      within = laid.within;
-      size = size_twice c.loop-done.invariant.size laid.size;
-      done = omega (arith, laid.count.1, length-drop i bytes);
-    }
+    let before = text_from c.args.manner.columns c.args.start (take c.loop-done.done bytes) in
+    let laid = rw (take_rest bytes c.loop-done.done) at c.lay_front-count.ensures in
+    let follows = laid.follows (g.W.Grid.shown c.args.window.now).cells before c.loop-done.invariant.follows in
+    grind (arith, laid, follows, text_further c.args.manner.columns c.args.start bytes c.loop-done.done, size_twice, length-drop)

@@ -4,5 +4,4 @@ use Rattle.pos_sims.proofs.laying.next_row.Goals as goal
 
 pub returns-clause-follows : goal.returns-clause-follows
 returns-clause-follows g c = λ old strip h.
-    scrolled c.args.manner old (g.W.Grid.shown c.args.window.now).cells (g.W.Grid.shown c.feed_row.new.self).cells strip c.args.place
-    c.requires.within (omega (arith, c.if-place-manner.false)) (rw (← c.requires.size.columns) c.feed_row.ensures.moved) h
+    grind (arith, scrolled c.args.manner old (g.W.Grid.shown c.args.window.now).cells (g.W.Grid.shown c.feed_row.new.self).cells strip c.args.place)

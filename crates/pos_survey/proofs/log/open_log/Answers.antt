@@ -22,5 +22,4 @@ tell_damage-requires-clause-damaged c some =
     (subst HoldsSome (ap (log_in c.args.bytes.now) c.slot-slot.ensures ∙ sym (log_here c.requires.current) ∙ ap log_of (sym c.requires.bytes)) some)
 
 pub returns-in-Damaged-clause-broken : goal.returns-in-Damaged-clause-broken
-returns-in-Damaged-clause-broken c =
-    rw (log_here c.requires.current) (rw c.slot-slot.ensures at c.tell_damage.ensures)
+returns-in-Damaged-clause-broken c = rw (log_here c.requires.current) (rw c.slot-slot.ensures at c.tell_damage.ensures)

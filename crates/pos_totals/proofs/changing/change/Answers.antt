@@ -1,7 +1,7 @@
-use Rattle.pos_totals.proofs.Common.{Bool, List, ap, arith, change_of, false, is_some, lacks, slice_get, sym, transaction_at, true, ◌∙◌, ◌≡◌}
+use Rattle.pos_totals.proofs.Common.{Bool, Err, List, Ok, ap, arith, change_of, false, is_some, lacks, slice_get, sym, transaction_at, true, ◌∙◌, ◌≡◌}
 use Rattle.pos_dir.specs.declared.change.Change.{Change}
-use Rattle.pos_totals.proofs.Changed.{Allowed, refuses, allowed, applicable, place, wants, buffers, lacking, done, failed}
-use Rattle.pos_totals.proofs.Putting.{begin}
+use Rattle.pos_totals.proofs.Changed.{Allowed, refuses, allowed, applicable, place, wants, buffers, lacking, put_down}
+use Rattle.pos_totals.proofs.Putting.{as_found}
 use Rattle.pos_totals.proofs.changing.change.Given.{Over}
 use Rattle.pos_totals.proofs.changing.change.Goals.{In-Ok, After-lack}
 use Rattle.pos_totals.proofs.changing.change.Goals as goal
@@ -10,9 +10,12 @@ use Rattle.pos_totals.proofs.changing.change.Goals as goal
 may : (g : Over) (c : In-Ok g) → Allowed g.D.Disk c.args.store.now c.args.holdings.now c.args.control (change_of c.args.request) c.in-Ok.checked
 may g c =
     let store = c.args.store.now in
-    allowed store.disk store.layout store.state store.tail c.args.holdings.now c.args.control (change_of c.args.request) c.in-Ok.checked
-    (begin g.D.Disk store c.args.holdings.now (g.met.D.Disk.only_now store.disk) c.in-Ok.ensures.directory c.requires.sound c.leaves_its_files.ensures)
-    c.in-Ok.ensures.checks
+    allowed store.disk store.layout store.state store.tail c.args.holdings.now c.args.control (change_of c.args.request) c.in-Ok.checked (record {
+      only = g.met.D.Disk.only_now store.disk;
+      directory = c.in-Ok.ensures.directory;
+      sound = c.requires.sound;
+      leaves = c.leaves_its_files.ensures;
+    }) c.in-Ok.ensures.checks
 
 module _ (g : Over) (c : After-lack g) where
   -- the change of the group of one
@@ -26,10 +29,12 @@ module _ (g : Over) (c : After-lack g) where
   left b is = ap (lacks c.args.holdings.now.handles.next) (sym same) ∙ sym c.lack.ensures.lacks ∙ is
 
 pub returns-in-Err-clause-changes : goal.returns-in-Err-clause-changes
-returns-in-Err-clause-changes g c =
-    let store = c.args.store.now in
-    refuses (begin g.D.Disk store c.args.holdings.now (g.met.D.Disk.only_now store.disk) c.in-Err.ensures.directory c.requires.sound
-    c.leaves_its_files.ensures) c.args.control (change_of c.args.request) c.in-Err.refusal c.in-Err.ensures.checks
+returns-in-Err-clause-changes g c = refuses {store = c.args.store.now} (record {
+  only = g.met.D.Disk.only_now c.args.store.now.disk;
+  directory = c.in-Err.ensures.directory;
+  sound = c.requires.sound;
+  leaves = c.leaves_its_files.ensures;
+}) c.args.control (change_of c.args.request) c.in-Err.refusal c.in-Err.ensures.checks
 
 pub returns-then-is_open : goal.returns-then-is_open
 returns-then-is_open g c =
@@ -58,7 +63,8 @@ keep-requires g c =
 pub returns-in-Ok-put_group : goal.returns-in-Ok-put_group
 returns-in-Ok-put_group g c =
     let here = goal.at.returns-in-Ok-put_group g c in
-    let both = done (may g here.In-Ok) (free g here.After-lack) (left g here.After-lack false c.if-lack.false) c.put_group.new.store
+    let it = may g here.In-Ok in
+    let both = put_down (as_found it.begins it.ready) it (free g here.After-lack) (left g here.After-lack false c.if-lack.false) c.put_group.new.store (Ok tt)
     (rw c.in-Ok-make_group.ensures at c.in-Ok-put_group.ensures.commits) in
     rw (c.keep.ensures.given, c.keep.ensures.next, c.keep.ensures.value, same g here.After-lack, c.in-Ok-put_group.ensures.transactions)
     (record { sound = both.1; changes = both.0 })
@@ -66,6 +72,7 @@ returns-in-Ok-put_group g c =
 pub returns : goal.returns
 returns g c =
     let here = goal.at.returns g c in
-    let both = failed (may g here.In-Ok) (free g here.After-lack) (left g here.After-lack false c.if-lack.false) c.put_group.new.store
-    c.in-Err-put_group.fault (rw c.in-Ok-make_group.ensures at c.in-Err-put_group.ensures.commits) in
+    let it = may g here.In-Ok in
+    let both = put_down (as_found it.begins it.ready) it (free g here.After-lack) (left g here.After-lack false c.if-lack.false) c.put_group.new.store
+    (Err c.in-Err-put_group.fault) (rw c.in-Ok-make_group.ensures at c.in-Err-put_group.ensures.commits) in
     rw (c.answer_fault.ensures, c.in-Err-put_group.ensures.transactions) (record { sound = both.1; changes = both.0 })

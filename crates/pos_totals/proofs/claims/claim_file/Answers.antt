@@ -1,11 +1,10 @@
 use Rattle.pos_totals.proofs.Common.{SFits, rules, to_z-of_z, w128}
-use Rattle.pos_totals.proofs.Claimed.{file_claimed}
+use Rattle.pos_totals.proofs.Claimed.{claim_changes}
 use Rattle.pos_totals.proofs.claims.claim_file.Goals as goal
 
 pub returns-in-Ok : goal.returns-in-Ok
 returns-in-Ok g c =
     let fits_handle : SFits w128 c.args.handle = search rules in
-    let fits_timeout : SFits w128 c.args.timeout = search rules in
-    let both = file_claimed c.args.store.now.state c.args.holdings.now c.args.control c.args.handle c.args.timeout c.in-Ok.number c.claim.new.self
-    (simp to_z-of_z at c.in-Ok.ensures) c.claim.ensures.given c.claim.ensures.next c.requires.sound in
-    record { sound = both.1; arranges = both.0 }
+    let both = claim_changes c.args.store.now.state c.args.holdings.now c.args.control c.args.handle c.args.claiming c.in-Ok.number
+    (simp to_z-of_z at c.in-Ok.ensures) c.requires.sound in
+    rw (c.reclaim.ensures, c.claim-claim.ensures) (record { sound = both.1; arranges = both.0 })

@@ -1,6 +1,11 @@
-use Rattle.pos_totals.proofs.Common.{files_in, sym, ◌∙◌}
-use Rattle.pos_totals.proofs.Committed.{gathers}
+use Rattle.pos_totals.proofs.Common.{Change, File, FileChange, Gathers, List, Some, [], false, files_in, group_of, length, nat_eq, refl, sym, ◌∙◌, ◌∷◌, ◌≡◌}
 use Rattle.pos_totals.proofs.committing.plan_in.Goals as goal
+
+-- what is buffered and isn't nothing makes a group
+gathers : (files : List File) (changes : List Change) (group : List FileChange) → nat_eq (length changes) 0 ≡ false
+    → group ≡ group_of files changes → Gathers files (Some changes) group
+gathers files [] group some made = absurd cc
+gathers files (first ∷ others) group some made = record { first = first; others = others; buffered = refl; made = made }
 
 pub returns-in-Ok : goal.returns-in-Ok
 returns-in-Ok c = (

@@ -1,9 +1,7 @@
-use Rattle.pos_totals.proofs.Common.{HasItsFiles, TotalsView, subst}
 use Rattle.pos_totals.proofs.Changed.{theirs}
 use Rattle.pos_totals.proofs.laws.are_their_files.Goals as goal
 
 pub returns : goal.returns
 returns g c =
     let inside = c.totals.inside in
-    subst (λ (v : TotalsView g.row.D.Denot). HasItsFiles v.totals) c.totals.view_is
-    (theirs inside.store.state inside.holdings c.see_files.ensures.directory c.totals.invariant)
+    rw (← c.totals.view_is) (theirs inside.store.state inside.holdings c.see_files.ensures.directory c.totals.invariant)

@@ -1,9 +1,8 @@
-use Rattle.pos_totals.proofs.Common.{LeavesTheirFiles, TotalsView, subst}
 use Rattle.pos_totals.proofs.Putting.{their_files}
 use Rattle.pos_totals.proofs.laws.leaves_their_files.Goals as goal
 
 pub returns : goal.returns
 returns g c =
     let inside = c.totals.inside in
-    subst (λ (v : TotalsView g.row.D.Denot). g.D.Disk.honest v.disk → LeavesTheirFiles v.totals.layout v.totals.mode (g.D.Disk.state v.disk)) c.totals.view_is
+    rw (← c.totals.view_is)
     (λ h. their_files inside.store.state inside.holdings (g.D.Disk.state inside.store.disk) c.totals.invariant (c.leaves_its_files.ensures h))

@@ -1,11 +1,11 @@
 -- `of` takes the box apart.
-use Rattle.kijolvar.proofs.Common.{ !, Goes-blank, List, Ptr, RattleType, RawPtr, SProp, Stays, Val, WpFn, [], a_type, agg, alloc_all, and_then, ap, await}
-use Rattle.kijolvar.proofs.Common.{bare, block_ptr, bounded, box_in, box_out, box_owns, by, dcons, dnil, drop, emp, ent, enter, fact, fact_i, feq_l, fjoin}
-use Rattle.kijolvar.proofs.Common.{fld, flft, fm, fpick, free_all, fsep, fsplit, fst∗, ftrue, get, get_in, handle_tells, heard, id⊢, in_a_block, inst_fn}
-use Rattle.kijolvar.proofs.Common.{join, keep, lands_as, later, layout, leaves, look_at, move, never, no, no_more, nothing, null_ptr, of_list, of_opd, only}
-use Rattle.kijolvar.proofs.Common.{owns, param, param_laws, pass_all, pick, plain, proved_at, ptr_val, qed, raw, refl, returns, rewrite, sem, sets, some}
-use Rattle.kijolvar.proofs.Common.{split, split3, stay_dropped, stop, sub, subst, suffices, sym, tables, triple_of, types_at, use0, use1, vptr, vstruct}
-use Rattle.kijolvar.proofs.Common.{walk_of, whole, ‵, ◌$◌, ◌++◌, ◌∙◌, ◌∵◌, ◌∷◌, ◌≡◌, ◌⊛◌}
+use Rattle.kijolvar.proofs.Common.{ !, Goes-blank, List, Ptr, RattleType, RawPtr, SProp, Stays, Val, WpFn, [], a_type, agg, alloc_all, and_then, ap, await, bare}
+use Rattle.kijolvar.proofs.Common.{block_ptr, bounded, box_in, box_out, box_owns, by, dcons, dnil, drop, emp, ent, enter, fact, fact_i, feq_l, fjoin, fld, flft}
+use Rattle.kijolvar.proofs.Common.{fm, fpick, free_all, fsep, fsplit, fst∗, ftrue, get, get_in, handle_tells, heard, id⊢, in_a_block, inst_fn, join, keep}
+use Rattle.kijolvar.proofs.Common.{lands_as, later, layout, leaves, look_at, move, never, no, no_more, nothing, null_ptr, of_list, of_opd, only, owns, param}
+use Rattle.kijolvar.proofs.Common.{param_laws, pass_all, pick, plain, proved_at, ptr_val, qed, raw, refl, returns, rewrite, sem, sets, some, split, split3}
+use Rattle.kijolvar.proofs.Common.{stay_dropped, stop, sub, subst, suffices, sym, tables, triple_of, types_at, use0, use1, vptr, vstruct, walk_of, whole, ‵}
+use Rattle.kijolvar.proofs.Common.{◌$◌, ◌++◌, ◌∙◌, ◌∵◌, ◌∷◌, ◌≡◌, ◌⊛◌}
 use Rattle.kijolvar.specs.contracts.loose.Loose.of.{clauses, ended}
 use Rattle.kijolvar.specs.contracts.loose.Loose.of.Key.{name as #self}
 use Rattle.std_alloc.proofs.boxed.Box.into_raw_with_allocator.Met.{met}

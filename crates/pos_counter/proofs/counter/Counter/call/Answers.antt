@@ -1,4 +1,4 @@
-use Rattle.pos_counter.proofs.Common.{SFits, refl, rules, to_z-of_z, w128}
+use Rattle.pos_counter.proofs.Common.{SFits, rules, to_z-of_z, w128}
 use Rattle.pos_counter.proofs.Serving.{quiet_step}
 use Rattle.pos_counter.proofs.counter.Counter.call.Goals as goal
 
@@ -20,7 +20,4 @@ pub returns-in-Set-clause-step : goal.returns-in-Set-clause-step
 returns-in-Set-clause-step g c = rw c.in-Set.is c.set.ensures.step
 
 pub returns-in-Get-clause-step : goal.returns-in-Get-clause-step
-returns-in-Get-clause-step g c =
-    let old = c.args.self.now in
-    rw c.in-Get.is (quiet_step g.D.Disk g.P.Peripheral old old _ _ old.totals.totals (g.met.D.Disk.only_now _)
-    refl refl (λ left. refl) (λ left failures so. c.get.ensures left failures))
+returns-in-Get-clause-step g c = search (rules, quiet_step, c.in-Get.is, g.met.D.Disk.only_now, c.get.ensures)

@@ -1,16 +1,10 @@
-use Rattle.pos_counter.proofs.Common.{Category, HardTotals, None, [], ap, arith, category_rows, false, false≢true, is_none, is_totals, length, machine}
-use Rattle.pos_counter.proofs.Common.{needs_of, part_with, refl, serves, sym, with_items_is, ◌∙◌, ◌≡◌}
-use Rattle.pos_counter.proofs.Hardware.{are_totals, device_step, own_call, served_there}
+use Rattle.pos_counter.proofs.Common.{[], ap, arith, category_rows, false≢true, is_none, length, machine, needs_of, part_with, refl, sym, with_items_is, ◌∙◌}
+use Rattle.pos_counter.proofs.Hardware.{are_totals, device_step, of_devices, own_call, served_there}
 use Rattle.pos_counter.proofs.Lifts.{decided_some, kept_at}
 use Rattle.pos_counter.proofs.Serving.{quiet_serves}
 use Rattle.pos_counter.proofs.TotalsSteps.{files_serve}
 use Rattle.pos_common.proofs.CheckLemmas.{lets_open, lets_own}
 use Rattle.pos_counter.proofs.counter.Counter.call_category.Goals as goal
-
--- a device without a kind is Hard Totals
-has_kind : (k : Category) → is_totals k ≡ false → serves k None ≡ false
-has_kind HardTotals is = cc
-has_kind k is = refl
 
 pub returns-in-Err : goal.returns-in-Err
 returns-in-Err g c =
@@ -54,7 +48,7 @@ call_there-requires-clause-may g c =
     let part = part_with c.args.self.now.totals.totals [] 0 in
     rw c.deref_mut.ensures.value (served_there (machine g.P.Peripheral c.args.self.now part) c.args.number h.control c.in-Some.place c.args.call.now
     (c.requires.sound.machine part) (kept_at _ _ _ c.requires.in_range c.index-control.ensures) (sym c.in-Some.ensures)
-    (has_kind h.control.category (sym c.is_totals.ensures ∙ c.if-is_totals.false))
+    (of_devices h.control.category (sym c.is_totals.ensures ∙ c.if-is_totals.false)).peripheral
     (lets_own c.args.number _ h.control (needs_of h.control.category c.args.call.now) (lets [])))
 
 pub returns : goal.returns

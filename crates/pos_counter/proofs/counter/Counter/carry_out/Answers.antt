@@ -1,5 +1,5 @@
+use Rattle.pos_counter.proofs.Common.{rules}
 use Rattle.pos_counter.proofs.Serving.{beside_is_step}
-use Rattle.std.proofs.lemmas.Result.{IfErr-weaker}
 use Rattle.pos_counter.proofs.counter.Counter.carry_out.Goals as goal
 
 pub returns-in-NewControl-clause-step : goal.returns-in-NewControl-clause-step
@@ -24,9 +24,7 @@ pub attach-requires-clause-unparked : goal.attach-requires-clause-unparked
 attach-requires-clause-unparked g c = rw c.in-Attach.is at c.requires.in_service
 
 pub of_attach-requires : goal.of_attach-requires
-of_attach-requires g c =
-    let offered = rw c.in-Attach.is at c.requires.in_service in
-    IfErr-weaker c.attach.result _ _ (λ refusal back. rw back offered) c.attach.ensures.handed_back
+of_attach-requires g c = search (rules, c.in-Attach.is, c.requires.in_service, c.attach.ensures.handed_back)
 
 pub returns-in-Attach-clause-step : goal.returns-in-Attach-clause-step
 returns-in-Attach-clause-step g c =

@@ -1,4 +1,5 @@
-use Rattle.pos_counter.proofs.Common.{arith, refl, registered, rules}
+use Rattle.pos_counter.proofs.Common.{KeptControl, arith, has_open, refl, registered, rules, sym, ◌∙◌}
+use Rattle.pos_profile.proofs.ListLemmas.{any_mapped}
 use Rattle.std.proofs.lemmas.Grind.{common_steps}
 use Rattle.pos_counter.proofs.DeviceLists.{detach_step}
 use Rattle.pos_counter.proofs.Serving.{steps_beside}
@@ -10,5 +11,6 @@ returns g c =
     let both = steps_beside g.P.Peripheral old _ _ _ c.requires.sound (record { registry = c.detach.ensures.sound }) refl
     (λ part. detach_step old.controls.items (registered g.P.Peripheral old.devices.registry) (registered g.P.Peripheral c.detach.new.self)
     old.devices.totals c.args.name.now old.claims part g.P.Peripheral.state c.is_open-is_open.result c.detach.result
-    (rw c.deref.ensures.value at c.is_open-is_open.ensures) c.detach.ensures.detaches) in
+    (λ place is. (rw c.deref.ensures.value at c.is_open-is_open.ensures) place is
+    ∙ sym (any_mapped (has_open place) (λ (kept : KeptControl). kept.control) old.controls.items)) c.detach.ensures.detaches) in
     record { step = both.step; parked = first_of (search rules, grind (arith, common_steps)); sound = both.sound }

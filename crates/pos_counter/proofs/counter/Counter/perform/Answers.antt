@@ -58,16 +58,4 @@ loop-request-preserved g c =
     )
 
 pub returns : goal.returns
-returns g c =
-    let (done, before) = c.loop-request.invariant in
-    let empty : c.loop-request.waiting.items ≡ [] = nil_from_length _ (search rules) in
-    let all = before.all ∙ ap (λ xs. done ++ reverse xs) empty ∙ append-nil done in
-    record {
-      run = subst (λ qs. IsRun g.D.Disk g.P.Peripheral c.args.self.now (steps_of g.P.Peripheral qs c.loop-request.responses.items) c.loop-request.self)
-          (sym all) before.run;
-      whole = before.whole ∙ ap length (sym all);
-      handed_out = before.handed_out;
-      handed_back = tt;
-      unchanged = tt;
-      sound = before.sound;
-    }
+returns g c = search (rules, nil_from_length, append-nil, c.loop-request.invariant)

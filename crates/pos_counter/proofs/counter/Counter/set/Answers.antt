@@ -1,4 +1,4 @@
-use Rattle.pos_counter.proofs.Common.{part_with, refl, sym, ◌∙◌}
+use Rattle.pos_counter.proofs.Common.{part_with, refl, rules, sym, ◌∙◌}
 use Rattle.pos_counter.proofs.Lifts.{kept_at, kept_same}
 use Rattle.pos_counter.proofs.Recovering.{plain_set}
 use Rattle.pos_counter.proofs.Serving.{quiet_serves}
@@ -6,8 +6,7 @@ use Rattle.pos_counter.proofs.counter.Counter.set.Goals as goal
 
 pub set_recovered-requires-clause-recovers : goal.set_recovered-requires-clause-recovers
 set_recovered-requires-clause-recovers g c =
-    rw (kept_at c.args.self.now.controls.items c.args.number c.index.result.now c.requires.in_range c.index.ensures)
-    (rw c.is_ready.ensures at (sym c.is_recovering.ensures ∙ c.if-is_recovering.true))
+    search (rules, kept_at, c.requires.in_range, c.index.ensures, c.is_ready.ensures, c.is_recovering.ensures, c.if-is_recovering.true)
 
 pub returns : goal.returns
 returns g c =
@@ -16,9 +15,8 @@ returns g c =
     let is = c.index_mut-control.ensures.value in
     let same = kept_same old.controls.items c.args.number c.index.result.now h c.requires.in_range c.index.ensures is in
     let plain = rw (same, c.is_ready.ensures) at (sym c.is_recovering.ensures ∙ c.if-is_recovering.false) in
-    let turns =
-    simp (c.find_holder-holder.ensures, c.area.ensures, c.kind_at-kind.ensures, c.signs_at-signs.ensures, c.device-device.ensures) at c.set.ensures in
+    let turns = simp (c.find_holder-holder.ensures, c.area.ensures) at c.set_control.ensures in
     quiet_serves g.D.Disk g.P.Peripheral old _ _ _ old.totals.totals (g.met.D.Disk.only_now _) refl refl (λ left. refl) c.requires.sound
     c.requires.sound.devices
-    (λ left failures so. plain_set _ _ _ (part_with old.totals.totals left failures) c.args.number c.set.new.self h c.args.property c.args.value.now
-    c.set.result c.requires.in_range is plain turns)
+    (λ left failures so. plain_set _ _ _ (part_with old.totals.totals left failures) c.args.number c.set_control.new.control h c.args.property c.args.value.now
+    c.set_control.result c.requires.in_range is plain turns)

@@ -1,22 +1,20 @@
-use Rattle.pos_counter.proofs.Common.{refl, same_Some, sym, ◌∙◌}
+use Rattle.pos_counter.proofs.Common.{[], kind_of, machine, part_with, refl, same_Some, signs_at, sym, ◌∙◌}
 use Rattle.pos_counter.proofs.Lifts.{kept_at, set_machine}
 use Rattle.pos_counter.proofs.Recovering.{asks_there, done_set, failed_serves, recovered_serves, starved_serves}
 use Rattle.pos_counter.proofs.counter.Counter.set_recovered.Goals as goal
 
 pub returns-in-Ok : goal.returns-in-Ok
 returns-in-Ok g c =
-    let old = c.args.self.now in
-    let hs = old.controls.items in
+    let hs = c.args.self.now.controls.items in
     let n = c.args.number in
-    let h = c.index_mut.result.now in
+    let h = c.index_mut-control.result.now in
+    let m = machine g.P.Peripheral c.args.self.now (part_with c.args.self.now.totals.totals [] 0) in
     let there = asks_there hs n c.args.property c.args.value.now _ c.requires.recovers in
-    let same = same_Some h.control there.control (sym (kept_at hs n h c.requires.in_range c.index_mut.ensures.value) ∙ there.at) in
-    let first = same_Some _ there.control (sym (kept_at hs n c.index-control.result.now c.requires.in_range c.index-control.ensures) ∙ there.at) in
-    let done = done_set there.control there.totals n c.find_holder-holder.result c.kind_at-kind.result c.signs_at-signs.result
-    h c.set.new.self _ _ c.set.result there.opened same there.names there.gives c.set.ensures in
-    let signs = rw (c.device-device.ensures, first) at c.signs_at-signs.ensures in
-    recovered_serves g.D.Disk g.P.Peripheral old _ c.requires.sound c.requires.sound.devices n _ _ there c.set.result done.0 c.in-Ok.ensures
-    (λ part. set_machine hs _ _ part n c.set.new.self _ (rw signs at done.1))
+    let same = same_Some h.control there.control (sym (kept_at hs n h c.requires.in_range c.index_mut-control.ensures.value) ∙ there.at) in
+    let done = done_set there.control there.totals n _ (kind_of m h.control) (signs_at m h.control) h c.set_control.new.control _ _ c.set_control.result
+    there.opened same there.names there.gives c.set_control.ensures in
+    recovered_serves g.D.Disk g.P.Peripheral c.args.self.now _ c.requires.sound c.requires.sound.devices n _ _ there c.set_control.result done.0
+    c.in-Ok.ensures (λ part. set_machine hs _ _ part n c.set_control.new.control _ (rw same at done.1))
 
 pub returns-in-Ok-code : goal.returns-in-Ok-code
 returns-in-Ok-code g c =

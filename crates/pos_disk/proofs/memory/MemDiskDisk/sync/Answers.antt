@@ -1,4 +1,4 @@
-use Rattle.pos_disk.proofs.Common.{Memory, Ok, Syncs, arith, memory_of, state_of, subst, sym, synced, ◌∙◌, ◌≡◌}
+use Rattle.pos_disk.proofs.Common.{Memory, arith, memory_of, state_of, synced, ◌∙◌, ◌≡◌}
 use Rattle.pos_disk.proofs.Calls.{syncs}
 use Rattle.pos_disk.proofs.Stamps.{memory_fresh}
 use Rattle.pos_disk.proofs.memory.MemDiskDisk.sync.Goals.{After-next_stamp-self-inside}
@@ -24,6 +24,4 @@ pub returns-clause-memory : goal.returns-clause-memory
 returns-clause-memory c = let d = (goal.at.returns-clause-memory c).After-next_stamp-self-inside in rw (← d.self.view_is) (becomes d)
 
 pub returns-clause-syncs : goal.returns-clause-syncs
-returns-clause-syncs c =
-    let d = (goal.at.returns-clause-syncs c).After-next_stamp-self-inside in
-    rw (← d.self.view_is) (subst (λ (m : Memory). Syncs {T = Unit {0}} (state_of (shown d)) (state_of m) (Ok tt)) (sym (becomes d)) (syncs (shown d)))
+returns-clause-syncs c = grind (arith, state_of, becomes, syncs)

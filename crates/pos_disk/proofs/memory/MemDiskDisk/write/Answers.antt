@@ -1,5 +1,4 @@
-use Rattle.pos_disk.proofs.Common.{IsSaved, Memory, Ok, Writes, arith, length, length-map, memory_of, refl, rules, state_of, subst, sym, written, ◌+◌, ◌==◌}
-use Rattle.pos_disk.proofs.Common.{◌∙◌, ◌≡◌, ◌≤◌}
+use Rattle.pos_disk.proofs.Common.{IsSaved, Memory, arith, length, length-map, memory_of, rules, state_of, written, ◌+◌, ◌≡◌, ◌≤◌}
 use Rattle.pos_disk.proofs.Calls.{writes}
 use Rattle.pos_disk.proofs.Written.{is_written, still_kept}
 use Rattle.pos_disk.proofs.memory.MemDiskDisk.write.Goals.{After-overwrite}
@@ -21,23 +20,13 @@ module _ (c : After-overwrite) where
   -- the disk afterwards
   becomes : memory_of c.overwrite.new.bytes.items c.save.new.saved.items c.mark.new.stamps.items c.self.inside.stamp c.and-self-inside.result.moments
       ≡ written c.args.at c.args.bytes.now shown
-  becomes =
-      let d = c.self.inside in
-      let is = is_written d.bytes.items d.saved.items d.stamps.items d.stamp c.args.at (length c.args.bytes.now) c.self.invariant fits c.args.bytes.now
-      c.save.new.saved.items refl saved d.past.moments in
-      grind (arith, is)
+  becomes = grind (arith, is_written, length, fits, saved)
 
 pub invariant_of-self : goal.invariant_of-self
-invariant_of-self c =
-    let d = c.self.inside in
-    rw (c.overwrite.ensures, c.mark.ensures) (still_kept d.bytes.items d.saved.items d.stamps.items d.stamp c.args.at (length c.args.bytes.now)
-    c.self.invariant (fits c) c.args.bytes.now c.save.new.saved.items refl (saved c))
+invariant_of-self c = grind (arith, still_kept, length, fits, saved)
 
 pub returns-clause-memory : goal.returns-clause-memory
 returns-clause-memory c = rw (← c.self.view_is) (becomes c)
 
 pub returns-clause-writes : goal.returns-clause-writes
-returns-clause-writes c =
-    let long = length-map c.self.inside.stamps.items (λ s. s == c.self.inside.stamp) ∙ c.self.invariant.stamps_length in
-    rw (← c.self.view_is) (subst (λ (m : Memory). Writes {T = Unit {0}} (state_of (shown c)) (state_of m) c.args.at c.args.bytes.now (Ok tt))
-    (sym (becomes c)) (writes (shown c) c.args.at c.args.bytes.now long (fits c)))
+returns-clause-writes c = grind (arith, length-map, state_of, becomes, writes, fits)

@@ -1,21 +1,7 @@
 use Rattle.pos_events.proofs.Common.{arith, nat_tests}
-use Rattle.pos_events.proofs.DeliveringLemmas.{first_is_data, first_is_input_data, popped_scan}
+use Rattle.pos_events.proofs.DeliveringLemmas.{first_is_data, popped_scan}
 use Rattle.pos_events.proofs.queue.EventQueue.take_first.Goals as goal
 
--- EL_INPUT_DATA is delivered
-pub returns-then-clears_input-clause-event : goal.returns-then-clears_input-clause-event
-returns-then-clears_input-clause-event c = grind (arith, first_is_input_data)
-
-pub returns-then-clears_input-clause-rest : goal.returns-then-clears_input-clause-rest
-returns-then-clears_input-clause-rest c = grind (arith, first_is_input_data)
-
-pub returns-in-InputData-clause-event : goal.returns-in-InputData-clause-event
-returns-in-InputData-clause-event c = grind (arith, first_is_input_data)
-
-pub returns-in-InputData-clause-rest : goal.returns-in-InputData-clause-rest
-returns-in-InputData-clause-rest c = grind (arith, first_is_input_data)
-
--- a DataEvent is delivered
 pub returns-clause-event : goal.returns-clause-event
 returns-clause-event c =
     let front = c.pop_front-scan.ensures in

@@ -31,5 +31,5 @@ returns-clause-writable g c =
     writable g.D.Disk _ (omega (arith, was.large, c.read.ensures.size)) was.counted (λ honest.
     let honest0 = c.read.ensures.honest.1 honest in
     let reads = c.read.ensures.reads honest0 in
-    let held = looked_held _ (g.D.Disk.state c.self.inside.disk) (g.D.Disk.state c.read.new.self) (was.held honest0) reads.reading reads.loose in
+    let held = looked_held {new = g.D.Disk.state c.read.new.self} (was.held honest0) reads.reading reads.loose in
     record { loose = held.loose; current = held.current; prepared = held.prepared })

@@ -11,7 +11,7 @@ moments : (g : Over) (c : After-sync g) → g.D.Disk.honest c.args.self.now.disk
 moments g c =
     let was = rw (← c.self.view_is) at c.requires in
     rw (← c.self.view_is) (λ honest.
-    watched_image _ (g.D.Disk.state c.self.inside.disk) (g.D.Disk.state c.sync.new.self) (was.held honest)
+    watched_image (was.held honest)
     (watches_sync _ _ (λ f left. g.met.D.Disk.only_now c.self.inside.disk f honest left) _ (c.sync.ensures.syncs honest)))
 
 pub returns-in_err-sync-clause-any_moment : goal.returns-in_err-sync-clause-any_moment

@@ -45,12 +45,11 @@ returns-clause-prepares g c =
     (images_of c.place_image.new.disk d.current.slot d.current.body.items d.current.sequence (Some (it g here)))
     (omega (arith, was_ready.large, c.place_image.ensures.keeps.size)) was_ready.counted (λ honest.
     let was = c.place_image.ensures.keeps.honest.1 honest in
-    let fields = rw c.deref.ensures.value at (ok.written was) in
     record {
       at_rest = ok.at_rest was;
       current = stage_current apart (was_ready.sound was).current (ok.same was);
       prepared = record {
-        there = placed s1.reading c.args.image.body.items c.args.image.slot c.args.image.sequence c.requires.short (ok.closed was) (ok.no_log was) fields;
+        there = placed s1.reading c.args.image.body.items c.args.image.slot c.args.image.sequence c.requires.short (ok.closed was) (ok.no_log was) (ok.written was);
         beside = beside g here;
       };
     }) in

@@ -5,7 +5,7 @@ use Rattle.pos_profile.proofs.registry.Registry.put.Goals as goal
 pub returns-clause-served : goal.returns-clause-served
 returns-clause-served g c =
     let slot = c.index_mut.result.now in
-    rw c.replace.ensures.after (devices_set g.P.Peripheral c.args.self.now.slots.items c.args.place slot slot
+    rw c.replace.ensures.after (devices_set g.P.Peripheral c.args.self.now.slots.items c.args.place slot
     (Some c.args.peripheral) c.index_mut.ensures.value)
 
 pub returns-clause-sound : goal.returns-clause-sound

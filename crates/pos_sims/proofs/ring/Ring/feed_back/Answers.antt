@@ -5,6 +5,4 @@ use Rattle.pos_sims.proofs.ring.Ring.feed_back.Goals as goal
 pub returns-clause-moved : goal.returns-clause-moved
 returns-clause-moved c =
     let was = c.args.self.now in
-    let blanked = c.blank_first_row.ensures in
-    rw (blanked.first, blanked.columns) (feeds_back was.rows was.columns was.first c.above-self.result was.cells.items _
-    (omega (arith, was.cells.ok.0, was.sized.count)) was.within blanked.cells c.above-self.ensures)
+    grind (arith, feeds_back was.rows was.columns was.first c.above-self.result was.cells.items)

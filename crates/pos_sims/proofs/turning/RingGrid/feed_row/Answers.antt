@@ -5,6 +5,4 @@ use Rattle.pos_sims.proofs.turning.RingGrid.feed_row.Goals as goal
 pub returns-clause-moved : goal.returns-clause-moved
 returns-clause-moved c =
     let was = c.args.self.now in
-    let blanked = c.blank_first_row.ensures in
-    rw blanked.columns (feeds was.rows was.columns was.first c.below-self.result was.cells.items _ (omega (arith, was.cells.ok.0, was.sized.count))
-    was.within blanked.cells (rw (blanked.first, blanked.rows) at c.below-self.ensures))
+    grind (arith, feeds was.rows was.columns was.first c.below-self.result was.cells.items)

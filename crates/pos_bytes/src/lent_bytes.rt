@@ -1,0 +1,34 @@
+ghost use Rattle.std.specs.Prelude.{◌≡◌};
+
+use std::marker::Model;
+
+/// Bytes that are lent, as they stand elsewhere: the name of a device or a control, the name or the bytes of a change.
+/// Contracts see the list.
+#[derive(Drop)]
+pub struct LentBytes<'a> {
+    items: &'a [u8],
+}
+
+impl<'a> Model for LentBytes<'a> {
+    ghost use Rattle.std.specs.Prelude.{List, ℕ};
+
+    ghost Value = { List ℕ };
+
+    ghost view = { λ bytes. bytes.items.now };
+}
+
+impl<'a> LentBytes<'a> {
+    /// These bytes.
+    pub fn from_slice(items: &'a [u8]) -> Self
+        ensures { result ≡ items.now }
+    {
+        LentBytes { items }
+    }
+
+    /// The bytes in order.
+    pub fn as_slice(&self) -> &[u8]
+        ensures { result.now ≡ self.now }
+    {
+        self.items
+    }
+}

@@ -1,0 +1,19 @@
+ghost use Rattle.std.specs.Prelude.{IfOk};
+ghost use Rattle.pos_disk.specs.Memory.{state_of};
+ghost use Rattle.pos_image.specs.Standing.{HasNoFiles};
+
+use crate::images::Images;
+use crate::layout::SIZE;
+use pos_disk::MemDisk;
+use std::alloc::{AllocError, Global};
+
+/// A disk in memory that was formatted. Such a disk never fails, so want of memory is the only refusal.
+pub fn new_disk(alloc: Global) -> Result<MemDisk, AllocError>
+    ensures { IfOk result (λ disk. HasNoFiles (state_of disk)) }
+{
+    let bytes = vec![in alloc; 0; SIZE as usize]?;
+    match Images::format(MemDisk::new(alloc, bytes)?) {
+        Ok(disk) => Ok(disk),
+        Err(_) => Err(AllocError),
+    }
+}
