@@ -1,7 +1,6 @@
 -- What a till is, and what is written of its answers (abi/README.md).
 use Rattle.std.specs.Prelude.{◌≡◌, ◌≢◌, ◌⊎◌, ◌++◌, ℕ, List, [], Some, Ok, length, take, drop, nat_le}
 use Rattle.pos_disk.specs.declared.device.Disk.{Ghosts as DiskGhosts}
-use Rattle.pos_disk.specs.Memory.{Memory, state_of}
 use Rattle.pos_service.specs.declared.peripheral.Peripheral.{Ghosts}
 use Rattle.pos_profile.specs.Entries.{Contents}
 use Rattle.pos_counter.specs.Counters.{machine}

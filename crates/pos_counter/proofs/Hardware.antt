@@ -6,7 +6,9 @@ use Rattle.pos_counter.proofs.Common.{TotalsPart, WorksAt, answered, ap, arith, 
 use Rattle.pos_counter.proofs.Common.{due_request_at, false, first_refusal, get_or_from_slice_get, has_call, holder_at, holder_in, holder_of, inl, inr}
 use Rattle.pos_counter.proofs.Common.{is_common, is_foreign, is_none, is_some, is_taken, is_totals, kind_of, length, machine_with, needs_of, own_takes_memory}
 use Rattle.pos_counter.proofs.Common.{place_of, refl, refusals, released, released_by, rules, serves, set, set-get_or, slice_get, slice_get_within, sym, table}
-use Rattle.pos_counter.proofs.Common.{takes_memory, true, ◌||◌, ℕ, ◌∙◌, ◌≡◌}
+use Rattle.pos_counter.proofs.Common.{takes_memory, true, with_items_is, ◌||◌, ℕ, ◌∙◌, ◌≡◌}
+use Rattle.std.specs.Prelude.{Vec}
+use Rattle.std.specs.Vec.{with_items}
 use Rattle.pos_service.specs.declared.worked.Worked.TheVariants as worked
 use Rattle.pos_counter.proofs.Lifts.{decided_step, match_cases, matched}
 use Rattle.pos_counter.proofs.Sound.{seated}
@@ -68,6 +70,10 @@ pub of_devices : (k : Category) → is_totals k ≡ false → IsOfDevices k
 of_devices k is = grind arith
 
 -- ---- what is done with what stands at a place
+
+-- controls that were changed in place stand in the same list
+pub kept_in_place : {X Z : Type 0} (v : Vec X Z) (lent now : List X) → lent ≡ v.items → length now ≡ length lent → (with_items v now).items ≡ now
+kept_in_place v lent now is count = with_items_is v now (omega (arith, count, ap length is, v.ok.0))
 
 module _ (hs gs : List KeptControl) (ds es : List Device) (cl : List (Option ℕ)) (part : TotalsPart) (place : ℕ) where
   abbrev old : Machine

@@ -34,63 +34,57 @@ pub const ENABLING: Row = Row {
     after: BEFORE,
 };
 
-const ENABLED: (&str, &str) = ("set t DeviceEnabled true\n", "ok\n");
+/// A call that changes enabled totals, and what it prints; the handle of the first file where it is done, and the files
+/// then.
+fn changing(line: (&'static str, &'static str), first_kept: u8, after: Files) -> Row {
+    Row {
+        first: ("set t DeviceEnabled true\n", "ok\n"),
+        line,
+        refusal: "err 111\n",
+        first_found: 3,
+        first_kept,
+        after,
+    }
+}
 
 /// The changes of one file, and a transaction that changes both.
-pub const CHANGES: [Row; 6] = [
-    Row {
-        first: ENABLED,
-        line: ("call t create 43 4 false\n", "ok 3\n"),
-        refusal: "err 111\n",
-        first_found: 3,
-        first_kept: 1,
-        after: &[("41", "01020304"), ("42", "00000000"), ("43", "00000000")],
-    },
-    Row {
-        first: ENABLED,
-        line: ("call t delete 41\n", "ok\n"),
-        refusal: "err 111\n",
-        first_found: 3,
-        first_kept: 2,
-        after: &[("42", "00000000")],
-    },
-    Row {
-        first: ENABLED,
-        line: ("call t rename 1 43\n", "ok\n"),
-        refusal: "err 111\n",
-        first_found: 3,
-        first_kept: 1,
-        after: &[("43", "01020304"), ("42", "00000000")],
-    },
-    Row {
-        first: ENABLED,
-        line: ("call t write 1 1 0809\n", "ok\n"),
-        refusal: "err 111\n",
-        first_found: 3,
-        first_kept: 1,
-        after: &[("41", "01080904"), ("42", "00000000")],
-    },
-    Row {
-        first: ENABLED,
-        line: ("call t setAll 1 7\n", "ok\n"),
-        refusal: "err 111\n",
-        first_found: 3,
-        first_kept: 1,
-        after: &[("41", "07070707"), ("42", "00000000")],
-    },
-    Row {
-        first: (
-            "set t DeviceEnabled true\ncall t beginTrans\ncall t write 1 1 0809\ncall t write 1 3 0506\n\
-            call t setAll 2 7\ncall t setAll 2 256\n",
-            "ok\nok\nok\nerr 106\nok\nerr 106\n",
+pub fn changes() -> [Row; 6] {
+    [
+        changing(
+            ("call t create 43 4 false\n", "ok 3\n"),
+            1,
+            &[("41", "01020304"), ("42", "00000000"), ("43", "00000000")],
         ),
-        line: ("call t commitTrans\n", "ok\n"),
-        refusal: "err 111\n",
-        first_found: 3,
-        first_kept: 1,
-        after: &[("41", "01080904"), ("42", "07070707")],
-    },
-];
+        changing(("call t delete 41\n", "ok\n"), 2, &[("42", "00000000")]),
+        changing(
+            ("call t rename 1 43\n", "ok\n"),
+            1,
+            &[("43", "01020304"), ("42", "00000000")],
+        ),
+        changing(
+            ("call t write 1 1 0809\n", "ok\n"),
+            1,
+            &[("41", "01080904"), ("42", "00000000")],
+        ),
+        changing(
+            ("call t setAll 1 7\n", "ok\n"),
+            1,
+            &[("41", "07070707"), ("42", "00000000")],
+        ),
+        Row {
+            first: (
+                "set t DeviceEnabled true\ncall t beginTrans\ncall t write 1 1 0809\ncall t write 1 3 0506\n\
+                call t setAll 2 7\ncall t setAll 2 256\n",
+                "ok\nok\nok\nerr 106\nok\nerr 106\n",
+            ),
+            ..changing(
+                ("call t commitTrans\n", "ok\n"),
+                1,
+                &[("41", "01080904"), ("42", "07070707")],
+            )
+        },
+    ]
+}
 
 /// The lines that tell which files there are, where they have the handles from `first` on.
 pub fn look_lines(alloc: Global, first: u8) -> Result<String, AllocError> {

@@ -1,7 +1,7 @@
 //! Each call that reaches the disk is stopped at each of its disk calls. Then the totals are off and the disk is left
 //! alone; crashes leave the files before the call or after the whole of it; and enabling finds which.
 use crate::counters::told;
-use crate::rows::{CHANGES, ENABLING};
+use crate::rows::{ENABLING, changes};
 use crate::stopped_call::{Counts, StoppedCall};
 use pos_disk::MemDisk;
 use pos_image::new_disk;
@@ -59,7 +59,7 @@ fn an_enabling_is_stopped(rt: HostRuntime) -> Result<(), Fail> {
 /// Stops each change at each of its disk calls, over a disk whose log has room or hasn't.
 fn stop_changes(alloc: Global, has_room: bool) -> Result<Counts, Fail> {
     let mut counts = Counts::new();
-    for row in CHANGES {
+    for row in changes() {
         let disk = if has_room {
             with_room(alloc)?
         } else {

@@ -1,10 +1,10 @@
 ghost use Rattle.std.specs.Prelude.{◌≡◌, ◌≤◌, length, vec_capacity, Ok, MatchResult, IsOk, IfOk};
+ghost use Rattle.std.specs.List.{flat_map};
 ghost use Rattle.pos_dir.specs.Files.{IsDirectory};
 ghost use Rattle.pos_dir.specs.Changes.{outcome_of_all};
 ghost use Rattle.pos_dir.specs.Spelling.{spelling, body_limit};
 ghost use Rattle.pos_dir.specs.Calls.{Applies};
 ghost use Rattle.pos_dir.specs.Supplies.{supplies_of};
-ghost use Rattle.std.specs.List.{flat_map};
 
 use crate::change::carry_out_change;
 use crate::directory::Directory;

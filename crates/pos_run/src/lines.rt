@@ -99,57 +99,28 @@ fn carry_out_command<W: Write, D: Disk, P: Peripheral + Ends>(
     let name = name.as_slice();
     match verb {
         Verb::New => {
-            carry_out_rare(
-                writer,
-                counter,
-                names,
-                spares,
-                name,
-                read_category(alloc, words),
-            )
+            let category = read_category(alloc, words);
+            carry_out_rare(writer, counter, names, spares, name, category)
         }
         Verb::Call(by) => {
-            carry_out_read(
-                writer,
-                counter,
-                names,
-                spares,
-                name,
-                read_called(alloc, by, words),
-            )
+            let called = read_called(alloc, by, words);
+            carry_out_read(writer, counter, names, spares, name, called)
         }
         Verb::Input => {
-            carry_out_read(
-                writer,
-                counter,
-                names,
-                spares,
-                name,
-                read_happening(alloc, words),
-            )
+            let happening = read_happening(alloc, words);
+            carry_out_read(writer, counter, names, spares, name, happening)
         }
         Verb::Deliver => {
-            carry_out_read(
-                writer,
-                counter,
-                names,
-                spares,
-                name,
-                read_reply(alloc, words),
-            )
+            let reply = read_reply(alloc, words);
+            carry_out_read(writer, counter, names, spares, name, reply)
         }
         Verb::Attach => {
-            carry_out_rare(
-                writer,
-                counter,
-                names,
-                spares,
-                name,
-                read_spare(alloc, words),
-            )
+            let spare = read_spare(alloc, words);
+            carry_out_rare(writer, counter, names, spares, name, spare)
         }
         Verb::Device(by) => {
-            carry_out_rare(writer, counter, names, spares, name, read_alone(by, words))
+            let verb = read_alone(by, words);
+            carry_out_rare(writer, counter, names, spares, name, verb)
         }
     }
 }

@@ -33,27 +33,20 @@ glue_some (p ∷ []) qs lt = front_some p qs lt
 glue_some (p ∷ q ∷ ps) qs lt = omega arith
 
 -- the pieces that are ended among the pieces of two texts, and the last
-ended_glue : (ps qs : List (List ℕ)) → 0 < length ps → 0 < length qs → ended_in (glue ps qs) ≡ ended_in ps ++ ended_in (front_onto (last_in ps) qs)
-ended_glue [] qs some lt = absurd (omega (arith, some))
-ended_glue (p ∷ []) qs some lt = refl
-ended_glue (p ∷ q ∷ ps) qs some lt =
+glued : (ps qs : List (List ℕ)) → 0 < length ps → 0 < length qs → (ended_in (glue ps qs) ≡ ended_in ps ++ ended_in (front_onto (last_in ps) qs))
+    × (last_in (glue ps qs) ≡ last_in (front_onto (last_in ps) qs))
+glued [] qs some lt = absurd (omega (arith, some))
+glued (p ∷ []) qs some lt = (refl, refl)
+glued (p ∷ q ∷ ps) qs some lt =
     let more = glue_some (q ∷ ps) qs lt in
-    let h = ended_glue (q ∷ ps) qs (omega arith) lt in
-    grind arith
-
-last_glue : (ps qs : List (List ℕ)) → 0 < length ps → 0 < length qs → last_in (glue ps qs) ≡ last_in (front_onto (last_in ps) qs)
-last_glue [] qs some lt = absurd (omega (arith, some))
-last_glue (p ∷ []) qs some lt = refl
-last_glue (p ∷ q ∷ ps) qs some lt =
-    let more = glue_some (q ∷ ps) qs lt in
-    let h = last_glue (q ∷ ps) qs (omega arith) lt in
+    let h = glued (q ∷ ps) qs (omega arith) lt in
     grind arith
 
 lines_behind : (xs ys : List ℕ) → complete_lines (xs ++ ys) ≡ complete_lines xs ++ ended_in (front_onto (unfinished xs) (pieces 10 ys))
-lines_behind xs ys = ap ended_in (pieces_append 10 xs ys) ∙ ended_glue (pieces 10 xs) (pieces 10 ys) (some_piece 10 xs) (some_piece 10 ys)
+lines_behind xs ys = ap ended_in (pieces_append 10 xs ys) ∙ (glued (pieces 10 xs) (pieces 10 ys) (some_piece 10 xs) (some_piece 10 ys)).0
 
 rest_behind : (xs ys : List ℕ) → unfinished (xs ++ ys) ≡ last_in (front_onto (unfinished xs) (pieces 10 ys))
-rest_behind xs ys = ap last_in (pieces_append 10 xs ys) ∙ last_glue (pieces 10 xs) (pieces 10 ys) (some_piece 10 xs) (some_piece 10 ys)
+rest_behind xs ys = ap last_in (pieces_append 10 xs ys) ∙ (glued (pieces 10 xs) (pieces 10 ys) (some_piece 10 xs) (some_piece 10 ys)).1
 
 -- what is unfinished has no line feed
 last_whole : (c : ℕ) (xs : List ℕ) → pieces c (last_in (pieces c xs)) ≡ last_in (pieces c xs) ∷ []

@@ -1,12 +1,12 @@
 // The current image of the bytes of a disk, or why there is none.
 ghost use Rattle.std.specs.Prelude.{◌≡◌, ◌≤◌, IfOk, IfErr, length};
 ghost use Rattle.pos_image.specs.Images.{IsReady};
+ghost use Rattle.pos_image.specs.Layout.{disk_size, layout_of};
 ghost use Rattle.pos_image.specs.Slots.{IsCurrent};
 ghost use Rattle.pos_image.specs.Standing.{image_on, DamagedImage};
 ghost use Rattle.pos_dir.specs.Calls.{Decodes};
 ghost use Rattle.pos_dir.specs.Files.{IsDirectory};
 ghost use Rattle.pos_dir.specs.Spelling.{spelling};
-ghost use Rattle.pos_image.specs.Layout.{disk_size, layout_of};
 ghost use Rattle.pos_store.specs.Layouts.{limits_of};
 ghost use Rattle.pos_survey.specs.Damages.{Breaks, HasNoFilesIn};
 

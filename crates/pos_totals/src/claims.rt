@@ -16,10 +16,12 @@ use pos_service::claims::{is_foreign, is_own, is_timeout};
 use pos_service::{Answer, Code, Value};
 use pos_store::Store;
 
-/// What a control asks for of the claim of a file: to make it, or to end it.
+/// What a control asks for of the claim of a file.
 #[derive(Clone, Copy)]
 pub enum Claiming {
+    /// To make it. The timeout is at least -1, and nothing is waited for.
     Claim { timeout: i128 },
+    /// To end it.
     Release,
 }
 

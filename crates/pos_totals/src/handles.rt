@@ -20,10 +20,12 @@ pub struct Tag {
     pub claim: Option<usize>,
 }
 
-/// Whose claim is meant: that of the file with a handle, or each that a control has made.
+/// Which claims are meant.
 #[derive(Clone, Copy)]
 pub enum Whose {
+    /// That of the file with this handle.
     File(u64),
+    /// Each that this control has made.
     Control(usize),
 }
 

@@ -1,5 +1,5 @@
-use Rattle.pos_counter.proofs.Common.{[], ap, arith, category_rows, false≢true, is_none, length, machine, needs_of, part_with, refl, sym, with_items_is, ◌∙◌}
-use Rattle.pos_counter.proofs.Hardware.{are_totals, device_step, of_devices, own_call, served_there}
+use Rattle.pos_counter.proofs.Common.{[], ap, category_rows, false≢true, is_none, machine, needs_of, part_with, refl, sym, ◌∙◌}
+use Rattle.pos_counter.proofs.Hardware.{are_totals, device_step, kept_in_place, of_devices, own_call, served_there}
 use Rattle.pos_counter.proofs.Lifts.{decided_some, kept_at}
 use Rattle.pos_counter.proofs.Serving.{quiet_serves}
 use Rattle.pos_counter.proofs.TotalsSteps.{files_serve}
@@ -55,8 +55,7 @@ pub returns : goal.returns
 returns g c =
     let old = c.args.self.now in
     let lets = simp (c.in_default.is, c.find_holder-holder.ensures, c.area.ensures, c.needs.ensures, c.category.ensures) at c.check.ensures in
-    let kept = with_items_is old.controls c.call_there.new.controls
-    (omega (arith, c.call_there.auto.controls, ap length c.deref_mut.ensures.value, old.controls.ok.0)) in
+    let kept = kept_in_place old.controls _ _ c.deref_mut.ensures.value c.call_there.auto.controls in
     let done = rw (← kept) at (rw c.deref_mut.ensures.value at c.call_there.ensures.done) in
     quiet_serves g.D.Disk g.P.Peripheral old _ _ _ old.totals.totals (g.met.D.Disk.only_now _) refl refl (λ left. refl) c.requires.sound
     c.call_there.ensures.sound

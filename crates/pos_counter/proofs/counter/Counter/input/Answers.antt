@@ -1,5 +1,5 @@
-use Rattle.pos_counter.proofs.Common.{Ok, TakenAt, ap, arith, hardware_of, length, refl, rules, sym, with_items_is, ◌∙◌}
-use Rattle.pos_counter.proofs.Hardware.{on_hardware, unchanged}
+use Rattle.pos_counter.proofs.Common.{Ok, TakenAt, hardware_of, refl, rules, sym, ◌∙◌}
+use Rattle.pos_counter.proofs.Hardware.{kept_in_place, on_hardware, unchanged}
 use Rattle.pos_counter.proofs.Serving.{steps_beside}
 use Rattle.pos_counter.proofs.counter.Counter.input.Goals as goal
 
@@ -12,8 +12,7 @@ input_there-requires-clause-fits g c = search (rules, c.in-Some.ensures.1, c.kin
 pub returns-in-Ok : goal.returns-in-Ok
 returns-in-Ok g c =
     let old = c.args.self.now in
-    let kept = with_items_is old.controls c.input_there.new.controls
-    (omega (arith, c.input_there.auto.controls, ap length c.deref_mut.ensures.value, old.controls.ok.0)) in
+    let kept = kept_in_place old.controls _ _ c.deref_mut.ensures.value c.input_there.auto.controls in
     steps_beside g.P.Peripheral old _ _ _ c.requires.sound c.in-Ok.ensures.sound refl
     (λ part. on_hardware _ _ _ _ _ part c.in-Some.place _ (λ place. TakenAt c.args.input.now place (Ok tt)) c.in-Some.ensures.0
     (rw (← kept) at (rw c.deref_mut.ensures.value at c.in-Ok.ensures.done)))
@@ -21,8 +20,7 @@ returns-in-Ok g c =
 pub returns-in-Err : goal.returns-in-Err
 returns-in-Err g c =
     let old = c.args.self.now in
-    let kept = with_items_is old.controls c.input_there.new.controls
-    (omega (arith, c.input_there.auto.controls, ap length c.deref_mut.ensures.value, old.controls.ok.0)) in
+    let kept = kept_in_place old.controls _ _ c.deref_mut.ensures.value c.input_there.auto.controls in
     let before = hardware_of (g.P.Peripheral.state c.in-Some.peripheral.now) in
     let done = rw (← kept) at (rw c.deref_mut.ensures.value at c.in-Err.ensures.done) in
     let fit = rw c.kind.ensures.kind at (sym c.fits.ensures ∙ c.if-not-fits.false) in
