@@ -1,25 +1,59 @@
 #!/usr/bin/env bash
 # Counts what an addition costs, as docs/ARCHITECTURE.md, "Adding to it", says: for one of each kind that is there, the files of
 # src/, specs/ and proofs/ that name it. The crates of tests and the example pos_till don't count. Usage: tests/adding.sh.
-# A kind that takes more files than its row says has failed. Its last line is 'N passed, M failed'.
+# A kind that takes more files than its row says has failed, and so has one that no file names. Of the categories it is the
+# median. Its last line is 'N passed, M failed'.
 set -u
 cd "$(dirname "$0")/.." || exit 1
 passed=0
 failed=0
 
+# files_with PATTERN: the files that name it. What a file imports of a module of the same name isn't it.
+files_with() {
+  grep -rlP --include='*.rt' --include='*.antt' "(?<!specs\.)(?<!proofs\.)(?:$1)" crates/*/src crates/*/specs crates/*/proofs |
+    grep -v '_tests/\|pos_till/'
+}
+
+# judge KIND MOST NUMBER FILES: a kind that so many files name, of which at most so many are said
+judge() {
+  if [ "$3" -gt 0 ] && [ "$3" -le "$2" ]; then
+    passed=$((passed + 1))
+    echo "$1: $3 files"
+    return
+  fi
+  failed=$((failed + 1))
+  if [ "$3" -eq 0 ]; then
+    echo "$1: no file names it: the pattern is of something that is gone"
+  else
+    echo "$1: $3 files, and at most $2 are said:"
+    echo "$4"
+  fi
+}
+
 # count KIND MOST PATTERN: the files that name it, at most so many
 count() {
   local files number
-  files=$(grep -rlE --include=*.rt --include=*.antt "$3" crates/*/src crates/*/specs crates/*/proofs | grep -v '_tests/\|pos_till/')
-  number=$(wc -l <<< "$files")
-  if [ "$number" -le "$2" ]; then
-    passed=$((passed + 1))
-    echo "$1: $number files"
-  else
-    failed=$((failed + 1))
-    echo "$1: $number files, and at most $2 are said:"
-    echo "$files"
-  fi
+  files=$(files_with "$3")
+  number=$(grep -c . <<< "$files")
+  judge "$1" "$2" "$number" "$files"
+}
+
+# count_median KIND MOST PATTERN ..: the median of the files that name each, at most so many; none is named by no file
+count_median() {
+  local kind=$1 most=$2 pattern number counts=() told=
+  shift 2
+  for pattern in "$@"; do
+    number=$(files_with "\b$pattern\b" | grep -c .)
+    told="$told$pattern $number
+"
+    if [ "$number" -eq 0 ]; then
+      judge "$kind $pattern" "$most" 0 ''
+      return
+    fi
+    counts+=("$number")
+  done
+  mapfile -t counts < <(printf '%s\n' "${counts[@]}" | sort -n)
+  judge "$kind" "$most" "${counts[$((${#counts[@]} / 2))]}" "$told"
 }
 
 count "a call with an order that is there" 6 'PrintImmediate|printImmediate|print_immediate'
@@ -31,7 +65,8 @@ count "a property of the device" 6 'NumberOfFiles'
 count "a property that can be set" 5 'AutoDisable|auto_disable'
 count "an input of every kind" 6 'PowerMoved'
 count "a reply with its code" 8 'Offline\b'
+count "a sign" 22 '\bpowered\b'
 count "a request of the script" 11 'Deliver\b|deliver_event|"deliver"'
-count "a category" 11 'CashDrawer'
+count_median "a category" 19 CashDrawer Scanner LineDisplay PosPrinter HardTotals
 echo "$passed passed, $failed failed"
 [ "$failed" -eq 0 ]
