@@ -1,0 +1,688 @@
+#!/usr/bin/env bash
+# Checks README.md, abi/README.md and docs/ against the tree. Each rule looks at one kind of claim:
+#   paths      a file or folder in backticks exists; a command's first word is one
+#   links      a link leads to a file and to a heading of it, and so does a heading that is quoted behind a link
+#   comments   a document and a heading that a source, a test or a script names exist
+#   names      `crate::function`, `Type::method`, `Type::Variant` and `crate.Module.name` are declared there
+#   proofs     what an item of docs/PROOFS.md is about is declared in the crate of its heading; each function of the crate
+#              that its users can call and that has a clause is named there
+#   clauses    a clause that is named beside a function, and a field beside a definition, is there
+#   commits    a commit's id is one of this history
+#   kit        the kit that README names is the one that `rt version` tells
+#   crates     the crates and what they stand on are those of crates.txt
+#   parts      the parts of the whole test are those of .ci/run; the tests crates, scripts and benches that tables name are
+#              those of the tree
+#   tables     the tables of properties, methods, calls, codes and result codes have the rows of the sources
+#   counts     a number in a sentence that this script lists is what the tree has
+#   sections   each group of lines of a script names the section of the standard, or of a document, that it is from
+# A rule that finds nothing to look at has failed. Then one wrong claim of each kind is planted in the documents, in memory,
+# and its rule has to find it.
+# Usage: tests/documents.sh, or with --self-test the planted claims alone. Its last line is 'N passed, M failed', a rule and a
+# planted claim each; it ends with 0 where none failed.
+set -u
+cd "$(dirname "$0")/.." || exit 1
+exec python3 - "$@" <<'PROGRAM'
+import functools, glob, os, re, shutil, subprocess, sys
+
+DOCUMENTS = ["README.md", "abi/README.md", *sorted(glob.glob("docs/*.md"))]
+CRATES = sorted(os.path.basename(path) for path in glob.glob("crates/*"))
+# Files that a command makes, or that stand for those of a reader.
+MADE = {"out/pos_console", "till.disk", "till.toml", "libkijolvar.a", "libkijolvar.so"}
+# Names of files that the checker refuses, as docs/DECISIONS.md says.
+REFUSED = {"Contracts.antt", "proofs/Formatting.antt"}
+
+
+def read(path):
+    with open(path, encoding="utf-8", errors="replace", newline="\n") as file:
+        return file.read()
+
+
+def tracked_files():
+    listed = subprocess.run(["git", "ls-files", "-co", "--exclude-standard"], capture_output=True, text=True)
+    return [path for path in listed.stdout.split("\n") if path and os.path.exists(path)]
+
+
+FILES = tracked_files()
+FOLDERS = {path[:at.start()] for path in FILES for at in re.finditer("/", path)}
+TREE = ["/" + path for path in [*FILES, *FOLDERS]]
+SCRIPTS = sorted(path for path in glob.glob("crates/pos_console/scripts/*")
+                 if not re.search(r"\.(stdout|profile|disk|left|before)$", path))
+TEXTS = {path: read(path) for path in [*DOCUMENTS, *SCRIPTS]}
+
+
+def of_documents(texts):
+    return [(path, texts[path]) for path in DOCUMENTS]
+
+
+def without_blocks(text):
+    """The text with its fenced blocks and indented lines made empty."""
+    text = re.sub(r"^( *)```.*?^\1```", lambda block: "\n" * block[0].count("\n"), text, flags=re.M | re.S)
+    return re.sub(r"^    .*$", "", text, flags=re.M)
+
+
+def ticked(text):
+    """What stands in backticks, a line at most two."""
+    return [part[1].replace("\n", " ") for part in re.finditer(r"(?<!`)`([^`\n]+(?:\n[^`\n]+)?)`(?!`)", text)]
+
+
+# ---- the sources
+
+FUNCTION = re.compile(r"^( *)(pub(?:\([^)]*\))? )?(?:unsafe |final |const |extern \"C\" )*fn (\w+)", re.M)
+OWNERS = re.compile(r"^(?:pub )?(?:impl|trait)\b([^{\n]*)")
+TYPE = re.compile(r"^(?:pub(?:\([^)]*\))? )?(?:struct|enum|trait|type|union) (\w+)", re.M)
+CLAUSE = re.compile(r"\b(?:requires|ensures)\*? (\w+)")
+
+
+class Function:
+    def __init__(self, crate, path, owners, public, name, contract):
+        self.crate, self.path, self.owners, self.public, self.name = crate, path, owners, public, name
+        self.contract = contract
+        self.clauses = set(CLAUSE.findall(contract))
+
+
+def functions_in(crate, path):
+    lines = read(path).split("\n")
+    owners = set()
+    for number, line in enumerate(lines):
+        owner = OWNERS.match(line)
+        if owner:
+            owners = set(re.findall(r"\w+", owner[1]))
+        elif line.startswith("}"):
+            owners = set()
+        found = FUNCTION.match(line)
+        if found:
+            end = number
+            while not re.match(rf"^{found[1]}(\{{|\S.*\{{ .* \}};?$|.*\}};$)", lines[end]) and end < len(lines) - 1:
+                if end > number and FUNCTION.match(lines[end]):
+                    break
+                end += 1
+            contract = "\n".join(lines[number : end + 1])
+            public = found[2] == "pub " or ("trait" in lines[number] or bool(owners) and not found[2])
+            yield Function(crate, path, owners, found[2] == "pub ", found[3], contract)
+
+
+def sources_of(crate):
+    return sorted(glob.glob(f"crates/{crate}/src/**/*.rt", recursive=True))
+
+
+FUNCTIONS = [f for crate in CRATES for path in sources_of(crate) for f in functions_in(crate, path)]
+BY_NAME = {}
+for function in FUNCTIONS:
+    BY_NAME.setdefault(function.name, []).append(function)
+TYPES = {}  # a type's name: the texts of its declarations
+for crate in CRATES:
+    for path in sources_of(crate):
+        text = read(path)
+        for found in TYPE.finditer(text):
+            body = text[found.start() : text.find("\n}", found.start()) + 1]
+            TYPES.setdefault(found[1], []).append((crate, body))
+DEFINITIONS = {}  # a definition's name: its crate, module and text
+for path in glob.glob("crates/*/specs/*.antt"):
+    _, crate, _, module = path[: -len(".antt")].split("/")
+    for block in re.split(r"\n(?=\S)", read(path)):
+        declared = re.match(r"(?:abbrev pub|abbrev|pub data|pub record|pub) ([^\s:]+)", block)
+        name = declared[1] if declared else block.split(" ")[0]
+        DEFINITIONS.setdefault(name, []).append((crate, module, block))
+WORDS = {crate: set() for crate in CRATES}  # all words of a crate
+for path in FILES:
+    if path.startswith("crates/") and path.endswith((".rt", ".antt")):
+        WORDS[path.split("/")[1]].update(re.findall(r"[^\W\d]\w*", read(path)))
+
+
+def long_name(crate):
+    return crate if crate in CRATES else "pos_" + crate
+
+
+# ---- the rules: each gives how much it has looked at, and what is wrong
+
+RULES = {}
+
+
+def rule(function):
+    RULES[function.__name__] = function
+    return function
+
+
+def is_there(word, document):
+    word = word.rstrip("/")
+    here = os.path.join(os.path.dirname(document), word)
+    if word in MADE | REFUSED or os.path.exists(word) or os.path.exists(here):
+        return True
+    return any(path.endswith(("/" + word, "/pos_" + word, "/pos_" + word + ".antt", "/" + word + ".antt", "/" + word + ".rt"))
+               for path in TREE)
+
+
+@rule
+def paths(documents):
+    looked, faults = 0, []
+    for name, text in of_documents(documents):
+        for span in ticked(without_blocks(text)):
+            word = span.split(" ")[0]
+            if not re.fullmatch(r"[\w.-]+(/[\w.-]+)*/?", word):
+                continue
+            if "/" not in word and not re.search(r"\w\.(rt|antt|sh|py|md|rs|c|h|edit|txt|toml|html|png|stdout)$", word):
+                continue
+            if re.search(r"\b(CRATE|NAME|CHAPTER)\b|^crates/crate/|^crate\.", word):
+                continue
+            looked += 1
+            if not is_there(word, name):
+                faults.append(f"{name}: there is no {word}")
+    return looked, faults
+
+
+def headings(path, documents):
+    text = documents[path] if path in documents else read(path)
+    return set(re.findall(r"^#+ (.*)$", re.sub(r"^```.*?^```", "", text, flags=re.M | re.S), re.M))
+
+
+def slug(heading):
+    return re.sub(r"[^\w -]", "", heading.lower()).replace(" ", "-")
+
+
+def has_heading(path, heading, documents):
+    """A heading, whose first words may be quoted alone where a comma or a bracket follows them."""
+    return any(found == heading or re.match(re.escape(heading) + r"[ ]*[(,]", found) for found in headings(path, documents))
+
+
+@rule
+def links(documents):
+    looked, faults = 0, []
+    quotes = r'((?:,?\s+(?:and\s+)?"[^"]+")*)'
+    for name, text in of_documents(documents):
+        text = re.sub(r"^```.*?^```", "", text, flags=re.M | re.S)
+        for found in re.finditer(r"\[[^\]]*\]\(([^)]*)\)" + r'((?:,?\s+(?:in\s+|and\s+)?"[^"]+")*)', text):
+            target, _, anchor = found[1].partition("#")
+            looked += 1
+            if re.match(r"https?:", target):
+                continue
+            path = os.path.normpath(os.path.join(os.path.dirname(name), target)) if target else name
+            if not os.path.exists(path):
+                faults.append(f"{name}: a link to {found[1]}, which isn't there")
+                continue
+            if anchor and anchor not in map(slug, headings(path, documents)):
+                faults.append(f"{name}: a link to {found[1]}, which has no such heading")
+            for heading in re.findall(r'"([^"]+)"', found[2]):
+                looked += 1
+                if not has_heading(path, " ".join(heading.split()), documents):
+                    faults.append(f'{name}: {path} has no heading "{heading}"')
+        for heading in re.findall(r'"([^"]+)",? (?:above|below)\b', text):
+            looked += 1
+            if not has_heading(name, " ".join(heading.split()), documents):
+                faults.append(f'{name}: it has no heading "{heading}"')
+    return looked, faults
+
+
+@rule
+def comments(documents):
+    looked, faults = 0, []
+    for path in FILES:
+        if path.endswith(".md") or not re.match(r"(crates|tests|bench|abi|\.ci)/", path) or path == "tests/documents.sh":
+            continue
+        for name, heading in re.findall(r'(docs/\w+\.md)(?:,\s+(?:(?://[/!]?|#|--|\*)\s+)?"([^"]+)")?', read(path)):
+            looked += 1
+            heading = re.sub(r"\s*\n\s*(//[/!]?|#|--|\*)?\s*", " ", heading)
+            if not os.path.exists(name):
+                faults.append(f"{path}: there is no {name}")
+            elif heading and not has_heading(name, heading, documents):
+                faults.append(f'{path}: {name} has no heading "{heading}"')
+    return looked, faults
+
+
+def is_declared(owner, name):
+    """Whether a type has a method or a variant of this name."""
+    if any(owner in f.owners for f in BY_NAME.get(name, [])):
+        return True
+    return any(re.search(rf"^\s+{name}\b", body, re.M) for _, body in TYPES.get(owner, []))
+
+
+def fault_of_name(span):
+    parts = re.sub(r"\(.*", "", span).split("::")
+    if parts[0] in ("core", "std"):
+        return None
+    if parts[0] in CRATES:
+        crate, *rest = parts
+        if len(rest) == 1:
+            here = any(f.crate == crate for f in BY_NAME.get(rest[0], []))
+            here = here or any(at == crate for at, _ in TYPES.get(rest[0], []))
+        else:
+            here = any(f.crate == crate and (rest[-2] in f.owners or f.path.endswith(f"/{rest[-2]}.rt"))
+                       for f in BY_NAME.get(rest[-1], []))
+        return None if here else f"{crate} has no {'::'.join(rest)}"
+    owner, name = parts[-2:]
+    if is_declared(owner, name) or any(f.path.endswith(f"/{owner}.rt") for f in BY_NAME.get(name, [])):
+        return None
+    return f"there is no {span}"
+
+
+@rule
+def names(documents):
+    looked, faults = 0, []
+    for document, text in of_documents(documents):
+        for span in ticked(text):
+            if re.fullmatch(r"\w+(::\w+)+(\(.*\))?", span) and not span.startswith("crate::"):
+                looked += 1
+                fault = fault_of_name(span)
+                if fault:
+                    faults.append(f"{document}: {fault}")
+            elif re.fullmatch(r"pos_\w+\.\w+\.\w+", span):
+                looked += 1
+                crate, module, name = span.split(".")
+                if not any(found[:2] == (crate, module) for found in DEFINITIONS.get(name, [])):
+                    faults.append(f"{document}: there is no definition {span}")
+    return looked, faults
+
+
+@functools.cache
+def exports_of(crate):
+    """The names and the modules that a crate's users see."""
+    root = next((read(path) for path in sources_of(crate) if re.search(r"/src/(lib|main)\.rt$", path)), "")
+    used = re.findall(r"^pub use [\w:]*?(?:\{([^}]*)\}|(\w+));", root, re.M)
+    seen = set(re.findall(r"\w+", " ".join(listed or one for listed, one in used)))
+    return seen, set(re.findall(r"^pub mod (\w+);", root, re.M)), root
+
+
+def is_exported(function):
+    seen, modules, root = exports_of(function.crate)
+    if not function.public:
+        return False
+    if function.path.endswith(("/src/lib.rt", "/src/main.rt")):
+        return True
+    if os.path.basename(function.path)[:-3] in modules:
+        return True
+    return bool(function.owners & seen) if function.owners else function.name in seen
+
+
+def sections_of_proofs(text):
+    """The crates of each heading of 'Each contract', with what stands under it."""
+    part = text.partition("### Each contract")[2].partition("### End to end")[0]
+    for block in re.split(r"^#### ", part, flags=re.M)[1:]:
+        heading, _, body = block.partition("\n")
+        yield [name.strip() for name in heading.split(",")], body
+
+
+@rule
+def proofs(documents):
+    looked, faults = 0, []
+    document = "docs/PROOFS.md"
+    headed = set()
+    for crates, body in sections_of_proofs(documents[document]):
+        headed.update(crates)
+        known = set().union(*(WORDS.get(crate, set()) for crate in crates))
+        said = set()
+        for span in ticked(body):
+            said.update(re.findall(r"\w+", span))
+            word = re.sub(r"\(.*", "", span)
+            if re.fullmatch(r"\w+", word) and not word.isdigit():
+                looked += 1
+                if word not in known and not any(word in words for words in WORDS.values()):
+                    faults.append(f"{document}: {', '.join(crates)}: nothing is named {word}")
+        for item in re.findall(r"^- (.*?):(?:\s|$)", body, re.M | re.S):
+            if item.count("\n") > 3 or "." in re.sub(r"`[^`]*`", "", item):
+                continue
+            for span in ticked(item):
+                for word in re.findall(r"\b[a-z_]\w*", span):
+                    looked += 1
+                    if word not in known:
+                        faults.append(f"{document}: {', '.join(crates)} has no {word}")
+        for crate in crates:
+            for function in FUNCTIONS:
+                if function.crate == crate and is_exported(function) and re.search(r"\bensures\b", function.contract):
+                    looked += 1
+                    if function.name not in said:
+                        faults.append(f"{document}: {crate}: nothing is said of {function.name} ({function.path})")
+    for crate in CRATES:
+        if crate not in headed and not crate.endswith("_tests"):
+            faults.append(f"{document}: {crate} has no heading")
+    for crate in headed - set(CRATES):
+        faults.append(f"{document}: there is no crate {crate}")
+    return looked, faults
+
+
+def clause_at(name, clause):
+    """Whether a function, or a definition, of this name has such a clause or field."""
+    *owner, last = re.sub(r"\(.*", "", name).split("::")
+    for function in BY_NAME.get(last, []):
+        if owner and owner[0] in CRATES and function.crate != owner[0]:
+            continue
+        if clause in function.clauses or re.search(rf"\b{clause}\b", function.contract):
+            return True
+    for crate, body in TYPES.get(last, []):
+        if re.search(rf"\b{clause}\b", body):
+            return True
+        if any(last in f.owners and (f.name == clause or clause in f.clauses) for f in FUNCTIONS):
+            return True
+    if any(re.search(rf"\b{clause}\b", block) for _, _, block in DEFINITIONS.get(last, [])):
+        return True
+    return last in CRATES and clause in WORDS[last]
+
+
+@rule
+def clauses(documents):
+    looked, faults = 0, []
+    one = r"`([\w:]+)`"
+    for document, text in of_documents(documents):
+        text = without_blocks(text)
+        pairs = [(name, clause) for clause, *rest in re.findall(rf"`(\w+)`\s+of\s+{one}(?:\s+and\s+of\s+{one})?", text)
+                 for name in rest if name and clause.islower()]
+        pairs += re.findall(rf"{one}, clause\s+`(\w+)`", text)
+        for row in re.findall(r"^\|.*\|$", text, re.M):
+            cells = [cell.strip() for cell in row.strip("|").split("|")]
+            if document == "docs/PROOFS.md" and len(cells) == 3 and cells[1].startswith("`"):
+                pairs += [(cells[1].strip("`"), clause) for clause in re.findall(r"`(\w+)`", cells[2])]
+        for name, clause in pairs:
+            looked += 1
+            if not clause_at(name, clause):
+                faults.append(f"{document}: {name} has no {clause}")
+    return looked, faults
+
+
+@rule
+def commits(documents):
+    looked, faults = 0, []
+    git = functools.partial(subprocess.run, capture_output=True, text=True)
+    shallow = git(["git", "rev-parse", "--is-shallow-repository"]).stdout.strip()
+    for document, text in of_documents(documents):
+        looked += 1
+        for word in re.findall(r"(?<![\w.])(?:[0-9a-f]{7,12}|[0-9a-f]{40})(?!\w|\.\w)", without_blocks(text)):
+            if not re.search(r"[a-f]", word) or not re.search(r"\d", word):
+                continue
+            if git(["git", "cat-file", "-e", word + "^{commit}"]).returncode != 0:
+                why = "" if shallow == "false" else ": this clone doesn't have the whole history, so it can't be looked up"
+                faults.append(f"{document}: {word} is no commit{why}")
+    return looked, faults
+
+
+@rule
+def kit(documents):
+    told = ""
+    if shutil.which("rt"):
+        told = subprocess.run(["rt", "version"], capture_output=True, text=True).stdout.split(" ")[0].strip()
+    looked, faults = 0, []
+    for document in DOCUMENTS:
+        for named in re.findall(r"rattle-kit-\w+", re.sub(r"^\|.*$", "", documents[document], flags=re.M)):
+            looked += 1
+            if named != told:
+                faults.append(f"{document}: the kit is {told or 'not there: rt version tells nothing'}, not {named}")
+    return looked, faults
+
+
+def stands_on():
+    """What each crate of crates.txt stands on, with all below: of the crates of this tree alone."""
+    direct = {}
+    for line in read("crates.txt").split("\n"):
+        name, _, rest = line.partition(":")
+        if rest or line.endswith(":"):
+            direct[name.split(" ")[0]] = {word for word in rest.split() if word in CRATES}
+
+    def closed(found):
+        more = set().union(found, *(direct[name] for name in found))
+        return found if more == found else closed(more)
+
+    return direct, closed
+
+
+@rule
+def crates(documents):
+    direct, closed = stands_on()
+    document, faults = "docs/ARCHITECTURE.md", []
+    rows = {}
+    for row in re.findall(r"^\|(.*)\|$", documents[document].partition("## The levels")[0], re.M):
+        cells = [cell.strip() for cell in row.split("|")]
+        if len(cells) == 3 and long_name(cells[0].split(" ")[0]) in CRATES:
+            rows[long_name(cells[0].split(" ")[0])] = {long_name(word) for word in re.findall(r"\w+", cells[2])}
+    for crate in CRATES:
+        if crate.endswith("_tests"):
+            continue
+        if crate not in direct:
+            faults.append(f"crates.txt doesn't name {crate}")
+        elif crate not in rows:
+            faults.append(f"{document}: {crate} has no row")
+        elif not rows[crate] <= set(CRATES):
+            faults.append(f"{document}: {crate} stands on {', '.join(rows[crate] - set(CRATES))}, which isn't there")
+        elif closed(rows[crate]) != closed(direct[crate]):
+            differ = closed(rows[crate]) ^ closed(direct[crate])
+            faults.append(f"{document}: {crate} differs from crates.txt in {', '.join(sorted(differ))}")
+    return len(rows), faults
+
+
+def compare(document, what, said, there):
+    faults = [f"{document}: {what}: {name} isn't there" for name in sorted(set(said) - set(there))]
+    return faults + [f"{document}: {what}: {name} is missing" for name in sorted(set(there) - set(said))]
+
+
+def rows_of(text, heading):
+    """The cells of the rows of the first table behind a heading."""
+    part = re.split(rf"^#+ {re.escape(heading)}\n", text, flags=re.M)
+    table = re.search(r"(?:^\|.*\n)+", part[1] if len(part) > 1 else "", re.M)
+    return [[cell.strip() for cell in row.strip("|").split("|")] for row in (table[0] if table else "").strip().split("\n")[2:]]
+
+
+def scripts():
+    return [os.path.basename(path) for path in SCRIPTS]
+
+
+@rule
+def parts(documents):
+    looked, faults = 0, []
+
+    def has(document, what, said, there):
+        nonlocal looked
+        looked += min(len(list(said)), 1)
+        faults.extend(compare(document, what, said, there))
+        if not said:
+            faults.append(f"{document}: {what}: the table isn't there")
+
+    testing = documents["docs/TESTING.md"]
+    said = [ticked(cells[0])[0].split(" ")[0] for cells in rows_of(testing, "What is tested") if ticked(cells[0])]
+    ran = re.findall(r"^\s*try (\S+)", read(".ci/run"), re.M)
+    has("docs/TESTING.md", "the parts of .ci/run", [path for path in said if path in ran], ran)
+    has("docs/TESTING.md", "tests crates", [ticked(cells[0])[0] for cells in rows_of(testing, "Tests crates")],
+        [crate for crate in CRATES if crate.endswith("_tests")])
+    growths = []
+    for cells in rows_of(testing, "Growths that are refused"):
+        chapter = cells[0].split(",")[0]
+        growths += [f"{chapter}.{name}" for name in re.findall(r"\b(?!to )([a-z_]\w*) (?:\d|\*\*none)", cells[1])]
+    has("docs/TESTING.md", "growths of the scripts", growths, scripts())
+    added = [" ".join(pair) for pair in re.findall(r'^count(?:_median)? "([^"]+)" (\d+)', read("tests/adding.sh"), re.M)]
+    has("docs/ARCHITECTURE.md", "what an addition takes", [f"{cells[0]} {cells[-1]}" for cells in
+        rows_of(documents["docs/ARCHITECTURE.md"], "What an addition takes")], added)
+    benches = [os.path.basename(ticked(cells[0])[0].split(" ")[0]) for cells in rows_of(documents["docs/MEASURES.md"], "How they are taken")]
+    has("docs/MEASURES.md", "benches", benches, [os.path.basename(path) for path in glob.glob("bench/*") if re.search(r"\.sh$|/partner\.py$", path)])
+    return looked, faults
+
+
+def variants(crate, name):
+    for at, body in TYPES.get(name, []):
+        if at == crate:
+            return re.findall(r"^    (\w+)", re.sub(r"///.*", "", body), re.M)
+    return []
+
+
+@rule
+def tables(documents):
+    looked, faults = 0, []
+
+    def has(document, what, said, there):
+        nonlocal looked
+        looked += len(set(said) & set(there))
+        faults.extend(compare(document, what, said, there))
+
+    model = documents["docs/MODEL.md"]
+    listed = re.search(r"^\| Property \|.*\n\|[-|]*\n((?:^\|.*\n)+)", model, re.M)
+    said = [name.strip() for row in (listed[1] if listed else "").strip().split("\n") for name in row.strip("|").split("|")[0].split(",")]
+    named = re.findall(r'is\(word, "(\w+)"\) => Some\(Property::', read("crates/pos_service/src/property.rt"))
+    has("docs/MODEL.md", "properties", said, named)
+    console = documents["docs/CONSOLE.md"]
+    said = [word for cells in rows_of(console, "Methods") for word in ticked(cells[0])]
+    has("docs/CONSOLE.md", "methods", said, re.findall(r'codes "(\w+)"', read("crates/pos_script/specs/Methods.antt")))
+    said = [ticked(cells[0])[0] for cells in rows_of(console, "Lines") if ticked(cells[0])]
+    verbs = re.search(r"^fn named_verb.*?^}", read("crates/pos_script/src/command.rt"), re.M | re.S)[0]
+    has("docs/CONSOLE.md", "verbs", said, re.findall(r'is\(word, "(\w+)"\)', verbs))
+    header = read("abi/kijolvar.h")
+    abi = documents["abi/README.md"]
+    said = re.findall(r"^\| `(kijolvar_\w+)` \|", abi, re.M)
+    has("abi/README.md", "calls", said, re.findall(r"^[\w ]*?\b(kijolvar_\w+)\(", header, re.M))
+    said = [" ".join(pair) for pair in re.findall(r"^\| `(KIJOLVAR_\w+)` \| (\d+) \|", abi, re.M)]
+    has("abi/README.md", "codes", said, [" ".join(pair) for pair in re.findall(r"^\s+(KIJOLVAR_\w+) = (\d+)", header, re.M)])
+    numbers = dict(re.findall(r"Code::(\w+) => (\d+)", read("crates/pos_service/src/code.rt")))
+    said = re.findall(r"^\| (1\d\d)(?: \d+)? \| E_\w+ \|", documents["docs/TROUBLE.md"], re.M)
+    has("docs/TROUBLE.md", "result codes", said, [number for number in numbers.values() if number != "0"])
+    return looked, faults
+
+
+def edits_in(pattern):
+    return len(glob.glob(pattern))
+
+
+def spelt(number):
+    words = "none one two three four five six seven eight nine ten eleven twelve".split()
+    return words[number] if number < len(words) else f"{number:,}"
+
+
+COUNTS = [
+    ("docs/DECISIONS.md", r"The (\S+) properties, whose names", lambda: len(variants("pos_service", "Property"))),
+    ("docs/DECISIONS.md", r"(\S+) functions have `requires \{ Unit \{0\} \}`",
+     lambda: sum(read(path).count("requires { Unit {0} }") for path in FILES if path.endswith(".rt"))),
+    ("docs/TESTING.md", r"\*\*In the gate\*\*, `crates/CRATE/must-fail/`, (\S+):", lambda: edits_in("crates/*/must-fail/*.edit")),
+    ("docs/TESTING.md", r"\*\*Outside\*\*, `tests/edits/CRATE/`, (\S+),", lambda: edits_in("tests/edits/*/*.edit")),
+    ("docs/TESTING.md", r"\*\*Outside\*\*, `tests/edits/CRATE/`, \S+, (\S+) of them of `kijolvar`", lambda: edits_in("tests/edits/kijolvar/*.edit")),
+    ("docs/TESTING.md", r"There are (\S+) scripts", lambda: len(scripts())),
+]
+
+
+@rule
+def counts(documents):
+    faults = []
+    for document, pattern, count in COUNTS:
+        text = re.sub(r"\s+", " ", documents[document])
+        found = re.search(pattern, text)
+        if not found:
+            faults.append(f"{document}: no sentence {pattern!r}; if it isn't said any more, this script mustn't list it")
+        elif found[1].lower() not in (spelt(count()), f"{count():,}"):
+            faults.append(f"{document}: {found[0]!r}, and the tree has {count()}")
+    return len(COUNTS), faults
+
+
+# A heading of UnifiedPOS 1.16, as far as the scripts name them: a property, a method, an event, or a part of a chapter.
+SECTION = re.compile(r"(?:[\w, ]*\b)?(?:Propert(?:y|ies)|Methods?|Events?|\w+Event|Errors|Summary|Characters|Sequences|Models?"
+                     r"|Sharing|Finalization|Exclusive-Use Devices|Sharable Devices|(?:Asynchronous|Synchronous) Output)\b")
+
+
+def fault_of_group(comment, first, documents):
+    """What is wrong with the comment of a group: it begins with a heading of the standard, or of a document."""
+    quoted = re.findall(r"(docs/[A-Z]+\.md), ([^:;,]+)", comment)
+    for document, heading in quoted:
+        if not os.path.exists(document) or not has_heading(document, heading, documents):
+            return f"{document} has no heading {heading}"
+    if quoted or comment.startswith("UnifiedPOS 1.16, "):
+        return None
+    begin = re.split("[:,]", comment)[0]
+    if any(begin in headings(document, documents) for document in re.findall(r"docs/[A-Z]+\.md", first)):
+        return None
+    return None if SECTION.match(comment.partition(":")[0]) else "no section is named"
+
+
+@rule
+def sections(documents):
+    looked, faults = 0, []
+    for path in SCRIPTS:
+        lines = documents[path].split("\n")
+        if not re.match(r"# (UnifiedPOS 1\.16, \w|docs/[A-Z]+\.md, \w)", lines[0]):
+            faults.append(f"{path}: its first line names no chapter")
+        for number, line in enumerate(lines):
+            if not line or number > 0 and lines[number - 1]:
+                continue
+            looked += 1
+            fault = fault_of_group(line[2:], lines[0], documents) if line.startswith("# ") else "a group without a comment"
+            if fault:
+                faults.append(f"{path}:{number + 1}: {fault}: {line[:90]}")
+    return looked, faults
+
+
+# ---- planted claims: a rule, and what is put into a document that it has to find
+
+def behind(document, text):
+    return lambda documents: {**documents, document: documents[document] + "\n" + text + "\n"}
+
+
+def instead(document, pattern, text):
+    def plant(documents):
+        planted = re.sub(pattern, text, documents[document], count=1, flags=re.M)
+        if planted == documents[document]:
+            raise ValueError(f"{document} has no {pattern!r} to plant a wrong claim in")
+        return {**documents, document: planted}
+
+    return plant
+
+
+PLANTS = [
+    ("paths", behind("README.md", "See `crates/pos_counter/src/nothing.rt`.")),
+    ("paths", behind("docs/MODEL.md", "See `Nothing.antt`.")),
+    ("paths", behind("docs/TESTING.md", "Run `tests/nothing.sh [CRATE]`.")),
+    ("links", behind("README.md", "See [it](docs/NOTHING.md).")),
+    ("links", behind("docs/DISK.md", "See [MODEL.md](MODEL.md#no-such-heading).")),
+    ("links", behind("docs/DISK.md", 'See [MODEL.md](MODEL.md), "No such heading".')),
+    ("links", behind("docs/DISK.md", 'See "No such heading", above.')),
+    ("comments", instead("docs/DISK.md", r"^## The layouts$", "## Layouts of the disk")),
+    ("names", behind("README.md", "So does `pos_counter::nothing`.")),
+    ("names", behind("README.md", "So does `pos_counter::Counter::nothing`.")),
+    ("names", behind("docs/PROOFS.md", "So does `Counter::nothing`.")),
+    ("names", behind("docs/RULES.md", "So does `pos_counter.Steps.Nothing`.")),
+    ("proofs", instead("docs/PROOFS.md", r"^#### pos_log$", "#### pos_log\n\n- `nothing_of_it`: no such function.")),
+    ("proofs", instead("docs/PROOFS.md", r"`renew`, `migrate`: a crash", "`migrate`: a crash")),
+    ("proofs", instead("docs/PROOFS.md", r"^#### pos_log$", "#### pos_lag")),
+    ("clauses", behind("README.md", "`pos_counter::Counter::call`, clause `nothing_of_it`.")),
+    ("clauses", behind("docs/DISK.md", "This is `nothing_of_it` of `Images::publish`.")),
+    ("clauses", instead("docs/PROOFS.md", r"\| `laws::crash_prefix` \| `after` \|", "| `laws::crash_prefix` | `afterwards` |")),
+    ("commits", behind("docs/MEASURES.md", "It was measured at 0123abcd.")),
+    ("kit", instead("README.md", r"rattle-kit-\w+", "rattle-kit-0z")),
+    ("crates", instead("docs/ARCHITECTURE.md", r"^\| store \|.*\n", "")),
+    ("crates", instead("docs/ARCHITECTURE.md", r"^(\| log \|.*) \| disk, image \|$", r"\1 | disk, image, dir |")),
+    ("parts", instead("docs/TESTING.md", r"^\| `tests/rules.sh` \|.*\n", "")),
+    ("parts", instead("docs/TESTING.md", r"^\| `pos_run_tests` \|.*\n", "")),
+    ("parts", instead("docs/TESTING.md", r"^\| drawer \| claimed 14, ", "| drawer | claimed 14, unclaimed 3, ")),
+    ("parts", instead("docs/ARCHITECTURE.md", r"^\| a sign \| `powered` \| \d+ \|", "| a sign | `powered` | 3 |")),
+    ("parts", instead("docs/MEASURES.md", r"^\| `bench/store.sh` \|.*\n", "")),
+    ("tables", instead("docs/MODEL.md", r"^\| DrawerOpened \|.*\n", "")),
+    ("tables", instead("docs/CONSOLE.md", r"^\| `openDrawer` \| CashDrawer", "| `openTheDrawer` | CashDrawer")),
+    ("tables", instead("abi/README.md", r"^\| `KIJOLVAR_CUT` \| 4 \|", "| `KIJOLVAR_CUT` | 3 |")),
+    ("tables", instead("docs/TROUBLE.md", r"^\| 113 \| E_BUSY \|.*\n", "")),
+    ("counts", instead("docs/TESTING.md", r"There are \S+ scripts", "There are 12 scripts")),
+    ("sections", instead("docs/DISK.md", r"^### The log$", "### A log")),
+    ("sections", instead(SCRIPTS[0], r"^# UnifiedPOS 1\.16, ", "# ")),
+    ("sections", instead(SCRIPTS[0], r"^# claim Method: the holder", "# The holder")),
+    ("sections", behind(SCRIPTS[0], "\nget a State")),
+]
+
+
+def main():
+    passed = failed = 0
+
+    def judge(what, faults):
+        nonlocal passed, failed
+        if not faults:
+            passed += 1
+            return
+        failed += 1
+        for fault in faults:
+            print(f"{what}: {fault}")
+
+    plain = {}
+    for name, check in RULES.items():
+        looked, faults = check(TEXTS)
+        plain[name] = set(faults)
+        if "--self-test" not in sys.argv:
+            judge(name, faults if looked else ["there is nothing that it could look at"])
+            print(f"{name}: {looked} looked at")
+    for number, (name, plant) in enumerate(PLANTS, 1):
+        try:
+            found = set(RULES[name](plant(TEXTS))[1]) - plain[name]
+            judge(f"planted claim {number}, of {name}", [] if found else ["it isn't found"])
+        except ValueError as fault:
+            judge(f"planted claim {number}, of {name}", [str(fault)])
+    print(f"{passed} passed, {failed} failed")
+    return 1 if failed or not passed else 0
+
+
+sys.exit(main())
+PROGRAM
