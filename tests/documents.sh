@@ -4,14 +4,15 @@
 #   links      a link leads to a file and to a heading of it, and so does a heading that is quoted behind a link
 #   comments   a document and a heading that a source, a test or a script names exist
 #   names      `crate::function`, `Type::method`, `Type::Variant` and `crate.Module.name` are declared there
+#   words      a single word in backticks that looks like a name is a word of the sources, or of the list of others below
 #   proofs     what an item of docs/PROOFS.md is about is declared in the crate of its heading; each function of the crate
 #              that its users can call and that has a clause is named there
 #   clauses    a clause that is named beside a function, and a field beside a definition, is there
 #   commits    a commit's id is one of this history
 #   kit        the kit that README names is the one that `rt version` tells
 #   crates     the crates and what they stand on are those of crates.txt
-#   parts      the parts of the whole test are those of .ci/run; the tests crates, scripts and benches that tables name are
-#              those of the tree
+#   parts      the parts of the whole test are those that .ci/run runs; the tests crates, scripts, benches and additions that
+#              tables name are those of the tree
 #   tables     the tables of properties, methods, calls, codes and result codes have the rows of the sources
 #   counts     a number in a sentence that this script lists is what the tree has
 #   sections   each group of lines of a script names the section of the standard, or of a document, that it is from
@@ -28,6 +29,8 @@ DOCUMENTS = ["README.md", "abi/README.md", *sorted(glob.glob("docs/*.md"))]
 CRATES = sorted(os.path.basename(path) for path in glob.glob("crates/*"))
 # Files that a command makes, or that stand for those of a reader.
 MADE = {"out/pos_console", "till.disk", "till.toml", "libkijolvar.a", "libkijolvar.so"}
+# Words in backticks that are of the standard, of the system or of the checker, and so of no source here.
+OTHERS = {"checkHealth", "directIO", "transactionPrint", "paste", "strace", "dmesg", "smartctl", "libc", "LendsIf"}
 # Names of files that the checker refuses, as docs/DECISIONS.md says.
 REFUSED = {"Contracts.antt", "proofs/Formatting.antt"}
 
@@ -292,6 +295,22 @@ def is_exported(function):
     return bool(function.owners & seen) if function.owners else function.name in seen
 
 
+@rule
+def words(documents):
+    looked, faults = 0, []
+    known = set().union(*WORDS.values(), CRATES, OTHERS)
+    for path in FILES:
+        if re.match(r"(abi|bench)/", path) and not path.endswith(".md"):
+            known.update(re.findall(r"[^\W\d]\w*", read(path)))
+    for document, text in of_documents(documents):
+        for span in ticked(without_blocks(text)):
+            if re.fullmatch(r"[A-Za-z_]\w*", span) and not re.fullmatch(r"[0-9a-f]{12,}", span):
+                looked += 1
+                if span not in known:
+                    faults.append(f"{document}: nothing is named {span}")
+    return looked, faults
+
+
 def sections_of_proofs(text):
     """The crates of each heading of 'Each contract', with what stands under it."""
     part = text.partition("### Each contract")[2].partition("### End to end")[0]
@@ -474,7 +493,8 @@ def parts(documents):
 
     testing = documents["docs/TESTING.md"]
     said = [ticked(cells[0])[0].split(" ")[0] for cells in rows_of(testing, "What is tested") if ticked(cells[0])]
-    ran = re.findall(r"^\s*try (\S+)", read(".ci/run"), re.M)
+    listed = read("tests/expected") if os.path.exists("tests/expected") else ""
+    ran = re.findall(r"^gate +\S+ +(\S+)", listed, re.M) or re.findall(r"^\s*try (\S+)", read(".ci/run"), re.M)
     has("docs/TESTING.md", "the parts of .ci/run", [path for path in said if path in ran], ran)
     has("docs/TESTING.md", "tests crates", [ticked(cells[0])[0] for cells in rows_of(testing, "Tests crates")],
         [crate for crate in CRATES if crate.endswith("_tests")])
@@ -628,6 +648,7 @@ PLANTS = [
     ("names", behind("README.md", "So does `pos_counter::Counter::nothing`.")),
     ("names", behind("docs/PROOFS.md", "So does `Counter::nothing`.")),
     ("names", behind("docs/RULES.md", "So does `pos_counter.Steps.Nothing`.")),
+    ("words", behind("docs/MODEL.md", "See `NothingOfIt`.")),
     ("proofs", instead("docs/PROOFS.md", r"^#### pos_log$", "#### pos_log\n\n- `nothing_of_it`: no such function.")),
     ("proofs", instead("docs/PROOFS.md", r"`renew`, `migrate`: a crash", "`migrate`: a crash")),
     ("proofs", instead("docs/PROOFS.md", r"^#### pos_log$", "#### pos_lag")),
