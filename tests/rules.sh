@@ -2,7 +2,7 @@
 # Checks docs/RULES.md: that each definition and each function that a row names stands, and that the contract of the
 # function leads to the definition, by the names that it uses and those that their definitions use in turn, each as its
 # file imports it. Usage: tests/rules.sh. Its last line is 'N passed, M failed', a rule each; it ends with 0 where none
-# failed.
+# failed. A row of another form has failed.
 set -u
 cd "$(dirname "$0")/.." || exit 1
 exec python3 - docs/RULES.md <<'PROGRAM'
@@ -97,7 +97,11 @@ read_specs()
 passed = failed = 0
 for line in open(sys.argv[1], encoding="utf-8"):
     cells = [cell.strip() for cell in line.strip().strip("|").split("|")]
-    if len(cells) != 4 or not cells[2].startswith("`"):
+    if not line.startswith("| ") or cells[0] == "Rule":
+        continue
+    if len(cells) != 4 or not all(re.fullmatch(r"`[\w.:]+`", cell) for cell in cells[2:]):
+        failed += 1
+        print(f"{cells[0]}: the row has no definition and function")
         continue
     definition, function = cells[2].strip("`"), cells[3].strip("`")
     start = contract(function)
