@@ -35,7 +35,7 @@ TOP = os.environ["TOP"]
 # In this order, since the README serves the page over the shared object that abi/README.md makes, and docs/TROUBLE.md shows the
 # file of the README's day.
 DOCUMENTS = ["abi/README.md", "README.md", "docs/TROUBLE.md"]
-BLOCK = re.compile(r"^```(\w+)\n(.*?)^```$|((?:^    .*\n|^\n(?=    ))+)", re.M | re.S)
+BLOCK = re.compile(r"^```(\w*)\n(.*?)^```$|((?:^    [^\n]*\n|^\n(?=    ))+)", re.M | re.S)
 NAMED = re.compile(r"`(crates/[\w/]+\.rt)`")
 # Commands that aren't run here: what they begin with, and why.
 NOT_RUN = [
