@@ -11,8 +11,8 @@
 #   commits    a commit's id is one of this history
 #   kit        the kit that README names is the one that `rt version` tells
 #   crates     the crates and what they stand on are those of crates.txt
-#   parts      the parts of the whole test are those that .ci/run runs; the tests crates, scripts, benches and additions that
-#              tables name are those of the tree
+#   parts      the parts of the whole test are those that .ci/run runs; the tests crates, benches and additions that tables
+#              name are those of the tree
 #   tables     the tables of properties, methods, calls, codes and result codes have the rows of the sources
 #   counts     a number in a sentence that this script lists is what the tree has
 #   sections   each group of lines of a script names the section of the standard, or of a document, that it is from
@@ -30,7 +30,8 @@ CRATES = sorted(os.path.basename(path) for path in glob.glob("crates/*"))
 # Files that a command makes, or that stand for those of a reader.
 MADE = {"out/pos_console", "till.disk", "till.toml", "libkijolvar.a", "libkijolvar.so"}
 # Words in backticks that are of the standard, of the system or of the checker, and so of no source here.
-OTHERS = {"checkHealth", "directIO", "transactionPrint", "paste", "strace", "dmesg", "smartctl", "libc", "LendsIf"}
+OTHERS = {"checkHealth", "directIO", "transactionPrint", "paste", "strace", "dmesg", "smartctl", "libc", "LendsIf",
+          "pos_"}
 # Names of files that the checker refuses, as docs/DECISIONS.md says.
 REFUSED = {"Contracts.antt", "proofs/Formatting.antt"}
 
@@ -100,7 +101,6 @@ def functions_in(crate, path):
                     break
                 end += 1
             contract = "\n".join(lines[number : end + 1])
-            public = found[2] == "pub " or ("trait" in lines[number] or bool(owners) and not found[2])
             yield Function(crate, path, owners, found[2] == "pub ", found[3], contract)
 
 
@@ -190,7 +190,6 @@ def has_heading(path, heading, documents):
 @rule
 def links(documents):
     looked, faults = 0, []
-    quotes = r'((?:,?\s+(?:and\s+)?"[^"]+")*)'
     for name, text in of_documents(documents):
         text = re.sub(r"^```.*?^```", "", text, flags=re.M | re.S)
         for found in re.finditer(r"\[[^\]]*\]\(([^)]*)\)" + r'((?:,?\s+(?:in\s+|and\s+)?"[^"]+")*)', text):
@@ -359,22 +358,22 @@ def proofs(documents):
     return looked, faults
 
 
-def clause_at(name, clause):
-    """Whether a function, or a definition, of this name has such a clause or field."""
+def has_clause(name, clause):
+    """Whether a function of this name has such a clause."""
     *owner, last = re.sub(r"\(.*", "", name).split("::")
-    for function in BY_NAME.get(last, []):
-        if owner and owner[0] in CRATES and function.crate != owner[0]:
-            continue
-        if clause in function.clauses or re.search(rf"\b{clause}\b", function.contract):
-            return True
-    for crate, body in TYPES.get(last, []):
-        if re.search(rf"\b{clause}\b", body):
-            return True
-        if any(last in f.owners and (f.name == clause or clause in f.clauses) for f in FUNCTIONS):
-            return True
-    if any(re.search(rf"\b{clause}\b", block) for _, _, block in DEFINITIONS.get(last, [])):
+    crate = owner[0] if owner and owner[0] in CRATES else None
+    return any(clause in function.clauses for function in BY_NAME.get(last, []) if crate in (None, function.crate))
+
+
+def has_part(name, part):
+    """Whether what has this name, a function, a type, a definition or a crate, has such a clause, method, field or function."""
+    last = name.split("::")[-1]
+    if has_clause(name, part) or any(last in function.owners for function in BY_NAME.get(part, [])):
         return True
-    return last in CRATES and clause in WORDS[last]
+    texts = [body for _, body in TYPES.get(last, [])] + [block for _, _, block in DEFINITIONS.get(last, [])]
+    if any(re.search(rf"^\s+(?:pub )?{part}\b", text, re.M) for text in texts):
+        return True
+    return any(function.crate == last for function in BY_NAME.get(part, []))
 
 
 @rule
@@ -383,17 +382,17 @@ def clauses(documents):
     one = r"`([\w:]+)`"
     for document, text in of_documents(documents):
         text = without_blocks(text)
-        pairs = [(name, clause) for clause, *rest in re.findall(rf"`(\w+)`\s+of\s+{one}(?:\s+and\s+of\s+{one})?", text)
-                 for name in rest if name and clause.islower()]
-        pairs += re.findall(rf"{one}, clause\s+`(\w+)`", text)
+        named = re.findall(rf"{one}, clause\s+`(\w+)`", text)
         for row in re.findall(r"^\|.*\|$", text, re.M):
             cells = [cell.strip() for cell in row.strip("|").split("|")]
             if document == "docs/PROOFS.md" and len(cells) == 3 and cells[1].startswith("`"):
-                pairs += [(cells[1].strip("`"), clause) for clause in re.findall(r"`(\w+)`", cells[2])]
-        for name, clause in pairs:
-            looked += 1
-            if not clause_at(name, clause):
-                faults.append(f"{document}: {name} has no {clause}")
+                named += [(cells[1].strip("`"), clause) for clause in re.findall(r"`(\w+)`", cells[2])]
+        parts_of = [(name, part) for part, *names in re.findall(rf"`(\w+)`\s+of\s+{one}(?:\s+and\s+of\s+{one})?", text)
+                    for name in names if name and part.islower()]
+        looked += len(named) + len(parts_of)
+        faults += [f"{document}: {name} has no clause {clause}" for name, clause in named
+                   if not (has_clause(name, clause) or name in DEFINITIONS and has_part(name, clause))]
+        faults += [f"{document}: {name} has no {part}" for name, part in parts_of if not has_part(name, part)]
     return looked, faults
 
 
@@ -501,16 +500,12 @@ def parts(documents):
     has("docs/TESTING.md", "the parts of .ci/run", [command for command in said if command in ran], ran)
     has("docs/TESTING.md", "tests crates", [ticked(cells[0])[0] for cells in rows_of(testing, "Tests crates")],
         [crate for crate in CRATES if crate.endswith("_tests")])
-    growths = []
-    for cells in rows_of(testing, "Growths that are refused"):
-        chapter = cells[0].split(",")[0]
-        growths += [f"{chapter}.{name}" for name in re.findall(r"\b(?!to )([a-z_]\w*) (?:\d|\*\*none)", cells[1])]
-    has("docs/TESTING.md", "growths of the scripts", growths, scripts())
     added = [" ".join(pair) for pair in re.findall(r'^count(?:_median)? "([^"]+)" (\d+)', read("tests/adding.sh"), re.M)]
     has("docs/ARCHITECTURE.md", "what an addition takes", [f"{cells[0]} {cells[-1]}" for cells in
         rows_of(documents["docs/ARCHITECTURE.md"], "What an addition takes")], added)
     benches = [os.path.basename(ticked(cells[0])[0].split(" ")[0]) for cells in rows_of(documents["docs/MEASURES.md"], "How they are taken")]
-    has("docs/MEASURES.md", "benches", benches, [os.path.basename(path) for path in glob.glob("bench/*") if re.search(r"\.sh$|/partner\.py$", path)])
+    there = [os.path.basename(path) for path in glob.glob("bench/*.*") if re.search(r"\.(sh|py)$", path) and os.access(path, os.X_OK)]
+    has("docs/MEASURES.md", "benches", benches, there)
     return looked, faults
 
 
@@ -666,7 +661,6 @@ PLANTS = [
     ("parts", instead("docs/TESTING.md", r"^\| `tests/rules.sh` \|.*\n", "")),
     ("parts", instead("docs/TESTING.md", r"`tests/growths\.sh -s 7`", "`tests/growths.sh -s 9`")),
     ("parts", instead("docs/TESTING.md", r"^\| `pos_run_tests` \|.*\n", "")),
-    ("parts", instead("docs/TESTING.md", r"^\| drawer \| claimed 14, ", "| drawer | claimed 14, unclaimed 3, ")),
     ("parts", instead("docs/ARCHITECTURE.md", r"^\| a sign \| `powered` \| \d+ \|", "| a sign | `powered` | 3 |")),
     ("parts", instead("docs/MEASURES.md", r"^\| `bench/store.sh` \|.*\n", "")),
     ("tables", instead("docs/MODEL.md", r"^\| DrawerOpened \|.*\n", "")),
