@@ -159,7 +159,7 @@ runs "what records calls is built" gcc -std=c11 -Wall -Wextra -Werror -O1 -share
 python3 -W error "$top/tests/abi_files.py" "$work/libkijolvar.so" "$work/calls.so" "$work/totals_c" "$work/totals_rust" \
   > "$work/files" 2>&1
 grep -v ' passed, ' "$work/files"
-told "files, and tills that are killed" "53 passed, 0 failed" "$(tail -n 1 "$work/files")"
+told "files, and tills that are killed" "166 passed, 0 failed" "$(tail -n 1 "$work/files")"
 
 (cd "$top/crates/kijolvar" && rt lib --backend rattle > "$work/lib" 2>&1)
 told "the archive by Rattle's own compiler" 0 "$?"

@@ -462,15 +462,14 @@ def record(at, length):
 
 
 def finds(library, path):
-    """How many files the totals have, and the number in the first; None if there is no file of totals."""
+    """How many files the totals have, and the number in the first, if there is one; or why they don't open."""
     try:
-        totals = open_totals(path)
-    except FileNotFoundError:
-        return None
-    with totals, Till(library, "", totals) as till:
-        till.control("totals", "HardTotals", "t1")
-        count = int(till.ask("get totals NumberOfFiles"))
-        return count, int(till.ask("call totals read 1 0 8"), 16) if count == 1 and till.ask("call totals find 41") else None
+        with open_totals(path) as totals, Till(library, "", totals) as till:
+            till.control("totals", "HardTotals", "t1")
+            count = int(till.ask("get totals NumberOfFiles"))
+            return count, int(till.ask("call totals read 1 0 8"), 16) if count == 1 and till.ask("call totals find 41") else None
+    except (Fault, OSError) as fault:
+        return repr(fault)
 
 
 def creations(library, wrapper):
@@ -478,7 +477,7 @@ def creations(library, wrapper):
     or, once it has its name, a whole file, which opens."""
     wrapper.has(None)
     made = wrapper.recorded("create")[2]
-    naming, amiss = made.index("link totals") + 1, []
+    naming, amiss = made.index("link totals") + 1 if "link totals" in made else 0, []
     for number in range(1, len(made) + 1):
         for what, wanted in [("CALLS_KILL", ([], -signal.SIGKILL, made[:number - 1])),
                              ("CALLS_FAIL", (["failed"], 1, [*made[:number], "print failed"]))][:1 if number == len(made) else 2]:
@@ -502,7 +501,8 @@ def changes(library, wrapper):
     image = pathlib.Path(wrapper.path).read_bytes()
     lines = [*LOOK[:3], CHANGE[-1]]
     made = wrapper.recorded("open", lines)[2]
-    amiss, first = [], made.index("print ok", made.index("sync file")) + 1
+    # The change comes after the third line is answered.
+    amiss, first = [], [place for place, call in enumerate(made) if call == "print ok"][2] + 1
     for number in range(first + 1, len(made) + 1):
         for what, wanted in [("CALLS_KILL", (["ready", "ok", "ok", "ok"], -signal.SIGKILL)),
                              ("CALLS_FAIL", (["ready", "ok", "ok", "ok", "failed"], 1))][:1 if number == len(made) else 2]:

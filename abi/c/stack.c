@@ -1,6 +1,6 @@
-/* Measures the stack that each export takes, and then runs the same calls on a thread whose stack has 128 KiB.
-   Usage: stack SCRIPT .., with scripts for the built profile. It prints the bytes of each export, and ends with 'enough' if
-   none takes more than README.md says. */
+/* Measures the stack that each export takes, and then runs the same calls on a thread whose stack has 128 KiB. Then it reads
+   a profile that is nested as deep as may be, on a thread with 4 MiB. Usage: stack SCRIPT .., with scripts for the built
+   profile. It prints the bytes of each, and ends with 'enough' if none takes more than README.md says. */
 #define _GNU_SOURCE
 #include "kijolvar.h"
 #include <pthread.h>
@@ -10,7 +10,7 @@
 #include <string.h>
 #include <sys/mman.h>
 
-enum { STACK = 128 * 1024, MOST = 96 * 1024, WIDE = 256 * 1024, PAINT = 0x5A };
+enum { STACK = 128 * 1024, MOST = 96 * 1024, DEEP = 4 * 1024 * 1024, GUARD = 64 * 1024, PAINT = 0x5A };
 
 enum export { OPEN, OPEN_FILE, FORMAT_FILE, CARRY_OUT, ANSWER, NEXT_ERRAND, ERRAND_FAILED, HOST, NEXT_ORDER, CLOSE, EXPORTS };
 
@@ -108,23 +108,31 @@ static void opens(const char *profile, uint32_t wanted) {
     if (code == KIJOLVAR_OK) MEASURED(CLOSE, (kijolvar_close(till), 0));
 }
 
-/* The built profile, one of many devices, and three that are refused: for arrays within arrays, for tables within tables, and
-   for a name with many parts. */
+/* The built profile, one of many devices, and one that is refused. */
 static void begins(void) {
-    static char profile[32768];
+    static char profile[8192];
     size_t length = 0;
-    opens("", KIJOLVAR_OK);
     for (int number = 0; number < 32; number++)
         length += (size_t)snprintf(profile + length, sizeof profile - length,
                                    "[[device]]\nname = \"r%d\"\ncategory = \"POSPrinter\"\nchars = 32\nlines = 300\nnear = 20\n", number);
+    opens("", KIJOLVAR_OK);
     opens(profile, KIJOLVAR_OK);
-    for (int turn = 0; turn < 3; turn++) {
-        static const char *const begin[] = {"x = ", "x = ", "x"}, *const part[] = {"[", "{a=", ".a"}, *const end[] = {"\n", "\n", " = 1\n"};
-        strcpy(profile, begin[turn]);
-        for (int number = 0; number < 8000; number++) strcat(profile, part[turn]);
-        strcat(profile, end[turn]);
-        opens(profile, KIJOLVAR_BAD_PROFILE);
+    opens("x = 1", KIJOLVAR_BAD_PROFILE);
+}
+
+/* A profile that is refused: tables within tables, each under a name of 80 parts, as deep as the reader of TOML goes. */
+static void *nests(void *unused) {
+    static char profile[32768];
+    char *at = stpcpy(profile, "x = ");
+    for (int number = 0; number < 79; number++) {
+        at = stpcpy(at, "{a");
+        for (int part = 1; part < 80; part++) at = stpcpy(at, ".a");
+        at = stpcpy(at, " = ");
     }
+    at = stpcpy(at, "1");
+    for (int number = 0; number < 79; number++) at = stpcpy(at, "}");
+    opens(profile, KIJOLVAR_BAD_PROFILE);
+    return unused;
 }
 
 static void *all(void *given) {
@@ -143,31 +151,32 @@ static void *all(void *given) {
     return NULL;
 }
 
-/* Runs all on a thread whose stack has so many bytes. */
-static void runs(char **scripts, uint8_t *stack, size_t size) {
+/* Runs a function on a thread whose stack has so many bytes, above a guard, and paints it before if it is measured. */
+static void runs(void *(*function)(void *), void *given, size_t size, bool is_measured) {
+    uint8_t *stack = mmap(NULL, GUARD + size, PROT_READ | PROT_WRITE, MAP_PRIVATE | MAP_ANONYMOUS, -1, 0);
     pthread_attr_t attributes;
     pthread_t thread;
-    if (pthread_attr_init(&attributes) != 0 || pthread_attr_setstack(&attributes, stack, size) != 0
-        || pthread_create(&thread, &attributes, all, scripts) != 0 || pthread_join(thread, NULL) != 0)
+    if (stack == MAP_FAILED || mprotect(stack, GUARD, PROT_NONE) != 0) fails("no memory");
+    low = dirty = is_measured ? stack + GUARD : NULL;
+    if (is_measured) memset(low, PAINT, size);
+    if (pthread_attr_init(&attributes) != 0 || pthread_attr_setstack(&attributes, stack + GUARD, size) != 0
+        || pthread_create(&thread, &attributes, function, given) != 0 || pthread_join(thread, NULL) != 0)
         fails("no thread");
+    munmap(stack, GUARD + size);
 }
 
 int main(int count, char **words) {
-    const int guard = 64 * 1024;
-    uint8_t *stack = mmap(NULL, guard + WIDE, PROT_READ | PROT_WRITE, MAP_PRIVATE | MAP_ANONYMOUS, -1, 0);
-    if (stack == MAP_FAILED || mprotect(stack, (size_t)guard, PROT_NONE) != 0) fails("no memory");
-    low = dirty = stack + guard;
-    memset(low, PAINT, WIDE);
-    runs(words + 1, low, WIDE);
+    runs(all, words + 1, 2 * STACK, true);
     bool is_enough = count > 1 && lines_run > 0;
     for (int export = 0; export < EXPORTS; export++) {
         printf("%s %zu\n", names[export], most[export]);
         is_enough = is_enough && most[export] > 0 && most[export] <= MOST;
     }
-    low = NULL;
     long before = lines_run;
-    runs(words + 1, stack + guard, STACK);
-    printf("%ld lines, twice\n", before);
-    puts(is_enough && lines_run == 2 * before ? "enough" : "not enough");
+    runs(all, words + 1, STACK, false);
+    is_enough = is_enough && lines_run == 2 * before;
+    runs(nests, NULL, DEEP, true);
+    printf("open over a nested profile %zu\n", most[OPEN]);
+    puts(is_enough ? "enough" : "not enough");
     return 0;
 }
