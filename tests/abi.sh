@@ -1,7 +1,8 @@
 #!/usr/bin/env bash
 # Tries the library: its archive by both compilers, the header against the exports, the examples in C, Rust and Python,
-# which have to print the same, want of memory at each allocation in turn, and two tills on two threads. It needs rt, gcc,
-# rustc and python3, and installs nothing. Usage: tests/abi.sh. Its last line is 'N passed, M failed'.
+# which have to print the same, want of memory at each allocation in turn, two tills on two threads, and the stack that each
+# export takes. valgrind looks for misuse of the heap by the library and by the three wrappers. It installs nothing, and a
+# tool that is missing is a failure that names its package. Usage: tests/abi.sh. Its last line is 'N passed, M failed'.
 set -u
 top=$(cd "$(dirname "$0")/.." && pwd)
 abi=$top/abi
@@ -30,16 +31,31 @@ runs() {
   [ -s "$work/said" ] && [ "$failed" -gt 0 ] && tail -n 5 "$work/said"
 }
 
-for tool in rt gcc rustc python3; do
-  if ! command -v "$tool" > /dev/null; then
-    echo "failed: $tool isn't installed"
+# needs TOOL PACKAGE: whether a tool is there
+needs() {
+  if ! command -v "$1" > /dev/null; then
+    echo "failed: $1 is missing: install $2"
     failed=$((failed + 1))
   fi
-done
+}
+
+needs rt "the Rattle kit"
+needs gcc "the Debian package gcc"
+needs ar "the Debian package binutils"
+needs rustc "Rust 1.89 or later (the Debian package rustc, or rustup)"
+needs python3 "the Debian package python3"
+needs valgrind "the Debian package valgrind"
+if command -v gcc > /dev/null && [ ! -e "$(gcc -print-file-name=libasan.so)" ]; then
+  echo "failed: the address sanitizer is missing: install the Debian package libgcc-$(gcc -dumpversion)-dev"
+  failed=$((failed + 1))
+fi
 if [ "$failed" -gt 0 ]; then
   echo "$passed passed, $failed failed"
   exit 1
 fi
+
+# the interpreter itself, for valgrind: python3 may be a script that finds it
+python=$(python3 -c 'import sys; print(sys.executable)')
 
 # links NAME SOURCE FLAG ..: builds a program in C over the archive $archive and a heap
 links() {
@@ -55,6 +71,25 @@ sells() {
   shift
   rm -f "$work/totals"
   told "$name" "$(cat "$abi/sale.stdout")" "$("$@" "$work/totals" 2>&1)"
+}
+
+# watched COMMAND ..: runs a command under valgrind, which prints each misuse of the heap, by the library too, and what is
+# left there without a pointer to it. Python's own modules leave something.
+watched() {
+  local leaks=full
+  [ "$1" != "$python" ] || leaks=no
+  PYTHONMALLOC=malloc valgrind -q --error-exitcode=99 --undef-value-errors=no --leak-check="$leaks" \
+    --errors-for-leak-kinds=definite "$@"
+}
+
+# reads NAME COMMAND ..: whether a program of a wrapper, watched, gives an answer that is longer than its first room
+reads() {
+  local name=$1
+  shift
+  rm -f "$work/totals"
+  told "$name" "$(printf 'ready\nok\nok\nok\nok 1\nok\nok '; printf '5a%.0s' {1..400})" \
+    "$(watched "$@" create "$work/totals" 'new t HardTotals' 'open t t1' 'set t DeviceEnabled true' \
+      'call t create 41 400 false' 'call t setAll 1 90' 'call t read 1 0 400' 2>&1)"
 }
 
 # tries WHO FLAG ..: the examples and the tests in C over the archive
@@ -73,6 +108,24 @@ tries() {
   told "$who: two threads" "the same" "$("$work/program" 2>&1 | tail -n 1)"
 }
 
+# watches WHO: what needs a build without a sanitizer: the sale under valgrind, and the stack
+watches() {
+  links "$1: the sale in C, watched" "$abi/c/sale.c" "$abi/heap.c"
+  sells "$1: the sale in C, watched" watched "$work/program"
+  links "$1: the stack" "$abi/c/stack.c" "$abi/heap.c"
+  "$work/program" "${scripts[@]}" > "$work/stack" 2>&1
+  told "$1: a stack of 128 KiB" enough "$(tail -n 1 "$work/stack")"
+  printf '%s: bytes of stack: %s\n' "$1" "$(paste -s -d, "$work/stack")"
+}
+
+# the console's scripts for the built profile
+scripts=()
+for expected in "$top"/crates/pos_console/scripts/*.stdout; do
+  [ -e "${expected%.stdout}.profile" ] || scripts+=("${expected%.stdout}")
+done
+[ "${#scripts[@]}" -ge 40 ]
+told "scripts for the stack" 0 "$?"
+
 told "the header is that of the exports" "$(python3 "$abi/declare.py" c)" "$(cat "$abi/kijolvar.h")"
 told "the numbers for Python" "$(python3 "$abi/declare.py" python)" "$(cat "$abi/python/standard.py")"
 told "the numbers for Rust" "$(python3 "$abi/declare.py" rust)" "$(cat "$abi/rust/standard.rs")"
@@ -80,6 +133,7 @@ told "the numbers for Rust" "$(python3 "$abi/declare.py" rust)" "$(cat "$abi/rus
 (cd "$top/crates/kijolvar" && rt lib > "$work/lib" 2>&1)
 told "the archive by LLVM" 0 "$?"
 tries "LLVM"
+watches "LLVM"
 tries "LLVM under the address sanitizer" -fsanitize=address,undefined -fno-sanitize-recover
 
 runs "the heap for Rust" gcc -Wall -Wextra -Werror -O1 -c -fPIC -o "$work/heap.o" "$abi/heap.c"
@@ -88,17 +142,29 @@ runs "the heap is added" ar r "$work/libkijolvar.a" "$work/heap.o"
 runs "the sale in Rust is built" rustc -D warnings -O -o "$work/sale_rust" "$abi/rust/sale.rs" -L "native=$work" \
   -l static=kijolvar
 sells "the sale in Rust" "$work/sale_rust"
+sells "the sale in Rust, watched" watched "$work/sale_rust"
+runs "the totals in Rust are built" rustc -D warnings -O -o "$work/totals_rust" "$abi/rust/totals.rs" -L "native=$work" \
+  -l static=kijolvar
 
 runs "the shared object" gcc -shared -o "$work/libkijolvar.so" -Wl,--whole-archive "$work/libkijolvar.a" \
   -Wl,--no-whole-archive
 export PYTHONDONTWRITEBYTECODE=1
 sells "the sale in Python" python3 -W error "$abi/python/sale.py" "$work/libkijolvar.so"
-told "files, and tills that are killed" "53 passed, 0 failed" \
-  "$(python3 -W error "$top/tests/abi_files.py" "$work/libkijolvar.so" 2>&1 | tail -n 1)"
+links "the totals in C" "$abi/c/totals.c" "$abi/heap.c"
+mv "$work/program" "$work/totals_c"
+reads "a long answer in C, watched" "$work/totals_c"
+reads "a long answer in Rust, watched" "$work/totals_rust"
+reads "a long answer in Python, watched" "$python" "$abi/python/totals.py" "$work/libkijolvar.so"
+runs "what records calls is built" gcc -std=c11 -Wall -Wextra -Werror -O1 -shared -fPIC -o "$work/calls.so" "$abi/c/calls.c"
+python3 -W error "$top/tests/abi_files.py" "$work/libkijolvar.so" "$work/calls.so" "$work/totals_c" "$work/totals_rust" \
+  > "$work/files" 2>&1
+grep -v ' passed, ' "$work/files"
+told "files, and tills that are killed" "166 passed, 0 failed" "$(tail -n 1 "$work/files")"
 
 (cd "$top/crates/kijolvar" && rt lib --backend rattle > "$work/lib" 2>&1)
 told "the archive by Rattle's own compiler" 0 "$?"
 tries "Rattle's own compiler"
+watches "Rattle's own compiler"
 
 echo "$passed passed, $failed failed"
 [ "$failed" -eq 0 ]

@@ -1,9 +1,17 @@
 #!/usr/bin/env python3
-"""Tries the library over files: which it formats and opens, what a till answers while errands are left or after one failed, when
-a host is told its devices' orders, a crash behind and within each errand, and a till that is killed while it writes totals,
-twenty times.
-Usage: abi_files.py libkijolvar.so. Its last line is 'N passed, M failed'."""
+"""Tries the library and its wrappers over files:
+
+- which files the library formats and opens, what a till answers while errands are left or after one failed, and when a host
+  gets its devices' orders;
+- in which order a change is written and synced, and what a power cut leaves between and within these errands;
+- in C, Rust and Python, which files open, which names are free for a new one, what each call does to the file and its folder,
+  and what is left if the host is killed before a call, or if a call fails;
+- a till that is killed while it writes totals, twenty times.
+
+Usage: abi_files.py libkijolvar.so calls.so TOTALS_C TOTALS_RUST, with abi/c/calls.c to preload, and the programs of
+abi/c/totals.c and abi/rust/totals.rs. Its last line is 'N passed, M failed'."""
 import ctypes
+import itertools
 import os
 import pathlib
 import random
@@ -19,9 +27,10 @@ sys.path.insert(0, str(TOP / "abi/python"))
 from standard import (KIJOLVAR_BAD_PROFILE, KIJOLVAR_DISK_FAILED, KIJOLVAR_DISK_LENGTH, KIJOLVAR_ERRANDS, KIJOLVAR_FORMATTED,
                       KIJOLVAR_NO_DEVICE, KIJOLVAR_OK, KIJOLVAR_ORDER, KIJOLVAR_SHORT, KIJOLVAR_SYNC, KIJOLVAR_TOO_SMALL,
                       KIJOLVAR_UNDONE, KIJOLVAR_WRITE)
-from till import Fault, Raw, Till, load, totals_file
+from till import Fault, Raw, Till, create_totals, load, open_totals
 
 ROUNDS = 20
+CHANGES = 40
 passed = failed = 0
 
 
@@ -46,7 +55,7 @@ def fault_of(call, *words):
 
 def writes(library, path):
     """Writes one number after the other, and prints each that was acknowledged; never ends by itself."""
-    with totals_file(path) as totals, Till(library, "", totals) as till:
+    with create_totals(library, path) as totals, Till(library, "", totals) as till:
         till.control("totals", "HardTotals", "t1")
         till.ask("call totals create 41 8 false")
         number = 0
@@ -65,37 +74,25 @@ def opens(library, image, call="kijolvar_open_file", profile=b""):
     return code, at.value is not None
 
 
-def files(library, folder):
-    """What may be a file for totals, and what may not."""
+def files(library):
+    """Which bytes the library formats, and which it doesn't."""
     new, refused = bytes(KIJOLVAR_DISK_LENGTH), [("short", b"short"), ("a byte short", bytes(KIJOLVAR_DISK_LENGTH - 1))]
     for name, image in refused:
         told(f"a file that is {name} isn't formatted", (KIJOLVAR_TOO_SMALL, False), opens(library, image, "kijolvar_format_file"))
+        told(f"a file that is {name} isn't opened", (KIJOLVAR_TOO_SMALL, False), opens(library, image))
     told("a new file is formatted", (KIJOLVAR_OK, True), opens(library, new, "kijolvar_format_file"))
     told("a profile is read before", (KIJOLVAR_BAD_PROFILE, False), opens(library, b"short", "kijolvar_format_file", b"x = 1"))
-    path = os.path.join(folder, "new")
-    with totals_file(path) as totals:
-        with Till(library, "", totals) as till:
-            till.control("totals", "HardTotals", "t1")
-            told("a new file has none", "0", till.ask("get totals NumberOfFiles"))
-            till.ask("call totals create 41 8 false")
-        image = pathlib.Path(path).read_bytes()
-        told("a file with totals isn't formatted", (KIJOLVAR_FORMATTED, False), opens(library, image, "kijolvar_format_file"))
-        with Till(library, "", totals) as till:
-            till.control("totals", "HardTotals", "t1")
-            told("another till finds what was written", "1 8", till.ask("call totals find 41"))
-    told("it was only read", image, pathlib.Path(path).read_bytes())
-    short = os.path.join(folder, "short")
-    pathlib.Path(short).write_bytes(b"short")
-    with totals_file(short) as totals:
-        told("a file that holds something else is left alone", f"library {KIJOLVAR_TOO_SMALL}", fault_of(Till, library, "", totals))
-    told("so it is", b"short", pathlib.Path(short).read_bytes())
+    host = Host(library, new, "kijolvar_format_file")
+    host.settle()
+    told("a file with totals isn't formatted", (KIJOLVAR_FORMATTED, False), opens(library, bytes(host.image), "kijolvar_format_file"))
+    host.close()
 
 
 class Host:
     """A till over bytes, whose errands are done one by one."""
 
     def __init__(self, library, image, call="kijolvar_open_file"):
-        self.library, self.at, self.image = library, ctypes.c_void_p(), bytearray(image)
+        self.library, self.at, self.image, self.loose = library, ctypes.c_void_p(), bytearray(image), []
         code = getattr(library, call)(b"", 0, bytes(image), len(image), ctypes.byref(self.at))
         assert code == KIJOLVAR_OK, code
 
@@ -148,10 +145,24 @@ class Host:
         while (errand := self.errand())[0] != KIJOLVAR_OK:
             self.does(errand)
 
-    def does(self, errand, share=1):
-        code, at, count, kept = errand
+    def does(self, errand):
+        """Does an errand: what is written is loose until a sync puts it into the image."""
+        code, at, _, kept = errand
         if code == KIJOLVAR_WRITE:
-            self.image[at:at + count // share] = kept[:count // share]
+            self.loose.append((at, kept))
+        elif code == KIJOLVAR_SYNC:
+            for place, part in self.loose:
+                self.image[place:place + len(part)] = part
+            self.loose = []
+
+    def cuts(self):
+        """What a power cut may leave now: each loose write is missing, there, or there by its front or its back half."""
+        for shares in itertools.product(range(4), repeat=len(self.loose)):
+            image = bytearray(self.image)
+            for share, (at, kept) in zip(shares, self.loose):
+                begin, end = [(0, 0), (0, len(kept)), (0, len(kept) // 2), (len(kept) // 2, len(kept))][share]
+                image[at + begin:at + end] = kept[begin:end]
+            yield image
 
     def close(self):
         self.library.kijolvar_close(Raw(self.at.value))
@@ -241,49 +252,267 @@ def orders(library):
     host.close()
 
 
-def crashes(library):
-    """Stops behind each errand, and within each write: what is found has to be what was answered last, or the change in hand."""
+def errands_of(host, line, look):
+    """Carries out a line that changes the totals. Returns its errands, and what is found after a power cut: a set for each
+    moment behind an errand. The last set is from when the line is answered."""
+    done, found = [], []
+    assert host.carry_out(line)[0] == KIJOLVAR_ERRANDS, line
+    while (errand := host.errand())[0] != KIJOLVAR_OK:
+        host.does(errand)
+        done.append(errand)
+        assert len(host.loose) <= 3, "more than three writes without a sync"
+        found.append({look(image) for image in host.cuts()})
+    assert host.answer()[0] == KIJOLVAR_OK, line
+    return done, found + [{look(image) for image in host.cuts()}]
+
+
+def kinds(done):
+    """The order of errands: W for one or more writes, S for a sync."""
+    return "".join(kind for kind, _ in itertools.groupby("W" if errand[0] == KIJOLVAR_WRITE else "S" for errand in done))
+
+
+def number_in(library, image):
+    """The number that a file of the totals begins with, or the answers if there is none."""
+    found = Host(library, image)
+    code, text = found.run(OPENING + "call t find 41\ncall t read 1 0 8\n")
+    found.close()
+    lines = text.split("\n") if code == KIJOLVAR_OK else []
+    return int(lines[5][3:], 16) if len(lines) == 7 and lines[5].startswith("ok ") else (code, text)
+
+
+def records(library):
+    """A change goes into the log: its record, a sync, the record's gate, a sync, and then the answer."""
     host = Host(library, bytes(KIJOLVAR_DISK_LENGTH), "kijolvar_format_file")
     host.settle()
     host.run(OPENING + "call t create 41 8 false\n")
-    amiss, stops = [], 0
+    amiss, looks, begin = [], 0, None
 
-    def look(number):
-        nonlocal stops
-        stops += 1
-        found = Host(library, host.image)
-        code, text = found.run(OPENING + "call t find 41\ncall t read 1 0 8\n")
-        if code != KIJOLVAR_OK or text[len("ok\n" * 4 + "ok 1 8\n"):-1] not in (f"ok {number - 1:016x}", f"ok {number:016x}"):
-            amiss.append((number, code, text))
-        found.close()
+    def look(image):
+        nonlocal looks
+        looks += 1
+        return number_in(library, image)
 
-    for number in range(1, 60):
-        host.carry_out(f"call t write 1 0 {number:016x}")
-        while (errand := host.errand())[0] != KIJOLVAR_OK:
-            if errand[0] == KIJOLVAR_WRITE:
-                host.does(errand, 2)
-                look(number)
-            host.does(errand)
-            look(number)
-        if host.answer() != (KIJOLVAR_OK, "ok\n"):
-            amiss.append((number, "no answer"))
+    for number in range(1, CHANGES + 1):
+        done, found = errands_of(host, f"call t write 1 0 {number:016x}", look)
+        old, new = number - 1, number
+        if found != [{old}, {old}, {old, new}, {new}, {new}]:
+            amiss.append((number, "a power cut leaves", found))
+        (_, record, length, _), (_, gate, width, byte) = done[0], done[2]
+        if [errand[0] for errand in done] != [KIJOLVAR_WRITE, KIJOLVAR_SYNC] * 2 or (width, byte) != (1, b"\xa5"):
+            amiss.append((number, "the errands", [errand[:3] for errand in done]))
+        if record != gate + 1 or begin not in (None, gate):
+            amiss.append((number, "the places", record, gate))
+        begin = record + length - 1
     host.close()
-    told("a crash at any errand", ([], True), (amiss, stops > 200))
+    told("a record: write, sync, write its gate, sync", [], amiss)
+    told("what a power cut leaves was looked at", CHANGES * 11, looks)
+
+
+def images(library):
+    """A change that has no room in the log makes a new image: the slot's old gate, if it is open, and a sync; the image and a
+    sync; its gate and a sync."""
+    host = Host(library, bytes(KIJOLVAR_DISK_LENGTH), "kijolvar_format_file")
+    host.settle()
+    host.run(OPENING + "call t create 41 7000 false\n")
+    orders, amiss = [], []
+    for number in range(1, 10):
+        done, found = errands_of(host, f"call t write 1 0 {number:016x}{'00' * 6992}", lambda image: number_in(library, image))
+        old, new = number - 1, number
+        orders.append(kinds(done))
+        # The last write is the gate that decides.
+        if found != [{old}] * (len(done) - 2) + [{old, new}, {new}, {new}] or done[-2][2:] != (1, b"\xa5"):
+            amiss.append((number, orders[-1], found))
+    host.close()
+    # Two records fit into a log, so each third change makes an image; the first goes into a slot that was never open.
+    told("an image: its old gate, the image and its gate, each synced",
+         (["WSWS"] * 5 + ["WSWSWS"] + ["WSWS"] * 2 + ["WSWSWS"], []), (orders, amiss))
 
 
 def failures(library, folder):
     """A host whose file can't be written any more."""
     path = os.path.join(folder, "failing")
-    with totals_file(path) as totals, Till(library, "", totals) as till:
+    with create_totals(library, path) as totals, Till(library, "", totals) as till:
         till.control("totals", "HardTotals", "t1")
         till.ask("call totals create 41 8 false")
     with open(path, "rb") as totals, Till(library, "", totals) as till:
         till.control("totals", "HardTotals", "t1")
         told("a change that can't be written isn't answered", "OSError", fault_of(till.ask, "call totals write 1 0 0000000000000001"))
         told("and no line after it is", f"library {KIJOLVAR_DISK_FAILED}", fault_of(till.ask, "get totals State"))
-    with totals_file(path) as totals, Till(library, "", totals) as till:
+    with open_totals(path) as totals, Till(library, "", totals) as till:
         till.control("totals", "HardTotals", "t1")
         told("another till finds what was answered", "0000000000000000", till.ask("call totals read 1 0 8"))
+
+
+LOOK = ["new t HardTotals", "open t t1", "set t DeviceEnabled true", "get t NumberOfFiles"]
+CHANGE = [*LOOK[:3], "call t create 41 8 false", "call t write 1 0 0000000000000001"]
+FORMAT = ["lock", f"length {KIJOLVAR_DISK_LENGTH}",
+          *(f"write 1 at {gate}" for gate in (0, 16384, 32768, 49152, 65536, 196608)), "sync file",
+          "write 14 at 1", "sync file", "write 1 at 0", "sync file"]
+
+
+class Wrapper:
+    """The program of a language that opens or creates a file of totals, and carries out lines over it."""
+
+    def __init__(self, language, program, calls, folder):
+        self.language, self.program, self.calls = language, program, calls
+        self.folder = os.path.join(folder, language)
+        os.mkdir(self.folder)
+        self.path, self.record = os.path.join(self.folder, "totals"), os.path.join(folder, f"{language}.calls")
+
+    def begins(self, word, lines=(), **environment):
+        return subprocess.Popen([*self.program, word, self.path, *lines], stdout=subprocess.PIPE, stderr=subprocess.STDOUT,
+                                text=True, env={**os.environ, **environment}, cwd=self.folder)
+
+    def runs(self, word, lines=(), **environment):
+        """What it prints, and how it ends."""
+        running = self.begins(word, lines, **environment)
+        return running.communicate()[0].split("\n")[:-1], running.returncode
+
+    def recorded(self, word, lines=(), **environment):
+        """What it prints, how it ends, and the calls that it makes."""
+        pathlib.Path(self.record).write_text("")
+        printed, status = self.runs(word, lines, LD_PRELOAD=self.calls, CALLS=self.record, **environment)
+        return printed, status, pathlib.Path(self.record).read_text().split("\n")[:-1]
+
+    def told(self, name, wanted, found):
+        told(f"{self.language}: {name}", wanted, found)
+
+    def has(self, image):
+        """Puts a file in the place of the totals, or leaves none."""
+        for name in os.listdir(self.folder):
+            os.unlink(os.path.join(self.folder, name))
+        if image is not None:
+            pathlib.Path(self.path).write_bytes(image)
+
+
+def opening(wrapper):
+    """Which files open, and which names are free for a new one."""
+    wrapper.has(None)
+    wrapper.told("a missing file isn't opened", (["missing"], 1), wrapper.runs("open"))
+    wrapper.told("and isn't made", [], os.listdir(wrapper.folder))
+    wrapper.told("a new file", (["ready", "ok", "ok", "ok", "ok 0"], 0), wrapper.runs("create", LOOK))
+    wrapper.told("alone in its folder", ["totals"], os.listdir(wrapper.folder))
+    told_of = os.stat(wrapper.path)
+    wrapper.told("its owner's, of a disk's length", (0o100600, KIJOLVAR_DISK_LENGTH), (told_of.st_mode, told_of.st_size))
+    new = pathlib.Path(wrapper.path).read_bytes()
+    wrapper.told("it opens", (["ready", "ok", "ok", "ok", "ok 1", "ok"], 0), wrapper.runs("open", CHANGE))
+    used = pathlib.Path(wrapper.path).read_bytes()
+    zeroed, foreign = bytes(KIJOLVAR_DISK_LENGTH), b"somebody's" * KIJOLVAR_DISK_LENGTH
+    for name, image in [("new totals", new), ("totals", used), ("no bytes", b""), ("a short text", b"short"), ("zero bytes", zeroed),
+                        ("something else", foreign)]:
+        wrapper.has(image)
+        wrapper.told(f"no file is created over {name}", (["exists"], 1), wrapper.runs("create"))
+        wrapper.told(f"{name} stay", image, pathlib.Path(wrapper.path).read_bytes())
+    for name, image, lines in [("a zeroed file isn't formatted", zeroed, ["ready", "ok", "ok", "err 107", "err 105"]),
+                               ("a file of something else isn't either", foreign, ["ready", "ok", "ok", "err 107", "err 105"]),
+                               ("an empty one isn't opened", b"", ["ready", f"library {KIJOLVAR_TOO_SMALL}"]),
+                               ("a short one isn't opened", zeroed[1:], ["ready", f"library {KIJOLVAR_TOO_SMALL}"])]:
+        wrapper.has(image)
+        wrapper.told(name, lines, wrapper.runs("open", LOOK)[0])
+        wrapper.told(f"{name}, and stays", image, pathlib.Path(wrapper.path).read_bytes())
+    wrapper.has(None)
+    os.symlink("nowhere", wrapper.path)
+    wrapper.told("no file is created behind a link", (["exists"], 1), wrapper.runs("create"))
+    wrapper.told("and the link stays alone", ["totals"], os.listdir(wrapper.folder))
+
+
+def locks(library, wrapper):
+    """A file is locked as long as a till has it, from its creation on."""
+    for word, image in [("create", None), ("open", b"")]:
+        wrapper.has(image)
+        printing = wrapper.recorded(word)[2].index("print ready") + 1
+        wrapper.has(image)
+        running = wrapper.begins(word, LD_PRELOAD=wrapper.calls, CALLS=wrapper.record, CALLS_STOP=str(printing))
+        os.waitpid(running.pid, os.WUNTRACED)
+        wrapper.told(f"{word}: a file in use", "BlockingIOError", name_of(open_totals, wrapper.path))
+        running.send_signal(signal.SIGCONT)
+        running.communicate()
+    wrapper.has(None)
+    with create_totals(library, wrapper.path):
+        wrapper.told("a file in use isn't opened", (["in use"], 1), wrapper.runs("open"))
+        wrapper.told("or created", (["exists"], 1), wrapper.runs("create"))
+
+
+def name_of(call, *words):
+    """The name of the error that a call raises."""
+    try:
+        call(*words).close()
+        return None
+    except OSError as error:
+        return type(error).__name__
+
+
+def calls(wrapper):
+    """What a till does to its file and the file's folder, and when it answers."""
+    folder, path = f"sync {os.path.realpath(wrapper.folder)}", wrapper.path
+    for wrapper.path in ("totals", path):
+        wrapper.has(None)
+        wrapper.told("a new file is whole and synced before it has a name, and its folder before it is used",
+                     [*FORMAT, "link totals", folder, "print ready"], wrapper.recorded("create")[2])
+    found = wrapper.recorded("open", CHANGE)
+    wrapper.told("the folder is synced before a file is used", ["lock", folder, "print ready"], found[2][:3])
+    wrapper.told("a record is synced before its gate, and the gate before the answer",
+                 ["print ok", "print ok", "sync file", "print ok", *record(16384, 9), "print ok 1", *record(16398, 21), "print ok"],
+                 found[2][3:])
+
+
+def record(at, length):
+    """The calls that put a record with a group of so many bytes into the log."""
+    return [f"write {length + 5} at {at + 1}", "sync file", f"write 1 at {at}", "sync file"]
+
+
+def finds(library, path):
+    """How many files the totals have, and the number in the first, if there is one; or why they don't open."""
+    try:
+        with open_totals(path) as totals, Till(library, "", totals) as till:
+            till.control("totals", "HardTotals", "t1")
+            count = int(till.ask("get totals NumberOfFiles"))
+            return count, int(till.ask("call totals read 1 0 8"), 16) if count == 1 and till.ask("call totals find 41") else None
+    except (Fault, OSError) as fault:
+        return repr(fault)
+
+
+def creations(library, wrapper):
+    """Kills the host before each call of a creation in turn, and fails each: nothing is left, and the file can be created again;
+    or, once it has its name, a whole file, which opens."""
+    wrapper.has(None)
+    made = wrapper.recorded("create")[2]
+    naming, amiss = made.index("link totals") + 1 if "link totals" in made else 0, []
+    for number in range(1, len(made) + 1):
+        for what, wanted in [("CALLS_KILL", ([], -signal.SIGKILL, made[:number - 1])),
+                             ("CALLS_FAIL", (["failed"], 1, [*made[:number], "print failed"]))][:1 if number == len(made) else 2]:
+            wrapper.has(None)
+            found = wrapper.recorded("create", **{what: str(number)})
+            left = os.listdir(wrapper.folder)
+            if (found, left) != (wanted, ["totals"] if number > naming else []):
+                amiss.append((what, number, found, left))
+            again = wrapper.runs("create")[0] if what == "CALLS_KILL" else [name_of(create_totals, library, wrapper.path)]
+            if again not in ([["exists"], ["FileExistsError"]] if number > naming else [["ready"], [None]]):
+                amiss.append((what, number, again))
+            if (finds(library, wrapper.path), os.listdir(wrapper.folder)) != ((0, None), ["totals"]):
+                amiss.append((what, number, "another file"))
+    wrapper.told("a creation that is cut short leaves nothing or a whole file", ([], len(FORMAT) + 3), (amiss, len(made)))
+
+
+def changes(library, wrapper):
+    """Kills the host before each call of a change in turn, and fails each."""
+    wrapper.has(None)
+    wrapper.runs("create", CHANGE[:-1])
+    image = pathlib.Path(wrapper.path).read_bytes()
+    lines = [*LOOK[:3], CHANGE[-1]]
+    made = wrapper.recorded("open", lines)[2]
+    # The change comes after the third line is answered.
+    amiss, first = [], [place for place, call in enumerate(made) if call == "print ok"][2] + 1
+    for number in range(first + 1, len(made) + 1):
+        for what, wanted in [("CALLS_KILL", (["ready", "ok", "ok", "ok"], -signal.SIGKILL)),
+                             ("CALLS_FAIL", (["ready", "ok", "ok", "ok", "failed"], 1))][:1 if number == len(made) else 2]:
+            wrapper.has(image)
+            cut = wrapper.recorded("open", lines, **{what: str(number)})[:2]
+            found = finds(library, wrapper.path)
+            # The fourth call is the sync of the gate: from then on a process that ends leaves the change.
+            if cut != wanted or found != (1, int(number > first + 3)):
+                amiss.append((what, number, cut, found))
+    wrapper.told("a change that is cut short isn't answered", ([], 5), (amiss, len(made) - first))
 
 
 def kills(library, folder, words):
@@ -297,10 +526,10 @@ def kills(library, folder, words):
         running.send_signal(signal.SIGKILL)
         lines = (first + running.communicate()[0]).split(b"\n")
         acknowledged = int(lines[-2]) if len(lines) > 1 else 0
-        with totals_file(path) as totals, Till(library, "", totals) as till:
+        with open_totals(path) as totals, Till(library, "", totals) as till:
             till.control("totals", "HardTotals", "t1")
             found = int(till.ask("call totals read 1 0 8"), 16)
-        if not acknowledged <= found <= acknowledged + 1:
+        if not 1 <= acknowledged <= found <= acknowledged + 1:
             lost.append((acknowledged, found))
     told("what was acknowledged is there", [], lost)
 
@@ -309,11 +538,20 @@ def main():
     library = load(sys.argv[1])
     if len(sys.argv) == 3:
         return writes(library, sys.argv[2])
+    python = [sys.executable, "-B", "-W", "error", str(TOP / "abi/python/totals.py"), sys.argv[1]]
     with tempfile.TemporaryDirectory() as folder:
-        files(library, folder)
+        files(library)
         errands(library)
         orders(library)
-        crashes(library)
+        records(library)
+        images(library)
+        for language, program in [("C", sys.argv[3:4]), ("Rust", sys.argv[4:5]), ("Python", python)]:
+            wrapper = Wrapper(language, program, sys.argv[2], folder)
+            opening(wrapper)
+            locks(library, wrapper)
+            calls(wrapper)
+            creations(library, wrapper)
+            changes(library, wrapper)
         failures(library, folder)
         kills(library, folder, sys.argv[1:2])
     print(f"{passed} passed, {failed} failed")

@@ -1,6 +1,6 @@
-/* Want of memory at each allocation in turn, over a small day with totals in memory and one with totals in a file, and a
-   drawer of the host's: each answer is a code or a line of docs/CONSOLE.md, the drawer's order is told where it was opened,
-   nothing is left, and the file opens again. */
+/* Refuses each allocation in turn, over a small day with totals in memory and one with totals in a file, and a drawer of the
+   host's. Each answer is a code or a line of docs/CONSOLE.md, the drawer's order comes if it was opened, and nothing is left.
+   The file opens again: it has what was acknowledged, and nothing of what was refused. */
 #include "kijolvar.h"
 #include <stdbool.h>
 #include <stdio.h>
@@ -55,11 +55,18 @@ static uint32_t settle(kijolvar_till *till) {
     }
 }
 
-/* Whether a line of an answer, counted from 0, says that all went well. */
-static bool is_ok(const uint8_t *text, size_t count, int line) {
-    size_t at = 0;
+/* What a line did. A line whose answer is missing may have done its work or not. */
+enum effect { NOTHING, ALL, UNKNOWN };
+
+/* What a line did, counted from 0, by an answer that is the whole or was cut. After the line where it was cut no line is
+   carried out. */
+static enum effect effect(const uint8_t *text, size_t count, int line, bool is_whole) {
+    size_t at = 0, end;
     for (; at < count && line > 0; at++) line -= text[at] == '\n';
-    return count - at >= 3 && memcmp(text + at, "ok\n", 3) == 0;
+    for (end = at; end < count && text[end] != '\n';) end++;
+    if (line > 0 || (end == count && is_whole)) return NOTHING;
+    if (end == count) return UNKNOWN;
+    return memcmp(text + at, "ok", 2) == 0 ? ALL : NOTHING;
 }
 
 /* Whether the drawer's order is told, once, or none is. */
@@ -80,9 +87,15 @@ static uint32_t begin(kijolvar_till *till, bool in_file, bool is_new) {
     return code;
 }
 
-/* Whether the file is new, or what stands in it opens and holds the day's totals or none. */
-static bool opens_again(void) {
-    static const char look[] = "new t HardTotals\nopen t t1\nset t DeviceEnabled true\nget t NumberOfFiles\n";
+/* How often the file had no files, a file without its bytes, and a file with them. */
+static long found[3];
+
+/* Whether the file opens, and has what the day's lines created and wrote. */
+static bool holds(enum effect created, enum effect written) {
+    static const char look[] = "new t HardTotals\nopen t t1\nset t DeviceEnabled true\nget t NumberOfFiles\ncall t find 61\n"
+                               "call t read 1 0 4\n";
+    static const char *const wanted[] = {"ok\nok\nok\nok 0\nerr 109\nerr 106\n", "ok\nok\nok\nok 1\nok 1 4\nok 00000000\n",
+                                         "ok\nok\nok\nok 1\nok 1 4\nok 00000001\n"};
     kijolvar_till till = {NULL};
     uint8_t text[64];
     size_t needed = 0;
@@ -92,7 +105,13 @@ static bool opens_again(void) {
     if (code == KIJOLVAR_ERRANDS && (code = settle(&till)) == KIJOLVAR_OK)
         code = kijolvar_answer(till, &till.at, text, sizeof text, &needed);
     kijolvar_close(till);
-    return code == KIJOLVAR_OK && needed == 14 && memcmp(text, "ok\nok\nok\nok ", 12) == 0 && text[12] <= '1';
+    if (code != KIJOLVAR_OK || live != 0) return false;
+    for (int place = 0; place < 3; place++) {
+        if (needed != strlen(wanted[place]) || memcmp(text, wanted[place], needed) != 0) continue;
+        found[place]++;
+        return (created == UNKNOWN || (place > 0) == (created == ALL)) && (written == UNKNOWN || (place == 2) == (written == ALL));
+    }
+    return false;
 }
 
 /* A day where so many allocations come: whether it ended whole; exits where it is amiss. */
@@ -105,21 +124,27 @@ static bool day(long count, bool in_file) {
     live = 0;
     uint32_t code = begin(&till, in_file, true);
     bool is_formatted = false;
+    enum effect created = NOTHING, written = NOTHING;
     if (code == KIJOLVAR_OK) {
         code = settle(&till);
         is_formatted = in_file && code == KIJOLVAR_OK;
         if (code == KIJOLVAR_OK) code = kijolvar_host(till, &till.at, (const uint8_t *)"d1", 2);
-        if (code == KIJOLVAR_OK)
+        if (code == KIJOLVAR_OK) {
             code = kijolvar_carry_out(till, &till.at, (const uint8_t *)lines, strlen(lines), text, sizeof text, &needed);
-        if (code == KIJOLVAR_ERRANDS && (code = settle(&till)) == KIJOLVAR_OK)
-            code = kijolvar_answer(till, &till.at, text, sizeof text, &needed);
-        if (code == KIJOLVAR_OK && !tells(&till, is_ok(text, needed, 3))) exit(printf("another order where %ld came\n", count));
+            if (code == KIJOLVAR_ERRANDS && (code = settle(&till)) == KIJOLVAR_OK)
+                code = kijolvar_answer(till, &till.at, text, sizeof text, &needed);
+            bool is_known = code == KIJOLVAR_OK || code == KIJOLVAR_CUT;
+            created = is_known ? effect(text, needed, 8, code == KIJOLVAR_OK) : UNKNOWN;
+            written = is_known ? effect(text, needed, 9, code == KIJOLVAR_OK) : UNKNOWN;
+            if (code == KIJOLVAR_OK && !tells(&till, effect(text, needed, 3, true) == ALL))
+                exit(printf("another order where %ld came\n", count));
+        }
         kijolvar_close(till);
     } else if (till.at != NULL) {
         exit(printf("a till was written at code %u\n", code));
     }
     if (live != 0) exit(printf("%ld allocations are left where %ld came\n", live, count));
-    if (is_formatted && !opens_again()) exit(printf("the file doesn't open again where %ld came\n", count));
+    if (is_formatted && !holds(created, written)) exit(printf("the file has something else where %ld came\n", count));
     if (code == KIJOLVAR_NO_MEMORY || code == KIJOLVAR_CUT || (in_file && code == KIJOLVAR_DISK_FAILED)) return false;
     if (code != KIJOLVAR_OK) exit(printf("code %u where %ld came\n", code, count));
     return needed == strlen(wanted) && memcmp(text, wanted, needed) == 0;
@@ -135,6 +160,8 @@ static long whole(bool in_file) {
 
 int main(void) {
     printf("%ld and %ld allocations\n", whole(false), whole(true));
+    for (int place = 0; place < 3; place++)
+        if (found[place] == 0) exit(printf("the file never had this: %d\n", place));
     printf("whole in the end, and nothing is left\n");
     return 0;
 }

@@ -1,6 +1,5 @@
 /* Devices of the host's own: a drawer, a display and a printer whose orders are given to the host, each once and in order,
    while those of other devices are kept from it; an order that there is no room for stays. */
-#define _DEFAULT_SOURCE
 #include "till.h"
 
 static void wants(const char *what, int holds) {

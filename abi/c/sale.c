@@ -1,6 +1,5 @@
 /* Rings up a sale: a code is scanned, shown, printed and added to the totals, and the drawer opens; then another till finds
-   the totals. Usage: sale FILE, with a file for totals that isn't there yet. */
-#define _DEFAULT_SOURCE
+   the totals. Usage: sale FILE, with a file of totals without files, or a name for a new one. */
 #include "till.h"
 
 static void heard(till *self, const char *event, void *with) {
@@ -44,9 +43,16 @@ static void look(till *self) {
     tell(self, "call totals read 1 0 4");
 }
 
+/* The file of the totals: it is created if it is missing, else opened. */
+static int totals_file(const char *path) {
+    int file = till_open_totals(path);
+    return file < 0 && errno == ENOENT ? till_create_totals(path) : file;
+}
+
 int main(int count, char **words) {
-    int file = count == 2 ? till_totals_file(words[1]) : -1;
-    if (file < 0) return fprintf(stderr, "no file for totals\n"), 1;
+    if (count != 2) return fprintf(stderr, "usage: sale FILE\n"), 2;
+    int file = totals_file(words[1]);
+    if (file < 0) return perror(words[1]), 1;
     static void (*const parts[])(till *) = {sell, look};
     for (size_t part = 0; part < 2; part++) {
         till self;

@@ -1,15 +1,25 @@
-/* A till for C, over kijolvar.h: calls as lines, a pump of events. Tested, and not proved. */
+/* A till for C, over kijolvar.h: calls as lines, a pump of events. Tested, and not proved.
+
+   Include it before any other header, or define _GNU_SOURCE yourself: O_TMPFILE needs it. */
 #ifndef TILL_H
 #define TILL_H
 
+#ifndef _GNU_SOURCE
+#define _GNU_SOURCE
+#endif
+
 #include "kijolvar.h"
+#include <errno.h>
 #include <fcntl.h>
 #include <stdio.h>
 #include <stdlib.h>
 #include <string.h>
 #include <sys/file.h>
-#include <sys/stat.h>
 #include <unistd.h>
+
+#ifndef O_TMPFILE
+#error "include till.h before any other header, or define _GNU_SOURCE"
+#endif
 
 /* A till, the answer to the lines that it was given last, which ends in a 0 byte, and the file of its totals, with room for
    what goes there; no file where they are in memory. */
@@ -23,19 +33,6 @@ typedef struct {
 
 /* What isn't a result code of the standard: there was no memory, or the line was refused before it reached a control. */
 enum { TILL_NO_MEMORY = -1, TILL_REFUSED = -2 };
-
-/* A file for totals, opened for this till alone, and made where it isn't yet. A negative number where that can't be. */
-static inline int till_totals_file(const char *path) {
-    struct stat told;
-    int descriptor = open(path, O_RDWR | O_CREAT | O_CLOEXEC, 0600);
-    if (descriptor < 0) return -1;
-    if (flock(descriptor, LOCK_EX | LOCK_NB) == 0 && fstat(descriptor, &told) == 0
-        && (told.st_size >= KIJOLVAR_DISK_LENGTH
-            || (told.st_size == 0 && ftruncate(descriptor, KIJOLVAR_DISK_LENGTH) == 0 && fsync(descriptor) == 0)))
-        return descriptor;
-    close(descriptor);
-    return -1;
-}
 
 /* Does what the till's disk has done in the file, errand by errand: KIJOLVAR_OK where all of it is there. */
 static inline uint32_t till_settle(till *self) {
@@ -51,21 +48,19 @@ static inline uint32_t till_settle(till *self) {
     }
 }
 
-/* Opens the till over the file's bytes. A file of zero bytes alone is a new one, and gets no files. */
+/* Opens the till over the file's bytes. */
 static inline uint32_t till_open_file(till *self, const uint8_t *text, size_t count) {
-    const size_t length = KIJOLVAR_DISK_LENGTH;
     if (self->bytes == NULL) return KIJOLVAR_NO_MEMORY;
-    ssize_t found = pread(self->file, self->bytes, length, 0);
-    if (found != (ssize_t)length) return found < 0 ? KIJOLVAR_DISK_FAILED : KIJOLVAR_TOO_SMALL;
-    int is_new = self->bytes[0] == 0 && memcmp(self->bytes, self->bytes + 1, length - 1) == 0;
-    uint32_t code = is_new ? kijolvar_format_file(text, count, self->bytes, length, &self->till.at)
-                           : kijolvar_open_file(text, count, self->bytes, length, &self->till.at);
+    ssize_t found = pread(self->file, self->bytes, KIJOLVAR_DISK_LENGTH, 0);
+    if (found < 0) return KIJOLVAR_DISK_FAILED;
+    uint32_t code = kijolvar_open_file(text, count, self->bytes, (size_t)found, &self->till.at);
     if (code == KIJOLVAR_OK && (code = till_settle(self)) != KIJOLVAR_OK) kijolvar_close(self->till);
     return code;
 }
 
-/* Opens a till over a profile's text (an empty one is the built profile), and a file for totals, which stays the caller's
-   to close behind it; over totals in memory where the descriptor is negative. */
+/* Opens a till over a profile's text (an empty one is the built profile) and a file of totals, which the caller closes after
+   the till. If the descriptor is negative, the totals are in memory. A file that isn't formatted opens too: enabling its
+   totals is E_NOHARDWARE. */
 static inline uint32_t till_open(till *self, const char *profile, int descriptor) {
     const uint8_t *text = (const uint8_t *)profile;
     *self = (till){{NULL}, malloc(1), 1, descriptor, descriptor < 0 ? NULL : malloc(KIJOLVAR_DISK_LENGTH)};
@@ -85,6 +80,73 @@ static inline void till_close(till *self) {
     kijolvar_close(self->till);
     free(self->text);
     free(self->bytes);
+}
+
+/* Closes a file after an error. Returns -1, and leaves errno as it was. */
+static inline int till_drop(int descriptor) {
+    int why = errno;
+    close(descriptor);
+    errno = why;
+    return -1;
+}
+
+/* Opens the folder that a path is in, and says by which name it has the path's file. */
+static inline int till_folder(const char *path, const char **name) {
+    const char *slash = strrchr(path, '/');
+    *name = slash == NULL ? path : slash + 1;
+    char *folder = slash == NULL ? strdup(".") : strndup(path, (size_t)(*name - path));
+    int descriptor = folder == NULL ? -1 : open(folder, O_RDONLY | O_DIRECTORY | O_CLOEXEC);
+    free(folder);
+    return descriptor;
+}
+
+/* Opens a file of totals, and locks it against every other till. Returns its descriptor; or -1, and errno says why: ENOENT
+   if it is missing, EWOULDBLOCK if another till has it. It syncs the folder too, since a creation that was killed may have
+   named the file and not synced its name. */
+static inline int till_open_totals(const char *path) {
+    const char *name;
+    int file = open(path, O_RDWR | O_CLOEXEC);
+    if (file < 0) return -1;
+    if (flock(file, LOCK_EX | LOCK_NB) != 0) return till_drop(file);
+    int folder = till_folder(path, &name);
+    if (folder < 0) return till_drop(file);
+    if (fsync(folder) != 0) return till_drop(folder), till_drop(file);
+    close(folder);
+    return file;
+}
+
+/* Makes a file of no bytes one of totals without files. Returns 0; or -1, and errno says why. */
+static inline int till_format(int file) {
+    till self = {{NULL}, NULL, 0, file, calloc(1, KIJOLVAR_DISK_LENGTH)};
+    uint32_t code = KIJOLVAR_NO_MEMORY;
+    if (kijolvar_version() != KIJOLVAR_VERSION) code = KIJOLVAR_BAD_PROFILE;
+    else if (self.bytes != NULL)
+        code = kijolvar_format_file(NULL, 0, self.bytes, KIJOLVAR_DISK_LENGTH, &self.till.at);
+    errno = code == KIJOLVAR_NO_MEMORY ? ENOMEM : EIO;
+    if (code == KIJOLVAR_OK) {
+        code = ftruncate(file, KIJOLVAR_DISK_LENGTH) == 0 ? till_settle(&self) : KIJOLVAR_DISK_FAILED;
+        kijolvar_close(self.till);
+    }
+    free(self.bytes);
+    return code == KIJOLVAR_OK ? 0 : -1;
+}
+
+/* Creates a file of totals without files, and locks it against every other till. Returns its descriptor; or -1, and errno
+   says why: EEXIST if anything has the name already. The file gets its name only when it is whole and synced, so a crash
+   leaves nothing or all of it. */
+static inline int till_create_totals(const char *path) {
+    const char *name;
+    char unnamed[32];
+    int folder = till_folder(path, &name);
+    if (folder < 0) return -1;
+    int file = openat(folder, ".", O_RDWR | O_TMPFILE | O_CLOEXEC, 0600);
+    if (file < 0) return till_drop(folder);
+    snprintf(unnamed, sizeof unnamed, "/proc/self/fd/%d", file);
+    if (flock(file, LOCK_EX | LOCK_NB) != 0 || till_format(file) != 0
+        || linkat(AT_FDCWD, unnamed, folder, name, AT_SYMLINK_FOLLOW) != 0 || fsync(folder) != 0)
+        return till_drop(folder), till_drop(file);
+    close(folder);
+    return file;
 }
 
 /* Carries out lines; their answers are in self->text, once what they changed is in the file. */

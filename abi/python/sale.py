@@ -2,7 +2,7 @@
 """Rings up a sale, as c/sale.c does. Usage: sale.py libkijolvar.so FILE"""
 import sys
 
-from till import Fault, Till, load, totals_file
+from till import Fault, Till, create_totals, load, open_totals
 
 
 def code(call, *words):
@@ -45,8 +45,16 @@ def look(till):
     tell(till, "call totals read 1 0 4")
 
 
+def totals_file(library, path):
+    """The file of the totals: it is created if it is missing, else opened."""
+    try:
+        return open_totals(path)
+    except FileNotFoundError:
+        return create_totals(library, path)
+
+
 library = load(sys.argv[1])
-with totals_file(sys.argv[2]) as totals:
+with totals_file(library, sys.argv[2]) as totals:
     for part in (sell, look):
         with Till(library, "", totals) as till:
             part(till)

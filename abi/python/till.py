@@ -1,4 +1,5 @@
 """A till for Python, over the library as a shared object. Tested, and not proved."""
+import contextlib
 import ctypes
 import fcntl
 import os
@@ -40,19 +41,49 @@ def load(path):
     return library
 
 
-def totals_file(path):
-    """A file for totals, opened for one till alone, and made where it isn't yet."""
-    kept = open(path, "r+b" if os.path.exists(path) else "x+b", buffering=0)
-    fcntl.flock(kept, fcntl.LOCK_EX | fcntl.LOCK_NB)
-    if os.fstat(kept.fileno()).st_size == 0:
-        kept.truncate(KIJOLVAR_DISK_LENGTH)
-        os.fsync(kept)
-    return kept
+@contextlib.contextmanager
+def _folder(path):
+    """The folder that a path is in, as a descriptor."""
+    folder = os.open(os.path.dirname(path) or ".", os.O_RDONLY | os.O_DIRECTORY)
+    try:
+        yield folder
+    finally:
+        os.close(folder)
+
+
+def open_totals(path):
+    """Opens a file of totals, and locks it against every other till. Raises FileNotFoundError if it is missing, and
+    BlockingIOError if another till has it. It syncs the folder too, since a creation that was killed may have named the file
+    and not synced its name."""
+    with contextlib.ExitStack() as undo, _folder(path) as folder:
+        totals = undo.enter_context(open(path, "r+b", buffering=0))
+        fcntl.flock(totals, fcntl.LOCK_EX | fcntl.LOCK_NB)
+        os.fsync(folder)
+        undo.pop_all()
+        return totals
+
+
+def create_totals(library, path):
+    """Creates a file of totals without files, and locks it against every other till. Raises FileExistsError if anything has
+    the name already. The file gets its name only when it is whole and synced, so a crash leaves nothing or all of it."""
+    with contextlib.ExitStack() as undo, _folder(path) as folder:
+        totals = undo.enter_context(open(os.open(".", os.O_RDWR | os.O_TMPFILE, 0o600, dir_fd=folder), "r+b", buffering=0))
+        fcntl.flock(totals, fcntl.LOCK_EX | fcntl.LOCK_NB)
+        totals.truncate(KIJOLVAR_DISK_LENGTH)
+        NewTill(library, "", totals).close()
+        # Given a folder, os.link follows the first path to the file that it stands for.
+        os.link(f"/proc/self/fd/{totals.fileno()}", os.path.basename(path), dst_dir_fd=folder)
+        os.fsync(folder)
+        undo.pop_all()
+        return totals
 
 
 class Till:
-    """A till over a profile's text (an empty one is the built profile), with totals in a file or, where there is none, in
-    memory. It closes itself at the end of a `with`, and the file stays open."""
+    """A till over a profile's text (an empty one is the built profile) and a file of totals, or totals in memory if there is
+    none. A file that isn't formatted opens too: enabling its totals is E_NOHARDWARE. It closes itself at the end of a `with`,
+    and the file stays open."""
+
+    _begin = "kijolvar_open_file"
 
     def __init__(self, library, profile="", totals=None):
         if library.kijolvar_version() != KIJOLVAR_VERSION:
@@ -64,9 +95,7 @@ class Till:
         else:
             kept = os.pread(totals.fileno(), KIJOLVAR_DISK_LENGTH, 0)
             self._room = ctypes.create_string_buffer(KIJOLVAR_DISK_LENGTH)
-            # A file of zero bytes alone is a new one, and gets no files; a short one is refused by either call.
-            begin = library.kijolvar_open_file if any(kept) else library.kijolvar_format_file
-            code = begin(given, len(given), kept, len(kept), ctypes.byref(self._at))
+            code = getattr(library, self._begin)(given, len(given), kept, len(kept), ctypes.byref(self._at))
         if code != KIJOLVAR_OK:
             self._at = None
             raise Fault(f"library {code}")
@@ -184,3 +213,9 @@ class Till:
     def print(self, control, text):
         """The receipt printer's printNormal at the receipt station."""
         self.ask(f"call {control} printNormal {PTR_S_RECEIPT} {text.hex() or '-'}")
+
+
+class NewTill(Till):
+    """A till over a file that it formats. Use create_totals, which gives it a file that nobody else has."""
+
+    _begin = "kijolvar_format_file"

@@ -1,7 +1,9 @@
 //! Rings up a sale, as c/sale.c does. Usage: sale_rust FILE
 mod till;
 
-use till::{Till, totals_file};
+use std::fs::File;
+use std::io;
+use till::{Till, create_totals, open_totals};
 
 fn tell(till: &mut Till, line: &str) {
     match till.ask(line) {
@@ -45,6 +47,14 @@ fn look(till: &mut Till) {
     println!("totals: {}", code(till.control("totals", "HardTotals", "t1")));
     tell(till, "call totals find 64617973616c6573");
     tell(till, "call totals read 1 0 4");
+}
+
+/// The file of the totals: it is created if it is missing, else opened.
+fn totals_file(path: &str) -> io::Result<File> {
+    match open_totals(path) {
+        Err(cause) if cause.kind() == io::ErrorKind::NotFound => create_totals(path),
+        opened => opened,
+    }
 }
 
 fn main() -> Result<(), till::Fault> {

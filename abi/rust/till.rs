@@ -7,12 +7,15 @@ use self::standard::{
     DISP_DT_NORMAL, KIJOLVAR_DISK_FAILED, KIJOLVAR_DISK_LENGTH, KIJOLVAR_ERRANDS, KIJOLVAR_OK, KIJOLVAR_ORDER, KIJOLVAR_SHORT,
     KIJOLVAR_SYNC, KIJOLVAR_VERSION, KIJOLVAR_WRITE, PTR_S_RECEIPT,
 };
-use std::ffi::c_void;
+use std::ffi::{CString, c_char, c_int, c_void};
 use std::fmt;
 use std::fs::{File, OpenOptions};
 use std::io;
 use std::marker::PhantomData;
-use std::os::unix::fs::FileExt;
+use std::os::fd::AsRawFd;
+use std::os::unix::ffi::OsStrExt;
+use std::os::unix::fs::{FileExt, OpenOptionsExt};
+use std::path::Path;
 
 #[repr(C)]
 #[derive(Clone, Copy)]
@@ -39,7 +42,16 @@ unsafe extern "C" {
     fn kijolvar_host(till: Raw, out: *mut *mut c_void, name: *const u8, name_len: usize) -> u32;
     fn kijolvar_next_order(till: Raw, out: *mut *mut c_void, text: *mut u8, text_len: usize, needed: *mut usize) -> u32;
     fn kijolvar_close(till: Raw);
+    fn linkat(from: c_int, old: *const c_char, to: c_int, new: *const c_char, flags: c_int) -> c_int;
 }
+
+/// Linux's numbers for `open` and `linkat`, on x86-64.
+const O_TMPFILE: c_int = 0o20200000;
+const AT_FDCWD: c_int = -100;
+const AT_SYMLINK_FOLLOW: c_int = 0x400;
+
+/// A call of the library that makes a till over a file's bytes.
+type Begin = unsafe extern "C" fn(*const u8, usize, *const u8, usize, *mut *mut c_void) -> u32;
 
 /// Why a call failed.
 #[derive(Debug, Clone, PartialEq, Eq)]
@@ -72,14 +84,40 @@ impl fmt::Display for Fault {
     }
 }
 
-/// A file for totals, opened for one till alone, and made where it isn't yet.
-pub fn totals_file(path: &str) -> Result<File, Fault> {
-    let file = OpenOptions::new().read(true).write(true).create(true).truncate(false).open(path)?;
-    file.try_lock().map_err(|cause| Fault::File(cause.to_string()))?;
-    if file.metadata()?.len() == 0 {
-        file.set_len(u64::from(KIJOLVAR_DISK_LENGTH))?;
-        file.sync_all()?;
+/// The folder that a path is in, and the name that the path's file has there.
+fn folder_of(path: &Path) -> io::Result<(&Path, CString)> {
+    let name = path.file_name().ok_or(io::ErrorKind::InvalidInput)?;
+    let folder = path.parent().filter(|folder| !folder.as_os_str().is_empty());
+    Ok((folder.unwrap_or(Path::new(".")), CString::new(name.as_bytes())?))
+}
+
+/// Opens a file of totals, and locks it against every other till. The error is `NotFound` if it is missing, and
+/// `WouldBlock` if another till has it. It syncs the folder too, since a creation that was killed may have named the file
+/// and not synced its name.
+pub fn open_totals(path: impl AsRef<Path>) -> io::Result<File> {
+    let file = OpenOptions::new().read(true).write(true).open(&path)?;
+    file.try_lock()?;
+    File::open(folder_of(path.as_ref())?.0)?.sync_all()?;
+    Ok(file)
+}
+
+/// Creates a file of totals without files, and locks it against every other till. The error is `AlreadyExists` if
+/// anything has the name already. The file gets its name only when it is whole and synced, so a crash leaves nothing or
+/// all of it.
+pub fn create_totals(path: impl AsRef<Path>) -> io::Result<File> {
+    let (folder, name) = folder_of(path.as_ref())?;
+    let mut file = OpenOptions::new().read(true).write(true).custom_flags(O_TMPFILE).mode(0o600).open(folder)?;
+    file.try_lock()?;
+    file.set_len(u64::from(KIJOLVAR_DISK_LENGTH))?;
+    Till::begin("", Some(&mut file), kijolvar_format_file).map_err(|fault| io::Error::other(fault.to_string()))?;
+    let unnamed = CString::new(format!("/proc/self/fd/{}", file.as_raw_fd()))?;
+    let folder = File::open(folder)?;
+    // SAFETY: both are texts that end in a 0 byte, lent for the call.
+    let linked = unsafe { linkat(AT_FDCWD, unnamed.as_ptr(), folder.as_raw_fd(), name.as_ptr(), AT_SYMLINK_FOLLOW) };
+    if linked != 0 {
+        return Err(io::Error::last_os_error());
     }
+    folder.sync_all()?;
     Ok(file)
 }
 
@@ -92,16 +130,21 @@ pub struct Till<'a> {
 }
 
 impl<'a> Till<'a> {
-    /// A till over a profile's text (an empty one is the built profile), with totals in a file or, where there is none,
-    /// in memory. A file of zero bytes alone is a new one, and gets no files.
+    /// Opens a till over a profile's text (an empty one is the built profile) and a file of totals, or totals in memory if
+    /// there is none. A file that isn't formatted opens too: enabling its totals is E_NOHARDWARE.
     pub fn open(profile: &str, totals: Option<&'a mut File>) -> Result<Till<'a>, Fault> {
+        Till::begin(profile, totals, kijolvar_open_file)
+    }
+
+    /// Makes a till, over a file by the call that is given.
+    fn begin(profile: &str, totals: Option<&'a mut File>, over_file: Begin) -> Result<Till<'a>, Fault> {
         let (mut at, mut bytes) = (std::ptr::null_mut(), Vec::new());
         // SAFETY: it takes nothing.
         if unsafe { kijolvar_version() } != KIJOLVAR_VERSION {
             return Err(Fault::Refused("another version of the library".to_string()));
         }
         if let Some(file) = &totals {
-            bytes.resize(KIJOLVAR_DISK_LENGTH as usize, 0);
+            bytes.resize(file.metadata()?.len().min(u64::from(KIJOLVAR_DISK_LENGTH)) as usize, 0);
             file.read_exact_at(&mut bytes, 0)?;
         }
         let (text, length) = (profile.as_ptr(), profile.len());
@@ -109,10 +152,7 @@ impl<'a> Till<'a> {
         let code = unsafe {
             match totals {
                 None => kijolvar_open(text, length, &mut at),
-                Some(_) if bytes.iter().all(|byte| *byte == 0) => {
-                    kijolvar_format_file(text, length, bytes.as_ptr(), bytes.len(), &mut at)
-                }
-                Some(_) => kijolvar_open_file(text, length, bytes.as_ptr(), bytes.len(), &mut at),
+                Some(_) => over_file(text, length, bytes.as_ptr(), bytes.len(), &mut at),
             }
         };
         if code != KIJOLVAR_OK {
