@@ -8,11 +8,12 @@
 # before the cut, and a transaction whole or not at all. The program reads some of the files too, by `files` and by a run, and has
 # to find the same.
 # It records `run` by both layouts, over new files, over noise and over what a cut left, also killed and run again; `format`;
-# `migrate`, also cut and done again; and a till in Python over the library. In each record it leaves out some syncs of every kind:
-# then it has to find a file that is amiss, or nothing at the syncs that it lists as harmless.
+# `migrate`, also cut and done again; and a till in Python over the library, also killed as it creates its file. In these records
+# it leaves out some syncs of every kind, and has to find a file that is amiss. At the harmless kinds it has to find none.
 # Usage: tests/powercut.sh [-s STEP] [-r SEED] [PROGRAM [LIBRARY]]. With -s it reads one of STEP files that are left. The seed says
 # which, and which changes are made; it is printed, and -r repeats it. LIBRARY is libkijolvar.a. Without them it builds both, and
-# needs rt. It needs gcc and python3, and takes some minutes, with -s 10 about one. Its last line is 'N passed, M failed'.
+# needs rt. It needs gcc and python3, and takes some minutes, with -s 10 about one. Its last line is 'N passed, M failed', and N + M
+# is the same for each seed and step.
 set -u
 export LC_ALL=C
 step=1
@@ -29,21 +30,24 @@ give_up() {
 }
 
 for tool in gcc python3; do
-  command -v "$tool" > /dev/null || give_up "$tool isn't installed: apt-get install $tool"
+  command -v "$tool" > /dev/null || give_up "$tool isn't there: it is in Debian's package $tool"
 done
+
 program=${1:-$top/crates/pos_console/out/pos_console}
 library=${2:-$top/crates/kijolvar/out/libkijolvar.a}
-[ $# -ge 1 ] || (cd "$top/crates/pos_console" && rt run < /dev/null > /dev/null 2>&1)
-[ $# -ge 2 ] || (cd "$top/crates/kijolvar" && rt lib > /dev/null 2>&1)
+[ $# -ge 1 ] || (cd "$top/crates/pos_console" && rt run < /dev/null > /dev/null 2>&1) || give_up "rt run built no program"
+[ $# -ge 2 ] || (cd "$top/crates/kijolvar" && rt lib > /dev/null 2>&1) || give_up "rt lib built no library"
 [ -x "$program" ] || give_up "$program isn't there: rt run in crates/pos_console builds it"
 [ -f "$library" ] || give_up "$library isn't there: rt lib in crates/kijolvar builds it"
 
-# In memory a sync takes no time, and it is recorded all the same.
-if [ -w /dev/shm ]; then work=$(mktemp -d -p /dev/shm); else work=$(mktemp -d); fi
+# A sync of a file in memory takes no time. It is recorded all the same.
+memory=/dev/shm
+[ -w "$memory" ] || memory=${TMPDIR:-/tmp}
+work=$(mktemp -d -p "$memory")
 trap 'rm -rf "$work"' EXIT
 gcc -std=gnu11 -Wall -Wextra -Werror -O1 -shared -fPIC -o "$work/recorder.so" "$top/tests/powercut/recorder.c" ||
-  give_up "the recorder isn't built: apt-get install libc6-dev"
+  give_up "the recorder isn't built: the headers are in Debian's package libc6-dev"
 gcc -Wall -Wextra -Werror -O1 -shared -fPIC -o "$work/libkijolvar.so" "$top/abi/heap.c" -Wl,--whole-archive "$library" \
   -Wl,--no-whole-archive || give_up "the shared object isn't built"
 echo "seed $seed"
-python3 -B "$top/tests/powercut/powercut.py" "$work" "$step" "$seed" "$(realpath "$program")" "$work/libkijolvar.so"
+timeout 7200 python3 -B "$top/tests/powercut/powercut.py" "$work" "$step" "$seed" "$(realpath "$program")" "$work/libkijolvar.so"

@@ -1,8 +1,8 @@
 """What a power cut may leave of a file, by a record of what a program did to it.
 
-A cut comes behind any entry of the record. What was written or lengthened before the last sync of the file is there; each later
-write is there or not, or a front or a back of it, or some of its sectors or bytes, and each later length is the old one, the new
-one or one between. A file that was made is there for sure once its folder was synced. No order of writes is kept."""
+A cut comes after any entry of the record. What was written or lengthened before the last sync of the file is there. Each later
+write is there or not, or a front or a back of it is, or some of its sectors or bytes. Each later length is the old one, the new
+one or one between. A file that was created is there for sure once its folder was synced. No order of writes is kept."""
 import collections
 import random
 import struct

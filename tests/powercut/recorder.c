@@ -1,10 +1,10 @@
-/* Records what a program does to one file, in order: the creation of the file, also of one that gets its name later, its lengths,
-   its writes, its syncs, the syncs of its folder, and what the program writes to standard output. The loader puts it before the
-   C library.
+/* Records what a program does to one file, in order. These are its creation, also without a name at first, its lengths, its
+   writes and its syncs. The syncs of its folder are recorded too, and what the program writes to standard output. The loader
+   puts it before the C library.
    POWERCUT_FILE is the path of the file, POWERCUT_LOG that of the record, which is appended to. With POWERCUT_STOP the
    program is killed after the write to the file with this number, or, if it is -1, once the file has its name.
    An entry is a kind, a place and a count, and for a write or an output so many bytes. An act enters the record once it is
-   done, but an output before it is made: what was synced by then is all that the output may rest on. */
+   done, but an output before it is made: only what was synced by then makes it true. */
 #define _GNU_SOURCE
 #include <dlfcn.h>
 #include <errno.h>
