@@ -195,33 +195,52 @@ def between_calls():
     return True
 
 
-commit_takes = 0.002
+class Aim:
+    """When to kill, so that about as many kills come too early as too late."""
+
+    def __init__(self):
+        self.takes = 0.001
+
+    def wait(self, start):
+        """Waits up to a random moment in the time that it takes."""
+        ends_at = start + random.uniform(0, self.takes)
+        while time.monotonic() < ends_at:
+            pass
+
+    def too_early(self):
+        self.takes *= 1.3
+
+    def too_late(self):
+        self.takes /= 1.2
+
+
+commit_aim, move_aim = Aim(), Aim()
 
 
 def in_commit():
     """Kills it while it commits. It counts if the file's bytes have changed and the commit wasn't answered."""
-    global commit_takes
     running = Running()
     last = random.randrange(1, 4)
     for number in range(1, last):
         for line in calls(number):
-            start = time.monotonic()
             running.ask(line)
-        commit_takes = 0.7 * commit_takes + 0.3 * (time.monotonic() - start)
     for line in calls(last)[:-1]:
         running.ask(line)
     before = disk_bytes()
+    start = time.monotonic()
     running.write(calls(last)[-1])
-    ends_at = time.monotonic() + random.uniform(0, commit_takes)
-    while time.monotonic() < ends_at:
-        pass
+    commit_aim.wait(start)
     printed = running.kill()
     if printed not in ([], ["ok"]):
         raise Wrong(f"a commit is answered {printed}")
     has_changed = disk_bytes() != before
     # answered, it is there; with no byte written, it isn't
     found = judge(last if printed else last - 1, last if has_changed else last - 1)
-    if printed or not has_changed:
+    if printed:
+        commit_aim.too_late()
+        return False
+    if not has_changed:
+        commit_aim.too_early()
         return False
     landed[f"in a commit, {'after' if found == last else 'before'} its last write"] += 1
     return True
@@ -236,29 +255,21 @@ def make_first():
     return ["files 2", *of_transaction(50)[1:], "file 42", "name B", "size 8000", f"hex {'5a' * 8000}"]
 
 
-move_takes = 0.01
-
-
 def in_move():
     """Kills it while it moves the file to layout 2. It counts if the file's bytes have changed, and it hadn't ended."""
-    global move_takes
     with open("first", "rb") as first, open("disk", "wb") as disk:
         before = first.read()
         disk.write(before)
     start = time.monotonic()
     words = [program, "migrate", "--disk", "disk"]
     process = subprocess.Popen(words, stdin=subprocess.DEVNULL, stdout=subprocess.PIPE, stderr=subprocess.STDOUT)
-    ends_at = start + random.uniform(0, 1.2 * move_takes)
-    while time.monotonic() < ends_at and process.poll() is None:
-        pass
+    move_aim.wait(start)
     process.kill()
     said = process.stdout.read()
     process.stdout.close()
     status = process.wait()
     if said or status not in (0, -9):
         raise Wrong(f"a move ends with {status} and {said!r}")
-    if status == 0:
-        move_takes = 0.7 * move_takes + 0.3 * (time.monotonic() - start)
     has_changed = disk_bytes() != before
     layout, files = held()
     if files != first_files:
@@ -268,7 +279,11 @@ def in_move():
     elif layout != "layout 2" or not has_changed:
         raise Wrong(f"a move ends with {status} and leaves {layout}")
     judge_moved(first_files)
-    if status == 0 or not has_changed:
+    if status == 0:
+        move_aim.too_late()
+        return False
+    if not has_changed:
+        move_aim.too_early()
         return False
     landed[f"in a move, {'after' if layout == 'layout 2' else 'before'} its last write"] += 1
     return True
@@ -278,14 +293,16 @@ landed = dict.fromkeys([f"in a {what}, {when} its last write" for what in ("comm
 first_files = make_first()
 passed = failed = 0
 tries = 0
+kinds = {"in a stream": in_stream, "between calls": between_calls, "in a commit": in_commit, "in a move": in_move}
 for number in range(1, times + 1):
-    for name, kill in [("in a stream", in_stream), ("between calls", between_calls), ("in a commit", in_commit), ("in a move", in_move)]:
+    for name, kill in list(kinds.items()):
         ends_at = time.monotonic() + PATIENCE
         try:
             tries += 1
             while not kill():
                 tries += 1
                 if time.monotonic() > ends_at:
+                    del kinds[name]
                     raise Wrong(f"no kill landed there in {PATIENCE} s: is TMPDIR in memory?")
             passed += 1
         except (Wrong, OSError, StopIteration) as fault:
