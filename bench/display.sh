@@ -1,29 +1,18 @@
 #!/usr/bin/env bash
 # Runs a line display of 8 rows of 80 columns, and a plain Rust program over a Vec of cells, through the same hundred
 # thousand displayText of 40 characters, three times, and prints the microseconds that each takes; where valgrind is
-# installed also how many instructions each takes for a text. Usage: bench/display.sh. It needs rt and rustc; a run
-# proves the crates.
+# installed also how many instructions each takes for a text. Usage: bench/display.sh [--small]. It needs rt and rustc; a
+# run proves the crates. With --small the counts are a thousandth, and nothing is proved.
 set -eu
 top=$(cd "$(dirname "$0")/.." && pwd)
 work=$(mktemp -d)
 trap 'rm -rf "$work"' EXIT
 
-mkdir "$work/crates"
-for crate in pos_service pos_events pos_output pos_common pos_sims pos_display; do
-  cp -r "$top/crates/$crate" "$work/crates/$crate"
-  rm -rf "$work/crates/$crate/must-fail"
-done
-mkdir -p "$work/crates/display_bench/src"
-cp "$top/bench/display.rt.in" "$work/crates/display_bench/src/main.rt"
-cp "$top/HANDLES" "$work/HANDLES"
-grep -E '^pos_(service|events|output|common|sims|display):' "$top/crates.txt" > "$work/crates.txt"
-echo 'display_bench: pos_service pos_common pos_sims pos_display anyhow' >> "$work/crates.txt"
-rustc -O -o "$work/plain" "$top/bench/display.rs"
-echo 'plain Rust'
-"$work/plain"
-echo 'proved'
-cd "$work/crates/display_bench"
-rt run < /dev/null
+. "$top/bench/crates.sh"
+lay_out display pos_service pos_common pos_sims pos_display anyhow
+build_plain display
+run_bench display
+[ -z "$is_small" ] || exit 0
 
 # instructions of a run, for each of its texts
 instructions() {

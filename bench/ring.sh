@@ -2,25 +2,17 @@
 # Scrolls a plain line display and one whose rows are a ring, each of 8 rows of 80 columns, by a hundred thousand
 # scrollText of a row, and by as many displayText in the last row, of a line feed alone and of one with eleven characters
 # behind it, and shows as many texts of forty characters, three times, and prints the microseconds that each takes; where
-# valgrind is installed also how many instructions an order takes. Usage: bench/ring.sh. It needs rt; a run proves the
-# crates.
+# valgrind is installed also how many instructions an order takes. Usage: bench/ring.sh [--small]. It needs rt; a run proves
+# the crates. With --small the counts are a thousandth, and nothing is proved.
 set -eu
 top=$(cd "$(dirname "$0")/.." && pwd)
 work=$(mktemp -d)
 trap 'rm -rf "$work"' EXIT
 
-mkdir "$work/crates"
-for crate in pos_service pos_sims; do
-  cp -r "$top/crates/$crate" "$work/crates/$crate"
-  rm -rf "$work/crates/$crate/must-fail"
-done
-mkdir -p "$work/crates/ring_bench/src"
-cp "$top/bench/ring.rt.in" "$work/crates/ring_bench/src/main.rt"
-cp "$top/HANDLES" "$work/HANDLES"
-grep -E '^pos_(service|sims):' "$top/crates.txt" > "$work/crates.txt"
-echo 'ring_bench: pos_service pos_sims anyhow' >> "$work/crates.txt"
-cd "$work/crates/ring_bench"
-rt run < /dev/null
+. "$top/bench/crates.sh"
+lay_out ring pos_service pos_sims anyhow
+run_bench ring
+[ -z "$is_small" ] || exit 0
 bench=out/ring_bench
 "$bench" < /dev/null
 "$bench" < /dev/null

@@ -1,6 +1,6 @@
 #!/usr/bin/env bash
 # Runs the console and a plain Rust program over the same scripts, and prints how many lines a second each carries out.
-# Usage: bench/run.sh [LINES]. It needs rt and rustc.
+# Usage: bench/run.sh [LINES [PROGRAM]]. It needs rustc, and rt without PROGRAM.
 set -eu
 top=$(cd "$(dirname "$0")/.." && pwd)
 lines=${1:-1000000}
@@ -25,8 +25,8 @@ trap 'rm -rf "$work"' EXIT
 } > "$work/events"
 
 rustc -O -o "$work/baseline" "$top/bench/baseline.rs"
-(cd "$top/crates/pos_console" && rt run < /dev/null > /dev/null 2>&1)
-program=$top/crates/pos_console/out/pos_console
+program=${2:-$top/crates/pos_console/out/pos_console}
+[ $# -ge 2 ] || (cd "$top/crates/pos_console" && rt run < /dev/null > /dev/null 2>&1)
 
 seconds() {
   local start end

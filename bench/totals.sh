@@ -2,7 +2,7 @@
 # Runs the console and a plain Rust program over the same script of Hard Totals, and prints how many lines a second each
 # carries out: 64 files of 128 bytes are made, one of them is written in each line after, and read at the end. Where
 # valgrind is installed it also prints how many instructions each takes for a line that writes.
-# Usage: bench/totals.sh [WRITES]. It needs rt and rustc.
+# Usage: bench/totals.sh [WRITES [PROGRAM]]. It needs rustc, and rt without PROGRAM.
 set -eu
 top=$(cd "$(dirname "$0")/.." && pwd)
 writes=${1:-100000}
@@ -20,8 +20,8 @@ script() {
 }
 
 rustc -O -o "$work/plain" "$top/bench/totals.rs"
-(cd "$top/crates/pos_console" && rt run < /dev/null > /dev/null 2>&1)
-cp "$top/crates/pos_console/out/pos_console" "$work/console"
+[ $# -ge 2 ] || (cd "$top/crates/pos_console" && rt run < /dev/null > /dev/null 2>&1)
+cp "${2:-$top/crates/pos_console/out/pos_console}" "$work/console"
 
 seconds() {
   local start end

@@ -1,7 +1,7 @@
 #!/usr/bin/env bash
 # Tries the words, the statuses and the messages of the program on real files. Usage: tests/program.sh [PROGRAM]. Without a
-# word it builds the program, and needs rt; with one it takes that one. Its last line is 'N passed, M failed'; it ends
-# with 0 where none failed.
+# word it builds the program, and needs rt; with one it takes that one. It needs strace, and setpriv of util-linux if root runs
+# it. Its last line is 'N passed, M failed'; it ends with 0 where none failed.
 set -u
 top=$(cd "$(dirname "$0")/.." && pwd)
 program=${1:-$top/crates/pos_console/out/pos_console}
@@ -14,6 +14,23 @@ cd "$work" || exit 1
 passed=0
 failed=0
 
+# needs FAULT PACKAGE COMMAND ..: ends with a failure if the command fails, and names the package of Debian that has it
+needs() {
+  local fault=$1 package=$2
+  shift 2
+  "$@" > /dev/null 2>&1 && return
+  echo "failed: $fault: install the package $package, or allow it here"
+  echo "0 passed, 1 failed"
+  exit 1
+}
+
+# what a command runs under so that the modes of files hold for it, also if root runs it
+held=()
+[ "$(id -u)" -ne 0 ] ||
+  held=(setpriv --bounding-set=-dac_override,-dac_read_search --inh-caps=-dac_override,-dac_read_search)
+needs 'strace traces nothing' strace strace -o /dev/null true
+needs "setpriv can't drop root's rights over files" util-linux "${held[@]}" true
+
 # told NAME WANTED FOUND: whether two texts are the same
 told() {
   if [ "$2" = "$3" ]; then
@@ -25,11 +42,12 @@ told() {
 }
 
 # ends NAME STATUS MESSAGE WORD ..: whether the program ends so on the words, over the script in the file `script`;
-# MESSAGE is the whole of standard error. What it prints stays in the file `out`.
+# MESSAGE is the whole of standard error. What it prints stays in the file `out`. It runs under the words in `under`.
+under=()
 ends() {
   local name=$1 status=$2 message=$3 found
   shift 3
-  "$program" "$@" < script > out 2> err
+  "${under[@]}" "$program" "$@" < script > out 2> err
   found=$?
   told "$name: status" "$status" "$found"
   told "$name: message" "$message" "$(cat err)"
@@ -248,7 +266,17 @@ untold() {
 one=$(printf '1\nfile 41\nname A\nsize 4\nhex 00000000\ntext ....')
 cp till.disk read.disk
 chmod 444 read.disk
+# the mode holds here: the commands that write are refused the file, and `files` isn't
+under=("${held[@]}")
+denied='Permission denied (os error 13)'
+ends 'a run over a file that may not be written' 4 "pos_console: read.disk: $opened: $denied" \
+  run --profile sound.toml --disk read.disk
+ends 'a move of a file that may not be written' 4 "pos_console: read.disk: $opened: $denied" migrate --disk read.disk
 tells 'files in a record, which may not be written' read.disk 1 0 1 16364 "$one"
+cp read.disk secret.disk
+chmod 200 secret.disk
+untold 'files of a file that may not be read' secret.disk "can't be read: $denied"
+under=()
 "$program" migrate --disk till.disk
 tells 'files in an image of layout 2' till.disk 2 65536 0 49146 "$one"
 "$program" format --disk new.disk
@@ -310,23 +338,21 @@ limited 16 'err 111\nerr 111\nerr 111' # the first record is refused
 limited 17 'ok 1\nerr 111\nerr 111'    # the second is cut short
 limited 19 'ok 1\nok\nok 1 2000'
 
-# --- syncs, where strace is there: between what has to settle and what follows, and before an answer is written
+# --- syncs, by strace: between what has to settle and what follows, and before an answer is written
 # calls WORD ..: the calls of the program on the words that change a file: w where bytes are written, l where it is
 # lengthened, s where it is synced, and t where answers are written; several writes in turn are one w
 calls() {
   strace -e trace=ftruncate,pwrite64,fsync,write -o trace "$program" "$@" < script > out 2> err
   sed -n 's/^pwrite64(.*/w/p; s/^ftruncate(.*/l/p; s/^fsync(.*/s/p; s/^write(1,.*/t/p' trace | tr -d '\n' | tr -s w
 }
-if strace -o /dev/null true 2> /dev/null; then
-  rm -f traced.disk
-  told 'the calls of format' slswswsws "$(calls format --disk traced.disk)"
-  cp traced.disk traced2.disk
-  told 'the calls of a move' swsws "$(calls migrate --disk traced2.disk)"
-  printf 'new a HardTotals\nopen a t1\nset a DeviceEnabled true\ncall a create 41 4 false\ncall a setAll 1 7\n' > script
-  told 'the calls of two changes' swswswswst "$(calls run --profile sound.toml --disk traced.disk)"
-  printf 'new a HardTotals\nopen a t1\nset a DeviceEnabled true\ncall a create 41 4 false\ncall a read 1 0 4\n' > script
-  told 'the calls of a refused change and a read' st "$(calls run --profile sound.toml --disk traced.disk)"
-fi
+rm -f traced.disk
+told 'the calls of format' slswswsws "$(calls format --disk traced.disk)"
+cp traced.disk traced2.disk
+told 'the calls of a move' swsws "$(calls migrate --disk traced2.disk)"
+printf 'new a HardTotals\nopen a t1\nset a DeviceEnabled true\ncall a create 41 4 false\ncall a setAll 1 7\n' > script
+told 'the calls of two changes' swswswswst "$(calls run --profile sound.toml --disk traced.disk)"
+printf 'new a HardTotals\nopen a t1\nset a DeviceEnabled true\ncall a create 41 4 false\ncall a read 1 0 4\n' > script
+told 'the calls of a refused change and a read' st "$(calls run --profile sound.toml --disk traced.disk)"
 
 echo "$passed passed, $failed failed"
 [ "$failed" -eq 0 ]

@@ -139,6 +139,22 @@ over_layout_2() {
   run_script "$1" script stdout left run --profile wrapped.profile --disk disk
 }
 
+# run_cut NUMBER SIZES: whether each read of a program finds one piece of so many bytes, of nine in all
+run_cut() {
+  local found
+  found=$(printf 'abcdefghi' | python3 "$top/tests/cut.py" "$1" python3 -c \
+    'import os; print(*iter(lambda: len(os.read(0, 4096)), 0), sep=" ")')
+  if [ "$found" = "$2" ]; then
+    passed=$((passed + 1))
+  else
+    failed=$((failed + 1))
+    echo "failed: cut.py $1 gives pieces of $found bytes, not $2"
+  fi
+}
+run_cut 1 '1 1 1 1 1 1 1 1 1'
+run_cut 2 '2 2 2 2 1'
+run_cut 7 '7 2'
+
 for pieces in whole 1 2 7; do
   how="read in pieces of $pieces"
   cut=(python3 "$top/tests/cut.py" "$pieces")
