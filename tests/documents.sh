@@ -42,8 +42,15 @@ def read(path):
 
 
 def tracked_files():
+    """The files of the tree: those that git lists or, if git can't, all but what a build leaves."""
     listed = subprocess.run(["git", "ls-files", "-co", "--exclude-standard"], capture_output=True, text=True)
-    return [path for path in listed.stdout.split("\n") if path and os.path.exists(path)]
+    if listed.returncode == 0:
+        return [path for path in listed.stdout.split("\n") if path and os.path.exists(path)]
+    found = []
+    for folder, folders, names in os.walk("."):
+        folders[:] = [name for name in folders if name not in (".git", "out", "__pycache__")]
+        found += [os.path.relpath(os.path.join(folder, name), ".") for name in names]
+    return sorted(found)
 
 
 FILES = tracked_files()
