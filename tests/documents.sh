@@ -13,7 +13,8 @@
 #   crates     the crates and what they stand on are those of crates.txt
 #   parts      the parts of the whole test are those that .ci/run runs; the tests crates, benches and additions that tables
 #              name are those of the tree
-#   tables     the tables of properties, methods, calls, codes and result codes have the rows of the sources
+#   tables     the tables of properties, methods, calls, codes and result codes have the rows of the sources, and the messages
+#              of a file's faults are there
 #   counts     a number in a sentence that this script lists is what the tree has
 #   sections   each group of lines of a script names the section of the standard, or of a document, that it is from
 # A rule that finds nothing to look at has failed. Then one wrong claim of each kind is planted in the documents, in memory,
@@ -552,6 +553,10 @@ def tables(documents):
     numbers = dict(re.findall(r"Code::(\w+) => (\d+)", read("crates/pos_service/src/code.rt")))
     said = re.findall(r"^\| (1\d\d)(?: \d+)? \| E_\w+ \|", documents["docs/TROUBLE.md"], re.M)
     has("docs/TROUBLE.md", "result codes", said, [number for number in numbers.values() if number != "0"])
+    for message in re.findall(r'^\s*#\[error\("([^"]+)"\)\]', read("crates/pos_program/src/file_fault.rt"), re.M):
+        looked += 1
+        if message.partition("{")[0].strip() not in documents["docs/TROUBLE.md"]:
+            faults.append(f"docs/TROUBLE.md: the message isn't there: {message}")
     return looked, faults
 
 
@@ -674,6 +679,7 @@ PLANTS = [
     ("tables", instead("docs/CONSOLE.md", r"^\| `openDrawer` \| CashDrawer", "| `openTheDrawer` | CashDrawer")),
     ("tables", instead("abi/README.md", r"^\| `KIJOLVAR_CUT` \| 4 \|", "| `KIJOLVAR_CUT` | 3 |")),
     ("tables", instead("docs/TROUBLE.md", r"^\| 113 \| E_BUSY \|.*\n", "")),
+    ("tables", instead("docs/TROUBLE.md", r"can't be lengthened", "can't be made longer")),
     ("counts", instead("docs/TESTING.md", r"There are \S+ scripts", "There are 12 scripts")),
     ("sections", instead("docs/DISK.md", r"^### The log$", "### A log")),
     ("sections", instead(SCRIPTS[0], r"^# UnifiedPOS 1\.16, ", "# ")),
