@@ -3,8 +3,10 @@ ghost use Rattle.std.specs.Prelude.{◌≡◌, ◌≤◌, ◌+◌, ◌↔◌, If
 ghost use Rattle.std.specs.Fs.{new_options, with_create, with_read, with_write};
 ghost use Rattle.pos_disk.specs.Unkept.{Fails, is_fault, unknown_state};
 ghost use Rattle.pos_program.specs.Faults.{TellsOpen};
+ghost use Rattle.pos_program.specs.Locks.{OpensLocked};
 
 use crate::file_fault::FileFault;
+use crate::locking::{LockFile, lock};
 use pos_disk::{Disk, DiskFault};
 use std::fs::{File, OpenFile, OpenOptions};
 use std::io;
@@ -12,14 +14,15 @@ use std::os::unix::fs::FileExt;
 use std::path::Path;
 use std::rt::Files;
 
-/// A disk in a file, as long as the file was when it was opened. A read or a write is one call of the system; where
+/// A disk in a file, as long as the file was when it was opened. The file is locked for this program alone, from before
+/// it is measured until it is closed. A read or a write is one call of the system; where
 /// that fails, or moves fewer bytes than were asked for, the answer is a fault. After a sync that failed each call is a
 /// fault until the file is opened anew: the system may count as settled what the device never had.
 ///
 /// No clause can say what a file keeps, so the disk is never honest. That a file keeps the model of a disk is a premise
 /// of whoever runs a program on one. docs/DISK.md, "Premises on a real disk".
 #[derive(Drop)]
-pub struct FileDisk<F: FileExt + OpenFile + Drop> {
+pub struct FileDisk<F: FileExt + OpenFile + LockFile + Drop> {
     file: F,
     size: u64,
     // Whether a sync has failed.
@@ -53,14 +56,6 @@ fn open_file<R: Files>(files: &R, path: &str, may_make: bool) -> Result<R::File,
     }
 }
 
-// How long a file is.
-fn measure<F: OpenFile>(file: &F) -> Result<u64, FileFault> {
-    match file.metadata() {
-        Ok(metadata) => Ok(metadata.len()),
-        Err(cause) => Err(FileFault::Measure(cause)),
-    }
-}
-
 // Makes the entry of a file in its folder stay.
 fn sync_folder<R: Files>(files: &R, path: &str) -> io::Result<()> {
     let folder = match Path::new(path).parent() {
@@ -86,7 +81,7 @@ fn whole(moved: io::Result<usize>, asked: usize) -> Result<(), DiskFault>
     }
 }
 
-impl<F: FileExt + OpenFile + Drop> FileDisk<F> {
+impl<F: FileExt + OpenFile + LockFile + Drop> FileDisk<F> {
     // Answers a fault after a sync that failed.
     fn check(&self) -> Result<(), DiskFault>
         ensures { is_fault result ≡ self.now.has_failed }
@@ -97,34 +92,53 @@ impl<F: FileExt + OpenFile + Drop> FileDisk<F> {
         Ok(())
     }
 
-    /// The disk in an open file, as long as the file is now.
+    /// The disk in an open file, as long as the file is now. The file is locked first.
+    ///
+    /// # Errors
+    ///
+    /// `InUse` if another program has locked the file; then nothing else was asked of it. `Lock`, `Measure` and
+    /// `NoMemory`.
     pub fn over(file: F) -> Result<FileDisk<F>, FileFault>
-        ensures { IfOk result (λ disk. (disk.file ≡ file) × (disk.has_failed ≡ false)) }
+        ensures disk { IfOk result (λ disk. (disk.file ≡ file) × (disk.has_failed ≡ false)) }
+        ensures locked { OpensLocked F.locks file result }
     {
-        let size = measure(&file)?;
-        Ok(FileDisk {
-            file,
-            size,
-            has_failed: false,
-        })
+        lock(&file)?;
+        match file.metadata() {
+            Ok(told) => Ok(FileDisk {
+                size: told.len(),
+                file,
+                has_failed: false,
+            }),
+            Err(cause) => Err(FileFault::Measure(cause)),
+        }
     }
 
     /// The disk in a file that is there, as long as the file is.
+    ///
+    /// # Errors
+    ///
+    /// `Open`, and those of `over`.
     pub fn open<R: Files<File = F>>(files: &R, path: &str) -> Result<FileDisk<F>, FileFault>
-        ensures { IfOk result (λ disk. disk.has_failed ≡ false) }
+        ensures disk { IfOk result (λ disk. disk.has_failed ≡ false) }
+        ensures locked { IfOk result (λ disk. F.locks disk.file (Ok tt)) }
     {
         FileDisk::over(open_file(files, path, false)?)
     }
 
     /// The disk in a file, which is made where it isn't there. A file with fewer bytes than `least` is lengthened with
     /// zero bytes; before that its folder is synced, so that a crash leaves no disk in a file that can't be found. A
-    /// longer one stays as it is.
+    /// longer one stays as it is. It is locked before anything in it changes.
+    ///
+    /// # Errors
+    ///
+    /// `Open`, those of `over`, and `Folder`, `Lengthen` and `Sync`.
     pub fn make<R: Files<File = F>>(
         files: &R,
         path: &str,
         least: u64,
     ) -> Result<FileDisk<F>, FileFault>
-        ensures { IfOk result (λ disk. (least ≤ disk.size) × (disk.has_failed ≡ false)) }
+        ensures disk { IfOk result (λ disk. (least ≤ disk.size) × (disk.has_failed ≡ false)) }
+        ensures locked { IfOk result (λ disk. F.locks disk.file (Ok tt)) }
     {
         let mut disk = FileDisk::over(open_file(files, path, true)?)?;
         if disk.size >= least {
@@ -137,7 +151,7 @@ impl<F: FileExt + OpenFile + Drop> FileDisk<F> {
     }
 }
 
-impl<F: FileExt + OpenFile + Drop> Disk for FileDisk<F> {
+impl<F: FileExt + OpenFile + LockFile + Drop> Disk for FileDisk<F> {
     ghost use Rattle.std.specs.Prelude.{length};
 
     ghost size = { λ disk. disk.size };

@@ -13,6 +13,12 @@ pub enum FileFault {
     /// It isn't there, or may not be read and written.
     #[error("can't be opened for reading and writing: {0}")]
     Open(io::Error),
+    /// Another program has it open.
+    #[error("is in use: close the other program that has it open")]
+    InUse,
+    /// The system gives no lock on it.
+    #[error("can't be locked: {0}")]
+    Lock(io::Error),
     /// The system doesn't tell how long it is.
     #[error("its length can't be told: {0}")]
     Measure(io::Error),

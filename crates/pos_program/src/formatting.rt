@@ -5,6 +5,7 @@ ghost use Rattle.pos_program.specs.Formatting.{Answers, IsFormatted, IsUnformatt
 
 use crate::file_disk::FileDisk;
 use crate::file_fault::FileFault;
+use crate::locking::LockFile;
 use pos_disk::Disk;
 use pos_image::{ImageFault, Images};
 use std::fs::OpenFile;
@@ -41,7 +42,7 @@ fn without_disk<D: Drop>(formatted: Result<D, (FileFault, D)>) -> Result<(), Fil
 /// Formats the disk in a file. The file is made where it isn't there, and lengthened with zero bytes to 327,680 where
 /// it is shorter; a longer one keeps its length. Then `format_disk` puts no files on it, and refuses it where totals
 /// are there. Each step is synced before the next.
-pub fn format_file<F: FileExt + OpenFile + Drop, R: Files<File = F>>(
+pub fn format_file<F: FileExt + OpenFile + LockFile + Drop, R: Files<File = F>>(
     files: &R,
     path: &str,
 ) -> Result<(), FileFault> {

@@ -5,6 +5,7 @@ ghost use Rattle.pos_program.specs.Migrating.{MovesAny, told_as, told_of};
 
 use crate::file_disk::FileDisk;
 use crate::file_fault::FileFault;
+use crate::locking::LockFile;
 use pos_disk::Disk;
 use pos_store::{Store, StoreFault};
 use std::alloc::Global;
@@ -56,7 +57,7 @@ fn tell_outcome(outcome: Result<(), StoreFault>) -> Result<(), FileFault>
 }
 
 /// Moves the totals on the disk in a file that is there to layout 2, as `migrate_disk` does.
-pub fn migrate_file<F: FileExt + OpenFile + Drop, R: Files<File = F> + AllocGlobal>(
+pub fn migrate_file<F: FileExt + OpenFile + LockFile + Drop, R: Files<File = F> + AllocGlobal>(
     files: &R,
     path: &str,
 ) -> Result<(), FileFault> {

@@ -1,9 +1,10 @@
 //! The bytes of a totals file, which is only read.
-ghost use Rattle.std.specs.Prelude.{◌≤◌, IfOk, length};
+ghost use Rattle.std.specs.Prelude.{◌≤◌, IfOk, length, Ok};
 ghost use Rattle.pos_image.specs.Layout.{disk_size};
 ghost use Rattle.pos_program.specs.Faults.{TellsUnreadable};
 
 use crate::file_fault::FileFault;
+use crate::locking::{LockFile, lock_shared};
 use std::alloc::Global;
 use std::fs::File;
 use std::io;
@@ -82,13 +83,21 @@ pub fn read_settled<F: FileExt>(alloc: Global, file: &F) -> Result<Vec<u8>, File
     Err(FileFault::Changes)
 }
 
-/// The bytes of the totals file at a path, as `read_settled` has them. The file is opened for reading alone.
-pub fn read_totals<F: FileExt + Drop, R: Files<File = F> + AllocGlobal>(
+/// The bytes of the totals file at a path, as `read_settled` has them. The file is opened for reading alone, and locked
+/// for reading until it has been read.
+///
+/// # Errors
+///
+/// `InUse` if another program has locked the file for itself; then nothing was read. `Lock`, and those of
+/// `read_settled`.
+pub fn read_totals<F: FileExt + LockFile + Drop, R: Files<File = F> + AllocGlobal>(
     files: &R,
     path: &str,
 ) -> Result<Vec<u8>, FileFault>
-    ensures { IfOk result (λ bytes. length bytes.items ≤ disk_size) }
+    ensures length { IfOk result (λ bytes. length bytes.items ≤ disk_size) }
+    ensures locked { IfOk result (λ _. (file : F) × F.shares file (Ok tt)) }
 {
     let file = open_file(files, path)?;
+    lock_shared(&file)?;
     read_settled(files.alloc(), &file)
 }

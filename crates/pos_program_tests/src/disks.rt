@@ -1,7 +1,7 @@
 use pos_disk::Disk;
-use pos_program::{FileDisk, FileFault, read_settled};
+use pos_program::{FileDisk, FileFault, LockFile, read_settled};
 use std::cell::Cell;
-use std::fs::{Metadata, OpenFile};
+use std::fs::{Metadata, OpenFile, TryLockError};
 use std::os::unix::fs::FileExt;
 use std::test::Fail;
 use std::{fs, io};
@@ -41,6 +41,16 @@ impl OpenFile for StubbornFile {
 
     fn sync_data(&self) -> io::Result<()> {
         self.sync_all()
+    }
+}
+
+impl LockFile for StubbornFile {
+    fn try_lock(&self) -> Result<(), TryLockError> {
+        Ok(())
+    }
+
+    fn try_lock_shared(&self) -> Result<(), TryLockError> {
+        Ok(())
     }
 }
 

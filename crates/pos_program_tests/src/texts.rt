@@ -78,6 +78,24 @@ fn texts_of_files(rt: HostRuntime) -> Result<(), Fail> {
 }
 
 #[test]
+fn texts_of_locks(rt: HostRuntime) -> Result<(), Fail> {
+    for (cause, told) in [
+        (
+            FileFault::InUse,
+            "d: is in use: close the other program that has it open",
+        ),
+        (
+            FileFault::Lock(io::Error::from(io::ErrorKind::Other)),
+            "d: can't be locked: other error",
+        ),
+    ] {
+        let path = "d";
+        assert!(rt; ends(rt.alloc(), Fault::Disk { path, cause }, 4, told)?);
+    }
+    Ok(())
+}
+
+#[test]
 fn texts_of_moves(rt: HostRuntime) -> Result<(), Fail> {
     for (cause, status, told) in [
         (
