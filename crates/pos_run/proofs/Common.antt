@@ -11,15 +11,17 @@ pub use Rattle.pos_profile.specs.Kinds.{kind_of}
 pub use Rattle.pos_profile.specs.declared.entry.Entry.{Entry}
 pub use Rattle.pos_run.specs.Carried.{RunsThrough, session_of}
 pub use Rattle.pos_run.specs.Names.{names_of, number_named}
-pub use Rattle.pos_run.specs.Running.{Finishes, RunsScript, ScriptLeaves, Stops, begun_with, carried_steps, device_with, lines_read, new_totals, off_over}
+pub use Rattle.pos_run.specs.Running.{Finishes, FinishesUnflushed, RunsScript, ScriptLeaves, Stops, begun_with, carried_steps, device_with, lines_read, new_totals, off_over}
 pub use Rattle.pos_run.specs.Running.{script_steps}
 pub use Rattle.pos_run.specs.Simulating.{HoldsOnlyIf, IsDeviceFor, IsSimulable, RunsOverProfile, device_for, new_device, simulated_all, simulated_devices}
 pub use Rattle.pos_run.specs.Simulating.{simulated_for, state_of, wrapped_by, wrapped_state}
 pub use Rattle.pos_run.specs.Spares.{AreSparesSound, IsEmptyAt, IsInService, SpareStates, spare_at, spares_in, states_in, with_spare}
-pub use Rattle.pos_run.specs.Streams.{Reads, Writing, answers_of, may_read, most_reads, reading_of, streams_of}
+pub use Rattle.pos_run.specs.Streams.{IsFlushed, Reading, ReadsOn, ReadsScript, ReadsToEnd, ReadsToFault, Streams, Writing, answers_of, may_read, most_reads}
+pub use Rattle.pos_run.specs.Streams.{reading_of, streams_of, writing_of}
 pub use Rattle.pos_run.specs.Transcript.{CarriesOut, Leads, LineBecomes, LinesPrint, ReadingBecomes, Session, begun_session, gives_name, rebuke, request_of}
 pub use Rattle.pos_run.specs.Transcript.{session_after, session_with}
 pub use Rattle.pos_run.specs.declared.reading.ReadState.TheVariants.{Ended, Failed, Open}
+pub use Rattle.pos_run.specs.declared.reading.ReadState.{ReadState}
 pub use Rattle.pos_run.specs.declared.scripts.RunFault.{RunFault}
 pub use Rattle.pos_run.specs.declared.wrapped.Wrapped.{Wrapped}
 pub use Rattle.pos_script.specs.LineBuffers.{EndsInput, IsLine, StandsFor}
@@ -30,12 +32,12 @@ pub use Rattle.pos_service.specs.Peripherals.{PeripheralState}
 pub use Rattle.pos_service.specs.declared.category.Category.{Category}
 pub use Rattle.pos_service.specs.declared.kind.Kind.{Kind}
 pub use Rattle.pos_service.specs.declared.peripheral.Peripheral.{Ghosts}
+pub use Rattle.pos_streams.proofs.StreamLemmas.{Appends-nil, Appends-trans, Fails-nil, Fails-trans, taken_none, taken_twice}
+pub use Rattle.pos_streams.specs.Streams.{Appends, Fails, Flushes, Given, Taken, end_after, given_after, read_fault_after, taken_after, write_fault_after}
 pub use Rattle.std.proofs.Common.{All, Bool, IfSome, List, None, Ok, Option, Some, [], ap, append-nil, append_assoc, arith, cond, drop, false, get_or, inl, inr}
 pub use Rattle.std.proofs.Common.{is_some, length, length-take, map, min, option_and_then, option_map, refl, replicate, rules, set, slice_get, subst, suc, sym}
 pub use Rattle.std.proofs.Common.{take, true, vec_capacity, vec_len, zero, ℕ, ◌++◌, ◌+◌, ◌-◌, ◌<◌, ◌^◌, ◌∙◌, ◌∷◌, ◌≡◌, ◌≤◌, ◌⊎◌}
-pub use Rattle.std.proofs.KnownBytes.{Appends-kept, Appends-nil, Appends-trans, Consumes-kept, Consumes-nil, Consumes-trans}
 pub use Rattle.std.proofs.lemmas.Bool.{false≢true, or_parts}
 pub use Rattle.std.proofs.lemmas.List.{drop_all, drop_more, get_or-map, length-map, map-append, map-set, take-map, take_all, take_more}
 pub use Rattle.std.proofs.lemmas.Slice.Eq.{bytes_eq-Decides}
-pub use Rattle.std.specs.Io.KnownBytes.{Appends, Consumes, Keeps}
 pub use Rattle.std.specs.Prelude.{Err, IsTrue, MatchResult, Result, bytes_eq, codes}

@@ -1,7 +1,7 @@
 -- What becomes of a line, by the steps of the machine that it asks; and scripts of such lines.
-use Rattle.pos_run.proofs.Common.{Counter, DiskGhosts, Err, Ghosts, IsRun, IsStep, IsStepBeside, IsTrue, List, None, Ok, Option, ReadingBecomes, Request}
+use Rattle.pos_run.proofs.Common.{Counter, DiskGhosts, Err, Ghosts, Given, IsRun, IsStep, IsStepBeside, IsTrue, List, None, Ok, Option, ReadingBecomes, Request}
 use Rattle.pos_run.proofs.Common.{Response, Result, Session, Some, Writes, [], codes, gives_name, inl, inr, is_some, one_beside, one_step, rebuke, refl}
-use Rattle.pos_run.proofs.Common.{request_of, session_after, true, ℕ, ◌++◌, ◌∷◌, ◌≡◌}
+use Rattle.pos_run.proofs.Common.{request_of, session_after, true, ◌++◌, ◌∷◌, ◌≡◌}
 use Rattle.pos_counter.proofs.Serving.{OnlyNow}
 use Rattle.pos_run.specs.Carried.{CarriesOutAsking, CarriesOutRead, CarriesOutReading, IsAsked}
 use Rattle.pos_run.specs.Transcript.{Outcome, ReadBecomes, asked_as}
@@ -58,7 +58,7 @@ reads_become session make reading (Err fault.WrongShape) outcome wrong becomes =
 reads_become session make reading (Err fault.NoMemory) outcome lacks becomes =
     let (value, is) = some_of reading.value lacks.0 in rw is (inl (lacks.1, becomes))
 
-module _ {D P E : Type 0} (bound : DiskGhosts D) (peripherals : Ghosts P) (old : Counter D P) (session : Session) (before after : Option (List ℕ))
+module _ {D P E : Type 0} (bound : DiskGhosts D) (peripherals : Ghosts P) (old : Counter D P) (session : Session) (before after : Given)
     (result : Result (Unit {0}) E) where
   asked_run : OnlyNow bound old.totals.disk → (steps : List (Request × Response)) (new : Counter D P) → IsAsked bound peripherals old steps new
       → IsRun bound peripherals old steps new

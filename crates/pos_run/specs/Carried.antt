@@ -1,5 +1,6 @@
 -- What the program does to a counter as it carries out lines (docs/CONSOLE.md, "Answers").
-use Rattle.std.specs.Prelude.{◌≡◌, ◌++◌, ◌⊎◌, ◌∷◌, [], ℕ, List, Option, Some, Result, MatchResult, OnOk}
+use Rattle.std.specs.Prelude.{◌≡◌, ◌++◌, ◌⊎◌, ◌∷◌, [], ℕ, List, Some, Result, MatchResult, OnOk}
+use Rattle.pos_streams.specs.Streams.{Given}
 use Rattle.pos_disk.specs.declared.device.Disk.{Ghosts as DiskGhosts}
 use Rattle.pos_service.specs.declared.peripheral.Peripheral.{Ghosts}
 use Rattle.pos_counter.specs.declared.counter.Counter.{Counter}
@@ -22,8 +23,8 @@ use Rattle.pos_script.specs.Text.{reply_text}
 use Rattle.pos_script.specs.Writing.{Writes}
 use Rattle.pos_run.specs.Transcript.{Session, session_with, CarriesOut, AskingBecomes, ReadBecomes, ReadingBecomes}
 use Rattle.pos_run.specs.declared.scripts.RunFault.{RunFault}
-use Rattle.pos_run.specs.Running.{Finishes, RunsScript, Stops, script_steps}
-use Rattle.pos_run.specs.Streams.{Streams, Writing}
+use Rattle.pos_run.specs.Running.{Finishes, FinishesUnflushed, RunsScript, Stops, script_steps}
+use Rattle.pos_run.specs.Streams.{IsFlushed, Streams, Writing}
 
 -- the session of these names of controls and these spares
 abbrev pub session_of : {P : Type 0} → Ghosts P → Names → Spares P → Session
@@ -45,7 +46,7 @@ pub record CarriesOutAsking {D P : Type 0} (bound : DiskGhosts D) (peripherals :
 
 -- What was read of a line's words is asked, or why they weren't is told, and the reply is written as far as it can be.
 pub record CarriesOutRead {D P E : Type 0} (bound : DiskGhosts D) (peripherals : Ghosts P) (old : Counter D P)
-    (session : Session) (read : Result LineRequest LineFault) (before after : Option (List ℕ))
+    (session : Session) (read : Result LineRequest LineFault) (before after : Given)
     (result : Result (Unit {0}) E) (left : Session) (new : Counter D P) : Type 0 where
   pub reply : List ℕ
   pub carried : CarriesOut (IsRun bound peripherals) old (ReadBecomes session read) (Some reply) left new
@@ -53,7 +54,7 @@ pub record CarriesOutRead {D P E : Type 0} (bound : DiskGhosts D) (peripherals :
 
 -- What may be read of a line's words is carried out and replied to, and the reply is written as far as it can be.
 pub record CarriesOutReading {D P E : Type 0} (bound : DiskGhosts D) (peripherals : Ghosts P) (old : Counter D P)
-    (session : Session) (reading : Reading LineRequest) (before after : Option (List ℕ))
+    (session : Session) (reading : Reading LineRequest) (before after : Given)
     (result : Result (Unit {0}) E) (left : Session) (new : Counter D P) : Type 0 where
   pub reply : List ℕ
   pub carried : CarriesOut (IsRun bound peripherals) old (ReadingBecomes session reading) (Some reply) left new
@@ -61,7 +62,7 @@ pub record CarriesOutReading {D P E : Type 0} (bound : DiskGhosts D) (peripheral
 
 -- lines are carried out from one session to another, all of them or as far as they can be written
 abbrev pub CarriesOutLines : {D P E : Type 0} → DiskGhosts D → Ghosts P
-    → Counter D P → Session → List (List ℕ) → Option (List ℕ) → Option (List ℕ) → Result (Unit {0}) E → Session
+    → Counter D P → Session → List (List ℕ) → Given → Given → Result (Unit {0}) E → Session
     → Counter D P → Type 0
 CarriesOutLines bound peripherals old session lines before after result left new =
     MatchResult result
@@ -70,7 +71,7 @@ CarriesOutLines bound peripherals old session lines before after result left new
 
 -- what was read of a line decides what becomes of it: the line is carried out, and written as far as it can be
 abbrev pub CarriesOutPrinted : {D P E : Type 0} → DiskGhosts D → Ghosts P
-    → Counter D P → Session → Line → Option (List ℕ) → Option (List ℕ) → Result (Unit {0}) E → Session
+    → Counter D P → Session → Line → Given → Given → Result (Unit {0}) E → Session
     → Counter D P → Type 0
 CarriesOutPrinted bound peripherals old session line before after result left new = (bytes : List ℕ) → IsLine line bytes
     → CarriesOutLines bound peripherals old session (bytes ∷ []) before after result left new
@@ -78,7 +79,7 @@ CarriesOutPrinted bound peripherals old session line before after result left ne
 -- behind what was read a piece ends lines, which are carried out; where they all are, what is held then stands for
 -- what is unfinished
 abbrev pub CarriesOutPiece : {D P E : Type 0} → DiskGhosts D → Ghosts P
-    → Counter D P → Session → Kept → List ℕ → Option (List ℕ) → Option (List ℕ) → Result (Unit {0}) E → Kept → Session
+    → Counter D P → Session → Kept → List ℕ → Given → Given → Result (Unit {0}) E → Kept → Session
     → Counter D P → Type 0
 CarriesOutPiece bound peripherals old session buffered piece before after result buffered_after left new =
     (read : List ℕ) → StandsFor buffered read
@@ -88,24 +89,23 @@ CarriesOutPiece bound peripherals old session buffered piece before after result
 
 -- at the end of what was read its last line is carried out, if there is one
 abbrev pub CarriesOutLast : {D P E : Type 0} → DiskGhosts D → Ghosts P
-    → Counter D P → Session → Kept → Option (List ℕ) → Option (List ℕ) → Result (Unit {0}) E → Session
+    → Counter D P → Session → Kept → Given → Given → Result (Unit {0}) E → Session
     → Counter D P → Type 0
 CarriesOutLast bound peripherals old session buffered before after result left new =
     (read : List ℕ) → StandsFor buffered read
     → (lines : List (List ℕ)) × (lines_of read ≡ complete_lines read ++ lines)
     × CarriesOutLines bound peripherals old session lines before after result left new
 
--- likewise, and all that was printed is handed on, or could not be
+-- likewise, and all that was printed is given to the sink, which is flushed, or could not be
 abbrev pub CarriesOutEnd : {D P E : Type 0} → DiskGhosts D → Ghosts P
     → Counter D P → Session → Kept → Writing → Writing → Result (Unit {0}) E → Session → Counter D P → Type 0
 CarriesOutEnd bound peripherals old session buffered before after result left new =
     (read : List ℕ) → StandsFor buffered read
     → (lines : List (List ℕ)) × (lines_of read ≡ complete_lines read ++ lines)
     × MatchResult result
-    (λ u. Finishes (IsRun bound peripherals) old session lines before.contents after.contents left new
-    × (after.held ≡ []))
-    (λ fault. Stops (IsRun bound peripherals) old session lines before.contents after.contents left new
-    ⊎ Finishes (IsRun bound peripherals) old session lines before.contents after.contents left new)
+    (λ u. Finishes (IsRun bound peripherals) old session lines before.given after.given left new × IsFlushed after)
+    (λ fault. Stops (IsRun bound peripherals) old session lines before.given after.given left new
+    ⊎ FinishesUnflushed (IsRun bound peripherals) old session lines before.given after.given left new)
 
 -- from an old counter to a new one, a run; and for all that the disk may leave before it, a crash at any moment of the
 -- run leaves what may be left before or after one of its steps, and one after the run what may be left after the last;

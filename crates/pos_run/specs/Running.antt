@@ -1,7 +1,7 @@
 -- What a run of a script leaves (docs/CONSOLE.md, "The program").
-use Rattle.std.specs.Prelude.{◌≡◌, ◌++◌, ◌∷◌, ◌⊎◌, [], ℕ, false, length, replicate, List, Option, Some, None, Result, Ok, Err, option_map}
+use Rattle.std.specs.Prelude.{◌≡◌, ◌++◌, ◌∷◌, ◌⊎◌, [], ℕ, length, replicate, List, Option, Some, None, Result, Ok, Err, option_map}
 use Rattle.std.proofs.Common.{inl, inr}
-use Rattle.std.specs.Io.KnownBytes.{Appends, Consumes, IsAtEnd}
+use Rattle.pos_streams.specs.Streams.{Appends, Fails, Given}
 use Rattle.pos_counter.specs.Machine.{Device, Machine}
 use Rattle.pos_image.specs.declared.layout.Layout.TheVariants.{Layout1}
 use Rattle.pos_service.specs.declared.kind.Kind.{Kind}
@@ -20,36 +20,43 @@ use Rattle.pos_run.specs.declared.scripts.RunFault.TheVariants as fault
 use Rattle.pos_script.specs.Lines.{complete_lines, lines_of}
 use Rattle.pos_script.specs.Text.{printed}
 use Rattle.pos_script.specs.Writing.{IsCut}
-use Rattle.pos_run.specs.Streams.{Reading, Streams, Writing, may_read}
+use Rattle.pos_run.specs.Streams.{IsFlushed, Reading, ReadsOn, ReadsToEnd, ReadsToFault, Streams, Writing}
 use Rattle.pos_run.specs.Transcript.{Leads, Session, Transcript, CarriesOut, LineBecomes}
 
--- All lines were carried out, from one session to another, and their text is written.
+-- All lines were carried out, from one session to another, and their text was given to the sink.
 pub record Finishes {C : Type 0} (Runs : Leads C) (old : C) (session : Session) (lines : List (List ℕ))
-    (before after : Option (List ℕ)) (left : Session) (new : C) : Type 0 where
+    (before after : Given) (left : Session) (new : C) : Type 0 where
   pub text : List ℕ
   pub transcript : Transcript Runs old session lines text left new
   pub written : Appends before after text
 
--- A line was carried out, and of what it prints a front is written, but not all.
+-- Likewise, but then a write or a flush failed.
+pub record FinishesUnflushed {C : Type 0} (Runs : Leads C) (old : C) (session : Session) (lines : List (List ℕ))
+    (before after : Given) (left : Session) (new : C) : Type 0 where
+  pub text : List ℕ
+  pub transcript : Transcript Runs old session lines text left new
+  pub failed : Fails before after text
+
+-- A line was carried out, and of what it prints a front was given, but not all, and then a write failed.
 pub record StopsAt {C : Type 0} (Runs : Leads C) (old : C) (session : Session) (line : List ℕ)
-    (before after : Option (List ℕ)) (left : Session) (new : C) : Type 0 where
+    (before after : Given) (left : Session) (new : C) : Type 0 where
   pub reply : Option (List ℕ)
   pub carried : CarriesOut Runs old (LineBecomes session line) reply left new
   pub cut : IsCut before after (printed reply)
 
--- A write failed at a line: the earlier lines were carried out and their text is written; the line was carried out too,
--- and of what it prints a front is written, but not all; no later line was carried out.
+-- A write failed at a line: the earlier lines were carried out and their text was given; the line was carried out too,
+-- and of what it prints a front was given, but not all; no later line was carried out.
 pub record Stops {C : Type 0} (Runs : Leads C) (old : C) (session : Session) (lines : List (List ℕ))
-    (before after : Option (List ℕ)) (left : Session) (new : C) : Type 0 where
+    (before after : Given) (left : Session) (new : C) : Type 0 where
   pub earlier : List (List ℕ)
   pub line : List ℕ
   pub later : List (List ℕ)
-  pub contents : Option (List ℕ)
+  pub given : Given
   pub between : Session
   pub mid : C
   pub split : lines ≡ earlier ++ line ∷ later
-  pub done : Finishes Runs old session earlier before contents between mid
-  pub failed : StopsAt Runs mid between line contents after left new
+  pub done : Finishes Runs old session earlier before given between mid
+  pub failed : StopsAt Runs mid between line given after left new
 
 -- the lines that were read, by the bytes that were: those that a line feed ended, and at the end the last one too
 abbrev pub lines_read : ReadState → List ℕ → List (List ℕ)
@@ -57,27 +64,26 @@ lines_read Open bytes = complete_lines bytes
 lines_read Ended bytes = lines_of bytes
 lines_read Failed bytes = complete_lines bytes
 
--- what a run leaves, by its result, of the lines that it read: all that the lines print is handed on but after a fault
--- of the writer, and then it stopped at one, or couldn't hand all on; want of memory leaves everything as it was
+-- what a run leaves, by its result, of the lines that it read: all that they print was given to the sink, which was
+-- flushed, unless a write or a flush failed; then it stopped at a line, or behind all; want of memory changes nothing
 abbrev pub ScriptLeaves : {C : Type 0} → Leads C → C → Session → List (List ℕ) → Writing → Writing
     → Result (Unit {0}) RunFault → Session → C → Type 0
 ScriptLeaves Runs old session lines before after (Ok u) left new =
-    Finishes Runs old session lines before.contents after.contents left new × (after.held ≡ [])
+    Finishes Runs old session lines before.given after.given left new × IsFlushed after
 ScriptLeaves Runs old session lines before after (Err fault.Read) left new =
-    Finishes Runs old session lines before.contents after.contents left new × (after.held ≡ [])
+    Finishes Runs old session lines before.given after.given left new × IsFlushed after
 ScriptLeaves Runs old session lines before after (Err fault.Write) left new =
-    Stops Runs old session lines before.contents after.contents left new
-    ⊎ Finishes Runs old session lines before.contents after.contents left new
+    Stops Runs old session lines before.given after.given left new
+    ⊎ FinishesUnflushed Runs old session lines before.given after.given left new
 ScriptLeaves Runs old session lines before after (Err fault.NoMemory) left new =
     (new ≡ old) × (left ≡ session) × (after ≡ before)
 
--- how a run leaves its reader, by its result: at its end; where it may be read no more; after no read that failed;
--- or not read at all
-abbrev pub ReaderLeaves : Reading → Result (Unit {0}) RunFault → Reading → Type 0
-ReaderLeaves old (Ok u) new = (new.state ≡ Ended) × IsAtEnd new.unread
-ReaderLeaves old (Err fault.Read) new = may_read new.state new.reads ≡ false
-ReaderLeaves old (Err fault.Write) new = new.state ≡ Failed → new ≡ old
-ReaderLeaves old (Err fault.NoMemory) new = new ≡ old
+-- how a run that took these bytes leaves its reader, by its result
+abbrev pub ReaderLeaves : List ℕ → Reading → Result (Unit {0}) RunFault → Reading → Type 0
+ReaderLeaves input old (Ok u) new = ReadsToEnd input old new
+ReaderLeaves input old (Err fault.Read) new = ReadsToFault input old new
+ReaderLeaves input old (Err fault.Write) new = ReadsOn input old new
+ReaderLeaves input old (Err fault.NoMemory) new = (input ≡ []) × (new ≡ old)
 
 -- what the lines that a run carried out asked of the machine, by its result: the line at which a write failed too
 abbrev pub carried_steps : {C : Type 0} (Runs : Leads C) (old : C) (session : Session) (lines : List (List ℕ))
@@ -90,12 +96,11 @@ carried_steps Runs old session lines before after (Err fault.Write) left new (in
 carried_steps Runs old session lines before after (Err fault.Write) left new (inr done) = done.transcript.steps
 carried_steps Runs old session lines before after (Err fault.NoMemory) left new same = []
 
--- What a run leaves, from one session to another, by the bytes that it read.
+-- What a run leaves, from one session to another, by the bytes that it took from its source.
 pub record RunsScript {C : Type 0} (Runs : Leads C) (old : C) (session : Session) (streams : Streams)
     (result : Result (Unit {0}) RunFault) (left : Session) (new : C) : Type 0 where
   pub input : List ℕ
-  pub read : Consumes streams.reader.unread streams.reader_after.unread input
-  pub reader : ReaderLeaves streams.reader result streams.reader_after
+  pub reader : ReaderLeaves input streams.reader result streams.reader_after
   pub run : ScriptLeaves Runs old session (lines_read streams.reader_after.state input) streams.writer
       streams.writer_after result left new
 

@@ -21,12 +21,13 @@ use Rattle.pos_profile.specs.declared.optional.OptionalKey.TheVariants.{Ring}
 use Rattle.pos_profile.specs.Kinds.{kind_of}
 use Rattle.pos_profile.specs.OptionalKeys.{has_option}
 use Rattle.std.specs.List.{filter_map}
-use Rattle.pos_disk.specs.State.{DiskState}
+use Rattle.pos_disk.specs.State.{DiskState, LeavesOnly}
+use Rattle.pos_disk.specs.declared.device.Disk.{Ghosts as DiskGhosts}
 use Rattle.pos_profile.specs.Entries.{Contents}
 use Rattle.pos_store.specs.Standing.{Standing, LeavesOneOf}
 use Rattle.pos_counter.specs.Machine.{Device, Machine}
 use Rattle.pos_counter.specs.KeptDevices.{totals_devices, totals_name}
-use Rattle.pos_counter.specs.Counters.{IsCounterSound, machine}
+use Rattle.pos_counter.specs.Counters.{IsCounterSound, IsLeftDuring, machine}
 use Rattle.pos_counter.specs.Sparing.{RunSparing}
 use Rattle.pos_counter.specs.Steps.{Run}
 use Rattle.pos_counter.specs.declared.counter.Counter.{Counter}
@@ -34,7 +35,7 @@ use Rattle.pos_run.specs.declared.spares.Spares.{Spares}
 use Rattle.pos_counter.specs.Totals.{TotalsPart}
 use Rattle.pos_run.specs.declared.scripts.RunFault.{RunFault}
 use Rattle.pos_run.specs.declared.scripts.RunFault.TheVariants as fault
-use Rattle.pos_run.specs.Running.{RunsScript, begun_with, device_with, new_totals, off_over}
+use Rattle.pos_run.specs.Running.{RunsScript, begun_with, device_with, new_totals, off_over, script_steps}
 use Rattle.pos_run.specs.Spares.{AreSparesSound, SpareStates, spares_in}
 use Rattle.pos_run.specs.Streams.{AreUntouched, Streams}
 use Rattle.pos_run.specs.Transcript.{Leads, Session, begun_session}
@@ -163,13 +164,32 @@ pub record RunsOverProfile (Runs : Leads Machine) (contents : Contents) (part : 
 abbrev pub FindsNoMemory : Streams → Result (Unit {0}) RunFault → Type 0
 FindsNoMemory streams result = (result ≡ Err fault.NoMemory) × AreUntouched streams
 
--- what a run over a profile and a disk leaves: for all that an honest disk may leave before it, a run of the machine;
--- and whatever the disk is, one in which each request that spares it is a step
-abbrev pub ProfileLeaves : Contents → Type 0 → DiskState → Streams → Result (Unit {0}) RunFault → Type 0
-ProfileLeaves contents Honest disk streams result =
-    ((left : List Standing) → Honest → LeavesOneOf left disk
-    → FindsNoMemory streams result
-    ⊎ RunsOverProfile Run contents (new_totals left disk.failures) streams result)
+-- the machine of a profile's devices, each served by what is simulated for it, with totals that are off, over a disk
+-- that may leave these
+abbrev pub begun_over : Contents → List Standing → DiskState → Machine
+begun_over contents left disk = begun_with (simulated_devices contents.devices) (new_totals left disk.failures)
+
+-- A run over a profile and an honest disk that may leave these before it. A crash at any moment of it leaves what the
+-- machine may leave before, in or after one of its steps, and a crash after it what the machine may leave at the end.
+pub record RunsThroughProfile (contents : Contents) (left : List Standing) (disk after : DiskState) (streams : Streams)
+    (result : Result (Unit {0}) RunFault) : Type 0 where
+  pub text : RunsOverProfile Run contents (new_totals left disk.failures) streams result
+  pub end : Machine
+  pub run : Run (begun_over contents left disk) (script_steps text.run) end
+  pub any_moment : LeavesOnly disk after (IsLeftDuring (begun_over contents left disk) (script_steps text.run) end run)
+  pub leaves : LeavesOneOf end.totals.left after
+
+-- what a run over a profile and a disk leaves: for all that an honest disk may leave before it, a run of the machine,
+-- and the disk is honest after it; and whatever the disk is, one in which each request that spares it is a step
+abbrev pub ProfileRuns : {D : Type 0} → DiskGhosts D → Contents → D → Streams → Result (Unit {0}) RunFault → D → Type 0
+ProfileRuns bound contents disk streams result after =
+    ((left : List Standing) → bound.honest disk → LeavesOneOf left (bound.state disk)
+    → RunsThroughProfile contents left (bound.state disk) (bound.state after) streams result × bound.honest after)
     × ((left : List Standing) (failures : ℕ)
-    → FindsNoMemory streams result
-    ⊎ RunsOverProfile RunSparing contents (new_totals left failures) streams result)
+    → RunsOverProfile RunSparing contents (new_totals left failures) streams result)
+
+-- likewise, or there was no memory, and the disk is as it was
+abbrev pub ProfileLeaves : {D : Type 0} → DiskGhosts D → Contents → D → Streams → Result (Unit {0}) RunFault → D
+    → Type 0
+ProfileLeaves bound contents disk streams result after =
+    (FindsNoMemory streams result × (after ≡ disk)) ⊎ ProfileRuns bound contents disk streams result after

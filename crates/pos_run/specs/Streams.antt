@@ -1,9 +1,12 @@
 -- How a script is read and its answers are written (docs/CONSOLE.md, "The program").
-use Rattle.std.specs.Prelude.{◌≡◌, ℕ, zero, suc, ◌+◌, Bool, true, false, List, Option, Result, Ok, Err, nat_lt, is_err}
+use Rattle.std.specs.Prelude.{◌≡◌, ℕ, zero, suc, ◌+◌, ◌≤◌, ◌⊎◌, Bool, true, false, List, [], length, take, Result, Ok, Err, nat_lt, is_err}
 use Rattle.std.specs.Bool.{MatchBool}
-use Rattle.std.specs.Io.KnownBytes.{append_known}
+use Rattle.pos_streams.specs.declared.sink.Sink.{Ghosts as SinkGhosts}
+use Rattle.pos_streams.specs.declared.sink.WriteFault.{WriteFault}
+use Rattle.pos_streams.specs.declared.source.ReadFault.{ReadFault}
+use Rattle.pos_streams.specs.declared.source.Source.{Ghosts as SourceGhosts}
+use Rattle.pos_streams.specs.Streams.{Appends, Fails, Given, IsWhole, Taken, TakesBytes, end_after, given_after, read_fault_after, taken_after}
 use Rattle.pos_run.specs.declared.answers.AnswerWriter.{AnswerWriter}
-use Rattle.pos_run.specs.declared.reading.ReadFault.{ReadFault}
 use Rattle.pos_run.specs.declared.reading.ReadState.{ReadState}
 use Rattle.pos_run.specs.declared.reading.ReadState.TheVariants.{Open, Ended, Failed}
 use Rattle.pos_run.specs.declared.reading.ScriptReader.{ScriptReader}
@@ -24,39 +27,74 @@ found (Ok zero) = Ended
 found (Ok (suc count)) = Open
 found (Err fault) = Failed
 
--- a read counts, and what it found is kept; where a script may be read no more, each read fails and changes nothing
-abbrev pub Reads : {R : Type 0} → ScriptReader R → Result ℕ ReadFault → ScriptReader R → Type 0
-Reads old result new =
-    MatchBool (may_read old.state old.reads) ((new.reads ≡ old.reads + 1) × (new.state ≡ found result))
-    ((is_err result ≡ true) × (new ≡ old))
-
--- all that a writer of answers was given: what it handed on, where that is known, and then what it holds back
-abbrev pub answers_of : {W : Type 0} → (W → Option (List ℕ)) → AnswerWriter W → Option (List ℕ)
-answers_of contents answers = append_known (contents answers.writer) answers.held.items
-
--- How the reader of a script stands: what it has left, where that is known, how often it was read, and what the last
--- read found.
+-- How the reader of a script stands: what was taken from its source, how often it read, and what the last read found.
 pub record Reading : Type 0 where
-  pub unread : Option (List ℕ)
+  pub taken : Taken
   pub reads : ℕ
   pub state : ReadState
 
--- How the writer of answers stands: all that it was given, where that is known, and what of it it holds back.
+-- How the writer of answers stands: all that it was given and how often its sink failed, what of it it holds back, and
+-- what its sink was given since it was last flushed.
 pub record Writing : Type 0 where
-  pub contents : Option (List ℕ)
+  pub given : Given
   pub held : List ℕ
+  pub unflushed : List ℕ
 
 -- how a reader stands
-abbrev pub reading_of : {R : Type 0} → (R → Option (List ℕ)) → ScriptReader R → Reading
-reading_of remaining reader = record {
-  unread = remaining reader.reader;
+abbrev pub reading_of : {R : Type 0} → SourceGhosts R → ScriptReader R → Reading
+reading_of source reader = record {
+  taken = source.taken reader.reader;
   reads = reader.reads;
   state = reader.state;
 }
 
+-- all that a writer of answers was given: what its sink was given, and then what it holds back
+abbrev pub answers_of : {W : Type 0} → SinkGhosts W → AnswerWriter W → Given
+answers_of sink answers = given_after (sink.given answers.writer) answers.held.items
+
 -- how a writer stands
-abbrev pub writing_of : {W : Type 0} → (W → Option (List ℕ)) → AnswerWriter W → Writing
-writing_of contents answers = record { contents = answers_of contents answers; held = answers.held.items }
+abbrev pub writing_of : {W : Type 0} → SinkGhosts W → AnswerWriter W → Writing
+writing_of sink answers = record {
+  given = answers_of sink answers;
+  held = answers.held.items;
+  unflushed = sink.unflushed answers.writer;
+}
+
+-- the sink was given all answers, and was flushed since
+abbrev pub IsFlushed : Writing → Type 0
+IsFlushed writing = (writing.held ≡ []) × (writing.unflushed ≡ [])
+
+-- a read asks the source, counts, and keeps what it found; if a script may be read no more, each read fails and changes
+-- nothing
+abbrev pub ReadsScript : Reading → List ℕ → Result ℕ ReadFault → Reading → Type 0
+ReadsScript old buffer result new =
+    MatchBool (may_read old.state old.reads)
+    (TakesBytes old.taken buffer result new.taken × (new.reads ≡ old.reads + 1) × (new.state ≡ found result))
+    ((is_err result ≡ true) × (new ≡ old))
+
+-- all of these bytes were given; or so many of them, and then a write failed
+abbrev pub WritesFront : Given → List ℕ → ℕ → Result (Unit {0}) WriteFault → Given → Type 0
+WritesFront old bytes count (Ok u) new = (count ≡ length bytes) × Appends old new bytes
+WritesFront old bytes count (Err fault) new = Fails old new (take count bytes)
+
+-- these bytes were taken, and then the end was found
+abbrev pub ReadsToEnd : List ℕ → Reading → Reading → Type 0
+ReadsToEnd input old new =
+    (new.state ≡ Ended) × (new.taken ≡ end_after (taken_after old.taken input)) × IsWhole new.taken
+
+-- these bytes were taken, and then a read failed; or the script was read as often as it may be; or a read had failed
+-- before, and nothing was read; so it may be read no more
+abbrev pub ReadsToFault : List ℕ → Reading → Reading → Type 0
+ReadsToFault input old new = (may_read new.state new.reads ≡ false)
+    × ((new.taken ≡ read_fault_after (taken_after old.taken input))
+    ⊎ ((new.taken ≡ taken_after old.taken input) × (most_reads ≤ new.reads))
+    ⊎ ((old.state ≡ Failed) × (input ≡ []) × (new ≡ old)))
+
+-- these bytes were taken, and maybe the end was found then; no read failed
+abbrev pub ReadsOn : List ℕ → Reading → Reading → Type 0
+ReadsOn input old new =
+    ((new.taken ≡ taken_after old.taken input) ⊎ (new.taken ≡ end_after (taken_after old.taken input)))
+    × (new.state ≡ Failed → new ≡ old)
 
 -- How a reader and a writer stand before a run, and after it.
 pub record Streams : Type 0 where
@@ -66,13 +104,13 @@ pub record Streams : Type 0 where
   pub writer_after : Writing
 
 -- how these stand before and after
-abbrev pub streams_of : {R W : Type 0} → (R → Option (List ℕ)) → ScriptReader R → ScriptReader R
-    → (W → Option (List ℕ)) → AnswerWriter W → AnswerWriter W → Streams
-streams_of remaining reader reader_after contents writer writer_after = record {
-  reader = reading_of remaining reader;
-  reader_after = reading_of remaining reader_after;
-  writer = writing_of contents writer;
-  writer_after = writing_of contents writer_after;
+abbrev pub streams_of : {R W : Type 0} → SourceGhosts R → ScriptReader R → ScriptReader R
+    → SinkGhosts W → AnswerWriter W → AnswerWriter W → Streams
+streams_of source reader reader_after sink writer writer_after = record {
+  reader = reading_of source reader;
+  reader_after = reading_of source reader_after;
+  writer = writing_of sink writer;
+  writer_after = writing_of sink writer_after;
 }
 
 -- nothing was read, and nothing was written

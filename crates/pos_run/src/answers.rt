@@ -1,26 +1,23 @@
-ghost use Rattle.std.specs.Prelude.{◌≡◌, ◌-◌, ◌≤◌, [], length, take, drop, vec_len, vec_capacity, IfOk, OnOk};
-ghost use Rattle.std.specs.Io.{WritesAtMost};
-ghost use Rattle.std.specs.Io.KnownBytes.{Appends, Keeps, WriteAppends};
-ghost use Rattle.pos_run.specs.Streams.{answers_of};
+//! The writer of answers.
+ghost use Rattle.std.specs.Prelude.{◌≡◌, ◌++◌, ◌≤◌, ◌<◌, [], length, drop, IfOk, OnOk};
+ghost use Rattle.pos_streams.specs.Streams.{Flushes, GivesBytes};
+ghost use Rattle.pos_run.specs.Streams.{IsFlushed, WritesFront, answers_of, writing_of};
 
+use pos_streams::{Sink, WriteFault};
 use std::alloc::{AllocError, Global};
-use std::io;
-use std::io::{ErrorKind, Write};
 
 /// How many bytes of answers are held back, at most.
 const MOST_HELD: usize = 65_536;
 
-/// Writes bytes to their end, and stops at the first write that fails, is interrupted or takes none: how many were
-/// written, and whether it failed.
-fn write_front<W: Write>(writer: &mut W, bytes: &[u8]) -> (usize, io::Result<()>)
+/// Writes bytes to their end, and stops at the first write that fails. Returns how many were written, and whether it
+/// failed.
+fn write_front<W: Sink>(writer: &mut W, bytes: &[u8]) -> (usize, Result<(), WriteFault>)
     ensures bound { result.0 ≤ length bytes.now }
-    ensures bytes { Appends (W.contents writer.old) (W.contents writer.new) (take result.0 bytes.now) }
-    ensures whole { OnOk result.1 (result.0 ≡ length bytes.now) }
+    ensures given { WritesFront (W.given writer.old) bytes.now result.0 result.1 (W.given writer.new) }
 {
     let mut done = 0;
     while done < bytes.len() {
         match writer.write(&bytes[done..]) {
-            Ok(0) => return (done, Err(io::Error::from(ErrorKind::WriteZero))),
             Ok(count) => done += count,
             Err(fault) => return (done, Err(fault)),
         }
@@ -38,17 +35,16 @@ fn remove_front(bytes: &mut Vec<u8>, count: usize)
     bytes.truncate(len - count);
 }
 
-/// A writer of answers, which gathers them in room that is made at the start and hands them on where that is full, and
-/// by `flush`. Each failed write of the one behind it is a fault, an interrupted one too, and so is one that takes
-/// nothing. What is held back when it ends is not written.
+/// A writer of answers. It gathers them in a buffer that is made at the start, and gives them to its sink when that is
+/// full and at a flush. Each failed write of the sink is a fault. What is held back when it ends is not written.
 #[derive(Drop)]
 pub struct AnswerWriter<W> {
     writer: W,
     held: Vec<u8>,
 }
 
-impl<W: Write + Drop> AnswerWriter<W> {
-    /// A writer that holds nothing back.
+impl<W: Sink + Drop> AnswerWriter<W> {
+    /// Returns a writer that holds nothing back.
     pub fn new(alloc: Global, writer: W) -> Result<Self, AllocError>
         ensures writer { IfOk result (λ answers. answers.writer ≡ writer) }
         ensures held { IfOk result (λ answers. answers.held.items ≡ []) }
@@ -58,10 +54,10 @@ impl<W: Write + Drop> AnswerWriter<W> {
     }
 }
 
-impl<W: Write> AnswerWriter<W> {
-    /// Hands on what is held back. At a fault the rest of it stays.
-    fn hand_on(&mut self) -> io::Result<()>
-        ensures bytes { Keeps (answers_of W.contents self.old) (answers_of W.contents self.new) }
+impl<W: Sink> AnswerWriter<W> {
+    /// Gives the sink what is held back. At a fault the rest of it stays.
+    fn hand_on(&mut self) -> Result<(), WriteFault>
+        ensures given { Flushes (answers_of W.Sink self.old) result (answers_of W.Sink self.new) }
         ensures held { OnOk result (self.new.held.items ≡ []) }
     {
         let (count, result) = write_front(&mut self.writer, self.held.as_slice());
@@ -69,37 +65,44 @@ impl<W: Write> AnswerWriter<W> {
         result
     }
 
-    /// Holds back as much as there is room for, and first hands on what is held back where that is full. On its own,
-    /// since it is rare.
+    /// Gives the sink what is held back. Then it holds these bytes back, or gives them to the sink if there is no room
+    /// for them. On its own, since it is rare.
     #[inline(never)]
-    fn write_first(&mut self, buf: &[u8]) -> io::Result<usize>
-        ensures bound { WritesAtMost result buf.now }
-        ensures bytes { WriteAppends (answers_of W.contents self.old) (answers_of W.contents self.new) result buf.now }
+    fn write_first(&mut self, bytes: &[u8]) -> Result<usize, WriteFault>
+        requires { 0 < length bytes.now }
+        ensures { GivesBytes (answers_of W.Sink self.old) bytes.now result (answers_of W.Sink self.new) }
     {
-        if self.held.len() == self.held.capacity() {
-            self.hand_on()?;
+        self.hand_on()?;
+        if bytes.len() > self.held.capacity() {
+            return self.writer.write(bytes);
         }
-        let count = buf.len().min(self.held.capacity() - self.held.len());
-        self.held.extend_from_slice(&buf[..count])?;
-        Ok(count)
+        match self.held.extend_from_slice(bytes) {
+            Ok(()) => Ok(bytes.len()),
+            Err(_) => Err(WriteFault),
+        }
     }
 }
 
-impl<W: Write> Write for AnswerWriter<W> {
-    ghost contents = { λ answers. answers_of W.contents answers };
+impl<W: Sink> Sink for AnswerWriter<W> {
+    ghost given = { λ answers. answers_of W.Sink answers };
+
+    ghost unflushed = { λ answers. W.unflushed answers.writer ++ answers.held.items };
 
     #[inline(always)]
-    fn write(&mut self, buf: &[u8]) -> io::Result<usize> {
-        if buf.len() > self.held.capacity() - self.held.len() {
-            return self.write_first(buf);
+    fn write(&mut self, bytes: &[u8]) -> Result<usize, WriteFault> {
+        if bytes.len() > self.held.capacity() - self.held.len() {
+            return self.write_first(bytes);
         }
-        self.held.extend_from_slice(buf)?;
-        Ok(buf.len())
+        match self.held.extend_from_slice(bytes) {
+            Ok(()) => Ok(bytes.len()),
+            Err(_) => Err(WriteFault),
+        }
     }
 
-    fn flush(&mut self) -> io::Result<()>
-        ensures bytes { Keeps (answers_of W.contents self.old) (answers_of W.contents self.new) }
-        ensures flushed { OnOk result (self.new.held.items ≡ []) }
+    fn flush(&mut self) -> Result<(), WriteFault>
+        ensures given { Flushes (answers_of W.Sink self.old) result (answers_of W.Sink self.new) }
+        ensures flushed { OnOk result (IsFlushed (writing_of W.Sink self.new)) }
+        ensures unflushed { OnOk result (W.unflushed self.new.writer ++ self.new.held.items ≡ []) }
     {
         self.hand_on()?;
         self.writer.flush()

@@ -21,9 +21,10 @@ pub fn offer<D: Disk, P: Peripheral + Ends>(counter: &mut Counter<D, P>, name: &
     }
 }
 
-/// Shuts a counter down, and ends what is left of it.
-pub fn end_counter<D: Disk + Drop, P: Peripheral + Ends>(counter: Counter<D, P>)
+/// Shuts a counter down, ends what is left of it, and returns its disk.
+pub fn end_counter<D: Disk, P: Peripheral + Ends>(counter: Counter<D, P>) -> D
     requires { IsCounterSound P.Peripheral counter }
+    ensures { result ≡ counter.totals.disk }
 {
-    let _disk = counter.shutdown().end();
+    counter.shutdown().end()
 }

@@ -9,10 +9,10 @@ use crate::scripts::{carry_out_last, carry_out_piece};
 use crate::spares::Spares;
 use pos_counter::Counter;
 use pos_disk::Disk;
-use pos_script::{LineBuffer, WriteFault};
+use pos_script::LineBuffer;
 use pos_service::{Ends, Peripheral};
+use pos_streams::{Sink, WriteFault};
 use std::alloc::Global;
-use std::io::Write;
 
 /// Carries out the lines of a text in order, each whole before the next, and writes what each prints
 /// (docs/CONSOLE.md). What stands behind the last line feed is a line too, where it isn't empty. What a buffer held
@@ -20,7 +20,7 @@ use std::io::Write;
 ///
 /// At a fault of the writer the earlier lines were carried out and the line at which it came, and no later one; of what
 /// they print a front is written, and not all.
-pub fn carry_out_lines<W: Write, D: Disk, P: Peripheral + Ends>(
+pub fn carry_out_lines<W: Sink, D: Disk, P: Peripheral + Ends>(
     alloc: Global,
     lines: &[u8],
     buffer: &mut LineBuffer,
@@ -32,8 +32,8 @@ pub fn carry_out_lines<W: Write, D: Disk, P: Peripheral + Ends>(
     requires sound { IsCounterSound P.Peripheral counter.old }
     requires spares { AreSparesSound P.Peripheral spares.old }
     ensures lines { CarriesOutLines D.Disk P.Peripheral counter.old
-        (session_of P.Peripheral names.old spares.old) (lines_of lines.now) (W.contents writer.old)
-        (W.contents writer.new) result (session_of P.Peripheral names.new spares.new) counter.new }
+        (session_of P.Peripheral names.old spares.old) (lines_of lines.now) (W.given writer.old)
+        (W.given writer.new) result (session_of P.Peripheral names.new spares.new) counter.new }
     ensures sound { IsCounterSound P.Peripheral counter.new }
     ensures spares { AreSparesSound P.Peripheral spares.new }
 {

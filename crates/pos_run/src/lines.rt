@@ -15,12 +15,12 @@ use crate::spares::Spares;
 use pos_counter::Counter;
 use pos_disk::Disk;
 use pos_script::{
-    Command, DeviceVerb, LineFault, Reply, Verb, WriteFault, print_fault, print_reply, read_called,
+    Command, DeviceVerb, LineFault, Reply, Verb, print_fault, print_reply, read_called,
     read_category, read_command, read_happening, read_none, read_reply, read_spare,
 };
 use pos_service::{Ends, Peripheral};
+use pos_streams::{Sink, WriteFault};
 use std::alloc::Global;
-use std::io::Write;
 
 /// The verb of a line that has no more words.
 fn read_alone(by: DeviceVerb, words: &[u8]) -> Result<DeviceVerb, LineFault>
@@ -32,7 +32,7 @@ fn read_alone(by: DeviceVerb, words: &[u8]) -> Result<DeviceVerb, LineFault>
 /// Asks what was read of a line behind its name, and writes the reply; or why it was not read.
 #[inline(always)]
 #[tactic(auto, using(crate::proofs::Sessions::asks_nothing_unread))]
-fn carry_out_read<W: Write, D: Disk, P: Peripheral, A: Asks<D, P>>(
+fn carry_out_read<W: Sink, D: Disk, P: Peripheral, A: Asks<D, P>>(
     writer: &mut W,
     counter: &mut Counter<D, P>,
     names: &mut Names,
@@ -43,7 +43,7 @@ fn carry_out_read<W: Write, D: Disk, P: Peripheral, A: Asks<D, P>>(
     requires sound { IsCounterSound P.Peripheral counter.old }
     requires spares { AreSparesSound P.Peripheral spares.old }
     ensures line { CarriesOutRead D.Disk P.Peripheral counter.old (session_of P.Peripheral names.old spares.old)
-        (asked_as (A.asked name.now) read) (W.contents writer.old) (W.contents writer.new) result
+        (asked_as (A.asked name.now) read) (W.given writer.old) (W.given writer.new) result
         (session_of P.Peripheral names.new spares.new) counter.new }
     ensures sound { IsCounterSound P.Peripheral counter.new }
     ensures spares { AreSparesSound P.Peripheral spares.new }
@@ -56,7 +56,7 @@ fn carry_out_read<W: Write, D: Disk, P: Peripheral, A: Asks<D, P>>(
 
 /// Likewise, on its own, since it is rare.
 #[inline(never)]
-fn carry_out_rare<W: Write, D: Disk, P: Peripheral, A: Asks<D, P>>(
+fn carry_out_rare<W: Sink, D: Disk, P: Peripheral, A: Asks<D, P>>(
     writer: &mut W,
     counter: &mut Counter<D, P>,
     names: &mut Names,
@@ -67,7 +67,7 @@ fn carry_out_rare<W: Write, D: Disk, P: Peripheral, A: Asks<D, P>>(
     requires sound { IsCounterSound P.Peripheral counter.old }
     requires spares { AreSparesSound P.Peripheral spares.old }
     ensures line { CarriesOutRead D.Disk P.Peripheral counter.old (session_of P.Peripheral names.old spares.old)
-        (asked_as (A.asked name.now) read) (W.contents writer.old) (W.contents writer.new) result
+        (asked_as (A.asked name.now) read) (W.given writer.old) (W.given writer.new) result
         (session_of P.Peripheral names.new spares.new) counter.new }
     ensures sound { IsCounterSound P.Peripheral counter.new }
     ensures spares { AreSparesSound P.Peripheral spares.new }
@@ -78,7 +78,7 @@ fn carry_out_rare<W: Write, D: Disk, P: Peripheral, A: Asks<D, P>>(
 /// Carries out a line that was taken apart, and writes what it prints.
 #[inline(always)]
 #[tactic(auto, using(crate::proofs::Sessions::asks_by_words))]
-fn carry_out_command<W: Write, D: Disk, P: Peripheral + Ends>(
+fn carry_out_command<W: Sink, D: Disk, P: Peripheral + Ends>(
     alloc: Global,
     writer: &mut W,
     counter: &mut Counter<D, P>,
@@ -90,7 +90,7 @@ fn carry_out_command<W: Write, D: Disk, P: Peripheral + Ends>(
     requires spares { AreSparesSound P.Peripheral spares.old }
     ensures line { CarriesOutReading D.Disk P.Peripheral counter.old (session_of P.Peripheral names.old spares.old)
         (line_of command.entry.verb command.entry.name (words_of command.entry.words.now))
-        (W.contents writer.old) (W.contents writer.new) result
+        (W.given writer.old) (W.given writer.new) result
         (session_of P.Peripheral names.new spares.new) counter.new }
     ensures sound { IsCounterSound P.Peripheral counter.new }
     ensures spares { AreSparesSound P.Peripheral spares.new }
@@ -128,7 +128,7 @@ fn carry_out_command<W: Write, D: Disk, P: Peripheral + Ends>(
 /// Carries out a line that is well spelled and not quiet, and writes what it prints.
 #[inline(always)]
 #[tactic(auto, using(crate::proofs::Sessions::asks_nothing_misshapen))]
-pub(crate) fn carry_out_words<W: Write, D: Disk, P: Peripheral + Ends>(
+pub(crate) fn carry_out_words<W: Sink, D: Disk, P: Peripheral + Ends>(
     alloc: Global,
     writer: &mut W,
     counter: &mut Counter<D, P>,
@@ -139,7 +139,7 @@ pub(crate) fn carry_out_words<W: Write, D: Disk, P: Peripheral + Ends>(
     requires sound { IsCounterSound P.Peripheral counter.old }
     requires spares { AreSparesSound P.Peripheral spares.old }
     ensures line { CarriesOutReading D.Disk P.Peripheral counter.old (session_of P.Peripheral names.old spares.old)
-        (request_of_words (words_of words.now)) (W.contents writer.old) (W.contents writer.new) result
+        (request_of_words (words_of words.now)) (W.given writer.old) (W.given writer.new) result
         (session_of P.Peripheral names.new spares.new) counter.new }
     ensures sound { IsCounterSound P.Peripheral counter.new }
     ensures spares { AreSparesSound P.Peripheral spares.new }

@@ -1,5 +1,5 @@
 //! The counter of a profile's devices and spares, which are simulated, and a run over it.
-ghost use Rattle.std.specs.Prelude.{◌≡◌, IfOk, option_map};
+ghost use Rattle.std.specs.Prelude.{◌≡◌, IfErr, IfOk, option_map};
 ghost use Rattle.pos_run.specs.Simulating.{IsSimulable, IsSimulatedCounter, ProfileLeaves, simulated_for};
 ghost use Rattle.pos_run.specs.Streams.{streams_of};
 
@@ -15,8 +15,8 @@ use pos_disk::Disk;
 use pos_profile::laws::is_profile;
 use pos_profile::{Entry, Profile};
 use pos_service::{Ends, NoMemory, Peripheral};
+use pos_streams::{Sink, Source};
 use std::alloc::Global;
-use std::io::{Read, Write};
 
 /// What is simulated for an entry, mounted.
 fn simulate_mounted<P: Peripheral, M: Mount<P>>(
@@ -33,24 +33,28 @@ fn simulate_mounted<P: Peripheral, M: Mount<P>>(
     }
 }
 
-/// A counter whose devices are those of a profile, each with a simulated peripheral, and whose totals are on a disk;
-/// and the profile's spares, which are simulated too. Each of them is mounted. Want of memory ends the disk.
-pub fn simulate_profile<D: Disk + Drop, P: Peripheral + Ends + Drop, M: Mount<P>>(
+/// Returns a counter whose devices are those of a profile, each with a simulated peripheral, and whose totals are on a
+/// disk; and the profile's spares, which are simulated too. Each of them is mounted.
+///
+/// # Errors
+/// [`NoMemory`] if there is not enough memory, with the disk as it was.
+pub fn simulate_profile<D: Disk, P: Peripheral + Ends + Drop, M: Mount<P>>(
     alloc: Global,
     profile: &Profile,
     disk: D,
     mount: &M,
-) -> Result<(Counter<D, P>, Spares<P>), NoMemory>
-    ensures { IfOk result (λ made. IsSimulatedCounter P.Peripheral profile.now disk made.0 made.1) }
+) -> Result<(Counter<D, P>, Spares<P>), (NoMemory, D)>
+    ensures made { IfOk result (λ made. IsSimulatedCounter P.Peripheral profile.now disk made.0 made.1) }
+    ensures handed_back { IfErr result (λ refusal. refusal.1 ≡ disk) }
 {
     is_profile(profile);
-    let Ok(mut counter) = Counter::new(alloc, profile, Vec::new(alloc), disk) else {
-        return Err(NoMemory);
+    let mut counter = match Counter::new(alloc, profile, Vec::new(alloc), disk) {
+        Ok(counter) => counter,
+        Err(refusal) => return Err(refusal),
     };
     for entry in profile.devices() {
         let Ok(made) = simulate_mounted(alloc, entry, mount) else {
-            end_counter(counter);
-            return Err(NoMemory);
+            return Err((NoMemory, end_counter(counter)));
         };
         let Some(peripheral) = made else {
             continue;
@@ -58,13 +62,11 @@ pub fn simulate_profile<D: Disk + Drop, P: Peripheral + Ends + Drop, M: Mount<P>
         offer(&mut counter, entry.name.as_bytes(), peripheral);
     }
     let Ok(mut spares) = Vec::with_capacity(alloc, profile.spares().len()) else {
-        end_counter(counter);
-        return Err(NoMemory);
+        return Err((NoMemory, end_counter(counter)));
     };
     for entry in profile.spares() {
         let Ok(made) = simulate_mounted(alloc, entry, mount) else {
-            end_counter(counter);
-            return Err(NoMemory);
+            return Err((NoMemory, end_counter(counter)));
         };
         spares.push_reserved(made);
     }
@@ -72,22 +74,26 @@ pub fn simulate_profile<D: Disk + Drop, P: Peripheral + Ends + Drop, M: Mount<P>
 }
 
 /// Runs a script over a counter whose devices and spares are those of a profile, each with a simulated peripheral, and
-/// whose totals are on a disk.
-pub fn run_over_profile<R: Read, W: Write, D: Disk + Drop>(
+/// whose totals are on a disk. Returns how the run ended, and the disk.
+///
+/// A crash at any moment leaves what the machine may leave before, in or after a step of the lines that were carried
+/// out. Want of memory leaves the disk as it was, and nothing was read or written.
+pub fn run_over_profile<R: Source, W: Sink, D: Disk>(
     alloc: Global,
     reader: &mut ScriptReader<R>,
     writer: &mut AnswerWriter<W>,
     profile: &Profile,
     disk: D,
-) -> Result<(), RunFault>
-    ensures { ProfileLeaves profile.now (D.honest disk) (D.state disk)
-        (streams_of R.remaining reader.old reader.new W.contents writer.old writer.new) result }
+) -> (Result<(), RunFault>, D)
+    ensures { ProfileLeaves D.Disk profile.now disk
+        (streams_of R.Source reader.old reader.new W.Sink writer.old writer.new) result.0 result.1 }
 {
-    let Ok((mut counter, mut spares)) = simulate_profile(alloc, profile, disk, &AsSimulated) else {
-        return Err(RunFault::NoMemory);
+    let (mut counter, mut spares) = match simulate_profile(alloc, profile, disk, &AsSimulated) {
+        Ok(made) => made,
+        Err((NoMemory, disk)) => return (Err(RunFault::NoMemory), disk),
     };
     let result = run(alloc, reader, writer, &mut counter, &mut spares);
-    end_counter(counter);
+    let disk = end_counter(counter);
     drop(spares.into_peripherals());
-    result
+    (result, disk)
 }

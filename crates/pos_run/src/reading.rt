@@ -1,14 +1,10 @@
-ghost use Rattle.std.specs.Prelude.{◌≡◌, ◌<◌, ◌≤◌, [], length, IfOk};
-ghost use Rattle.std.specs.Io.KnownBytes.{ReadConsumes};
+//! The reader of a script.
+ghost use Rattle.std.specs.Prelude.{◌≡◌, ◌<◌, length};
 ghost use Rattle.pos_run.specs.declared.reading.ReadState.TheVariants as read_state;
-ghost use Rattle.pos_run.specs.Streams.{Reads, found, may_read};
+ghost use Rattle.pos_run.specs.Streams.{IsFlushed, ReadsScript, reading_of, writing_of};
 
 use crate::answers::AnswerWriter;
-use std::io::Read;
-
-/// A read of a script failed or was interrupted, or there were as many reads as may be.
-#[derive(Clone, Copy, PartialEq, Eq)]
-pub struct ReadFault;
+use pos_streams::{ReadFault, Sink, Source};
 
 /// What the last read of a script found.
 #[derive(Clone, Copy, PartialEq, Eq)]
@@ -17,15 +13,15 @@ pub enum ReadState {
     Open,
     /// The end.
     Ended,
-    /// A fault of the reader; that it was interrupted is one too.
+    /// A fault of the source; that it was interrupted is one too.
     Failed,
 }
 
 /// How often a script is read, at most.
 const MOST_READS: u64 = 1_073_741_824;
 
-/// A reader of a script. It counts its reads and remembers what the last one found: after one that failed, and after
-/// 1,073,741,824 of them, each read fails without asking the reader.
+/// A reader of a script. It counts its reads and remembers what the last one found. After one that failed, and after
+/// 1,073,741,824 of them, each read fails and doesn't ask the source.
 #[derive(Drop)]
 pub struct ScriptReader<R> {
     reader: R,
@@ -33,8 +29,8 @@ pub struct ScriptReader<R> {
     state: ReadState,
 }
 
-impl<R: Read> ScriptReader<R> {
-    /// A reader that wasn't read yet.
+impl<R: Source> ScriptReader<R> {
+    /// Returns a reader that has read nothing.
     pub fn new(reader: R) -> Self
         ensures reader { result.reader ≡ reader }
         ensures reads { result.reads ≡ 0 }
@@ -47,17 +43,15 @@ impl<R: Read> ScriptReader<R> {
         }
     }
 
-    /// One read, where no answer is held back: how many bytes it put into the buffer, none at the end.
-    pub fn read<W>(
+    /// Reads once into a buffer, after all answers were flushed. Returns how many bytes it read, none at the end.
+    pub fn read<W: Sink>(
         &mut self,
         answers: &AnswerWriter<W>,
         buffer: &mut [u8],
     ) -> Result<usize, ReadFault>
-        requires answered { answers.now.held.items ≡ [] }
+        requires answered { IsFlushed (writing_of W.Sink answers.now) }
         requires room { 0 < length buffer.old }
-        ensures bound { IfOk result (λ count. count ≤ length buffer.new) }
-        ensures bytes { ReadConsumes (R.remaining self.old.reader) (R.remaining self.new.reader) result buffer.new }
-        ensures reads { Reads self.old result self.new }
+        ensures { ReadsScript (reading_of R.Source self.old) buffer.new result (reading_of R.Source self.new) }
     {
         if self.state == ReadState::Failed || self.reads >= MOST_READS {
             return Err(ReadFault);
@@ -72,9 +66,9 @@ impl<R: Read> ScriptReader<R> {
                 self.state = ReadState::Open;
                 Ok(count)
             }
-            Err(_) => {
+            Err(fault) => {
                 self.state = ReadState::Failed;
-                Err(ReadFault)
+                Err(fault)
             }
         }
     }

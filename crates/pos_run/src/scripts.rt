@@ -11,20 +11,20 @@ ghost use Rattle.pos_run.specs.Transcript.{begun_session, session_with};
 use crate::answers::AnswerWriter;
 use crate::lines::carry_out_words;
 use crate::names::Names;
-use crate::reading::{ReadFault, ScriptReader};
+use crate::reading::ScriptReader;
 use crate::spares::Spares;
 use pos_counter::Counter;
 use pos_disk::Disk;
-use pos_script::{Line, LineBuffer, Reply, WriteFault, print_reply};
+use pos_script::{Line, LineBuffer, Reply, print_reply};
 use pos_service::{Ends, Peripheral};
+use pos_streams::{ReadFault, Sink, Source, WriteFault};
 use std::alloc::Global;
-use std::io::{Read, Write};
 use thiserror::Error;
 
 /// Why a run of a script stopped.
 #[derive(Clone, Copy, Debug, PartialEq, Eq, Error)]
 pub enum RunFault {
-    /// A read failed or was interrupted, or the input didn't end.
+    /// A read failed or was interrupted, or the script was read as often as it may be.
     #[error("the script can't be read")]
     Read,
     /// A write or a flush failed or was interrupted, or a write took nothing.
@@ -39,7 +39,7 @@ pub enum RunFault {
 const PIECE: usize = 65_536;
 
 /// Carries out a line, and writes what it prints.
-fn carry_out_and_print<W: Write, D: Disk, P: Peripheral + Ends>(
+fn carry_out_and_print<W: Sink, D: Disk, P: Peripheral + Ends>(
     alloc: Global,
     line: Line<'_>,
     writer: &mut W,
@@ -50,7 +50,7 @@ fn carry_out_and_print<W: Write, D: Disk, P: Peripheral + Ends>(
     requires sound { IsCounterSound P.Peripheral counter.old }
     requires spares { AreSparesSound P.Peripheral spares.old }
     ensures line { CarriesOutPrinted D.Disk P.Peripheral counter.old (session_of P.Peripheral names.old spares.old)
-        line.entry (W.contents writer.old) (W.contents writer.new) result
+        line.entry (W.given writer.old) (W.given writer.new) result
         (session_of P.Peripheral names.new spares.new) counter.new }
     ensures sound { IsCounterSound P.Peripheral counter.new }
     ensures spares { AreSparesSound P.Peripheral spares.new }
@@ -63,7 +63,7 @@ fn carry_out_and_print<W: Write, D: Disk, P: Peripheral + Ends>(
 }
 
 /// Carries out the lines that a piece ends, each before a later one, and writes what each prints.
-pub(crate) fn carry_out_piece<W: Write, D: Disk, P: Peripheral + Ends>(
+pub(crate) fn carry_out_piece<W: Sink, D: Disk, P: Peripheral + Ends>(
     alloc: Global,
     piece: &[u8],
     buffer: &mut LineBuffer,
@@ -75,7 +75,7 @@ pub(crate) fn carry_out_piece<W: Write, D: Disk, P: Peripheral + Ends>(
     requires sound { IsCounterSound P.Peripheral counter.old }
     requires spares { AreSparesSound P.Peripheral spares.old }
     ensures piece { CarriesOutPiece D.Disk P.Peripheral counter.old (session_of P.Peripheral names.old spares.old)
-        buffer.old piece.now (W.contents writer.old) (W.contents writer.new) result buffer.new
+        buffer.old piece.now (W.given writer.old) (W.given writer.new) result buffer.new
         (session_of P.Peripheral names.new spares.new) counter.new }
     ensures sound { IsCounterSound P.Peripheral counter.new }
     ensures spares { AreSparesSound P.Peripheral spares.new }
@@ -93,7 +93,7 @@ pub(crate) fn carry_out_piece<W: Write, D: Disk, P: Peripheral + Ends>(
 }
 
 /// Carries out the last line of a script, which its end ends, if there is one, and writes what it prints.
-pub(crate) fn carry_out_last<W: Write, D: Disk, P: Peripheral + Ends>(
+pub(crate) fn carry_out_last<W: Sink, D: Disk, P: Peripheral + Ends>(
     alloc: Global,
     buffer: &LineBuffer,
     writer: &mut W,
@@ -104,7 +104,7 @@ pub(crate) fn carry_out_last<W: Write, D: Disk, P: Peripheral + Ends>(
     requires sound { IsCounterSound P.Peripheral counter.old }
     requires spares { AreSparesSound P.Peripheral spares.old }
     ensures last { CarriesOutLast D.Disk P.Peripheral counter.old (session_of P.Peripheral names.old spares.old)
-        buffer.now (W.contents writer.old) (W.contents writer.new) result
+        buffer.now (W.given writer.old) (W.given writer.new) result
         (session_of P.Peripheral names.new spares.new) counter.new }
     ensures sound { IsCounterSound P.Peripheral counter.new }
     ensures spares { AreSparesSound P.Peripheral spares.new }
@@ -116,7 +116,7 @@ pub(crate) fn carry_out_last<W: Write, D: Disk, P: Peripheral + Ends>(
 }
 
 /// Carries out the last line of a script, if there is one, and hands on and flushes all that was printed.
-fn carry_out_end<W: Write, D: Disk, P: Peripheral + Ends>(
+fn carry_out_end<W: Sink, D: Disk, P: Peripheral + Ends>(
     alloc: Global,
     buffer: &LineBuffer,
     writer: &mut AnswerWriter<W>,
@@ -127,7 +127,7 @@ fn carry_out_end<W: Write, D: Disk, P: Peripheral + Ends>(
     requires sound { IsCounterSound P.Peripheral counter.old }
     requires spares { AreSparesSound P.Peripheral spares.old }
     ensures end { CarriesOutEnd D.Disk P.Peripheral counter.old (session_of P.Peripheral names.old spares.old)
-        buffer.now (writing_of W.contents writer.old) (writing_of W.contents writer.new) result
+        buffer.now (writing_of W.Sink writer.old) (writing_of W.Sink writer.new) result
         (session_of P.Peripheral names.new spares.new) counter.new }
     ensures sound { IsCounterSound P.Peripheral counter.new }
     ensures spares { AreSparesSound P.Peripheral spares.new }
@@ -135,15 +135,12 @@ fn carry_out_end<W: Write, D: Disk, P: Peripheral + Ends>(
     let Ok(()) = carry_out_last(alloc, buffer, writer, counter, names, spares) else {
         return Err(WriteFault);
     };
-    match writer.flush() {
-        Ok(()) => Ok(()),
-        Err(_) => Err(WriteFault),
-    }
+    writer.flush()
 }
 
 /// Carries out the lines of a script from the first to the last. All that they print is handed on and flushed before
 /// each read, and at the end.
-fn carry_out_script<R: Read, W: Write, D: Disk, P: Peripheral + Ends>(
+fn carry_out_script<R: Source, W: Sink, D: Disk, P: Peripheral + Ends>(
     alloc: Global,
     buffer: &mut LineBuffer,
     reader: &mut ScriptReader<R>,
@@ -157,7 +154,7 @@ fn carry_out_script<R: Read, W: Write, D: Disk, P: Peripheral + Ends>(
     requires spares { AreSparesSound P.Peripheral spares.old }
     ensures script { RunsScript (IsRun D.Disk P.Peripheral) counter.old
         (session_of P.Peripheral names.old spares.old)
-        (streams_of R.remaining reader.old reader.new W.contents writer.old writer.new) result
+        (streams_of R.Source reader.old reader.new W.Sink writer.old writer.new) result
         (session_of P.Peripheral names.new spares.new) counter.new }
     ensures sound { IsCounterSound P.Peripheral counter.new }
     ensures spares { AreSparesSound P.Peripheral spares.new }
@@ -198,7 +195,7 @@ fn carry_out_script<R: Read, W: Write, D: Disk, P: Peripheral + Ends>(
 /// a fault of the writer the earlier lines were carried out and the line at which it came, and no later one. At want of
 /// memory nothing was read. However it ends, a crash at any moment leaves what it may leave inside a step of the lines
 /// that were carried out.
-pub fn run<R: Read, W: Write, D: Disk, P: Peripheral + Ends>(
+pub fn run<R: Source, W: Sink, D: Disk, P: Peripheral + Ends>(
     alloc: Global,
     reader: &mut ScriptReader<R>,
     writer: &mut AnswerWriter<W>,
@@ -209,7 +206,7 @@ pub fn run<R: Read, W: Write, D: Disk, P: Peripheral + Ends>(
     requires spares { AreSparesSound P.Peripheral spares.old }
     ensures script { (names : ControlNames) × CarriesOutScript D.Disk P.Peripheral counter.old
         (begun_session (spares_in P.Peripheral spares.old))
-        (streams_of R.remaining reader.old reader.new W.contents writer.old writer.new) result
+        (streams_of R.Source reader.old reader.new W.Sink writer.old writer.new) result
         (session_with names (spares_in P.Peripheral spares.new)) counter.new }
     ensures sound { IsCounterSound P.Peripheral counter.new }
     ensures spares { AreSparesSound P.Peripheral spares.new }

@@ -3,11 +3,11 @@ ghost use Rattle.std.specs.Prelude.{◌≡◌, ◌++◌, ℕ};
 ghost use Rattle.pos_script.specs.Glyphs.{characters_text, looks_text, cell_character, cell_look, printed_character, printed_look, printed_text};
 ghost use Rattle.pos_script.specs.Writing.{Writes};
 
-use crate::write::{WriteFault, write_bytes, write_hex, write_parts};
+use crate::write::{write_bytes, write_hex, write_parts};
 use itoa::Buffer;
 use pos_service::display_text::DisplayCell;
 use pos_service::receipt_text::PrintedCharacter;
-use std::io::Write;
+use pos_streams::{Sink, WriteFault};
 
 /// A character, and how it looks.
 pub trait Glyph {
@@ -53,8 +53,8 @@ impl Glyph for PrintedCharacter {
 }
 
 /// Writes all characters in hex.
-fn write_characters<W: Write, G: Glyph>(writer: &mut W, glyphs: &[G]) -> Result<(), WriteFault>
-    ensures { Writes (W.contents writer.old) (W.contents writer.new)
+fn write_characters<W: Sink, G: Glyph>(writer: &mut W, glyphs: &[G]) -> Result<(), WriteFault>
+    ensures { Writes (W.given writer.old) (W.given writer.new)
         (characters_text G.character glyphs.now) result }
 {
     for glyph in glyphs {
@@ -64,8 +64,8 @@ fn write_characters<W: Write, G: Glyph>(writer: &mut W, glyphs: &[G]) -> Result<
 }
 
 /// Writes the number of how each character looks, a digit each.
-fn write_looks<W: Write, G: Glyph>(writer: &mut W, glyphs: &[G]) -> Result<(), WriteFault>
-    ensures { Writes (W.contents writer.old) (W.contents writer.new) (looks_text G.look glyphs.now) result }
+fn write_looks<W: Sink, G: Glyph>(writer: &mut W, glyphs: &[G]) -> Result<(), WriteFault>
+    ensures { Writes (W.given writer.old) (W.given writer.new) (looks_text G.look glyphs.now) result }
 {
     for glyph in glyphs {
         let mut buffer = Buffer::new();
@@ -75,12 +75,12 @@ fn write_looks<W: Write, G: Glyph>(writer: &mut W, glyphs: &[G]) -> Result<(), W
 }
 
 /// Writes all characters, a separator, and how each character looks.
-pub fn write_glyphs<W: Write, G: Glyph>(
+pub fn write_glyphs<W: Sink, G: Glyph>(
     writer: &mut W,
     separator: &str,
     glyphs: &[G],
 ) -> Result<(), WriteFault>
-    ensures { Writes (W.contents writer.old) (W.contents writer.new)
+    ensures { Writes (W.given writer.old) (W.given writer.new)
         (characters_text G.character glyphs.now ++ (separator.now ++ looks_text G.look glyphs.now)) result }
 {
     write_characters(writer, glyphs)?;
@@ -89,11 +89,11 @@ pub fn write_glyphs<W: Write, G: Glyph>(
 }
 
 /// Writes printed characters and how they look, or that there is none.
-pub fn write_printed<W: Write>(
+pub fn write_printed<W: Sink>(
     writer: &mut W,
     printed: &[PrintedCharacter],
 ) -> Result<(), WriteFault>
-    ensures { Writes (W.contents writer.old) (W.contents writer.new) (printed_text printed.now) result }
+    ensures { Writes (W.given writer.old) (W.given writer.new) (printed_text printed.now) result }
 {
     if printed.is_empty() {
         return write_parts(writer, &["-:-"]);

@@ -23,4 +23,4 @@ pub use laws::{lines_fall_in_two, lines_go_on};
 pub use line_buffer::{EndedLine, Line, LineBuffer};
 pub use print::{print_fault, print_reply};
 pub use reply::Reply;
-pub use write::WriteFault;
+pub use write::write_bytes;

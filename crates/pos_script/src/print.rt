@@ -9,18 +9,18 @@ use crate::arguments::LineFault;
 use crate::glyphs::write_glyphs;
 use crate::receipt::write_receipt;
 use crate::reply::Reply;
-use crate::write::{WriteFault, write_hex, write_parts};
+use crate::write::{write_hex, write_parts};
 use itoa::Buffer;
 use pos_service::display_text::DisplayCell;
 use pos_service::{
     Answer, AttachFault, Code, DetachFault, Event, Form, Locus, Receipt, Response, Snapshot, Value,
     Worked,
 };
-use std::io::Write;
+use pos_streams::{Sink, WriteFault};
 
 /// Writes `ok` and bytes.
-fn print_bytes<W: Write>(writer: &mut W, bytes: &[u8]) -> Result<(), WriteFault>
-    ensures { Writes (W.contents writer.old) (W.contents writer.new)
+fn print_bytes<W: Sink>(writer: &mut W, bytes: &[u8]) -> Result<(), WriteFault>
+    ensures { Writes (W.given writer.old) (W.given writer.new)
         (codes "ok " ++ hex_text bytes.now ++ 10 ∷ []) result }
 {
     if bytes.is_empty() {
@@ -32,8 +32,8 @@ fn print_bytes<W: Write>(writer: &mut W, bytes: &[u8]) -> Result<(), WriteFault>
 }
 
 /// Writes `ok` and two numbers.
-fn print_pair<W: Write>(writer: &mut W, first: i128, second: i128) -> Result<(), WriteFault>
-    ensures { Writes (W.contents writer.old) (W.contents writer.new)
+fn print_pair<W: Sink>(writer: &mut W, first: i128, second: i128) -> Result<(), WriteFault>
+    ensures { Writes (W.given writer.old) (W.given writer.new)
         (codes "ok " ++ (signed_decimal first ++ (codes " " ++ (signed_decimal second ++ 10 ∷ [])))) result }
 {
     let mut first_buffer = Buffer::new();
@@ -44,8 +44,8 @@ fn print_pair<W: Write>(writer: &mut W, first: i128, second: i128) -> Result<(),
 }
 
 /// Writes `ok` and a value.
-fn print_value<W: Write>(writer: &mut W, value: Value) -> Result<(), WriteFault>
-    ensures { Writes (W.contents writer.old) (W.contents writer.new)
+fn print_value<W: Sink>(writer: &mut W, value: Value) -> Result<(), WriteFault>
+    ensures { Writes (W.given writer.old) (W.given writer.new)
         (answer_text (Answer.Done value) ++ 10 ∷ []) result }
 {
     match value {
@@ -62,8 +62,8 @@ fn print_value<W: Write>(writer: &mut W, value: Value) -> Result<(), WriteFault>
 }
 
 /// Writes `err` and a result code, and the extended code behind E_EXTENDED.
-fn print_refusal<W: Write>(writer: &mut W, code: Code, extended: u32) -> Result<(), WriteFault>
-    ensures { Writes (W.contents writer.old) (W.contents writer.new)
+fn print_refusal<W: Sink>(writer: &mut W, code: Code, extended: u32) -> Result<(), WriteFault>
+    ensures { Writes (W.given writer.old) (W.given writer.new)
         (answer_text (Answer.Refused code extended) ++ 10 ∷ []) result }
 {
     let mut buffer = Buffer::new();
@@ -79,8 +79,8 @@ fn print_refusal<W: Write>(writer: &mut W, code: Code, extended: u32) -> Result<
 }
 
 /// Writes what a call is answered.
-fn print_answer<W: Write>(writer: &mut W, answer: Answer) -> Result<(), WriteFault>
-    ensures { Writes (W.contents writer.old) (W.contents writer.new) (answer_text answer ++ 10 ∷ []) result }
+fn print_answer<W: Sink>(writer: &mut W, answer: Answer) -> Result<(), WriteFault>
+    ensures { Writes (W.given writer.old) (W.given writer.new) (answer_text answer ++ 10 ∷ []) result }
 {
     match answer {
         Answer::Done(value) => print_value(writer, value),
@@ -89,13 +89,13 @@ fn print_answer<W: Write>(writer: &mut W, answer: Answer) -> Result<(), WriteFau
 }
 
 /// Writes an ErrorEvent.
-fn print_error<W: Write>(
+fn print_error<W: Sink>(
     writer: &mut W,
     code: Code,
     extended: u32,
     locus: Locus,
 ) -> Result<(), WriteFault>
-    ensures { Writes (W.contents writer.old) (W.contents writer.new)
+    ensures { Writes (W.given writer.old) (W.given writer.new)
         (event_text (Event.Error code extended locus) ++ 10 ∷ []) result }
 {
     let mut code_buffer = Buffer::new();
@@ -111,8 +111,8 @@ fn print_error<W: Write>(
 }
 
 /// Writes an event that is delivered.
-fn print_event<W: Write>(writer: &mut W, event: Event) -> Result<(), WriteFault>
-    ensures { Writes (W.contents writer.old) (W.contents writer.new) (event_text event ++ 10 ∷ []) result }
+fn print_event<W: Sink>(writer: &mut W, event: Event) -> Result<(), WriteFault>
+    ensures { Writes (W.given writer.old) (W.given writer.new) (event_text event ++ 10 ∷ []) result }
 {
     match event {
         Event::StatusUpdate(number) => {
@@ -135,8 +135,8 @@ fn print_event<W: Write>(writer: &mut W, event: Event) -> Result<(), WriteFault>
 }
 
 /// Writes the event that was delivered, or that there was none.
-fn print_delivered<W: Write>(writer: &mut W, event: Option<Event>) -> Result<(), WriteFault>
-    ensures { Writes (W.contents writer.old) (W.contents writer.new) (delivered_text event ++ 10 ∷ []) result }
+fn print_delivered<W: Sink>(writer: &mut W, event: Option<Event>) -> Result<(), WriteFault>
+    ensures { Writes (W.given writer.old) (W.given writer.new) (delivered_text event ++ 10 ∷ []) result }
 {
     match event {
         Some(event) => print_event(writer, event),
@@ -145,8 +145,8 @@ fn print_delivered<W: Write>(writer: &mut W, event: Option<Event>) -> Result<(),
 }
 
 /// Writes `ok` and a display's cells: all characters, and then all attributes.
-fn print_cells<W: Write>(writer: &mut W, cells: &[DisplayCell]) -> Result<(), WriteFault>
-    ensures { Writes (W.contents writer.old) (W.contents writer.new)
+fn print_cells<W: Sink>(writer: &mut W, cells: &[DisplayCell]) -> Result<(), WriteFault>
+    ensures { Writes (W.given writer.old) (W.given writer.new)
         (codes "ok " ++ cells_text cells.now ++ 10 ∷ []) result }
 {
     write_parts(writer, &["ok "])?;
@@ -155,8 +155,8 @@ fn print_cells<W: Write>(writer: &mut W, cells: &[DisplayCell]) -> Result<(), Wr
 }
 
 /// Writes `ok` and what a printer is physically.
-fn print_receipt<W: Write>(writer: &mut W, receipt: &Receipt) -> Result<(), WriteFault>
-    ensures { Writes (W.contents writer.old) (W.contents writer.new)
+fn print_receipt<W: Sink>(writer: &mut W, receipt: &Receipt) -> Result<(), WriteFault>
+    ensures { Writes (W.given writer.old) (W.given writer.new)
         (codes "ok " ++ printer_text receipt.now ++ 10 ∷ []) result }
 {
     write_parts(writer, &["ok "])?;
@@ -165,8 +165,8 @@ fn print_receipt<W: Write>(writer: &mut W, receipt: &Receipt) -> Result<(), Writ
 }
 
 /// Writes what a device is physically, but its power.
-fn print_plant<W: Write>(writer: &mut W, snapshot: Snapshot) -> Result<(), WriteFault>
-    ensures { Writes (W.contents writer.old) (W.contents writer.new) (plant_text snapshot.0 ++ 10 ∷ []) result }
+fn print_plant<W: Sink>(writer: &mut W, snapshot: Snapshot) -> Result<(), WriteFault>
+    ensures { Writes (W.given writer.old) (W.given writer.new) (plant_text snapshot.0 ++ 10 ∷ []) result }
 {
     match snapshot.0.form {
         Form::Drawer(true) => write_parts(writer, &["ok open\n"]),
@@ -178,8 +178,8 @@ fn print_plant<W: Write>(writer: &mut W, snapshot: Snapshot) -> Result<(), Write
 }
 
 /// Writes that work on output has failed, with its code and extended code.
-fn print_failed<W: Write>(writer: &mut W, code: Code, extended: u32) -> Result<(), WriteFault>
-    ensures { Writes (W.contents writer.old) (W.contents writer.new)
+fn print_failed<W: Sink>(writer: &mut W, code: Code, extended: u32) -> Result<(), WriteFault>
+    ensures { Writes (W.given writer.old) (W.given writer.new)
         (worked_text (Worked.Failed code extended) ++ 10 ∷ []) result }
 {
     let mut code_buffer = Buffer::new();
@@ -190,8 +190,8 @@ fn print_failed<W: Write>(writer: &mut W, code: Code, extended: u32) -> Result<(
 }
 
 /// Writes what came of work on a device's output.
-fn print_worked<W: Write>(writer: &mut W, worked: Worked) -> Result<(), WriteFault>
-    ensures { Writes (W.contents writer.old) (W.contents writer.new) (worked_text worked ++ 10 ∷ []) result }
+fn print_worked<W: Sink>(writer: &mut W, worked: Worked) -> Result<(), WriteFault>
+    ensures { Writes (W.given writer.old) (W.given writer.new) (worked_text worked ++ 10 ∷ []) result }
 {
     match worked {
         Worked::Idle => write_parts(writer, &["idle\n"]),
@@ -227,8 +227,8 @@ fn detach_line(fault: DetachFault) -> &'static str
 
 /// Writes what a counter answers.
 #[inline(always)]
-fn print_response<W: Write>(writer: &mut W, response: Response<()>) -> Result<(), WriteFault>
-    ensures { Writes (W.contents writer.old) (W.contents writer.new) (response_text response ++ 10 ∷ []) result }
+fn print_response<W: Sink>(writer: &mut W, response: Response<()>) -> Result<(), WriteFault>
+    ensures { Writes (W.given writer.old) (W.given writer.new) (response_text response ++ 10 ∷ []) result }
 {
     match response {
         Response::Made(_) => write_parts(writer, &["ok\n"]),
@@ -251,8 +251,8 @@ fn print_response<W: Write>(writer: &mut W, response: Response<()>) -> Result<()
 /// Writes the reply to a line, as a line of its own (docs/CONSOLE.md, "Answers"). It takes no memory. At a fault a
 /// front of the text is written, and not all of it.
 #[inline(always)]
-pub fn print_reply<W: Write>(writer: &mut W, reply: Reply) -> Result<(), WriteFault>
-    ensures { Writes (W.contents writer.old) (W.contents writer.new) (reply_text reply ++ 10 ∷ []) result }
+pub fn print_reply<W: Sink>(writer: &mut W, reply: Reply) -> Result<(), WriteFault>
+    ensures { Writes (W.given writer.old) (W.given writer.new) (reply_text reply ++ 10 ∷ []) result }
 {
     match reply {
         Reply::BadLine => write_parts(writer, &["bad line\n"]),
@@ -264,8 +264,8 @@ pub fn print_reply<W: Write>(writer: &mut W, reply: Reply) -> Result<(), WriteFa
 }
 
 /// Writes why a line was not read, as a line of its own. At a fault a front of the text is written, and not all of it.
-pub fn print_fault<W: Write>(writer: &mut W, fault: LineFault) -> Result<(), WriteFault>
-    ensures { Writes (W.contents writer.old) (W.contents writer.new) (fault_text fault ++ 10 ∷ []) result }
+pub fn print_fault<W: Sink>(writer: &mut W, fault: LineFault) -> Result<(), WriteFault>
+    ensures { Writes (W.given writer.old) (W.given writer.new) (fault_text fault ++ 10 ∷ []) result }
 {
     match fault {
         LineFault::WrongShape => print_reply(writer, Reply::BadLine),

@@ -5,11 +5,11 @@ ghost use Rattle.pos_script.specs.ReceiptText.{alignment_text, cover_text, item_
 ghost use Rattle.pos_script.specs.Writing.{Writes};
 
 use crate::glyphs::write_printed;
-use crate::write::{WriteFault, write_parts};
+use crate::write::write_parts;
 use itoa::Buffer;
 use pos_service::Receipt;
 use pos_service::receipt_text::{Alignment, Mark, PrintedCharacter};
-use std::io::Write;
+use pos_streams::{Sink, WriteFault};
 
 /// Where a line stands, as a letter.
 fn letter_of(alignment: Alignment) -> &'static str
@@ -54,12 +54,12 @@ fn line_buffer<'a>(marks: &[Mark], characters: &'a [PrintedCharacter]) -> &'a [P
 }
 
 /// Writes a line that was printed, behind a space.
-fn write_line<W: Write>(
+fn write_line<W: Sink>(
     writer: &mut W,
     alignment: Alignment,
     characters: &[PrintedCharacter],
 ) -> Result<(), WriteFault>
-    ensures { Writes (W.contents writer.old) (W.contents writer.new)
+    ensures { Writes (W.given writer.old) (W.given writer.new)
         (codes " " ++ item_text (Line alignment characters.now)) result }
 {
     write_parts(writer, &[" ", letter_of(alignment), ":"])?;
@@ -67,8 +67,8 @@ fn write_line<W: Write>(
 }
 
 /// Writes a cut, behind a space.
-fn write_cut<W: Write>(writer: &mut W, percentage: u8) -> Result<(), WriteFault>
-    ensures { Writes (W.contents writer.old) (W.contents writer.new)
+fn write_cut<W: Sink>(writer: &mut W, percentage: u8) -> Result<(), WriteFault>
+    ensures { Writes (W.given writer.old) (W.given writer.new)
         (codes " " ++ item_text (CutAt percentage)) result }
 {
     let mut buffer = Buffer::new();
@@ -76,12 +76,12 @@ fn write_cut<W: Write>(writer: &mut W, percentage: u8) -> Result<(), WriteFault>
 }
 
 /// Writes what is printed, a space before each line and each cut.
-fn write_items<W: Write>(
+fn write_items<W: Sink>(
     writer: &mut W,
     marks: &[Mark],
     characters: &[PrintedCharacter],
 ) -> Result<(), WriteFault>
-    ensures { Writes (W.contents writer.old) (W.contents writer.new)
+    ensures { Writes (W.given writer.old) (W.given writer.new)
         (items_text (items_from marks.now characters.now)) result }
 {
     let mut rest = characters;
@@ -99,8 +99,8 @@ fn write_items<W: Write>(
 }
 
 /// Writes a printer's cover, how many lines of paper are left, its line buffer, and what is printed.
-pub fn write_receipt<W: Write>(writer: &mut W, receipt: &Receipt) -> Result<(), WriteFault>
-    ensures { Writes (W.contents writer.old) (W.contents writer.new) (printer_text receipt.now) result }
+pub fn write_receipt<W: Sink>(writer: &mut W, receipt: &Receipt) -> Result<(), WriteFault>
+    ensures { Writes (W.given writer.old) (W.given writer.new) (printer_text receipt.now) result }
 {
     let mut buffer = Buffer::new();
     let cover = word_of(receipt.is_cover_open());

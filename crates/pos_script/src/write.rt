@@ -2,32 +2,27 @@ ghost use Rattle.std.specs.Prelude.{◌≡◌, ◌∷◌, [], flat_map};
 ghost use Rattle.hex.specs.Hex.{encode_lower};
 ghost use Rattle.pos_script.specs.Writing.{Writes};
 
-use std::io::Write;
+use pos_streams::{Sink, WriteFault};
 
-/// A write failed, or took nothing.
-#[derive(Clone, Copy, PartialEq, Eq)]
-pub struct WriteFault;
-
-/// Writes all bytes, and stops at the first write that fails or takes none.
-fn write_rest<W: Write>(writer: &mut W, bytes: &[u8]) -> Result<(), WriteFault>
-    ensures { Writes (W.contents writer.old) (W.contents writer.new) bytes.now result }
+/// Writes all bytes, and stops at the first write that fails.
+fn write_rest<W: Sink>(writer: &mut W, bytes: &[u8]) -> Result<(), WriteFault>
+    ensures { Writes (W.given writer.old) (W.given writer.new) bytes.now result }
 {
     let mut rest = bytes;
     while !rest.is_empty() {
         match writer.write(rest) {
-            Ok(0) => return Err(WriteFault),
             Ok(count) => rest = &rest[count..],
-            Err(_) => return Err(WriteFault),
+            Err(fault) => return Err(fault),
         }
     }
     Ok(())
 }
 
-/// Writes all bytes, and stops at the first write that fails or takes none. Most often one write takes them all: so
-/// that is looked at first, in place where it is asked.
+/// Writes all bytes, and stops at the first write that fails. Most often one write takes them all: so that is looked at
+/// first, in place where it is asked.
 #[inline(always)]
-pub fn write_bytes<W: Write>(writer: &mut W, bytes: &[u8]) -> Result<(), WriteFault>
-    ensures { Writes (W.contents writer.old) (W.contents writer.new) bytes.now result }
+pub fn write_bytes<W: Sink>(writer: &mut W, bytes: &[u8]) -> Result<(), WriteFault>
+    ensures { Writes (W.given writer.old) (W.given writer.new) bytes.now result }
 {
     if bytes.is_empty() {
         return Ok(());
@@ -38,16 +33,13 @@ pub fn write_bytes<W: Write>(writer: &mut W, bytes: &[u8]) -> Result<(), WriteFa
     if count == bytes.len() {
         return Ok(());
     }
-    if count == 0 {
-        return Err(WriteFault);
-    }
     write_rest(writer, &bytes[count..])
 }
 
 /// Writes texts one after another.
 #[inline(always)]
-pub fn write_parts<W: Write>(writer: &mut W, parts: &[&str]) -> Result<(), WriteFault>
-    ensures { Writes (W.contents writer.old) (W.contents writer.new) (flat_map (λ part. part.now) parts.now) result }
+pub fn write_parts<W: Sink>(writer: &mut W, parts: &[&str]) -> Result<(), WriteFault>
+    ensures { Writes (W.given writer.old) (W.given writer.new) (flat_map (λ part. part.now) parts.now) result }
 {
     for part in parts {
         write_bytes(writer, part.as_bytes())?;
@@ -64,8 +56,8 @@ fn hex_pair(b: u8) -> [u8; 2]
 }
 
 /// Writes bytes as lower-case hex.
-pub fn write_hex<W: Write>(writer: &mut W, bytes: &[u8]) -> Result<(), WriteFault>
-    ensures { Writes (W.contents writer.old) (W.contents writer.new) (encode_lower bytes.now) result }
+pub fn write_hex<W: Sink>(writer: &mut W, bytes: &[u8]) -> Result<(), WriteFault>
+    ensures { Writes (W.given writer.old) (W.given writer.new) (encode_lower bytes.now) result }
 {
     for b in bytes {
         write_bytes(writer, &hex_pair(*b))?;

@@ -8,7 +8,7 @@ loop-done-preserved g c =
     let n = c.in-Ok.count in
     let xs = c.args.bytes.now in
     let before = c.loop-done.invariant in
-    let fits = c.in-Ok.ensures.bound in
+    let (some, fits, gave) = c.in-Ok.ensures in
     let most = length-take (length xs - done) (drop done xs) in
     let joined = ap (λ l. take done xs ++ l) (take-take n (length xs - done) (drop done xs) (omega arith)) ∙ sym (take-add done n xs) in
-    (omega arith, subst (Appends _ _) joined (Appends-trans _ _ _ _ _ before.1 c.in-Ok.ensures.bytes))
+    (omega arith, subst (Appends _ _) joined (Appends-trans _ _ _ _ _ before.1 gave))

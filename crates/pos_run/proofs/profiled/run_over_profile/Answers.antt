@@ -8,8 +8,9 @@ wrapped = record { state = λ w. wrapped_state w }
 
 pub returns : goal.returns
 returns g c =
-    let made = c.in-Ok.ensures in
-    let script = c.run-result.ensures.script.1.script in (
-      (λ left honest leaves. inr (runs_honestly g.D.Disk wrapped made script left honest leaves)),
-      (λ left failures. inr (runs_over_any g.D.Disk wrapped made script left failures)),
-    )
+    let made = c.in-Ok.ensures.made in
+    let carried = c.run-result.ensures.script.1 in
+    rw c.end_counter-disk.ensures (inr (
+      (λ left honest leaves. runs_honestly g.D.Disk wrapped made carried left honest leaves),
+      (λ left failures. runs_over_any g.D.Disk wrapped made carried left failures),
+    ))

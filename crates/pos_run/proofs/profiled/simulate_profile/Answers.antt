@@ -69,8 +69,8 @@ new-requires-3 g c =
     let all : length spares ≤ i = subst (λ xs. length xs ≤ i) c.spares-entry-items.ensures (omega (arith, c.loop-entry-2-test.false)) in
     rw (c.loop-entry-2.invariant.states, take_all i spares all) (all_serve spares)
 
-pub returns : goal.returns
-returns g c =
+pub returns-clause-made : goal.returns-clause-made
+returns-clause-made g c =
     let profile = c.args.profile.now in
     let i = c.loop-entry.entry-index in
     let j = c.loop-entry-2.entry-index in

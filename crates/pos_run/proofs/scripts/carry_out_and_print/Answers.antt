@@ -1,5 +1,5 @@
 use Rattle.pos_run.proofs.Common.{Appends-nil, IsLine, None, Ok, Result, Some, [], codes, refl, session_of, subst}
-use Rattle.pos_script.specs.declared.write.WriteFault.{WriteFault}
+use Rattle.pos_streams.specs.declared.sink.WriteFault.{WriteFault}
 use Rattle.pos_run.proofs.Finishing.{one_line}
 use Rattle.pos_run.proofs.scripts.carry_out_and_print.Goals as goal
 

@@ -9,7 +9,7 @@ invariant-loop-ended g l =
     → (seen : List ℕ) × (lines : List (List ℕ)) × (l.piece ≡ seen ++ l.left)
     × (complete_lines (read ++ seen) ≡ complete_lines read ++ lines)
     × Finishes (IsRun g.D.Disk g.P.Peripheral) l.initial.counter (session_of g.P.Peripheral l.initial.names l.initial.spares) lines
-    (g.W.Write.contents l.initial.writer) (g.W.Write.contents l.writer)
+    (g.W.Sink.given l.initial.writer) (g.W.Sink.given l.writer)
     (session_of g.P.Peripheral l.names l.spares) l.counter
     × StandsFor l.buffer (read ++ seen))
 

@@ -1,6 +1,6 @@
-use Rattle.pos_run.proofs.Common.{Consumes-kept, Consumes-nil, Consumes-trans, [], answers_of, append-nil, arith, inl, refl, rules, runs_join, take, ◌++◌}
-use Rattle.pos_run.proofs.Finishing.{fault_join, finishes_join, finishes_kept, finishes_none, stops_join}
-use Rattle.pos_run.proofs.ReadLemmas.{found_end, found_more, no_more_reads, same_lines}
+use Rattle.pos_run.proofs.Common.{[], answers_of, arith, inl, inr, reading_of, refl, runs_join, take, taken_none, ◌++◌}
+use Rattle.pos_run.proofs.Finishing.{fault_join, finishes_flushed, finishes_join, finishes_none, finishes_unflushed, stops_join}
+use Rattle.pos_run.proofs.ReadLemmas.{ends, fails, goes_on, same_lines}
 use Rattle.pos_run.proofs.scripts.carry_out_script.Goals as goal
 
 pub loop-reader-init : goal.loop-reader-init
@@ -8,79 +8,89 @@ loop-reader-init g c = (
   c.requires.sound,
   c.requires.spares,
   [],
-  Consumes-nil _,
+  taken_none _,
   c.requires.empty,
   grind arith,
-  λ failed. refl,
-  finishes_none refl (answers_of g.W.Write.contents c.args.writer.now),
+  (λ failed. (refl, refl)),
+  finishes_none refl (answers_of g.W.Sink c.args.writer.now),
 )
+
+pub returns-in_default-clause-script : goal.returns-in_default-clause-script
+returns-in_default-clause-script g c =
+    let (sound, kept, input, took, stands, same, failed, done) = c.loop-reader.invariant in
+    record {
+      input = input;
+      reader = (inl took, λ broken. (failed broken).0);
+      run = inr (rw same (finishes_unflushed done c.in_default.ensures.given));
+    }
 
 pub returns-in_default-read-clause-script : goal.returns-in_default-read-clause-script
 returns-in_default-read-clause-script g c =
-    let (sound, kept, input, consumed, stands, same, failed, done) = c.loop-reader.invariant in
-    let reads = c.in_default-read.ensures.reads in
+    let (sound, kept, input, took, stands, same, failed, done) = c.loop-reader.invariant in
+    let first = reading_of g.R.Source c.args.reader.now in
+    let old = reading_of g.R.Source c.loop-reader.reader in
+    let new = reading_of g.R.Source c.read.new.self in
+    let fault = c.in_default-read.field-0 in
+    let reads = c.in_default-read.ensures in
     record {
       input = input;
-      read = Consumes-kept _ _ _ input consumed c.in_default-read.ensures.bytes;
-      reader = no_more_reads c.loop-reader.reader c.read.new.self c.in_default-read.field-0 reads;
+      reader = fails first old new input c.read.new.buffer took fault _ refl failed reads;
       run = (
-        rw (same_lines c.loop-reader.reader c.read.new.self c.in_default-read.field-0 reads input same) (finishes_kept done c.flush.ensures.bytes),
+        rw (same_lines first old new input c.read.new.buffer took fault _ refl reads same) (finishes_flushed done c.in-Ok.ensures.given),
         c.in-Ok.ensures.flushed,
       );
     }
 
 pub returns-in-Ok-carry_out_end-clause-script : goal.returns-in-Ok-carry_out_end-clause-script
 returns-in-Ok-carry_out_end-clause-script g c =
-    let (sound, kept, input, consumed, stands, same, failed, done) = c.loop-reader.invariant in
-    let none = c.if-count-eq0.true in
-    let (bytes, end) = c.in-Ok-read.ensures.bytes in
-    let ended = found_end c.loop-reader.reader c.read.new.self c.in-Ok-read.count c.in-Ok-read.ensures.reads none in
+    let (sound, kept, input, took, stands, same, failed, done) = c.loop-reader.invariant in
+    let end = ends (reading_of g.R.Source c.args.reader.now) (reading_of g.R.Source c.loop-reader.reader) (reading_of g.R.Source c.read.new.self) input
+    c.read.new.buffer took c.in-Ok-read.count c.if-count-eq0.true c.in-Ok-read.ensures in
     let (lines, are, rest) = c.in-Ok-carry_out_end.ensures.end input stands in
     record {
       input = input;
-      read = rw append-nil at (Consumes-trans _ _ _ input [] consumed (rw none at bytes));
-      reader = (ended.0, end none (search rules));
-      run = (rw (ended.0, are) (finishes_join (runs_join g.D.Disk g.P.Peripheral) (finishes_kept done c.flush.ensures.bytes) rest.0), rest.1);
+      reader = end;
+      run = (rw (end.0, are) (finishes_join (runs_join g.D.Disk g.P.Peripheral) (finishes_flushed done c.in-Ok.ensures.given) rest.0), rest.1);
     }
 
 pub returns-in-Err-clause-script : goal.returns-in-Err-clause-script
 returns-in-Err-clause-script g c =
-    let (sound, kept, input, consumed, stands, same, failed, done) = c.loop-reader.invariant in
-    let none = c.if-count-eq0.true in
-    let ended = found_end c.loop-reader.reader c.read.new.self c.in-Ok-read.count c.in-Ok-read.ensures.reads none in
+    let (sound, kept, input, took, stands, same, failed, done) = c.loop-reader.invariant in
+    let end = ends (reading_of g.R.Source c.args.reader.now) (reading_of g.R.Source c.loop-reader.reader) (reading_of g.R.Source c.read.new.self) input
+    c.read.new.buffer took c.in-Ok-read.count c.if-count-eq0.true c.in-Ok-read.ensures in
     let (lines, are, wrong) = c.in-Err.ensures.end input stands in
     record {
       input = input;
-      read = rw append-nil at (Consumes-trans _ _ _ input [] consumed (rw none at c.in-Ok-read.ensures.bytes.0));
-      reader = λ fault. absurd (ended.1 fault);
-      run = rw ended.0 (fault_join (runs_join g.D.Disk g.P.Peripheral) (finishes_kept done c.flush.ensures.bytes) _ lines are _ _ _ wrong);
+      reader = (inr end.1, λ broken. absurd (grind (arith, end.0, broken)));
+      run = rw end.0 (fault_join (runs_join g.D.Disk g.P.Peripheral) (finishes_flushed done c.in-Ok.ensures.given) _ lines are _ _ _ wrong);
     }
 
 pub returns-in_default-carry_out_piece-clause-script : goal.returns-in_default-carry_out_piece-clause-script
 returns-in_default-carry_out_piece-clause-script g c =
-    let (sound, kept, input, consumed, stands, same, failed, done) = c.loop-reader.invariant in
+    let (sound, kept, input, took, stands, same, failed, done) = c.loop-reader.invariant in
     let piece = take c.in-Ok-read.count c.read.new.buffer in
-    let some = found_more c.loop-reader.reader c.read.new.self c.in-Ok-read.count c.in-Ok-read.ensures.reads c.if-count-eq0.false in
+    let more = goes_on (reading_of g.R.Source c.args.reader.now) (reading_of g.R.Source c.loop-reader.reader) (reading_of g.R.Source c.read.new.self) input
+    c.read.new.buffer took c.in-Ok-read.count c.if-count-eq0.false c.in-Ok-read.ensures in
     let (lines, are, stops, none) = c.in_default-carry_out_piece.ensures.piece input stands in
     record {
       input = input ++ piece;
-      read = Consumes-trans _ _ _ input piece consumed c.in-Ok-read.ensures.bytes.0;
-      reader = λ fault. absurd (some.1 fault);
-      run = inl (rw (some.0, are) (stops_join (runs_join g.D.Disk g.P.Peripheral) (finishes_kept done c.flush.ensures.bytes) stops));
+      reader = (inl more.1, λ broken. absurd (grind (arith, more.0, broken)));
+      run = inl (rw (more.0, are) (stops_join (runs_join g.D.Disk g.P.Peripheral) (finishes_flushed done c.in-Ok.ensures.given) stops));
     }
 
 pub loop-reader-preserved : goal.loop-reader-preserved
 loop-reader-preserved g c =
-    let (sound, kept, input, consumed, stands, same, failed, done) = c.loop-reader.invariant in
+    let (sound, kept, input, took, stands, same, failed, done) = c.loop-reader.invariant in
     let piece = take c.in-Ok-read.count c.read.new.buffer in
-    let some = found_more c.loop-reader.reader c.read.new.self c.in-Ok-read.count c.in-Ok-read.ensures.reads c.if-count-eq0.false in
+    let more = goes_on (reading_of g.R.Source c.args.reader.now) (reading_of g.R.Source c.loop-reader.reader) (reading_of g.R.Source c.read.new.self) input
+    c.read.new.buffer took c.in-Ok-read.count c.if-count-eq0.false c.in-Ok-read.ensures in
     let (lines, are, rest, then) = c.in-Ok-carry_out_piece.ensures.piece input stands in (
       c.in-Ok-carry_out_piece.ensures.sound,
       c.in-Ok-carry_out_piece.ensures.spares,
       input ++ piece,
-      Consumes-trans _ _ _ input piece consumed c.in-Ok-read.ensures.bytes.0,
+      more.1,
       then,
-      rw some.0 refl,
-      λ fault. absurd (some.1 fault),
-      rw are (finishes_join (runs_join g.D.Disk g.P.Peripheral) (finishes_kept done c.flush.ensures.bytes) rest),
+      rw more.0 refl,
+      (λ broken. absurd (grind (arith, more.0, broken))),
+      rw are (finishes_join (runs_join g.D.Disk g.P.Peripheral) (finishes_flushed done c.in-Ok.ensures.given) rest),
     )

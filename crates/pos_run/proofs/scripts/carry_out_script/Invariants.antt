@@ -1,17 +1,17 @@
-use Rattle.pos_run.proofs.Common.{AreSparesSound, Consumes, Failed, Finishes, IsCounterSound, IsRun, List, StandsFor, answers_of, complete_lines, lines_read}
-use Rattle.pos_run.proofs.Common.{most_reads, reading_of, session_of, ℕ, ◌-◌, ◌≡◌}
+use Rattle.pos_run.proofs.Common.{AreSparesSound, Failed, Finishes, IsCounterSound, IsRun, List, StandsFor, [], answers_of, complete_lines, lines_read}
+use Rattle.pos_run.proofs.Common.{most_reads, reading_of, session_of, taken_after, ℕ, ◌-◌, ◌≡◌}
 use Rattle.pos_run.proofs.scripts.carry_out_script.Given as goal
 
--- the lines of the bytes that were read so far are carried out, and no read failed
+-- the lines of the bytes that were taken so far are carried out, and no read failed
 abbrev pub invariant-loop-reader : goal.invariant-loop-reader
 invariant-loop-reader g l =
     IsCounterSound g.P.Peripheral l.counter × AreSparesSound g.P.Peripheral l.spares
     × (input : List ℕ)
-    × Consumes (g.R.Read.remaining l.initial.reader.reader) (g.R.Read.remaining l.reader.reader) input
+    × (g.R.Source.taken l.reader.reader ≡ taken_after (g.R.Source.taken l.initial.reader.reader) input)
     × StandsFor l.buffer input × (lines_read l.reader.state input ≡ complete_lines input)
-    × (l.reader.state ≡ Failed → reading_of g.R.Read.remaining l.reader ≡ reading_of g.R.Read.remaining l.initial.reader)
+    × (l.reader.state ≡ Failed → (reading_of g.R.Source l.reader ≡ reading_of g.R.Source l.initial.reader) × (input ≡ []))
     × Finishes (IsRun g.D.Disk g.P.Peripheral) l.initial.counter (session_of g.P.Peripheral l.initial.names l.initial.spares)
-    (complete_lines input) (answers_of g.W.Write.contents l.initial.writer) (answers_of g.W.Write.contents l.writer)
+    (complete_lines input) (answers_of g.W.Sink l.initial.writer) (answers_of g.W.Sink l.writer)
     (session_of g.P.Peripheral l.names l.spares) l.counter
 
 abbrev pub decreases-loop-reader : goal.decreases-loop-reader

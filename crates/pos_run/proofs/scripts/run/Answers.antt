@@ -1,19 +1,18 @@
-use Rattle.pos_run.proofs.Common.{Consumes-nil, IsRun, RunsScript, [], begun_session, lines_read, names_of, refl, runs_join, script_steps, session_with}
+use Rattle.pos_run.proofs.Common.{IsRun, RunsScript, [], begun_session, lines_read, names_of, refl, runs_join, script_steps, session_with}
 use Rattle.pos_run.proofs.Common.{spares_in, streams_of, subst}
 use Rattle.pos_run.proofs.Finishing.{carried_run}
 use Rattle.pos_run.proofs.Starting.{runs_through}
 use Rattle.pos_run.proofs.scripts.run.Goals as goal
 
 pub returns-in_default-clause-script : goal.returns-in_default-clause-script
-returns-in_default-clause-script g c =
-    let nothing = Consumes-nil (g.R.Read.remaining c.args.reader.now.reader) in (
-      [],
-      record {
-        script = record { input = []; read = nothing; reader = refl; run = (refl, refl, refl) };
-        through = runs_through g.D.Disk g.P.Peripheral (λ disk bytes honest since. g.met.D.Disk.only_now disk bytes honest since)
-            c.args.counter.now c.args.counter.now [] refl;
-      },
-    )
+returns-in_default-clause-script g c = (
+  [],
+  record {
+    script = record { input = []; reader = (refl, refl); run = (refl, refl, refl) };
+    through = runs_through g.D.Disk g.P.Peripheral (λ disk bytes honest since. g.met.D.Disk.only_now disk bytes honest since)
+        c.args.counter.now c.args.counter.now [] refl;
+  },
+)
 
 pub returns-clause-script : goal.returns-clause-script
 returns-clause-script g c =
@@ -22,7 +21,7 @@ returns-clause-script g c =
     let Runs = IsRun g.D.Disk g.P.Peripheral in
     let result = c.carry_out_script.result in
     let session = begun_session (spares_in g.P.Peripheral c.args.spares.now) in
-    let streams = streams_of g.R.Read.remaining c.args.reader.now c.carry_out_script.new.reader g.W.Write.contents c.args.writer.now
+    let streams = streams_of g.R.Source c.args.reader.now c.carry_out_script.new.reader g.W.Sink c.args.writer.now
     c.carry_out_script.new.writer in
     let left = session_with (names_of c.carry_out_script.new.names) (spares_in g.P.Peripheral c.carry_out_script.new.spares) in
     let script : RunsScript Runs old session streams result left new =

@@ -1,8 +1,8 @@
 use Rattle.std.proofs.Common.{take, flat_map, ◌∷◌, []}
-use Rattle.std.specs.Io.KnownBytes.{Appends}
+use Rattle.pos_streams.specs.Streams.{Appends}
 use Rattle.hex.specs.Hex.{encode_lower}
 use Rattle.pos_script.proofs.glyphs.write_characters.Given as goal
 
 abbrev pub invariant-loop-glyph : goal.invariant-loop-glyph
-invariant-loop-glyph g l = Appends (g.W.Write.contents l.initial.writer) (g.W.Write.contents l.writer)
+invariant-loop-glyph g l = Appends (g.W.Sink.given l.initial.writer) (g.W.Sink.given l.writer)
     (flat_map (λ glyph. encode_lower (g.G.Glyph.character glyph ∷ [])) (take l.glyph-index l.glyphs))

@@ -1,6 +1,6 @@
 use Rattle.std.proofs.Common.{◌∙◌, ◌++◌, ap, sym, append_assoc, take}
 use Rattle.std.specs.Prelude.{codes}
-use Rattle.std.proofs.KnownBytes.{Appends-trans}
+use Rattle.pos_streams.proofs.StreamLemmas.{Appends-trans}
 use Rattle.pos_service.specs.Receipts.{Line, CutAt}
 use Rattle.pos_script.specs.ReceiptText.{item_text}
 use Rattle.pos_script.proofs.WriteLemmas.{failed_between}
