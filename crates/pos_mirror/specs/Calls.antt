@@ -15,13 +15,14 @@ disk_of (Ok mirror) = mirror.below
 disk_of (Err (why, disk)) = disk
 
 -- the disk was synced, and then so many bytes of it were read, with this answer
-pub record ReadsAll {D : Type 0} (bound : Ghosts D) (old new : D) (size : ℕ) (bytes : List ℕ) (answer : Answer) : Type 0 where
+pub record ReadsAll {D : Type 0} (bound : Ghosts D) (old new : D) (size : ℕ) (bytes : List ℕ) (answer : Answer)
+    : Type 0 where
   pub mid : D
   pub synced : bound.own_sync old mid (Ok tt)
   pub read : bound.own_read mid new 0 (replicate size 0) bytes answer
 
--- Each answer to opening a mirror over so many bytes of a disk has its cause, and says what the disk was asked: a sync, and
--- then a read. Want of memory is found before both or after both.
+-- Each answer to opening a mirror over so many bytes of a disk has its cause, and says what the disk was asked: a
+-- sync, and then a read. Want of memory is found before both or after both.
 abbrev pub Opens : {D : Type 0} → Ghosts D → D → ℕ → Result (Mirror D) (MirrorFault × D) → Type 0
 Opens bound below size (Ok mirror) =
     ReadsAll bound below mirror.below size mirror.memory.present.reading (Ok tt)
@@ -34,7 +35,8 @@ Opens bound below size (Err (fault.Read, disk)) =
     (bytes : List ℕ) × ReadsAll bound below disk size bytes (Err record {})
 
 -- A read of a mirror asks nothing of the disk below. It is a fault if the mirror is lost, and only then.
-pub record MirrorReads {D : Type 0} (old new : Mirror D) (at : ℕ) (before after : List ℕ) (answer : Answer) : Type 0 where
+pub record MirrorReads {D : Type 0} (old new : Mirror D) (at : ℕ) (before after : List ℕ) (answer : Answer)
+    : Type 0 where
   pub fault : is_fault answer ≡ old.lost
   pub untouched : old.lost ≡ true → after ≡ before
   pub same : new ≡ record old { failures = failures_after old.failures answer }
@@ -69,8 +71,8 @@ pub record FollowsOn {D : Type 0} (bound : Ghosts D) (old new : Mirror D) : Type
   pub follows : (s t : ℕ) → Follows (bound.state old.below) s (mirror_state old) t
       → Follows (bound.state new.below) s (mirror_state new) t
 
--- A write of a mirror is one write of the disk below. It succeeds if that did, and only then. A lost mirror asks nothing of
--- the disk below.
+-- A write of a mirror is one write of the disk below. It succeeds if that did, and only then. A lost mirror asks
+-- nothing of the disk below.
 pub record MirrorWrites {D : Type 0} (bound : Ghosts D) (old new : Mirror D) (at : ℕ) (bytes : List ℕ)
     (answer : Answer) : Type 0 where
   pub lost : old.lost ≡ true → (answer ≡ Err record {})
@@ -85,12 +87,13 @@ abbrev pub settled_by : Answer → Memory → Memory
 settled_by (Ok done) memory = synced memory
 settled_by (Err fault) memory = memory
 
--- A sync of a mirror is one sync of the disk below, with the same answer. If that fails, the mirror is lost. A lost mirror
--- asks nothing of the disk below.
+-- A sync of a mirror is one sync of the disk below, with the same answer. If that fails, the mirror is lost. A lost
+-- mirror asks nothing of the disk below.
 pub record MirrorSyncs {D : Type 0} (bound : Ghosts D) (old new : Mirror D) (answer : Answer) : Type 0 where
   pub lost : old.lost ≡ true → (answer ≡ Err record {}) × (new ≡ record old { failures = counted old.failures })
   pub asked : old.lost ≡ false → bound.own_sync old.below new.below answer
-      × (new ≡ mirror_of (settled_by answer old.memory) new.below (failures_after old.failures answer) (is_fault answer))
+      × (new ≡ mirror_of (settled_by answer old.memory) new.below (failures_after old.failures answer)
+      (is_fault answer))
   pub follows : bound.honest old.below → FollowsOn bound old new
 
 -- some calls of a mirror, one after another

@@ -1,9 +1,9 @@
 // A disk in memory over another disk, which needn't be honest.
-ghost use Rattle.std.specs.Prelude.{◌≡◌, ◌≤◌, ◌+◌, ◌↔◌, List, ℕ, length, min, replicate, take, Ok, Err, false};
-ghost use Rattle.pos_disk.specs.State.{MayLeave, Reads};
-ghost use Rattle.pos_disk.specs.Memory.{fresh, state_of};
+ghost use Rattle.std.specs.Prelude.{◌≡◌, ◌≤◌, ◌+◌, ◌↔◌, List, ℕ, length, min, take};
+ghost use Rattle.pos_disk.specs.State.{MayLeave};
+ghost use Rattle.pos_disk.specs.Memory.{state_of};
 ghost use Rattle.pos_disk.specs.Fuse.{Spoils, counted};
-ghost use Rattle.pos_mirror.specs.Mirror.{Covers, Follows, IsMirror, mirror_of, mirror_state};
+ghost use Rattle.pos_mirror.specs.Mirror.{FollowsSince, IsMirror, mirror_state};
 ghost use Rattle.pos_mirror.specs.Calls.{Calls, Opens, Rereads, disk_of};
 
 use crate::fault::MirrorFault;
@@ -12,10 +12,10 @@ use std::alloc::Global;
 use std::marker::Model;
 
 /// The bytes of a disk in memory. Each write and each sync is made on the disk below before it is answered; a read is
-/// answered from memory. A call succeeds only if the one below did. After a write that failed the range is read again, so
-/// memory shows what the disk below has. The mirror is lost for good when that read fails, and when a sync fails: the
-/// system may count as settled what the device never had. A lost mirror answers each call with a fault and asks nothing of
-/// the disk below.
+/// answered from memory. A call succeeds only if the one below did. After a write that failed the range is read
+/// again, so memory shows what the disk below has. The mirror is lost for good when that read fails, and when a sync
+/// fails: the system may count as settled what the device never had. A lost mirror answers each call with a fault and
+/// asks nothing of the disk below.
 ///
 /// It has seven bytes of memory for each byte of the disk, all taken when it is made.
 #[derive(Drop)]
@@ -39,8 +39,8 @@ impl<D: Disk> Model for MirrorDisk<D> {
 }
 
 impl<D: Disk> MirrorDisk<D> {
-    /// A mirror of the first bytes of a disk, at most `most` of them. It syncs the disk and then reads it, so the mirror is
-    /// at rest.
+    /// A mirror of the first bytes of a disk, at most `most` of them. It syncs the disk and then reads it, so the
+    /// mirror is at rest.
     ///
     /// # Errors
     ///
@@ -97,8 +97,8 @@ impl<D: Disk> MirrorDisk<D> {
     }
 
     /// What is true of every mirror: the calls of the disk below make what memory shows. Over an honest disk, a crash
-    /// leaves of that disk only what it may leave of the mirror: now (`crash`), and at any moment since the mirror was made
-    /// (`History`).
+    /// leaves of that disk only what it may leave of the mirror: now (`crash`), and at any moment since the mirror
+    /// was made (`History`).
     pub fn is_mirror(&self)
         ensures mirror { IsMirror D.Disk self.now }
         ensures crash { (bytes : List ℕ) → D.honest self.now.below → MayLeave (D.state self.now.below) bytes
@@ -107,11 +107,11 @@ impl<D: Disk> MirrorDisk<D> {
         let _memory = &self.memory;
     }
 
-    /// What is true of any calls of a mirror over an honest disk: whatever a crash since then has left of the disk below, it
-    /// may have left of the mirror.
+    /// What is true of any calls of a mirror over an honest disk: whatever a crash since then has left of the disk
+    /// below, it may have left of the mirror.
     pub fn is_followed(&self, earlier: &MirrorDisk<D>)
         ensures { Calls D.Disk earlier.now self.now → D.honest earlier.now.below
-            → Follows (D.state self.now.below) (D.state earlier.now.below).moment (mirror_state self.now) (mirror_state earlier.now).moment }
+            → FollowsSince D.Disk earlier.now self.now }
     {
         let _memory = &earlier.memory;
     }
@@ -124,8 +124,8 @@ fn count(failures: &mut u64)
     *failures = failures.saturating_add(1);
 }
 
-// Reads the range of a write that failed on the disk below, and puts into memory what the disk has there. If the read fails
-// too, memory has what was to be written.
+// Reads the range of a write that failed on the disk below, and puts into memory what the disk has there. If the read
+// fails too, memory has what was to be written.
 fn reread<D: Disk>(
     below: &mut D,
     memory: &mut MemDisk,

@@ -25,8 +25,8 @@ fn write_twice<D: Disk>(disk: &mut D) -> [bool; 4]
     [first, synced, second, disk.sync().is_ok()]
 }
 
-// What a mirror did: which calls succeeded, whether it is lost, how many calls the disk below was asked for, and the first
-// bytes of both at the end. A lost mirror shows none.
+// What a mirror did: which calls succeeded, whether it is lost, how many calls the disk below was asked for, and the
+// first bytes of both at the end. A lost mirror shows none.
 #[derive(Drop)]
 struct Seen {
     done: [bool; 4],
