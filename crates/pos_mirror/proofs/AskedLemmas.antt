@@ -1,0 +1,63 @@
+-- What the disk below a mirror was asked makes what memory shows.
+use Rattle.std.proofs.Common.{subst}
+use Rattle.std.proofs.Math.Seq.{get_or-append_seam}
+use Rattle.pos_disk.proofs.Common.{Bool, Err, List, Memory, Moment, Ok, [], arith, false, fresh, get_or, get_or_append_left, get_or_default, length, length-append}
+use Rattle.pos_disk.proofs.Common.{refl, sym, synced, true, written, ℕ, ◌++◌, ◌+◌, ◌∙◌, ◌<◌, ◌∷◌, ◌≡◌, ◌≤◌}
+use Rattle.pos_disk.proofs.Bytes.{part-splice}
+use Rattle.pos_disk.specs.Memory.{LeftSince}
+use Rattle.pos_disk.specs.declared.device.Disk.{Ghosts}
+use Rattle.pos_mirror.specs.Asked.{Continues, IsAskedFor, IsAsking, and_write, no_more}
+use Rattle.pos_mirror.specs.Mirror.{Makes, begun, found, ignored, settled, unread, unsettled, wrote}
+
+-- it was asked what makes this very memory
+here : {D : Type 0} {Asked : D → Memory → Type 0} (below : D) (memory : Memory) (lost : Bool) → Asked below memory → IsAskedFor Asked below memory lost
+here below memory lost asked = record { asked = memory; is_asked = asked; same = λ present. refl; continues = no_more }
+
+module _ {D : Type 0} (bound : Ghosts D) (Asked : D → Memory → Type 0) (is : IsAsking bound Asked) (first : D) where
+  -- before a call of a mirror that isn't lost
+  asked_at : (below : D) (memory : Memory) → IsAskedFor Asked below memory false → Asked below memory
+  asked_at below memory so_far = subst (Asked below) (sym (so_far.same refl)) so_far.is_asked
+
+  -- the calls that make what memory shows are those that the disk below was asked
+  pub asked_for : (below : D) (memory : Memory) (lost : Bool) → Makes bound first below memory lost → IsAskedFor Asked below memory lost
+  asked_for _ _ _ (begun below before bytes read) = here below (fresh bytes) false (is.begun first below before bytes read)
+  asked_for _ _ _ (wrote old new memory at bytes fits so_far own) =
+      here new (written at bytes memory) false (is.wrote old new at bytes memory own (asked_at old memory (asked_for old memory false so_far)))
+  asked_for _ _ _ (found old mid new memory at bytes before left fits long so_far own read) =
+      let after = is.spoiled old mid at bytes left memory own long (asked_at old memory (asked_for old memory false so_far)) in
+      here new (written at left memory) false (is.looked mid new at before left (Ok tt) (written at left memory) read
+      (sym (part-splice memory.present.reading left at (rw long fits))) after)
+  asked_for _ _ _ (unread old mid new memory at bytes before left fits so_far own read) =
+      let after = is.spoiled old mid at bytes bytes memory own refl (asked_at old memory (asked_for old memory false so_far)) in
+      here new (written at bytes memory) true (is.looked mid new at before left (Err record {}) (written at bytes memory) read tt after)
+  asked_for _ _ _ (settled old new memory so_far own) =
+      here new (synced memory) false (is.settled old new memory own (asked_at old memory (asked_for old memory false so_far)))
+  asked_for _ _ _ (unsettled old new memory so_far own) =
+      here new memory true (is.unsettled old new memory own (asked_at old memory (asked_for old memory false so_far)))
+  asked_for _ _ _ (ignored below memory at bytes fits so_far) =
+      let before = asked_for below memory true so_far in
+      record { asked = before.asked; is_asked = before.is_asked; same = λ present. absurd (cc); continues = and_write memory at bytes before.continues }
+
+-- one moment more has gone by
+module _ (past : List Moment) (present next : Moment) where
+  longer : length (past ++ present ∷ []) ≡ length past + 1
+  longer = length-append past (present ∷ [])
+
+  earlier : (k : ℕ) → k < length past → get_or (past ++ present ∷ []) k next ≡ get_or past k present
+  earlier k before = get_or_append_left past (present ∷ []) next k before ∙ get_or_default past k next present before
+
+  latest : get_or (past ++ present ∷ []) (length past) next ≡ present
+  latest = get_or-append_seam past present [] next
+
+  keeps : (t : ℕ) (c : List ℕ) → t ≤ length past → LeftSince past present t c → LeftSince (past ++ present ∷ []) next t c
+  keeps t c le left = grind (arith, longer, earlier, length, latest)
+
+-- so a crash leaves of what was asked only what it may leave of the mirror
+pub left_within : (asked memory : Memory) → Continues asked memory → (t : ℕ) (c : List ℕ) → t ≤ length asked.past
+    → LeftSince asked.past asked.present t c → (t ≤ length memory.past) × LeftSince memory.past memory.present t c
+left_within asked _ no_more t c le left = (le, left)
+left_within asked _ (and_write memory at bytes so_far) t c le left =
+    let before = left_within asked memory so_far t c le left in (
+      omega (arith, before.0, longer memory.past memory.present memory.present),
+      keeps memory.past memory.present (written at bytes memory).present t c before.0 before.1,
+    )

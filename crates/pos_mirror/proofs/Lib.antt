@@ -1,0 +1,4 @@
+pub mod AskedLemmas
+mod CallsLemmas
+mod MirrorLemmas
+mod StepLemmas

@@ -1,0 +1,217 @@
+// A disk in memory over another disk, which needn't be honest.
+ghost use Rattle.std.specs.Prelude.{◌≡◌, ◌≤◌, ◌+◌, ◌↔◌, List, ℕ, length, min, take};
+ghost use Rattle.pos_disk.specs.State.{MayLeave};
+ghost use Rattle.pos_disk.specs.Memory.{state_of};
+ghost use Rattle.pos_disk.specs.Fuse.{Spoils, counted};
+ghost use Rattle.pos_mirror.specs.Mirror.{FollowsSince, IsMirror, mirror_state};
+ghost use Rattle.pos_mirror.specs.Calls.{Calls, Opens, Rereads, disk_of};
+
+use crate::fault::MirrorFault;
+use pos_disk::{Disk, DiskFault, MemDisk};
+use std::alloc::Global;
+use std::marker::Model;
+
+/// The bytes of a disk in memory. Each write and each sync is made on the disk below before it is answered; a read is
+/// answered from memory. A call succeeds only if the one below did. After a write that failed the range is read
+/// again, so memory shows what the disk below has. The mirror is lost for good when that read fails, and when a sync
+/// fails: the system may count as settled what the device never had. A lost mirror answers each call with a fault and
+/// asks nothing of the disk below.
+///
+/// It has seven bytes of memory for each byte of the disk, all taken when it is made.
+#[derive(Drop)]
+pub struct MirrorDisk<D: Disk> {
+    memory: MemDisk,
+    below: D,
+    // Where the range of a failed write is read again.
+    room: Vec<u8>,
+    failures: u64,
+    lost: bool,
+}
+
+impl<D: Disk> Model for MirrorDisk<D> {
+    ghost use Rattle.pos_mirror.specs.Mirror.{Mirror, IsBuilt, mirror_of};
+
+    ghost Value = { Mirror D };
+
+    ghost view = { λ m. mirror_of m.memory m.below m.failures m.lost };
+
+    ghost invariant = { λ m. IsBuilt D.Disk (mirror_of m.memory m.below m.failures m.lost) m.room.items };
+}
+
+impl<D: Disk> MirrorDisk<D> {
+    /// A mirror of the first bytes of a disk, at most `most` of them. It syncs the disk and then reads it, so the
+    /// mirror is at rest.
+    ///
+    /// # Errors
+    ///
+    /// Sync and Read if the disk failed there, NoMemory if there is no memory. The disk is returned with the fault.
+    pub fn over(mut below: D, alloc: Global, most: u64) -> Result<MirrorDisk<D>, (MirrorFault, D)>
+        ensures opens { Opens D.Disk below (min (D.size below) most) result }
+        ensures size { D.size (disk_of result) ≡ D.size below }
+        ensures honest { D.honest below ↔ D.honest (disk_of result) }
+    {
+        let size = below.len().min(most) as usize;
+        let Ok(mut bytes) = vec![in alloc; 0; size] else {
+            return Err((MirrorFault::NoMemory, below));
+        };
+        let Ok(room) = vec![in alloc; 0; size] else {
+            return Err((MirrorFault::NoMemory, below));
+        };
+        if below.sync().is_err() {
+            return Err((MirrorFault::Sync, below));
+        }
+        if below.read(0, &mut bytes).is_err() {
+            return Err((MirrorFault::Read, below));
+        }
+        match MemDisk::new(alloc, bytes) {
+            Ok(memory) => Ok(MirrorDisk {
+                memory,
+                below,
+                room,
+                failures: 0,
+                lost: false,
+            }),
+            Err(_) => Err((MirrorFault::NoMemory, below)),
+        }
+    }
+
+    /// Whether the mirror is lost.
+    pub fn is_lost(&self) -> bool
+        ensures { result ≡ self.now.lost }
+    {
+        self.lost
+    }
+
+    /// The disk below.
+    pub fn below(&self) -> &D
+        ensures { result.now ≡ self.now.below }
+    {
+        &self.below
+    }
+
+    /// Ends the mirror and returns the disk below.
+    pub fn into_below(self) -> D
+        ensures { result ≡ self.below }
+    {
+        self.below
+    }
+
+    /// What is true of every mirror: the calls of the disk below make what memory shows. Over an honest disk, a crash
+    /// leaves of that disk only what it may leave of the mirror: now (`crash`), and at any moment since the mirror
+    /// was made (`History`).
+    pub fn is_mirror(&self)
+        ensures mirror { IsMirror D.Disk self.now }
+        ensures crash { (bytes : List ℕ) → D.honest self.now.below → MayLeave (D.state self.now.below) bytes
+            → MayLeave (mirror_state self.now) (take (length self.now.memory.present.reading) bytes) }
+    {
+        let _memory = &self.memory;
+    }
+
+    /// What is true of any calls of a mirror over an honest disk: whatever a crash since then has left of the disk
+    /// below, it may have left of the mirror.
+    pub fn is_followed(&self, earlier: &MirrorDisk<D>)
+        ensures { Calls D.Disk earlier.now self.now → D.honest earlier.now.below
+            → FollowsSince D.Disk earlier.now self.now }
+    {
+        let _memory = &earlier.memory;
+    }
+}
+
+// One more; the last value stays.
+fn count(failures: &mut u64)
+    ensures { failures.new ≡ counted failures.old }
+{
+    *failures = failures.saturating_add(1);
+}
+
+// Reads the range of a write that failed on the disk below, and puts into memory what the disk has there. If the read
+// fails too, memory has what was to be written.
+fn reread<D: Disk>(
+    below: &mut D,
+    memory: &mut MemDisk,
+    room: &mut [u8],
+    at: u64,
+    bytes: &[u8],
+) -> Result<(), DiskFault>
+    requires below { at + length bytes.now ≤ D.size below.old }
+    requires memory { at + length bytes.now ≤ length memory.old.present.reading }
+    requires room { length bytes.now ≤ length room.old }
+    ensures size { D.size below.new ≡ D.size below.old }
+    ensures honest { D.honest below.old ↔ D.honest below.new }
+    ensures rereads { Rereads D.Disk below.old below.new at bytes.now memory.old memory.new result }
+    ensures spoils { Spoils (state_of memory.old) (state_of memory.new) at (length bytes.now) }
+{
+    let found = &mut room[..bytes.len()];
+    let answer = below.read(at, found);
+    if answer.is_ok() {
+        let _ = memory.write(at, found);
+    } else {
+        let _ = memory.write(at, bytes);
+    }
+    answer
+}
+
+impl<D: Disk> Disk for MirrorDisk<D> {
+    ghost use Rattle.std.specs.Prelude.{⊤};
+    ghost use Rattle.std.proofs.Common.{refl};
+    ghost use Rattle.pos_mirror.specs.Mirror.{counts_mirrored, only_mirrored};
+    ghost use Rattle.pos_mirror.specs.Calls.{MirrorReads, MirrorWrites, MirrorSyncs};
+
+    ghost size = { λ m. length m.memory.present.reading };
+
+    ghost honest = { λ _. ⊤ };
+
+    ghost state = { λ m. mirror_state m };
+
+    ghost own_read = { MirrorReads };
+
+    ghost own_write = { MirrorWrites D.Disk };
+
+    ghost own_sync = { MirrorSyncs D.Disk };
+
+    ghost whole = { λ m _. refl };
+
+    ghost counts_now = { λ m t bytes _. counts_mirrored m t bytes };
+
+    ghost only_now = { λ m bytes _. only_mirrored m bytes };
+
+    fn len(&self) -> u64 {
+        self.memory.len()
+    }
+
+    fn read(&mut self, at: u64, out: &mut [u8]) -> Result<(), DiskFault> {
+        if self.lost {
+            count(&mut self.failures);
+            return Err(DiskFault);
+        }
+        self.memory.read(at, out)
+    }
+
+    fn write(&mut self, at: u64, bytes: &[u8]) -> Result<(), DiskFault> {
+        if self.lost {
+            count(&mut self.failures);
+            let _ = self.memory.write(at, bytes);
+            return Err(DiskFault);
+        }
+        if self.below.write(at, bytes).is_ok() {
+            return self.memory.write(at, bytes);
+        }
+        count(&mut self.failures);
+        let again = reread(&mut self.below, &mut self.memory, &mut self.room, at, bytes);
+        self.lost = again.is_err();
+        Err(DiskFault)
+    }
+
+    fn sync(&mut self) -> Result<(), DiskFault> {
+        if self.lost {
+            count(&mut self.failures);
+            return Err(DiskFault);
+        }
+        if self.below.sync().is_err() {
+            count(&mut self.failures);
+            self.lost = true;
+            return Err(DiskFault);
+        }
+        self.memory.sync()
+    }
+}
