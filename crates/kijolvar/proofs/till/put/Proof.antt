@@ -1,17 +1,18 @@
--- `give` forgets what a till owns, which C has from then on.
-use Rattle.kijolvar.proofs.Common.{ !, Goes-blank, List, SProp, Stays, Val, WpFn, [], alive, alloc_all, block_ptr, by, drop, emp, ent, enter, fact, fact_i}
-use Rattle.kijolvar.proofs.Common.{feq_i, fjoin, fld, free_all, fsplit, get, get_in, id⊢, keep, leaves, look_at, move, nothing, of_opd, owns, pass_all, plain}
-use Rattle.kijolvar.proofs.Common.{proved_at, qed, raw, refl, returns, sets, split, stay_dropped, stop, sub, subst, suffices, sym, tables, types_at, use0, vptr}
-use Rattle.kijolvar.proofs.Common.{walk_of, whole, yes, ‵, ◌$◌, ◌++◌, ◌∵◌, ◌∷◌, ◌≡◌, ◌⊛◌}
-use Rattle.kijolvar.specs.contracts.till.give.{clauses, ended}
-use Rattle.kijolvar.specs.contracts.till.give.Key.{name as #self}
-use Rattle.kijolvar.proofs.Values.{both, loose_good, loose_out}
+-- `put` takes a till apart, and makes C's variable of its parts.
+use Rattle.kijolvar.proofs.Common.{ !, Goes-blank, List, SProp, Stays, Val, WpFn, [], agg, alive, alloc_all, and_then, block_ptr, by, emp, ent, enter, fact}
+use Rattle.kijolvar.proofs.Common.{fact_i, fjoin, fld, free_all, fsplit, get, get_in, id⊢, keep, leaves, look_at, move, no_more, nothing, of_opd, owns}
+use Rattle.kijolvar.proofs.Common.{pass_all, plain, proved_at, qed, raw, refl, returns, sets, split, stay_dropped, stop, sub, subst, suffices, sym, tables}
+use Rattle.kijolvar.proofs.Common.{types_at, use0, vptr, walk_of, whole, yes, ‵, ◌$◌, ◌++◌, ◌∵◌, ◌∷◌, ◌≡◌, ◌⊛◌}
+use Rattle.kijolvar.specs.contracts.till.put.{clauses, ended}
+use Rattle.kijolvar.specs.contracts.till.put.Key.{name as #self}
+use Rattle.kijolvar.proofs.Values.{both, loose_good, loose_in, loose_out}
 use Rattle.kijolvar.proofs.Tills.{R, Z, LZ, g, Till, as_loose}
-use Rattle.kijolvar.proofs.till.give.Statement.{statement}
-use Rattle.kijolvar.proofs.till.give.Code as code
+use Rattle.std.specs.Prelude.{Some}
+use Rattle.kijolvar.proofs.till.put.Statement.{statement}
+use Rattle.kijolvar.proofs.till.put.Code as code
 
-pub give_spec : {M : Type 1} → statement M
-give_spec 𝓤 𝓛 𝓜 𝓡 wired =
+pub put_spec : {M : Type 1} → statement M
+put_spec 𝓤 𝓛 𝓜 𝓡 wired =
     let H = 𝓛.H in let 𝓣 = tables 𝓤 H 𝓜 𝓡 𝓡.env in let c = clauses 𝓛 𝓜.mem 𝓡.returns in
     let hs : Stays ended.signature.params ended.kept = (stay_dropped (plain (λ _. Till)) yes, tt) in
     proved_at 𝓛 ended hs c 𝓜 𝓡 (Goes-blank 𝓛 0 (plain (λ _. Till)) yes (λ κs x f. tt), tt) #self code.function (code.unfolded 𝓤 H 𝓜 𝓡 wired) (λ z are.
@@ -24,8 +25,9 @@ give_spec 𝓤 𝓛 𝓜 𝓡 wired =
     suffices ! (Run (w ∷ [])) (subst (λ (us : List Val). ent 𝓤 (Run (w ∷ [])) (Run us)) (sym (λ i. ws i ++ [])) (id⊢ 𝓤 (Run (w ∷ [])))) $
     enter ! 𝓣.C 𝓣.Λ code.function (w ∷ []) Post $ alloc_all ! (λ l. pass_all ! refl (typed, tt) $
     sets ! (of_opd ! (get_in ! (fld ! refl (stop !)) (sub ! 0 refl (whole !)))) refl (tt, tt) $
-    sets ! (of_opd ! (get ! refl)) refl (tt, tt) $
-    move ! (0 ∷ []) $ drop ! $ move ! (0 ∷ []) $ drop ! $
-    use0 𝓛 (raw (fact 𝓤 (block_ptr b o ≡ v.at))) (fact_i 𝓤 (block_ptr b o ≡ v.at) (emp 𝓤) (sym e)) $
-    feq_i ! (List Val) (vptr b o ∷ []) (vptr b o ∷ []) refl $ nothing ! $ nothing ! $ fjoin ! $
-    returns ! (look_at ! 0 refl) $ free_all ! refl $ keep ! (4 ∷ 0 ∷ 1 ∷ 2 ∷ []) $ by ! (leaves 𝓛 ended hs c z (vptr b o) (block_ptr b o) (tt, tt) (tt, tt)))))
+    sets ! (of_opd ! (get_in ! (fld ! refl (stop !)) (sub ! 1 refl (whole !)))) refl fits $
+    sets ! (agg ! (and_then ! (get ! refl) (and_then ! (get ! refl) (no_more !)))) refl typed $
+    loose_in R Z LZ g ! b o h v.alloc v.session $
+    use0 𝓛 (raw (fact 𝓤 (Some v.session ≡ Some v.session))) (fact_i 𝓤 (Some v.session ≡ Some v.session) (emp 𝓤) refl) $ nothing ! $ nothing ! $ fjoin ! $
+    returns ! (look_at ! 0 refl) $ free_all ! refl $ keep ! (4 ∷ 0 ∷ 2 ∷ 1 ∷ []) $
+    by ! (leaves 𝓛 ended hs c z w (record { at = block_ptr b o; alloc = v.alloc; left = Some v.session }) (tt, tt) (tt, tt)))))
