@@ -18,7 +18,7 @@ TYPES = {
     "&mut [u8]": "uint8_t *{0}, size_t {0}_len",
     "&mut u64": "uint64_t *{}",
     "&mut usize": "size_t *{}",
-    "&mut *mut u8": "void **{}",
+    "&mut Slot": "void **{}",
 }
 RESULTS = {"u32": "uint32_t", None: "void"}
 

@@ -1,5 +1,5 @@
 -- What C is told by a number (abi/README.md, "Codes").
-use Rattle.std.specs.Prelude.{◌≡◌, ◌⊎◌, ℕ, Bool, true, false, Result, Ok, Err}
+use Rattle.std.specs.Prelude.{ℕ, Bool, true, false, Result, Ok, Err}
 
 -- the call did what it says
 abbrev pub ok : ℕ
@@ -67,12 +67,3 @@ told false = short
 abbrev pub carried : {E : Type 0} → Result (Unit {0}) E → Bool → ℕ
 carried (Ok u) holds = told holds
 carried (Err fault) holds = cut
-
--- what formatting a file answers beside what opening one does
-abbrev pub IsFormatCode : ℕ → Type 0
-IsFormatCode code = (code ≡ formatted) ⊎ (code ≡ too_small) ⊎ (code ≡ disk_failed)
-
--- what is told of the next errand: that none is left, or its kind, or that there is less room than its bytes need
-abbrev pub IsErrandCode : ℕ → Type 0
-IsErrandCode code =
-    (code ≡ ok) ⊎ (code ≡ write) ⊎ (code ≡ sync) ⊎ (code ≡ short) ⊎ (code ≡ disk_failed)

@@ -1,5 +1,5 @@
 -- What a till is, and what is written of its answers (abi/README.md).
-use Rattle.std.specs.Prelude.{◌≡◌, ◌≢◌, ◌⊎◌, ◌++◌, ℕ, List, [], Some, Ok, length, take, drop, nat_le}
+use Rattle.std.specs.Prelude.{◌≡◌, ◌≢◌, ◌⊎◌, ◌↔◌, ◌++◌, ℕ, List, [], Some, Ok, length, take, drop, nat_le}
 use Rattle.pos_disk.specs.declared.device.Disk.{Ghosts as DiskGhosts}
 use Rattle.pos_service.specs.declared.peripheral.Peripheral.{Ghosts}
 use Rattle.pos_profile.specs.Entries.{Contents}
@@ -16,7 +16,8 @@ use Rattle.kijolvar.specs.declared.till_disk.TillDisk.{TillDisk}
 use Rattle.kijolvar.specs.declared.settlement.Settlement.{Settlement}
 use Rattle.kijolvar.specs.declared.settlement.Settlement.TheVariants.{InMemory, Settled, Owed, Failed}
 use Rattle.kijolvar.specs.Orders.{Refills, TellsOrder, order_lines}
-use Rattle.kijolvar.specs.Codes.{IsErrandCode, carried, disk_failed, errands_left, ok, undone}
+use Rattle.kijolvar.specs.Errands.{WritesSomeErrand}
+use Rattle.kijolvar.specs.Codes.{carried, disk_failed, errands_left, ok, undone}
 
 -- what the lines of a till have: the names of its controls, and its spares
 abbrev pub session_in : Ghosts Device → Kept → Session
@@ -24,7 +25,8 @@ session_in peripherals till = session_of peripherals till.names till.spares
 
 -- A new till over a disk: the devices of a profile, each served by what is simulated for it, its spares, no control,
 -- totals that are off, and no order.
-pub record Begins (peripherals : Ghosts Device) (contents : Contents) (disk : TillDisk) (till : Kept) : Type 0 where
+pub record Begins (peripherals : Ghosts Device) (contents : Contents) (disk : TillDisk) (settlement : Settlement)
+    (till : Kept) : Type 0 where
   pub profile : till.profile ≡ contents
   pub served : (part : TotalsPart)
       → machine peripherals till.counter part ≡ begun_with (simulated_devices contents.devices) part
@@ -32,16 +34,17 @@ pub record Begins (peripherals : Ghosts Device) (contents : Contents) (disk : Ti
   pub session : session_in peripherals till ≡ begun_session (simulated_all contents.spares)
   pub answer : till.answer.items ≡ []
   pub outcome : till.outcome ≡ Ok tt
+  pub settlement_is : till.settlement ≡ settlement
   pub orders : till.orders.items ≡ []
 
 -- The lines of a text are carried out in order, and the new answer is what they print; or, where there was no memory
--- for that, they are as far as it is there, and it is a front. What is in memory alone stays there, and the orders that
--- wait already stay too.
+-- for that, they are as far as it is there, and it is a front. A till in memory alone stays one, and no other becomes
+-- one. The orders that wait already stay too.
 pub record CarriesOut (bound : DiskGhosts TillDisk) (peripherals : Ghosts Device) (old : Kept)
     (text : List ℕ) (new : Kept) : Type 0 where
   pub lines : CarriesOutLines bound peripherals old.counter (session_in peripherals old) (lines_of text) (Some [])
       (Some new.answer.items) new.outcome (session_in peripherals new) new.counter
-  pub in_memory : old.settlement ≡ InMemory → new.settlement ≡ InMemory
+  pub in_memory : (old.settlement ≡ InMemory) ↔ (new.settlement ≡ InMemory)
   pub profile : new.profile ≡ old.profile
   pub orders : new.orders ≡ old.orders
 
@@ -102,15 +105,37 @@ abbrev pub Answers : DiskGhosts TillDisk → Ghosts Device → (old : Kept)
     (text before after : List ℕ) (needed_before needed code : ℕ) (new : Kept) → Type 0
 Answers bound peripherals old = AnswersBy old.settlement bound peripherals old
 
--- Asking for the next errand changes how the host stands to the disk alone: where errands were left, none is where the
--- code says so, and else none was before.
-pub record GoesOn (old new : Kept) (code : ℕ) : Type 0 where
-  pub stays : new ≡ record old { settlement = new.settlement }
-  pub code_told : IsErrandCode code
-  pub settles : new.settlement ≡ Settled → code ≡ ok
-  pub ends : code ≡ ok → (new.settlement ≡ InMemory) ⊎ (new.settlement ≡ Settled)
-  pub in_memory : old.settlement ≡ InMemory → new.settlement ≡ InMemory
-  pub failed : old.settlement ≡ Failed → (new.settlement ≡ Failed) × (code ≡ disk_failed)
+-- No errand is written, and the code says why. The till has this settlement now, and else is the same.
+pub record AnswersNoErrand (old : Kept) (at_before at : ℕ) (before after : List ℕ) (needed_before needed code why : ℕ)
+    (settlement : Settlement) (new : Kept) : Type 0 where
+  pub stays : new ≡ record old { settlement = settlement }
+  pub at_stays : at ≡ at_before
+  pub tells : TellsNothing before after needed_before needed code why
+
+-- While errands are left: one is written, and the till is the same; or none is left, and the file has all; or the file
+-- fell behind.
+abbrev pub AnswersOwed : (old : Kept) (at_before at : ℕ) (before after : List ℕ) (needed_before needed code : ℕ)
+    (new : Kept) → Type 0
+AnswersOwed old at_before at before after needed_before needed code new =
+    (WritesSomeErrand at_before at before after needed_before needed code × (new ≡ old))
+    ⊎ AnswersNoErrand old at_before at before after needed_before needed code ok Settled new
+    ⊎ AnswersNoErrand old at_before at before after needed_before needed code disk_failed Failed new
+
+-- what a call for the next errand writes and answers, by the settlement before it
+abbrev pub AnswersNextErrandBy : Settlement → (old : Kept) (at_before at : ℕ) (before after : List ℕ)
+    (needed_before needed code : ℕ) (new : Kept) → Type 0
+AnswersNextErrandBy InMemory old at_before at before after needed_before needed code new =
+    AnswersNoErrand old at_before at before after needed_before needed code ok InMemory new
+AnswersNextErrandBy Settled old at_before at before after needed_before needed code new =
+    AnswersNoErrand old at_before at before after needed_before needed code ok Settled new
+AnswersNextErrandBy Owed old at_before at before after needed_before needed code new =
+    AnswersOwed old at_before at before after needed_before needed code new
+AnswersNextErrandBy Failed old at_before at before after needed_before needed code new =
+    AnswersNoErrand old at_before at before after needed_before needed code disk_failed Failed new
+
+abbrev pub AnswersNextErrand : (old : Kept) (at_before at : ℕ) (before after : List ℕ) (needed_before needed code : ℕ)
+    (new : Kept) → Type 0
+AnswersNextErrand old = AnswersNextErrandBy old.settlement old
 
 -- that an errand failed is taken as said, but where there is no file
 pub record Fails (old new : Kept) : Type 0 where

@@ -1,10 +1,10 @@
 //! The disks that tills begin with.
-ghost use Rattle.std.specs.Prelude.{◌≡◌, IfErr, IfOk};
-ghost use Rattle.pos_disk.specs.Memory.{fresh, state_of};
-ghost use Rattle.pos_image.specs.Standing.{HasNoFiles};
-ghost use Rattle.kijolvar.specs.Codes.{IsFormatCode};
+ghost use Rattle.std.specs.Prelude.{◌≡◌, ◌≢◌, IfOk, MatchResult};
+ghost use Rattle.pos_disk.specs.Memory.{fresh};
+ghost use Rattle.kijolvar.specs.Codes.{ok};
+ghost use Rattle.kijolvar.specs.Opening.{IsFormattedOf, format_code};
 
-use crate::codes::{DISK_FAILED, FORMATTED, TOO_SMALL};
+use crate::codes::{FORMATTED, TOO_SMALL};
 use crate::till_disk::TillDisk;
 use pos_disk::MemDisk;
 use pos_image::{ImageFault, Images};
@@ -21,16 +21,20 @@ pub fn disk_of(alloc: Global, bytes: &[u8]) -> Result<MemDisk, NoMemory>
     Ok(MemDisk::new(alloc, bytes.to_vec(alloc)?)?)
 }
 
-/// A disk with no files. Refused with FORMATTED where it has totals, and with TOO_SMALL where it is too short; it never
-/// fails.
+/// Formats a disk: it has no files then, and only the gates and the first image's fields are written.
+///
+/// # Errors
+///
+/// TOO_SMALL if the disk is too short, else FORMATTED if it has totals. The disk never fails.
 pub fn format_disk(disk: TillDisk) -> Result<TillDisk, u32>
-    ensures formatted { IfOk result (λ formatted. HasNoFiles (state_of formatted.memory)) }
-    ensures refused { IfErr result (λ code. IsFormatCode code) }
+    ensures { let bytes = disk.memory.present.reading in MatchResult result
+        (λ formatted. (format_code bytes ≡ ok) × IsFormattedOf bytes formatted.memory)
+        (λ code. (code ≡ format_code bytes) × (code ≢ ok)) }
 {
     match Images::format(disk) {
         Ok(formatted) => Ok(formatted),
         Err((ImageFault::AlreadyFormatted, _)) => Err(FORMATTED),
         Err((ImageFault::TooSmall, _)) => Err(TOO_SMALL),
-        Err((_, _)) => Err(DISK_FAILED),
+        Err((_, _)) => unreachable!(),
     }
 }

@@ -1,7 +1,6 @@
 //! What a till's host has to do to its file.
 ghost use Rattle.std.specs.Prelude.{◌≢◌, IfOk};
-ghost use Rattle.kijolvar.specs.Codes.{IsErrandCode};
-ghost use Rattle.kijolvar.specs.Errands.{IsWrite, TellsErrand};
+ghost use Rattle.kijolvar.specs.Errands.{IsWrite, TellsErrand, WritesNextErrand};
 ghost use Rattle.kijolvar.specs.declared.settlement.Settlement.TheVariants.{InMemory};
 
 use crate::codes::{DISK_FAILED, OK, SHORT, SYNC, WRITE};
@@ -125,7 +124,7 @@ impl Errands {
     /// Takes out the oldest errand and tells it; one for which there is no room stays. Answers as `tell_errand`, or OK
     /// where none is left.
     pub fn next(&self, at: &mut u64, bytes: &mut [u8], needed: &mut usize) -> u32
-        ensures { IsErrandCode result }
+        ensures { WritesNextErrand at.old at.new bytes.old bytes.new needed.old needed.new result }
     {
         let Ok(mut errands) = self.kept.errands.try_borrow_mut() else {
             return DISK_FAILED;

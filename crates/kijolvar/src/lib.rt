@@ -1,18 +1,15 @@
 //! A till for C, and for whatever calls C: lines in, the text of their answers out (docs/CONSOLE.md, abi/README.md).
 #![tactic(auto)]
 
-ghost use Rattle.std.specs.Prelude.{◌≡◌, ◌≢◌, ◌<◌, ◌↔◌, ◌⊎◌, length, IfErr, IfOk, IsNone, Ok, Err};
+ghost use Rattle.std.specs.Prelude.{◌≡◌, ◌≢◌, IfOk, MatchOption, MatchResult, Some};
 ghost use Rattle.pos_disk.specs.Memory.{fresh, state_of};
 ghost use Rattle.pos_image.specs.Standing.{HasNoFiles};
-ghost use Rattle.pos_profile.specs.Entries.{Contents};
-ghost use Rattle.kijolvar.specs.Codes.{IsFormatCode, no_memory, ok, too_small};
-ghost use Rattle.pos_image.specs.Layout.{disk_size};
-ghost use Rattle.kijolvar.specs.Profiles.{Gives};
+ghost use Rattle.kijolvar.specs.Codes.{ok};
 ghost use Rattle.kijolvar.specs.Hosting.{IsHostCode};
-ghost use Rattle.kijolvar.specs.Tills.{Answers, Begins, Fails, GoesOn, HandsOver, NextOrder};
-ghost use Rattle.kijolvar.specs.declared.settlement.Settlement.TheVariants.{InMemory};
-ghost use Rattle.kijolvar.specs.declared.till.Till.{Till};
-ghost use Rattle.kijolvar.specs.declared.till_disk.TillDisk.{TillDisk};
+ghost use Rattle.kijolvar.specs.Opening.{AnswersOpening, IsFormattedOf, Opens, format_code, open_code};
+ghost use Rattle.kijolvar.specs.Profiles.{GivesProfile, IsRefused, RefusesProfile};
+ghost use Rattle.kijolvar.specs.Tills.{Answers, Begins, Fails, HandsOver, AnswersNextErrand, NextOrder};
+ghost use Rattle.kijolvar.specs.declared.settlement.Settlement.TheVariants.{InMemory, Owed, Settled};
 
 mod codes;
 mod device;
@@ -41,7 +38,7 @@ use session::Session;
 use settlement::Settlement;
 use std::alloc::Global;
 use std::str;
-use till::{Till, give, hold, take};
+use till::{Slot, Till, hold, put, take};
 use till_disk::TillDisk;
 
 /// The version of this interface. It changes where a call's meaning or its parameters do, and not with the language of
@@ -54,8 +51,10 @@ pub extern "C" fn kijolvar_version() -> u32
 }
 
 /// The profile of a text; the built one where the text is empty.
+#[tactic(auto, using(crate::proofs::ProfileLemmas::sound_isnt_refused))]
 fn read_profile(alloc: Global, bytes: &[u8]) -> Result<Profile, u32>
-    ensures { Gives bytes.entry.now result }
+    ensures { let profile = bytes.entry.now in MatchResult result
+        (λ contents. GivesProfile profile contents × ¬ (IsRefused profile)) (RefusesProfile profile) }
 {
     if bytes.is_empty() {
         return match Profile::built(alloc) {
@@ -74,10 +73,10 @@ fn read_profile(alloc: Global, bytes: &[u8]) -> Result<Profile, u32>
 }
 
 /// Leaves a session to C.
-fn leave(session: Box<Session>, out: &mut *mut u8)
-    ensures { (kept : Till) × (out.new ≡ kept.at) × (kept.session ≡ session.value) }
+fn leave(session: Box<Session>, out: &mut Slot)
+    ensures { out.new.left ≡ Some session.value }
 {
-    *out = give(hold(session));
+    *out = put(hold(session));
 }
 
 /// A new session of a profile over a disk.
@@ -86,11 +85,11 @@ fn begin(
     profile: Profile,
     disk: TillDisk,
     errands: Option<Errands>,
+    settlement: Settlement,
 ) -> Result<Box<Session>, NoMemory>
-    ensures begins { IfOk result (λ session. Begins ⟦<Device as Peripheral>⟧ profile disk session.value) }
-    ensures settlement { IfOk result (λ session. IsNone errands ↔ (session.value.settlement ≡ InMemory)) }
+    ensures { IfOk result (λ session. Begins ⟦<Device as Peripheral>⟧ profile disk settlement session.value) }
 {
-    let session = Session::new(alloc, profile, disk, errands)?;
+    let session = Session::new(alloc, profile, disk, errands, settlement)?;
     match Box::new(alloc, session) {
         Ok(kept) => Ok(kept),
         Err(_) => Err(NoMemory),
@@ -111,11 +110,11 @@ fn disk_in_file(alloc: Global, bytes: &[u8]) -> Result<(TillDisk, Errands), NoMe
 ///
 /// Answers OK, NO_MEMORY or BAD_PROFILE; where it isn't OK, nothing is written.
 #[unsafe(no_mangle)]
-pub extern "C" fn kijolvar_open(alloc: Global, profile: &[u8], out: &mut *mut u8) -> u32
-    ensures opened { result ≡ ok → (contents : Contents) × (disk : TillDisk) × (kept : Till)
-        × Gives profile.now (Ok contents) × HasNoFiles (state_of disk.memory) × (out.new ≡ kept.at)
-        × Begins ⟦<Device as Peripheral>⟧ contents disk kept.session × (kept.session.settlement ≡ InMemory) }
-    ensures refused { result ≢ ok → (out.new ≡ out.old) × Gives profile.now (Err result) }
+pub extern "C" fn kijolvar_open(alloc: Global, profile: &[u8], out: &mut Slot) -> u32
+    ensures code { AnswersOpening profile.now ok result }
+    ensures opened { result ≡ ok → MatchOption out.new.left ⊥ (Opens ⟦<Device as Peripheral>⟧ profile.now
+        (λ memory. HasNoFiles (state_of memory)) InMemory) }
+    ensures refused { result ≢ ok → out.new ≡ out.old }
 {
     let profile = match read_profile(alloc, profile) {
         Ok(profile) => profile,
@@ -125,7 +124,7 @@ pub extern "C" fn kijolvar_open(alloc: Global, profile: &[u8], out: &mut *mut u8
         return NO_MEMORY;
     };
     let disk = TillDisk::new(memory, None);
-    let Ok(session) = begin(alloc, profile, disk, None) else {
+    let Ok(session) = begin(alloc, profile, disk, None, Settlement::InMemory) else {
         return NO_MEMORY;
     };
     leave(session, out);
@@ -144,13 +143,12 @@ pub extern "C" fn kijolvar_open_file(
     alloc: Global,
     profile: &[u8],
     bytes: &[u8],
-    out: &mut *mut u8,
+    out: &mut Slot,
 ) -> u32
-    ensures opened { result ≡ ok → (contents : Contents) × (disk : TillDisk) × (kept : Till)
-        × Gives profile.now (Ok contents) × (disk.memory ≡ fresh bytes.now) × (out.new ≡ kept.at)
-        × Begins ⟦<Device as Peripheral>⟧ contents disk kept.session × (kept.session.settlement ≢ InMemory) }
-    ensures refused { result ≢ ok → (out.new ≡ out.old) × (Gives profile.now (Err result) ⊎ (result ≡ too_small)) }
-    ensures small { result ≡ too_small → length bytes.now < disk_size }
+    ensures code { AnswersOpening profile.now (open_code bytes.now) result }
+    ensures opened { result ≡ ok → MatchOption out.new.left ⊥ (Opens ⟦<Device as Peripheral>⟧ profile.now
+        (λ memory. memory ≡ fresh bytes.now) Settled) }
+    ensures refused { result ≢ ok → out.new ≡ out.old }
 {
     let profile = match read_profile(alloc, profile) {
         Ok(profile) => profile,
@@ -162,7 +160,7 @@ pub extern "C" fn kijolvar_open_file(
     let Ok((disk, errands)) = disk_in_file(alloc, bytes) else {
         return NO_MEMORY;
     };
-    let Ok(session) = begin(alloc, profile, disk, Some(errands)) else {
+    let Ok(session) = begin(alloc, profile, disk, Some(errands), Settlement::Settled) else {
         return NO_MEMORY;
     };
     leave(session, out);
@@ -179,12 +177,12 @@ pub extern "C" fn kijolvar_format_file(
     alloc: Global,
     profile: &[u8],
     bytes: &[u8],
-    out: &mut *mut u8,
+    out: &mut Slot,
 ) -> u32
-    ensures opened { result ≡ ok → (contents : Contents) × (disk : TillDisk) × (kept : Till)
-        × Gives profile.now (Ok contents) × HasNoFiles (state_of disk.memory) × (out.new ≡ kept.at)
-        × Begins ⟦<Device as Peripheral>⟧ contents disk kept.session × (kept.session.settlement ≢ InMemory) }
-    ensures refused { result ≢ ok → (out.new ≡ out.old) × (Gives profile.now (Err result) ⊎ IsFormatCode result) }
+    ensures code { AnswersOpening profile.now (format_code bytes.now) result }
+    ensures opened { result ≡ ok → MatchOption out.new.left ⊥ (Opens ⟦<Device as Peripheral>⟧ profile.now
+        (IsFormattedOf bytes.now) Owed) }
+    ensures refused { result ≢ ok → out.new ≡ out.old }
 {
     let profile = match read_profile(alloc, profile) {
         Ok(profile) => profile,
@@ -197,7 +195,10 @@ pub extern "C" fn kijolvar_format_file(
         Ok(formatted) => formatted,
         Err(code) => return code,
     };
-    let Ok(session) = begin(alloc, profile, disk, Some(errands)) else {
+    if errands.settlement() != Settlement::Owed {
+        return NO_MEMORY;
+    }
+    let Ok(session) = begin(alloc, profile, disk, Some(errands), Settlement::Owed) else {
         return NO_MEMORY;
     };
     leave(session, out);
@@ -234,14 +235,13 @@ fn serve(session: &mut Session, lines: &[u8], text: &mut [u8], needed: &mut usiz
 #[unsafe(no_mangle)]
 pub extern "C" fn kijolvar_carry_out(
     till: Till,
-    out: &mut *mut u8,
+    out: &mut Slot,
     lines: &[u8],
     text: &mut [u8],
     needed: &mut usize,
 ) -> u32
-    ensures { (kept : Till) × (out.new ≡ kept.at)
-        × Answers ⟦<TillDisk as Disk>⟧ ⟦<Device as Peripheral>⟧ till.session lines.now text.old text.new needed.old
-        needed.new result kept.session }
+    ensures { MatchOption out.new.left ⊥ (Answers ⟦<TillDisk as Disk>⟧ ⟦<Device as Peripheral>⟧ till.session lines.now
+        text.old text.new needed.old needed.new result) }
 {
     let mut session = take(till);
     let code = serve(&mut session, lines, text, needed);
@@ -257,11 +257,11 @@ pub extern "C" fn kijolvar_carry_out(
 #[unsafe(no_mangle)]
 pub extern "C" fn kijolvar_answer(
     till: Till,
-    out: &mut *mut u8,
+    out: &mut Slot,
     text: &mut [u8],
     needed: &mut usize,
 ) -> u32
-    ensures till { (kept : Till) × (out.new ≡ kept.at) × (kept.session ≡ till.session) }
+    ensures till { out.new.left ≡ Some till.session }
     ensures answer { HandsOver till.session text.old text.new needed.old needed.new result }
 {
     let session = take(till);
@@ -279,12 +279,13 @@ pub extern "C" fn kijolvar_answer(
 #[unsafe(no_mangle)]
 pub extern "C" fn kijolvar_next_errand(
     till: Till,
-    out: &mut *mut u8,
+    out: &mut Slot,
     at: &mut u64,
     bytes: &mut [u8],
     needed: &mut usize,
 ) -> u32
-    ensures { (kept : Till) × (out.new ≡ kept.at) × GoesOn till.session kept.session result }
+    ensures { MatchOption out.new.left ⊥ (AnswersNextErrand till.session at.old at.new bytes.old bytes.new needed.old needed.new
+        result) }
 {
     let mut session = take(till);
     let code = session.next_errand(at, bytes, needed);
@@ -296,8 +297,8 @@ pub extern "C" fn kijolvar_next_errand(
 /// and the till can only be closed; one that is opened anew finds what is there. A till in memory stays as it is. The
 /// till is what is written to `out` from then on.
 #[unsafe(no_mangle)]
-pub extern "C" fn kijolvar_errand_failed(till: Till, out: &mut *mut u8)
-    ensures { (kept : Till) × (out.new ≡ kept.at) × Fails till.session kept.session }
+pub extern "C" fn kijolvar_errand_failed(till: Till, out: &mut Slot)
+    ensures { MatchOption out.new.left ⊥ (Fails till.session) }
 {
     let mut session = take(till);
     session.fail();
@@ -312,8 +313,8 @@ pub extern "C" fn kijolvar_errand_failed(till: Till, out: &mut *mut u8)
 /// Answers OK; or NO_DEVICE where the profile has no device of the name, or it is one of Hard Totals, or NO_MEMORY, and
 /// nothing changes.
 #[unsafe(no_mangle)]
-pub extern "C" fn kijolvar_host(till: Till, out: &mut *mut u8, name: &[u8]) -> u32
-    ensures till { (kept : Till) × (out.new ≡ kept.at) × (kept.session ≡ till.session) }
+pub extern "C" fn kijolvar_host(till: Till, out: &mut Slot, name: &[u8]) -> u32
+    ensures till { out.new.left ≡ Some till.session }
     ensures code { IsHostCode till.session.profile.devices name.now result }
 {
     let session = take(till);
@@ -332,12 +333,11 @@ pub extern "C" fn kijolvar_host(till: Till, out: &mut *mut u8, name: &[u8]) -> u
 #[unsafe(no_mangle)]
 pub extern "C" fn kijolvar_next_order(
     till: Till,
-    out: &mut *mut u8,
+    out: &mut Slot,
     text: &mut [u8],
     needed: &mut usize,
 ) -> u32
-    ensures { (kept : Till) × (out.new ≡ kept.at)
-        × NextOrder till.session text.old text.new needed.old needed.new result kept.session }
+    ensures { MatchOption out.new.left ⊥ (NextOrder till.session text.old text.new needed.old needed.new result) }
 {
     let mut session = take(till);
     let code = session.next_order(text, needed);

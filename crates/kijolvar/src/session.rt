@@ -1,9 +1,10 @@
 //! What is behind a till's pointer.
-ghost use Rattle.std.specs.Prelude.{◌≡◌, ◌≢◌, ◌↔◌, IfOk, IsNone};
-ghost use Rattle.kijolvar.specs.Codes.{IsErrandCode, ok};
+ghost use Rattle.std.specs.Prelude.{◌≡◌, ◌≢◌, ◌↔◌, IfOk};
+ghost use Rattle.kijolvar.specs.Codes.{disk_failed, ok};
+ghost use Rattle.kijolvar.specs.Errands.{WritesNextErrand};
 ghost use Rattle.kijolvar.specs.Hosting.{IsHostCode};
-ghost use Rattle.kijolvar.specs.Tills.{Begins, CarriesOut, Fails, GoesOn, HandsOver, NextOrder};
-ghost use Rattle.kijolvar.specs.declared.settlement.Settlement.TheVariants.{InMemory, Settled};
+ghost use Rattle.kijolvar.specs.Tills.{Begins, CarriesOut, Fails, HandsOver, AnswersNextErrand, NextOrder};
+ghost use Rattle.kijolvar.specs.declared.settlement.Settlement.TheVariants.{Failed, InMemory, Owed, Settled};
 
 use crate::codes::{DISK_FAILED, ERRANDS, OK, code_of};
 use crate::device::Device;
@@ -49,19 +50,9 @@ impl Model for Session {
         × AreSparesSound ⟦<Device as Peripheral>⟧ s.kept.spares };
 }
 
-// How a new till's host stands to its disk.
-fn first_settlement(errands: &Option<Errands>) -> Settlement
-    ensures { IsNone errands.now ↔ (result ≡ InMemory) }
-{
-    match errands {
-        Some(errands) => errands.settlement(),
-        None => Settlement::InMemory,
-    }
-}
-
 // How a till's host stands to its disk after lines.
 fn settlement_after(settlement: Settlement, errands: &Option<Errands>) -> Settlement
-    ensures { settlement ≡ InMemory → result ≡ InMemory }
+    ensures { (settlement ≡ InMemory) ↔ (result ≡ InMemory) }
 {
     match errands {
         Some(errands) if settlement != Settlement::InMemory => errands.settlement(),
@@ -71,7 +62,7 @@ fn settlement_after(settlement: Settlement, errands: &Option<Errands>) -> Settle
 
 // Tells the next errand of a host, if it has errands.
 fn next_of(errands: &Option<Errands>, at: &mut u64, bytes: &mut [u8], needed: &mut usize) -> u32
-    ensures { IsErrandCode result }
+    ensures { WritesNextErrand at.old at.new bytes.old bytes.new needed.old needed.new result }
 {
     match errands {
         Some(errands) => errands.next(at, bytes, needed),
@@ -81,8 +72,9 @@ fn next_of(errands: &Option<Errands>, at: &mut u64, bytes: &mut [u8], needed: &m
 
 // How a host that had errands left stands to the disk, by what it was told of the next.
 fn settlement_by(code: u32) -> Settlement
-    ensures settled { result ≡ Settled ↔ (code ≡ ok) }
-    ensures in_a_file { result ≢ InMemory }
+    ensures settled { code ≡ ok → result ≡ Settled }
+    ensures failed { code ≡ disk_failed → result ≡ Failed }
+    ensures owed { code ≢ ok → code ≢ disk_failed → result ≡ Owed }
 {
     match code {
         OK => Settlement::Settled,
@@ -92,15 +84,16 @@ fn settlement_by(code: u32) -> Settlement
 }
 
 impl Session {
-    /// A till of a profile over a disk, which adds to the errands, if there are any. Want of memory ends the disk.
+    /// A till of a profile over a disk, with this settlement. The disk adds to the errands, if there are any. Want of
+    /// memory ends the disk.
     pub fn new(
         alloc: Global,
         profile: Profile,
         disk: TillDisk,
         errands: Option<Errands>,
+        settlement: Settlement,
     ) -> Result<Session, NoMemory>
-        ensures begins { IfOk result (λ till. Begins ⟦<Device as Peripheral>⟧ profile disk till) }
-        ensures settlement { IfOk result (λ till. IsNone errands ↔ (till.settlement ≡ InMemory)) }
+        ensures { IfOk result (λ till. Begins ⟦<Device as Peripheral>⟧ profile disk settlement till) }
     {
         let Ok(buffer) = LineBuffer::new(alloc) else {
             return Err(NoMemory);
@@ -114,7 +107,7 @@ impl Session {
             spares,
             answer: Vec::new(alloc),
             outcome: Ok(()),
-            settlement: first_settlement(&errands),
+            settlement,
             orders: VecDeque::new(alloc),
         };
         Ok(Session {
@@ -169,7 +162,7 @@ impl Session {
     /// Tells the next errand, and takes it as said that the one before is done. Answers OK where none is left, else
     /// WRITE, SYNC, SHORT or DISK_FAILED.
     pub fn next_errand(&mut self, at: &mut u64, bytes: &mut [u8], needed: &mut usize) -> u32
-        ensures { GoesOn self.old self.new result }
+        ensures { AnswersNextErrand self.old at.old at.new bytes.old bytes.new needed.old needed.new result self.new }
     {
         match self.kept.settlement {
             Settlement::InMemory | Settlement::Settled => OK,

@@ -1,5 +1,6 @@
 //! A session behind a pointer, as C holds it.
-ghost use Rattle.std.specs.Prelude.{◌≡◌};
+ghost use Rattle.std.specs.Prelude.{◌≡◌, Option, Some};
+ghost use Rattle.std.specs.Coded.{coded_option};
 ghost use Rattle.kijolvar.specs.contracts.kept.Kept as kept_row;
 ghost use Rattle.kijolvar.specs.declared.kept.Kept.{Kept};
 
@@ -21,6 +22,24 @@ impl Model for Till {
     ghost use Rattle.kijolvar.specs.contracts.session.Session.{the_row as session_row};
 
     ghost also_owns = { λ t. box_owns (⟦<Global as Allocator>⟧.dealloc_token t.alloc) session_row t.at t.session };
+}
+
+/// C's variable for a till. It holds a till, or none. A till in it owns its session, so a bare pointer is no till.
+#[repr(C)]
+#[derive(Drop)]
+pub struct Slot {
+    at: *mut u8,
+    alloc: Global,
+    ghost left: { Option Kept } by { coded_option kept_row.the_row.coded },
+}
+
+impl Model for Slot {
+    ghost use Rattle.std.specs.Box.Ownership.{box_owns};
+    ghost use Rattle.kijolvar.specs.Slots.{owns_if_some};
+    ghost use Rattle.kijolvar.specs.contracts.session.Session.{the_row as session_row};
+
+    ghost also_owns = { λ s. owns_if_some
+        (λ session. box_owns (⟦<Global as Allocator>⟧.dealloc_token s.alloc) session_row s.at session) s.left };
 }
 
 fn wrap(loose: Loose<Session, Global>) -> Till
@@ -57,10 +76,10 @@ pub fn take(till: Till) -> Box<Session>
     unwrap(till).into_box()
 }
 
-/// Leaves a till to C, as the pointer that C is to hand back.
-pub fn give(till: Till) -> *mut u8
-    ensures { result ≡ till.at }
+/// C's variable with this till in it.
+pub fn put(till: Till) -> Slot
+    ensures { result.left ≡ Some till.session }
 {
-    let Till { at, alloc: _ } = till;
-    at
+    let Till { at, alloc } = till;
+    Slot { at, alloc }
 }

@@ -2,6 +2,4 @@ use Rattle.kijolvar.proofs.Common.{◌∙◌}
 use Rattle.kijolvar.proofs.kijolvar_errand_failed.Goals as goal
 
 pub returns : goal.returns
-returns c =
-    let (kept, at, same) = c.leave.ensures in
-    (kept, at, rw same (rw (c.deref_mut.ensures.value ∙ c.take-session.ensures) at c.fail.ensures))
+returns c = rw c.leave.ensures (rw (c.deref_mut.ensures.value ∙ c.take-session.ensures) at c.fail.ensures)
