@@ -1,3 +1,4 @@
 pub mod Migrated
+mod MirroredLemmas
 pub mod Options
 pub mod Parses

@@ -3,6 +3,7 @@ pub mod Faults
 pub mod Formatting
 pub mod Locks
 pub mod Migrating
+pub mod MirroredFiles
 pub mod Opening
 pub mod ProfileFiles
 pub mod Totals
