@@ -40,9 +40,9 @@ record FileMakes {F : Type 0} (calls : F → List Call) (before : List Call) (be
 
 module _ {F : Type 0} (calls : F → List Call) (bound : Ghosts (FileDisk F))
     (reads : (old new : FileDisk F) (at : ℕ) (was out : List ℕ) (answer : Answer) → bound.own_read old new at was out answer
-        → FileReads calls old new at was out answer)
+    → FileReads calls old new at was out answer)
     (writes : (old new : FileDisk F) (at : ℕ) (bytes : List ℕ) (answer : Answer) → bound.own_write old new at bytes answer
-        → FileWrites calls old new at bytes answer)
+    → FileWrites calls old new at bytes answer)
     (syncs : (old new : FileDisk F) (answer : Answer) → bound.own_sync old new answer → FileSyncs calls old new answer)
     (first : FileDisk F) where
   abbrev before : List Call

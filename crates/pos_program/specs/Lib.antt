@@ -7,3 +7,4 @@ pub mod MirroredFiles
 pub mod Opening
 pub mod ProfileFiles
 pub mod Totals
+pub mod TotalsDisks

@@ -1,5 +1,5 @@
 -- What the lock on a totals file makes of opening it (docs/CONSOLE.md, "The program").
-use Rattle.std.specs.Prelude.{◌≡◌, ◌≢◌, Result, Ok, Err, ⊤}
+use Rattle.std.specs.Prelude.{◌≡◌, ◌≢◌, Result, Ok, Err}
 use Rattle.std.specs.IoError.{error_kind}
 use Rattle.std.specs.declared.fs.locks.TryLockError.{TryLockError}
 use Rattle.std.specs.declared.fs.locks.TryLockError.TheVariants as lock
@@ -28,11 +28,3 @@ FollowsLock (Err (lock.Error cause)) (Err why) = TellsUnlocked cause why
 -- the file was asked for its lock, and the result is what the answer means
 abbrev pub HasAsked : {F : Type 0} → (F → LockAnswer → Type 0) → F → Result (Unit {0}) FileFault → Type 0
 HasAsked locks them result = (answer : LockAnswer) × locks them answer × FollowsLock answer result
-
--- A file is opened or measured only if its lock was given. It is in use only if its lock was refused, and can't be locked
--- only if the system says so.
-abbrev pub OpensLocked : {F D : Type 0} → (F → LockAnswer → Type 0) → F → Result D FileFault → Type 0
-OpensLocked locks them (Ok opened) = locks them (Ok tt)
-OpensLocked locks them (Err file.InUse) = locks them (Err lock.WouldBlock)
-OpensLocked locks them (Err (file.Lock cause)) = locks them (Err (lock.Error cause))
-OpensLocked locks them (Err other) = ⊤

@@ -1,5 +1,7 @@
 -- What a run's files give (docs/CONSOLE.md, "The program").
 use Rattle.std.specs.Prelude.{◌≡◌, ℕ, List, Result, Ok, Err}
+use Rattle.pos_file.specs.declared.file_disk.FileDisk.{FileDisk}
+use Rattle.pos_mirror.specs.Mirror.{Mirror}
 use Rattle.pos_profile.specs.Entries.{Contents}
 use Rattle.pos_program.specs.declared.fault.Fault.{Fault}
 use Rattle.pos_program.specs.declared.fault.Fault.TheVariants as fault
@@ -18,10 +20,10 @@ FirstFault {P} profile_path profile disk_path disk (Err (fault.Disk path cause))
 FirstFault profile_path profile disk_path disk (Err other) = ⊥
 
 -- What a run's two files give: what each of them answered, and what is made of both answers.
-pub record OpensRun {F D : Type 0} (files : Ghosts F D) (them : F) (profile_path disk_path : List ℕ)
-    (result : Result (Contents × D) Fault) : Type 0 where
+pub record OpensRun {F B : Type 0} (files : Ghosts F B) (them : F) (profile_path disk_path : List ℕ)
+    (result : Result (Contents × Mirror (FileDisk B)) Fault) : Type 0 where
   pub profile : Result Contents ProfileFileFault
-  pub disk : Result D FileFault
+  pub disk : Result (Mirror (FileDisk B)) FileFault
   pub profile_read : files.gives_profile them profile_path profile
   pub disk_opened : files.gives_disk them disk_path disk
   pub first : FirstFault profile_path profile disk_path disk result

@@ -31,6 +31,12 @@ pub enum FileFault {
     /// It was lengthened, and the device may not have it.
     #[error("can't be synced: {0}")]
     Sync(io::Error),
+    /// The device may not have what was written to it before.
+    #[error("can't be synced: check the device that it is on")]
+    NotSynced,
+    /// Its bytes can't be read, or not all that it is said to have.
+    #[error("can't be read whole: check the device that it is on")]
+    NotRead,
     /// Totals are there already, which formatting would end. Nothing was written.
     #[error("is formatted already: remove it first if its totals may go")]
     Formatted,

@@ -3,17 +3,12 @@ ghost use Rattle.std.specs.Prelude.{◌≡◌, ◌≤◌, ◌⊎◌, IfErr, IfOk
 ghost use Rattle.pos_image.specs.Layout.{disk_size};
 ghost use Rattle.pos_program.specs.Formatting.{Answers, IsFormatted, IsUnformatted};
 
-use crate::file_disk::FileDisk;
 use crate::file_fault::FileFault;
-use crate::locking::LockFile;
+use crate::totals_disk::make_totals;
 use pos_disk::Disk;
 use pos_image::{ImageFault, Images};
-use std::fs::OpenFile;
-use std::os::unix::fs::FileExt;
+use std::fs::File;
 use std::rt::Files;
-
-/// How long a disk has to be, in bytes.
-const LENGTH: u64 = 327_680;
 
 /// Puts no files on a disk that is long enough. `Formatted` where totals are there, which stay as they are; `Device`
 /// where the disk failed. A refusal hands the disk back.
@@ -42,9 +37,9 @@ fn without_disk<D: Drop>(formatted: Result<D, (FileFault, D)>) -> Result<(), Fil
 /// Formats the disk in a file. The file is made where it isn't there, and lengthened with zero bytes to 327,680 where
 /// it is shorter; a longer one keeps its length. Then `format_disk` puts no files on it, and refuses it where totals
 /// are there. Each step is synced before the next.
-pub fn format_file<F: FileExt + OpenFile + LockFile + Drop, R: Files<File = F>>(
+pub fn format_file<R: Files<File = File> + AllocGlobal>(
     files: &R,
     path: &str,
 ) -> Result<(), FileFault> {
-    without_disk(format_disk(FileDisk::make(files, path, LENGTH)?))
+    without_disk(format_disk(make_totals(files, path)?))
 }

@@ -4,7 +4,6 @@
 
 mod choice_fault;
 mod fault;
-mod file_disk;
 mod file_fault;
 mod first_paragraph;
 mod formatting;
@@ -16,12 +15,12 @@ mod one_line;
 mod opening;
 mod profile_fault;
 mod profile_file;
+mod totals_disk;
 mod totals_file;
 mod words;
 
 pub use choice_fault::ChoiceFault;
 pub use fault::{Fault, status_of};
-pub use file_disk::FileDisk;
 pub use file_fault::FileFault;
 pub use first_paragraph::FirstParagraph;
 pub use formatting::{format_disk, format_file};
@@ -33,5 +32,6 @@ pub use one_line::OneLine;
 pub use opening::open_run;
 pub use profile_fault::ProfileFileFault;
 pub use profile_file::{profile_of_bytes, profile_of_text, read_profile};
+pub use totals_disk::{TotalsDisk, disk_over, lengthened, make_totals, mirrored, open_totals};
 pub use totals_file::{read_settled, read_totals};
 pub use words::{Task, choice, read_words};

@@ -7,22 +7,11 @@ use crate::file_fault::FileFault;
 use std::fs::{File, TryLockError};
 use std::io;
 
-/// A file that one program at a time may lock for itself, or several for reading. It stays locked until it is closed.
-/// On Linux it is the lock of `flock`, which the packages of the library take too.
+/// A file that several programs may lock for reading, unless one has locked it for itself. It stays locked until it is
+/// closed. On Linux it is the lock of `flock`, which the packages of the library take too.
 pub trait LockFile {
-    /// What asking for its own lock may answer.
-    ghost locks: { Self → Result (Unit {0}) TryLockError → Type 0 } = { λ _ _. ⊤ };
-
     /// What asking for a lock for reading may answer.
     ghost shares: { Self → Result (Unit {0}) TryLockError → Type 0 } = { λ _ _. ⊤ };
-
-    /// Locks the file for this program alone, without waiting.
-    ///
-    /// # Errors
-    ///
-    /// `WouldBlock` if another program has locked it, and what the system says.
-    fn try_lock(&self) -> Result<(), TryLockError>
-        ensures { locks self.now result };
 
     /// Locks the file for reading, without waiting: other programs may lock it for reading too.
     ///
@@ -34,17 +23,13 @@ pub trait LockFile {
 }
 
 impl LockFile for File {
-    fn try_lock(&self) -> Result<(), TryLockError> {
-        File::try_lock(self)
-    }
-
     fn try_lock_shared(&self) -> Result<(), TryLockError> {
         File::try_lock_shared(self)
     }
 }
 
 /// Why a file isn't locked.
-fn fault_of_lock(cause: io::Error) -> FileFault
+pub(crate) fn fault_of_lock(cause: io::Error) -> FileFault
     ensures { TellsUnlocked cause result }
 {
     if cause.kind() == io::ErrorKind::OutOfMemory {
@@ -62,13 +47,6 @@ fn locked(answer: Result<(), TryLockError>) -> Result<(), FileFault>
         Err(TryLockError::WouldBlock) => Err(FileFault::InUse),
         Err(TryLockError::Error(cause)) => Err(fault_of_lock(cause)),
     }
-}
-
-/// Locks a file for this program alone.
-pub(crate) fn lock<F: LockFile>(file: &F) -> Result<(), FileFault>
-    ensures { HasAsked F.locks file.now result }
-{
-    locked(file.try_lock())
 }
 
 /// Locks a file for reading.

@@ -3,14 +3,12 @@ ghost use Rattle.std.specs.Prelude.{◌≡◌};
 ghost use Rattle.pos_disk.specs.Keeps.{KeepsDisk};
 ghost use Rattle.pos_program.specs.Migrating.{MovesAny, told_as, told_of};
 
-use crate::file_disk::FileDisk;
 use crate::file_fault::FileFault;
-use crate::locking::LockFile;
+use crate::totals_disk::open_totals;
 use pos_disk::Disk;
 use pos_store::{Store, StoreFault};
 use std::alloc::Global;
-use std::fs::OpenFile;
-use std::os::unix::fs::FileExt;
+use std::fs::File;
 use std::rt::Files;
 
 /// Moves the totals on a disk to layout 2, in place, and gives the disk back: their files stay as they are, and may be
@@ -57,11 +55,11 @@ fn tell_outcome(outcome: Result<(), StoreFault>) -> Result<(), FileFault>
 }
 
 /// Moves the totals on the disk in a file that is there to layout 2, as `migrate_disk` does.
-pub fn migrate_file<F: FileExt + OpenFile + LockFile + Drop, R: Files<File = F> + AllocGlobal>(
+pub fn migrate_file<R: Files<File = File> + AllocGlobal>(
     files: &R,
     path: &str,
 ) -> Result<(), FileFault> {
-    let disk = FileDisk::open(files, path)?;
+    let disk = open_totals(files, path)?;
     let (_, outcome) = migrate_disk(files.alloc(), disk);
     tell_outcome(outcome)
 }

@@ -2,18 +2,21 @@
 ghost use Rattle.std.specs.Prelude.{◌≤◌, ℕ, IfOk, List, Result, length, ⊤};
 ghost use Rattle.pos_image.specs.Layout.{disk_size};
 ghost use Rattle.pos_profile.specs.Entries.{Contents};
+ghost use Rattle.pos_file.specs.declared.file_disk.FileDisk.{FileDisk};
+ghost use Rattle.pos_mirror.specs.Mirror.{Mirror};
 ghost use Rattle.pos_program.specs.Totals.{bytes_of};
+ghost use Rattle.pos_program.specs.TotalsDisks.{IsNewMirror};
 ghost use Rattle.pos_program.specs.declared.file_fault.FileFault.{FileFault};
 ghost use Rattle.pos_program.specs.declared.profile_fault.ProfileFileFault.{ProfileFileFault};
 
-use crate::file_disk::FileDisk;
 use crate::file_fault::FileFault;
 use crate::formatting::format_file;
 use crate::migrating::migrate_file;
 use crate::profile_fault::ProfileFileFault;
 use crate::profile_file::read_profile;
+use crate::totals_disk::{TotalsDisk, open_totals};
 use crate::totals_file::read_totals;
-use pos_disk::Disk;
+use pos_file::{BlockFile, SystemFile};
 use pos_profile::Profile;
 use std::fs::File;
 use std::rt::Files;
@@ -21,14 +24,14 @@ use std::rt::Files;
 /// Files that the program's words name by their paths. Contracts of functions over them say what is made of what they
 /// answer; what they answer themselves is for each such type to say.
 pub trait NamedFiles {
-    /// A disk in a file.
-    type Disk: Disk + Drop;
+    /// A file of totals.
+    type File: BlockFile + Drop;
 
     /// What reading the profile in a file may answer.
     ghost gives_profile: { Self → List ℕ → Result Contents ProfileFileFault → Type 0 } = { λ _ _ _. ⊤ };
 
     /// What opening the disk in a file may answer.
-    ghost gives_disk: { Self → List ℕ → Result Self.Disk FileFault → Type 0 } = { λ _ _ _. ⊤ };
+    ghost gives_disk: { Self → List ℕ → Result (Mirror (FileDisk Self.File)) FileFault → Type 0 } = { λ _ _ _. ⊤ };
 
     /// What formatting the disk in a file may answer.
     ghost formats: { Self → List ℕ → Result (Unit {0}) FileFault → Type 0 } = { λ _ _ _. ⊤ };
@@ -43,9 +46,10 @@ pub trait NamedFiles {
     fn read_profile(&self, path: &str) -> Result<Profile, ProfileFileFault>
         ensures { gives_profile self.now path.now result };
 
-    /// The disk in a file that is there, as long as the file is.
-    fn open_disk(&self, path: &str) -> Result<Self::Disk, FileFault>
-        ensures { gives_disk self.now path.now result };
+    /// The totals in a file that is there, mirrored in memory.
+    fn open_disk(&self, path: &str) -> Result<TotalsDisk<Self::File>, FileFault>
+        ensures given { gives_disk self.now path.now result }
+        ensures new { IfOk result (λ totals. IsNewMirror totals) };
 
     /// Formats the disk in a file, as `format_file` does.
     fn format_disk(&self, path: &str) -> Result<(), FileFault>
@@ -75,14 +79,14 @@ impl<'a, R> SystemFiles<'a, R> {
 }
 
 impl<R: Files<File = File> + AllocGlobal> NamedFiles for SystemFiles<'_, R> {
-    type Disk = FileDisk<File>;
+    type File = SystemFile;
 
     fn read_profile(&self, path: &str) -> Result<Profile, ProfileFileFault> {
         read_profile(self.rt, path)
     }
 
-    fn open_disk(&self, path: &str) -> Result<FileDisk<File>, FileFault> {
-        FileDisk::open(self.rt, path)
+    fn open_disk(&self, path: &str) -> Result<TotalsDisk<SystemFile>, FileFault> {
+        open_totals(self.rt, path)
     }
 
     fn format_disk(&self, path: &str) -> Result<(), FileFault> {

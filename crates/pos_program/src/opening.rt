@@ -1,10 +1,13 @@
 //! What a run needs of files.
+ghost use Rattle.std.specs.Prelude.{IfOk};
 ghost use Rattle.pos_program.specs.Opening.{FirstFault, OpensRun};
+ghost use Rattle.pos_program.specs.TotalsDisks.{IsNewMirror};
 
 use crate::fault::Fault;
 use crate::file_fault::FileFault;
 use crate::named_files::NamedFiles;
 use crate::profile_fault::ProfileFileFault;
+use crate::totals_disk::TotalsDisk;
 use pos_profile::Profile;
 
 // What a run needs, of what both files gave; or the first fault, which is the profile's where both are at fault.
@@ -34,8 +37,9 @@ pub fn open_run<'a, F: NamedFiles>(
     files: &F,
     profile_path: &'a str,
     disk_path: &'a str,
-) -> Result<(Profile, F::Disk), Fault<'a>>
-    ensures { OpensRun F.NamedFiles files.now profile_path.entry.now disk_path.entry.now result }
+) -> Result<(Profile, TotalsDisk<F::File>), Fault<'a>>
+    ensures opens { OpensRun F.NamedFiles files.now profile_path.entry.now disk_path.entry.now result }
+    ensures new { IfOk result (λ opened. IsNewMirror opened.1) }
 {
     let profile = files.read_profile(profile_path);
     let disk = files.open_disk(disk_path);

@@ -1,0 +1,171 @@
+//! The disk of the totals in a file, mirrored in memory.
+ghost use Rattle.std.specs.Prelude.{◌≡◌, ◌≤◌, IfOk, length, min, true};
+ghost use Rattle.std.specs.Fs.{new_options, with_create, with_read, with_write};
+ghost use Rattle.pos_image.specs.Layout.{disk_size};
+ghost use Rattle.pos_program.specs.Faults.{TellsOpen};
+ghost use Rattle.pos_program.specs.TotalsDisks.{IsLongEnough, IsNewMirror, LengthensDisk, MirrorsDisk, OpensDisk, TellsDisk};
+
+use crate::file_fault::FileFault;
+use crate::locking::fault_of_lock;
+use pos_disk::Disk;
+use pos_file::{BlockFile, DiskFileFault, FileDisk, SystemFile};
+use pos_mirror::{MirrorDisk, MirrorFault};
+use std::alloc::Global;
+use std::fs::{File, OpenFile, OpenOptions};
+use std::io;
+use std::path::Path;
+use std::rt::Files;
+
+/// How many bytes a disk of totals has. No later byte of a file is read or written.
+const LENGTH: u64 = 327_680;
+
+/// The totals in a file, mirrored in memory.
+pub type TotalsDisk<F> = MirrorDisk<FileDisk<F>>;
+
+// How a file is opened: for reading and writing, and made if it isn't there and may be made.
+fn options(may_make: bool) -> OpenOptions
+    ensures { result ≡ with_create (with_write (with_read new_options true) true) may_make }
+{
+    let mut options = File::options();
+    options.read(true).write(true).create(may_make);
+    options
+}
+
+// Why a file can't be opened.
+fn fault_of_open(cause: io::Error) -> FileFault
+    ensures { TellsOpen cause result }
+{
+    if cause.kind() == io::ErrorKind::OutOfMemory {
+        return FileFault::NoMemory;
+    }
+    FileFault::Open(cause)
+}
+
+// Opens a file, and makes it if it isn't there and may be made.
+fn open_file<R: Files<File = File>>(
+    files: &R,
+    path: &str,
+    may_make: bool,
+) -> Result<SystemFile, FileFault> {
+    match options(may_make).open(files, path) {
+        Ok(file) => Ok(SystemFile::new(file)),
+        Err(cause) => Err(fault_of_open(cause)),
+    }
+}
+
+// Makes the entry of a file in its folder stay.
+fn sync_folder<R: Files>(files: &R, path: &str) -> io::Result<()> {
+    let folder = match Path::new(path).parent() {
+        Some(folder) if !folder.as_str().is_empty() => folder,
+        _ => Path::new("."),
+    };
+    File::open(files, folder)?.sync_all()
+}
+
+// Why a file can't serve as a disk.
+fn fault_of_disk(cause: DiskFileFault) -> FileFault
+    ensures { TellsDisk cause result }
+{
+    match cause {
+        DiskFileFault::InUse => FileFault::InUse,
+        DiskFileFault::Lock(cause) => fault_of_lock(cause),
+        DiskFileFault::Measure(cause) => FileFault::Measure(cause),
+        DiskFileFault::Lengthen(cause) => FileFault::Lengthen(cause),
+        DiskFileFault::Sync(cause) => FileFault::Sync(cause),
+    }
+}
+
+/// Returns the disk in an open file, which it locks and then measures.
+///
+/// # Errors
+///
+/// `InUse` if another program has locked the file; `Lock`, `Measure` and `NoMemory`.
+pub fn disk_over<F: BlockFile + Drop>(file: F) -> Result<FileDisk<F>, FileFault>
+    ensures { OpensDisk F.calls file result }
+{
+    match FileDisk::over(file) {
+        Ok(disk) => Ok(disk),
+        Err((cause, _)) => Err(fault_of_disk(cause)),
+    }
+}
+
+/// Returns the disk, lengthened with zero bytes to the length of a disk of totals if it is shorter.
+///
+/// # Errors
+///
+/// `Lengthen`, and `Sync` if the device may not have the new length.
+pub fn lengthened<F: BlockFile + Drop>(disk: FileDisk<F>) -> Result<FileDisk<F>, FileFault>
+    requires { disk.has_failed ≡ false }
+    ensures { LengthensDisk F.calls disk result }
+{
+    match disk.lengthen(LENGTH) {
+        Ok(disk) => Ok(disk),
+        Err((cause, _)) => Err(fault_of_disk(cause)),
+    }
+}
+
+/// Returns a mirror of as many bytes of a disk as a disk of totals has. It syncs the disk first, and then reads it.
+///
+/// # Errors
+///
+/// `NotSynced`, `NotRead` and `NoMemory`.
+pub fn mirrored<D: Disk + Drop>(alloc: Global, disk: D) -> Result<MirrorDisk<D>, FileFault>
+    ensures { MirrorsDisk D.Disk disk result }
+{
+    match MirrorDisk::over(disk, alloc, LENGTH) {
+        Ok(mirror) => Ok(mirror),
+        Err((MirrorFault::NoMemory, _)) => Err(FileFault::NoMemory),
+        Err((MirrorFault::Sync, _)) => Err(FileFault::NotSynced),
+        Err((MirrorFault::Read, _)) => Err(FileFault::NotRead),
+    }
+}
+
+/// Opens the totals in a file that is there. The file is locked for this program alone until the disk ends.
+///
+/// # Errors
+///
+/// `Open`, and those of `disk_over` and `mirrored`.
+pub fn open_totals<R: Files<File = File> + AllocGlobal>(
+    files: &R,
+    path: &str,
+) -> Result<TotalsDisk<SystemFile>, FileFault>
+    ensures { IfOk result (λ totals. IsNewMirror totals) }
+{
+    let disk = disk_over(open_file(files, path, false)?)?;
+    mirrored(files.alloc(), disk)
+}
+
+// Returns a disk that is long enough. A shorter one is lengthened, and before that its folder is synced, so that a crash
+// leaves no disk in a file that can't be found.
+fn long_enough<R: Files<File = File>>(
+    files: &R,
+    path: &str,
+    disk: FileDisk<SystemFile>,
+) -> Result<FileDisk<SystemFile>, FileFault>
+    requires { disk.has_failed ≡ false }
+    ensures { IfOk result (IsLongEnough disk) }
+{
+    if disk.len() >= LENGTH {
+        return Ok(disk);
+    }
+    sync_folder(files, path).map_err(FileFault::Folder)?;
+    lengthened(disk)
+}
+
+/// Opens the totals in a file, which is made if it isn't there. A file with fewer bytes than a disk of totals is
+/// lengthened with zero bytes. A longer one keeps its length. It is locked before anything in it changes.
+///
+/// # Errors
+///
+/// `Folder`, those of `open_totals`, and `Lengthen` and `Sync`.
+pub fn make_totals<R: Files<File = File> + AllocGlobal>(
+    files: &R,
+    path: &str,
+) -> Result<TotalsDisk<SystemFile>, FileFault>
+    ensures new { IfOk result (λ totals. IsNewMirror totals) }
+    ensures length { IfOk result (λ totals. disk_size ≤ length totals.memory.present.reading) }
+{
+    let disk = disk_over(open_file(files, path, true)?)?;
+    let disk = long_enough(files, path, disk)?;
+    mirrored(files.alloc(), disk)
+}
