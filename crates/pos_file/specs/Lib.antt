@@ -1,5 +1,0 @@
-pub mod Answers
-pub mod Calls
-pub mod Courses
-pub mod Disks
-pub mod Follows
