@@ -1,9 +1,8 @@
 -- What the program without words does, from what a run over a profile does.
 use Rattle.std.proofs.Common.{◌≡◌, ◌∷◌, [], inl, inr, sym, refl, subst}
 use Rattle.std.specs.Prelude.{◌⊎◌, Result}
-use Rattle.std.specs.Io.KnownBytes.{Consumes}
 use Rattle.pos_disk.proofs.Moments.{rest_leaves}
-use Rattle.pos_disk.specs.Memory.{Memory, state_of}
+use Rattle.pos_disk.specs.declared.device.Disk.{Ghosts as DiskGhosts}
 use Rattle.pos_disk.specs.State.{DiskState}
 use Rattle.pos_image.specs.Standing.{HasNoFiles}
 use Rattle.pos_image.specs.declared.layout.Layout.TheVariants.{Layout1}
@@ -14,10 +13,9 @@ use Rattle.pos_store.proofs.FilesOnDisk.{new_standing}
 use Rattle.pos_counter.specs.Steps.{Run}
 use Rattle.pos_run.specs.declared.scripts.RunFault.{RunFault}
 use Rattle.pos_run.specs.Running.{new_totals}
-use Rattle.pos_run.specs.Simulating.{FindsNoMemory, ProfileLeaves, RunsOverProfile}
+use Rattle.pos_run.specs.Simulating.{FindsNoMemory, ProfileLeaves, ProfileRuns, RunsOverProfile}
 use Rattle.pos_run.specs.Streams.{Streams}
 use Rattle.pos_run.specs.Transcript.{begun_session}
-use Rattle.std.proofs.KnownBytes.{Consumes-nil}
 use Rattle.pos_console.specs.Serving.{Serves, start, start_spares}
 
 -- a disk that was formatted leaves no files, with sequence 1
@@ -33,19 +31,22 @@ served_nothing streams result (same, (reader, writer)) =
       left = begun_session start_spares;
       run = record {
         input = [];
-        read = subst (λ r. Consumes streams.reader.unread r.unread []) (sym reader) (Consumes-nil streams.reader.unread);
-        reader = reader;
+        reader = (refl, reader);
         run = (refl, refl, writer);
       };
     })
 
 -- over the built profile and a new disk the program begins at the start
-pub serves_built : (contents : Contents) (disk : Memory) (streams : Streams) (result : Result (Unit {0}) RunFault) → contents ≡ built
-    → HasNoFiles (state_of disk) → ProfileLeaves contents (Unit {0}) (state_of disk) streams result → Serves streams result
-serves_built contents disk streams result is new serves =
-    from_start ((subst (λ (c : Contents). ProfileLeaves c (Unit {0}) (state_of disk) streams result) is serves).0 (Stands Layout1 [] 1 ∷ []) tt
-    (new_disk_leaves (state_of disk) new))
+pub serves_built : {D : Type 0} (bound : DiskGhosts D) (contents : Contents) (disk after : D) (streams : Streams) (result : Result (Unit {0}) RunFault)
+    → contents ≡ built → bound.honest disk → HasNoFiles (bound.state disk) → (bound.state disk).failures ≡ 0
+    → ProfileLeaves bound contents disk streams result after → Serves streams result
+serves_built {D} bound contents disk after streams result is honest new none leaves =
+    from_start (subst (λ (c : Contents). ProfileLeaves bound c disk streams result after) is leaves)
   where
-    from_start : FindsNoMemory streams result ⊎ RunsOverProfile Run built (new_totals (Stands Layout1 [] 1 ∷ []) 0) streams result → Serves streams result
-    from_start (inl none) = served_nothing streams result none
-    from_start (inr over) = record { end = over.end; left = over.left; run = over.run }
+    from_start : (FindsNoMemory streams result × (after ≡ disk)) ⊎ ProfileRuns bound built disk streams result after → Serves streams result
+    from_start (inl nothing) = served_nothing streams result nothing.0
+    from_start (inr runs) =
+        let left = Stands Layout1 [] 1 ∷ [] in
+        let over : RunsOverProfile Run built (new_totals left 0) streams result =
+        subst (λ n. RunsOverProfile Run built (new_totals left n) streams result) none (runs.0 left honest (new_disk_leaves (bound.state disk) new)).0.text in
+        record { end = over.end; left = over.left; run = over.run }

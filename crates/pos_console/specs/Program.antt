@@ -1,6 +1,6 @@
 -- What the program does for its words, and how it ends (docs/CONSOLE.md, "The program").
-use Rattle.std.specs.Prelude.{◌≡◌, ℕ, List, [], Result, Ok, Err, Vec, map}
-use Rattle.std.specs.Io.KnownBytes.{Appends}
+use Rattle.std.specs.Prelude.{◌≡◌, ◌++◌, ℕ, List, Result, Ok, Err, Vec, map}
+use Rattle.pos_streams.specs.Streams.{Appends, Fails}
 use Rattle.pos_disk.specs.declared.device.Disk.{Ghosts as DiskGhosts}
 use Rattle.pos_profile.specs.Entries.{Contents}
 use Rattle.pos_program.specs.Choices.{Chooses}
@@ -16,7 +16,7 @@ use Rattle.pos_program.specs.declared.words.Task.TheVariants.{Demo, Run, Format,
 use Rattle.pos_run.specs.declared.scripts.RunFault.{RunFault}
 use Rattle.pos_run.specs.declared.scripts.RunFault.TheVariants as run
 use Rattle.pos_run.specs.Simulating.{ProfileLeaves}
-use Rattle.pos_run.specs.Streams.{AreUntouched, Streams, Writing}
+use Rattle.pos_run.specs.Streams.{AreUntouched, IsFlushed, Streams, Writing}
 use Rattle.pos_console.specs.Serving.{Serves}
 use Rattle.pos_console.specs.Telling.{IsBroken, IsTold}
 
@@ -34,9 +34,9 @@ EndsRun Serving result = (outcome : Result (Unit {0}) RunFault) × Serving outco
 -- what the program does with a script over what a run's two files gave: nothing where one of them is at fault
 abbrev pub RunsOpened : {D : Type 0} → DiskGhosts D → Result (Contents × D) Fault → Streams → Result (Unit {0}) Fault
     → Type 0
-RunsOpened disks (Ok opened) streams result =
-    EndsRun (ProfileLeaves opened.0 (disks.honest opened.1) (disks.state opened.1) streams) result
-RunsOpened disks (Err why) streams result = (result ≡ Err why) × AreUntouched streams
+RunsOpened {D} disks (Ok opened) streams result =
+    EndsRun (λ outcome. (after : D) × ProfileLeaves disks opened.0 opened.1 streams outcome after) result
+RunsOpened {D} disks (Err why) streams result = (result ≡ Err why) × AreUntouched streams
 
 -- what it does with a script over the files at these paths
 abbrev pub RunsFiles : {F D : Type 0} → Ghosts F D → DiskGhosts D → F → List ℕ → List ℕ → Streams
@@ -61,12 +61,19 @@ abbrev pub MigratesFile : {F D : Type 0} → Ghosts F D → F → List ℕ → R
 MigratesFile files them path result =
     (answer : Result (Unit {0}) FileFault) × files.migrates them path answer × EndsAtDisk path answer result
 
+-- all of a text was given to the sink, which was flushed
+abbrev pub IsWritten : Writing → Writing → List ℕ → Type 0
+IsWritten old new text = Appends old.given new.given text × IsFlushed new
+
+-- a front of a text was given, and then a write or a flush failed
+abbrev pub IsCutOff : Writing → Writing → List ℕ → Type 0
+IsCutOff old new text = (front : List ℕ) × (back : List ℕ) × (text ≡ front ++ back) × Fails old.given new.given front
+
 -- what it tells of the bytes that reading the totals in the file at a path gave, by how its writer stood before, and
--- after: their survey's text, all of which is handed on; or why there is none, and then nothing is written
+-- after: their survey's text, as far as it can be written; or why there is none, and then nothing is written
 abbrev pub TellsBytes : List ℕ → Result (List ℕ) FileFault → Writing → Writing → Result (Unit {0}) Fault → Type 0
-TellsBytes path (Ok bytes) old new (Ok u) =
-    (new.held ≡ []) × ((text : List ℕ) × IsTold bytes text × Appends old.contents new.contents text)
-TellsBytes path (Ok bytes) old new (Err fault.Write) = (text : List ℕ) × IsTold bytes text
+TellsBytes path (Ok bytes) old new (Ok u) = (text : List ℕ) × IsTold bytes text × IsWritten old new text
+TellsBytes path (Ok bytes) old new (Err fault.Write) = (text : List ℕ) × IsTold bytes text × IsCutOff old new text
 TellsBytes path (Ok bytes) old new (Err (fault.Disk at cause)) =
     (at.now ≡ path) × IsBroken bytes cause × (new ≡ old)
 TellsBytes path (Ok bytes) old new (Err other) = ⊥

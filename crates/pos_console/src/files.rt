@@ -1,17 +1,16 @@
 //! What a totals file holds, told.
-ghost use Rattle.std.specs.Prelude.{◌≡◌, [], Ok, IfErr, IfOk, OnOk};
-ghost use Rattle.std.specs.Io.KnownBytes.{Appends};
-ghost use Rattle.pos_run.specs.Streams.{answers_of, writing_of};
-ghost use Rattle.pos_console.specs.Program.{TellsBytes, TellsFile};
+ghost use Rattle.std.specs.Prelude.{◌≡◌, Ok, IfErr, IfOk, MatchResult};
+ghost use Rattle.pos_run.specs.Streams.{writing_of};
+ghost use Rattle.pos_console.specs.Program.{IsCutOff, IsWritten, TellsBytes, TellsFile};
 ghost use Rattle.pos_console.specs.Telling.{IsBroken, IsTold, TellsBreak, words_of, words_of_flaw};
 
 use pos_dir::Flaw;
 use pos_program::{Fault, FileFault, NamedFiles};
 use pos_run::AnswerWriter;
+use pos_script::write_bytes;
+use pos_streams::{Sink, WriteFault};
 use pos_survey::{Rule, Survey, SurveyFault};
 use std::alloc::Global;
-use std::io;
-use std::io::Write;
 
 /// A rule that a body breaks, in words.
 fn words_of_flaw(flaw: Flaw) -> &'static str
@@ -72,25 +71,25 @@ fn survey_text(alloc: Global, bytes: &[u8]) -> Result<Vec<u8>, FileFault>
     }
 }
 
-/// Writes a text to its end, and hands it on.
-fn write_text<W: Write>(writer: &mut AnswerWriter<W>, text: &[u8]) -> io::Result<()>
-    ensures written { OnOk result
-        (Appends (answers_of W.contents writer.old) (answers_of W.contents writer.new) text.now) }
-    ensures flushed { OnOk result (writer.new.held.items ≡ []) }
+/// Writes a text to its end, and flushes it.
+fn write_text<W: Sink>(writer: &mut AnswerWriter<W>, text: &[u8]) -> Result<(), WriteFault>
+    ensures { MatchResult result
+        (λ _. IsWritten (writing_of W.Sink writer.old) (writing_of W.Sink writer.new) text.now)
+        (λ _. IsCutOff (writing_of W.Sink writer.old) (writing_of W.Sink writer.new) text.now) }
 {
-    writer.write_all(text)?;
+    write_bytes(writer, text)?;
     writer.flush()
 }
 
 /// Tells what the bytes of the totals file at a path hold.
-fn tell_bytes<'a, W: Write>(
+fn tell_bytes<'a, W: Sink>(
     alloc: Global,
     writer: &mut AnswerWriter<W>,
     path: &'a str,
     bytes: &[u8],
 ) -> Result<(), Fault<'a>>
     ensures { TellsBytes path.entry.now (Ok bytes.now)
-        (writing_of W.contents writer.old) (writing_of W.contents writer.new) result }
+        (writing_of W.Sink writer.old) (writing_of W.Sink writer.new) result }
 {
     let text = match survey_text(alloc, bytes) {
         Ok(text) => text,
@@ -104,14 +103,14 @@ fn tell_bytes<'a, W: Write>(
 
 /// Tells what the totals file at a path holds, as lines of text, or which rule it breaks and where. The file is only
 /// read. docs/CONSOLE.md, "What a totals file holds".
-pub fn tell_file<'a, F: NamedFiles, W: Write>(
+pub fn tell_file<'a, F: NamedFiles, W: Sink>(
     alloc: Global,
     files: &F,
     writer: &mut AnswerWriter<W>,
     path: &'a str,
 ) -> Result<(), Fault<'a>>
     ensures { TellsFile F.NamedFiles files.now path.entry.now
-        (writing_of W.contents writer.old) (writing_of W.contents writer.new) result }
+        (writing_of W.Sink writer.old) (writing_of W.Sink writer.new) result }
 {
     match files.read_totals(path) {
         Ok(bytes) => tell_bytes(alloc, writer, path, &bytes),

@@ -9,12 +9,13 @@ mod scripts;
 
 use pos_program::{Fault, SystemFiles, read_words};
 use pos_run::{AnswerWriter, ScriptReader};
+use pos_streams::{ReaderSource, WriterSink};
 use program::{end, perform};
 use std::process::ExitCode;
 
 fn main(rt: HostRuntime) -> ExitCode {
     let alloc = rt.alloc();
-    let Ok(mut writer) = AnswerWriter::new(alloc, rt.stdout()) else {
+    let Ok(mut writer) = AnswerWriter::new(alloc, WriterSink::new(rt.stdout())) else {
         return end(&rt, Err(Fault::NoMemory));
     };
     let words = read_words(&rt);
@@ -22,7 +23,7 @@ fn main(rt: HostRuntime) -> ExitCode {
         alloc,
         &SystemFiles::of(&rt),
         &rt,
-        &mut ScriptReader::new(rt.stdin()),
+        &mut ScriptReader::new(ReaderSource::new(rt.stdin())),
         &mut writer,
         words,
     )

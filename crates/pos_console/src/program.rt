@@ -11,9 +11,10 @@ use crate::scripts::serve_built;
 use pos_disk::Disk;
 use pos_program::{ChoiceFault, Fault, FileFault, NamedFiles, Task, choice, open_run, status_of};
 use pos_run::{AnswerWriter, RunFault, ScriptReader, run_over_profile};
+use pos_streams::{Sink, Source};
 use std::alloc::Global;
 use std::convert::AsStr;
-use std::io::{Eprint, Read, Write};
+use std::io::Eprint;
 use std::process::ExitCode;
 
 /// What a run's end is to the program.
@@ -29,7 +30,7 @@ fn ended<'a>(outcome: Result<(), RunFault>) -> Result<(), Fault<'a>>
 }
 
 /// Runs the script over the profile in one file and the disk in another.
-fn run_files<'a, F: NamedFiles, R: Read, W: Write>(
+fn run_files<'a, F: NamedFiles, R: Source, W: Sink>(
     alloc: Global,
     files: &F,
     reader: &mut ScriptReader<R>,
@@ -38,10 +39,11 @@ fn run_files<'a, F: NamedFiles, R: Read, W: Write>(
     disk: &'a str,
 ) -> Result<(), Fault<'a>>
     ensures { RunsFiles F.NamedFiles ⟦<F::Disk as Disk>⟧ files.now profile.entry.now disk.entry.now
-        (streams_of R.remaining reader.old reader.new W.contents writer.old writer.new) result }
+        (streams_of R.Source reader.old reader.new W.Sink writer.old writer.new) result }
 {
     let (profile, disk) = open_run(files, profile, disk)?;
-    ended(run_over_profile(alloc, reader, writer, &profile, disk))
+    let (outcome, _disk) = run_over_profile(alloc, reader, writer, &profile, disk);
+    ended(outcome)
 }
 
 /// What is answered of the disk in a file, to the program.
@@ -69,7 +71,7 @@ fn migrate<'a, F: NamedFiles>(files: &F, path: &'a str) -> Result<(), Fault<'a>>
 }
 
 /// Does what the words of the command line chose.
-fn carry_out<'a, F: NamedFiles, R: Read, W: Write>(
+fn carry_out<'a, F: NamedFiles, R: Source, W: Sink>(
     alloc: Global,
     files: &F,
     reader: &mut ScriptReader<R>,
@@ -77,7 +79,7 @@ fn carry_out<'a, F: NamedFiles, R: Read, W: Write>(
     task: Task<'a>,
 ) -> Result<(), Fault<'a>>
     ensures { Does F.NamedFiles ⟦<F::Disk as Disk>⟧ files.now task.entry
-        (streams_of R.remaining reader.old reader.new W.contents writer.old writer.new) result }
+        (streams_of R.Source reader.old reader.new W.Sink writer.old writer.new) result }
 {
     match task {
         Task::Demo => ended(serve_built(alloc, reader, writer)),
@@ -89,7 +91,7 @@ fn carry_out<'a, F: NamedFiles, R: Read, W: Write>(
 }
 
 /// Does what the words of the command line ask for.
-fn carry_out_words<'a, F: NamedFiles, S: AsStr, R: Read, W: Write>(
+fn carry_out_words<'a, F: NamedFiles, S: AsStr, R: Source, W: Sink>(
     alloc: Global,
     files: &F,
     reader: &mut ScriptReader<R>,
@@ -97,7 +99,7 @@ fn carry_out_words<'a, F: NamedFiles, S: AsStr, R: Read, W: Write>(
     words: &'a [S],
 ) -> Result<(), Fault<'a>>
     ensures { DoesAsAsked F.NamedFiles ⟦<F::Disk as Disk>⟧ files.now (map S.text words.entry.now)
-        (streams_of R.remaining reader.old reader.new W.contents writer.old writer.new) result }
+        (streams_of R.Source reader.old reader.new W.Sink writer.old writer.new) result }
 {
     match choice(alloc, words) {
         Ok(task) => carry_out(alloc, files, reader, writer, task),
@@ -119,7 +121,7 @@ pub fn end<E: Eprint>(errors: &E, outcome: Result<(), Fault<'_>>) -> ExitCode
 /// The program, over the files that its words name, a script to read, a writer for the answers and one for a fault. It
 /// does what the words ask for, if they could be read, and ends with the status of what became of it.
 /// docs/CONSOLE.md, "The program".
-pub fn perform<F: NamedFiles, E: Eprint, S: AsStr + Drop, R: Read, W: Write>(
+pub fn perform<F: NamedFiles, E: Eprint, S: AsStr + Drop, R: Source, W: Sink>(
     alloc: Global,
     files: &F,
     errors: &E,
@@ -128,7 +130,7 @@ pub fn perform<F: NamedFiles, E: Eprint, S: AsStr + Drop, R: Read, W: Write>(
     words: Result<Vec<S>, ChoiceFault<'_>>,
 ) -> ExitCode
     ensures { Performs F.NamedFiles ⟦<F::Disk as Disk>⟧ files.now S.text words.entry
-        (streams_of R.remaining reader.old reader.new W.contents writer.old writer.new) (exit_status result) }
+        (streams_of R.Source reader.old reader.new W.Sink writer.old writer.new) (exit_status result) }
 {
     match words {
         Ok(words) => {

@@ -5,18 +5,18 @@ ghost use Rattle.pos_console.specs.Serving.{Serves};
 use pos_image::new_disk;
 use pos_profile::Profile;
 use pos_run::{AnswerWriter, RunFault, ScriptReader, run_over_profile};
+use pos_streams::{Sink, Source};
 use std::alloc::Global;
-use std::io::{Read, Write};
 
 /// Runs a script over the built profile and a formatted disk in memory: a simulated cash drawer, `d1`, a simulated
 /// scanner, `s1`, a simulated line display of 2 rows of 4 columns, `p1`, a simulated receipt printer, `r1`, and Hard
 /// Totals, `t1`, with a simulated cash drawer as a spare.
-pub fn serve_built<R: Read, W: Write>(
+pub fn serve_built<R: Source, W: Sink>(
     alloc: Global,
     reader: &mut ScriptReader<R>,
     writer: &mut AnswerWriter<W>,
 ) -> Result<(), RunFault>
-    ensures { Serves (streams_of R.remaining reader.old reader.new W.contents writer.old writer.new) result }
+    ensures { Serves (streams_of R.Source reader.old reader.new W.Sink writer.old writer.new) result }
 {
     let Ok(profile) = Profile::built(alloc) else {
         return Err(RunFault::NoMemory);
@@ -24,5 +24,6 @@ pub fn serve_built<R: Read, W: Write>(
     let Ok(disk) = new_disk(alloc) else {
         return Err(RunFault::NoMemory);
     };
-    run_over_profile(alloc, reader, writer, &profile, disk)
+    let (outcome, _disk) = run_over_profile(alloc, reader, writer, &profile, disk);
+    outcome
 }

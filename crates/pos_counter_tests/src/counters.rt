@@ -7,6 +7,7 @@ use pos_disk::Disk;
 use pos_profile::Profile;
 use pos_run::{AnswerWriter, ScriptReader, Spares, run};
 use pos_service::{Peripheral, PeripheralBox};
+use pos_streams::{MemorySource, WriterSink};
 use std::alloc::Global;
 use std::test::Fail;
 
@@ -69,8 +70,8 @@ fn run_into<D: Disk>(
     ensures { IsCounterSound ⟦<PeripheralBox as Peripheral>⟧ counter.new }
 {
     let mut spares = Spares::new(Vec::new(alloc));
-    let mut reader = ScriptReader::new(script);
-    let Ok(mut writer) = AnswerWriter::new(alloc, text) else {
+    let mut reader = ScriptReader::new(MemorySource::new(script));
+    let Ok(mut writer) = AnswerWriter::new(alloc, WriterSink::new(text)) else {
         spares.park_all();
         return;
     };

@@ -9,6 +9,7 @@ use pos_image::new_disk;
 use pos_profile::Profile;
 use pos_run::{AnswerWriter, RunFault, ScriptReader, Spares, end_counter, run};
 use pos_service::{Peripheral, PeripheralBox};
+use pos_streams::{ReaderSource, WriterSink};
 use std::alloc::Global;
 use std::test::Fail;
 
@@ -22,10 +23,10 @@ fn ran(
     requires { IsCounterSound ⟦<PeripheralBox as Peripheral>⟧ counter.old }
     ensures { IsCounterSound ⟦<PeripheralBox as Peripheral>⟧ counter.new }
 {
-    let Ok(mut writer) = AnswerWriter::new(alloc, room) else {
+    let Ok(mut writer) = AnswerWriter::new(alloc, WriterSink::new(room)) else {
         return Err(RunFault::NoMemory);
     };
-    let mut reader = ScriptReader::new(reader);
+    let mut reader = ScriptReader::new(ReaderSource::new(reader));
     let mut spares = Spares::new(Vec::new(alloc));
     let result = run(alloc, &mut reader, &mut writer, counter, &mut spares);
     spares.park_all();

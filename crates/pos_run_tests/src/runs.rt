@@ -6,6 +6,7 @@ use pos_profile::Profile;
 use pos_run::{AnswerWriter, RunFault, ScriptReader, Spares, end_counter, run, run_over_profile};
 use pos_service::{Form, Peripheral, PeripheralBox, Snapshot};
 use pos_sims::PlainDrawer;
+use pos_streams::{ReaderSource, WriterSink};
 use std::alloc::Global;
 use std::io;
 use std::io::{ErrorKind, Read, Write};
@@ -118,9 +119,10 @@ const TEXT: &[u8] = b"bad device\nrefused InUse\nok\nok 1\n";
 fn ran(alloc: Global, reader: &mut Pieces, room: &mut Room) -> Result<Result<(), RunFault>, Fail> {
     let profile = Profile::built(alloc)?;
     let disk = new_disk(alloc)?;
-    let mut reader = ScriptReader::new(reader);
-    let mut writer = AnswerWriter::new(alloc, room)?;
-    Ok(run_over_profile(alloc, &mut reader, &mut writer, &profile, disk))
+    let mut reader = ScriptReader::new(ReaderSource::new(reader));
+    let mut writer = AnswerWriter::new(alloc, WriterSink::new(room))?;
+    let (result, _disk) = run_over_profile(alloc, &mut reader, &mut writer, &profile, disk);
+    Ok(result)
 }
 
 /// How much of the text the lines print that this many bytes of the script end, of which each is read alone.
@@ -197,8 +199,8 @@ fn drawer_after(
     let profile = Profile::built(alloc)?;
     let drawer: Box<dyn Peripheral + Drop> = Box::new(alloc, PlainDrawer::new())?;
     let disk = new_disk(alloc)?;
-    let mut reader = ScriptReader::new(reader);
-    let mut writer = AnswerWriter::new(alloc, room)?;
+    let mut reader = ScriptReader::new(ReaderSource::new(reader));
+    let mut writer = AnswerWriter::new(alloc, WriterSink::new(room))?;
     let Ok(mut counter) = Counter::new(alloc, &profile, Vec::new(alloc), disk) else {
         return Err(Fail::new("no counter"));
     };
