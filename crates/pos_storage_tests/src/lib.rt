@@ -8,8 +8,6 @@ mod disks;
 #[cfg(test)]
 mod images;
 #[cfg(test)]
-mod mirrored;
-#[cfg(test)]
 mod shared_disks;
 #[cfg(test)]
 mod stores;
