@@ -23,7 +23,7 @@ abbrev pub format_code : List ℕ → ℕ
 format_code bytes =
     if nat_lt (length bytes) disk_size then too_small else if is_marked bytes then formatted else ok
 
--- The disk that formatting makes of these bytes: it has no files, and every byte that no gate or field needs is the same.
+-- The disk that formatting makes of these bytes: it has no files, and no byte changed but gates and the first fields.
 pub record IsFormattedOf (bytes : List ℕ) (memory : Memory) : Type 0 where
   pub files : HasNoFiles (state_of memory)
   pub rest : KeepsRest bytes memory.present.reading

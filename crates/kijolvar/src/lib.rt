@@ -284,8 +284,8 @@ pub extern "C" fn kijolvar_next_errand(
     bytes: &mut [u8],
     needed: &mut usize,
 ) -> u32
-    ensures { MatchOption out.new.left ⊥ (AnswersNextErrand till.session at.old at.new bytes.old bytes.new needed.old needed.new
-        result) }
+    ensures { MatchOption out.new.left ⊥ (AnswersNextErrand till.session at.old at.new bytes.old bytes.new needed.old
+        needed.new result) }
 {
     let mut session = take(till);
     let code = session.next_errand(at, bytes, needed);
