@@ -486,7 +486,8 @@ def creations(library, wrapper):
             left = os.listdir(wrapper.folder)
             if (found, left) != (wanted, ["totals"] if number > naming else []):
                 amiss.append((what, number, found, left))
-            again = wrapper.runs("create")[0] if what == "CALLS_KILL" else [name_of(create_totals, library, wrapper.path)]
+            is_by_program = what == "CALLS_KILL" and wrapper.language != "Python"
+            again = wrapper.runs("create")[0] if is_by_program else [name_of(create_totals, library, wrapper.path)]
             if again not in ([["exists"], ["FileExistsError"]] if number > naming else [["ready"], [None]]):
                 amiss.append((what, number, again))
             if (finds(library, wrapper.path), os.listdir(wrapper.folder)) != ((0, None), ["totals"]):
@@ -538,8 +539,10 @@ def main():
     library = load(sys.argv[1])
     if len(sys.argv) == 3:
         return writes(library, sys.argv[2])
-    python = [sys.executable, "-B", "-W", "error", str(TOP / "abi/python/totals.py"), sys.argv[1]]
-    with tempfile.TemporaryDirectory() as folder:
+    python = [sys.executable, "-S", "-B", "-W", "error", str(TOP / "abi/python/totals.py"), sys.argv[1]]
+    # In memory, if the system has such a folder: hundreds of syncs of a busy disk may take a minute.
+    memory = "/dev/shm" if os.access("/dev/shm", os.W_OK) else None
+    with tempfile.TemporaryDirectory(dir=memory) as folder:
         files(library)
         errands(library)
         orders(library)

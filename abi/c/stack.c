@@ -40,7 +40,9 @@ __attribute__((noinline)) static void paint(void) {
 __attribute__((noinline)) static void note(enum export export) {
     uint8_t *here = __builtin_frame_address(0);
     if (low == NULL) return;
-    for (dirty = low; *dirty == PAINT;) dirty++;
+    uint64_t painted;
+    memset(&painted, PAINT, sizeof painted);
+    for (dirty = low; *(uint64_t *)dirty == painted;) dirty += sizeof painted;
     if (dirty == low) fails("the stack that is measured is too small");
     if ((size_t)(here - dirty) > most[export]) most[export] = (size_t)(here - dirty);
 }
