@@ -7,6 +7,7 @@ import pathlib
 import random
 import subprocess
 import sys
+import traceback
 
 import changes
 import cuts
@@ -447,11 +448,8 @@ def migrate_all(judge, recorder, starts, looks):
             judge.try_all(recorder.migrate(f"migrate over {name}, cut and done again {number + 1}", kept[number]), 100, looks)
 
 
-def main():
-    folder, step, seed, program, library = sys.argv[1], int(sys.argv[2]), sys.argv[3], sys.argv[4], sys.argv[5]
-    bench = Bench(folder, program, library)
-    judge, looks = Judge(bench, step, seed), float(os.environ.get("SAMPLE", 0.01 if step == 1 else 0.03))
-    recorder = Recorder(bench, judge)
+def try_scenarios(judge, recorder, looks):
+    bench = recorder.bench
     format_all(judge, recorder, looks)
     new = bench.file.read_bytes()[:reader.LENGTH]
     one = recorder.run("run by layout 1", new, 1, 420)
@@ -465,9 +463,18 @@ def main():
     migrate_all(judge, recorder, (("no files", new), ("files", old), ("files before noise", noise_around(judge.chance("before"), old))), looks)
     kept = judge.try_all(recorder.run("run by layout 2", bench.file.read_bytes(), 2, 420), 60, looks)
     go_on(judge, recorder, "run by layout 2 over what a cut left", kept, 2, looks)
-    if library != "-":
-        judge.try_all(recorder.wrapper("a till in Python", 420), 60, looks)
-        judge.try_all(recorder.killed("a till in Python that is killed", bench.wrapper(), None, 1, -1, "killed", 5), 60, looks)
+    judge.try_all(recorder.wrapper("a till in Python", 420), 60, looks)
+    judge.try_all(recorder.killed("a till in Python that is killed", bench.wrapper(), None, 1, -1, "killed", 5), 60, looks)
+
+
+def main():
+    folder, step, seed, program, library = sys.argv[1], int(sys.argv[2]), sys.argv[3], sys.argv[4], sys.argv[5]
+    bench = Bench(folder, program, library)
+    judge = Judge(bench, step, seed)
+    try:
+        try_scenarios(judge, Recorder(bench, judge), 0.01 if step == 1 else 0.03)
+    except Exception:
+        told("it goes on to its end", False, traceback.format_exc())
     print(f"{judge.states} files at {judge.moments} moments, {judge.loose} of them with something to lose; {len(judge.distinct)} files differ; "
           f"{judge.looks} were read by the program too; {judge.left_out} syncs were left out")
     told("as many files as there have to be", judge.states >= 100000 / step and len(judge.distinct) >= 80000 / step)
