@@ -29,8 +29,8 @@ FollowsLock (Err (lock.Error cause)) (Err why) = TellsUnlocked cause why
 abbrev pub HasAsked : {F : Type 0} → (F → LockAnswer → Type 0) → F → Result (Unit {0}) FileFault → Type 0
 HasAsked locks them result = (answer : LockAnswer) × locks them answer × FollowsLock answer result
 
--- A file is opened or measured only if its lock was given. It is in use only if its lock was refused, and can't be locked
--- only if the system says so.
+-- A file is opened or measured only if its lock was given. It is in use only if its lock was refused. It can't be
+-- locked only if the system says so.
 abbrev pub OpensLocked : {F D : Type 0} → (F → LockAnswer → Type 0) → F → Result D FileFault → Type 0
 OpensLocked locks them (Ok opened) = locks them (Ok tt)
 OpensLocked locks them (Err file.InUse) = locks them (Err lock.WouldBlock)

@@ -1,0 +1,3 @@
+pub mod Common
+pub mod CourseLemmas
+pub mod FollowsLemmas

@@ -1,0 +1,62 @@
+-- What a disk in a file asks of it.
+use Rattle.std.specs.Prelude.{◌≡◌, ◌++◌, ℕ, List, [], ◌∷◌, false, length, Option, Some, None, Result, Ok, Err}
+use Rattle.std.specs.Bool.{MatchBool}
+use Rattle.pos_disk.specs.State.{Answer}
+use Rattle.pos_disk.specs.Unkept.{is_fault}
+use Rattle.pos_disk.specs.declared.device.DiskFault.{DiskFault}
+use Rattle.pos_file.specs.Answers.{answer_of, synced_of}
+use Rattle.pos_file.specs.Calls.{Call, lock_call, measure_call, read_call, resize_call, sync_call, write_call}
+use Rattle.pos_file.specs.declared.fault.DiskFileFault.{DiskFileFault}
+use Rattle.pos_file.specs.declared.fault.DiskFileFault.TheVariants as fault
+use Rattle.pos_file.specs.declared.file_disk.FileDisk.{FileDisk}
+
+-- the file was asked these once more, in this order
+abbrev pub Asks : {F : Type 0} → (F → List Call) → F → F → List Call → Type 0
+Asks calls old new more = calls new ≡ calls old ++ more
+
+-- after a sync that failed a disk answers a fault, and asks nothing
+abbrev pub AsksNothing : {F : Type 0} → FileDisk F → FileDisk F → Answer → Type 0
+AsksNothing old new answer = (answer ≡ Err record {}) × (new ≡ old)
+
+-- a read of a disk in a file is one read of the file, with the same place and room
+abbrev pub FileReads : {F : Type 0} → (F → List Call) → FileDisk F → FileDisk F → ℕ → List ℕ → List ℕ → Answer
+    → Type 0
+FileReads calls old new at before after answer =
+    MatchBool old.has_failed (AsksNothing old new answer × (after ≡ before))
+    ((moved : Option ℕ) × Asks calls old.file new.file (read_call at after moved ∷ [])
+    × (new ≡ record old { file = new.file }) × (answer ≡ answer_of (length after) moved))
+
+-- a write of it is one write of the file, with the same place and bytes
+abbrev pub FileWrites : {F : Type 0} → (F → List Call) → FileDisk F → FileDisk F → ℕ → List ℕ → Answer → Type 0
+FileWrites calls old new at bytes answer =
+    MatchBool old.has_failed (AsksNothing old new answer)
+    ((moved : Option ℕ) × Asks calls old.file new.file (write_call at bytes moved ∷ [])
+    × (new ≡ record old { file = new.file }) × (answer ≡ answer_of (length bytes) moved))
+
+-- a sync of it is one sync of the file; after one that failed the disk has failed for good
+abbrev pub FileSyncs : {F : Type 0} → (F → List Call) → FileDisk F → FileDisk F → Answer → Type 0
+FileSyncs calls old new answer =
+    MatchBool old.has_failed (AsksNothing old new answer)
+    ((done : Option ℕ) × Asks calls old.file new.file (sync_call done ∷ [])
+    × (new ≡ record old { file = new.file; has_failed = is_fault answer }) × (answer ≡ synced_of done))
+
+-- what opening a file as a disk answers: it is locked, and then measured; a refusal hands the file back
+abbrev pub Opens : {F : Type 0} → (F → List Call) → F → Result (FileDisk F) (DiskFileFault × F) → Type 0
+Opens calls file (Ok disk) =
+    Asks calls file disk.file (lock_call (Some 1) ∷ measure_call (Some disk.size) ∷ []) × (disk.has_failed ≡ false)
+Opens calls file (Err (fault.InUse, left)) = Asks calls file left (lock_call (Some 0) ∷ [])
+Opens calls file (Err (fault.Lock cause, left)) = Asks calls file left (lock_call None ∷ [])
+Opens calls file (Err (fault.Measure cause, left)) =
+    Asks calls file left (lock_call (Some 1) ∷ measure_call None ∷ [])
+Opens calls file (Err (other, left)) = ⊥
+
+-- what lengthening a disk's file answers: it has the new length, which is synced; a refusal hands the file back
+abbrev pub Lengthens : {F : Type 0} → (F → List Call) → FileDisk F → ℕ → Result (FileDisk F) (DiskFileFault × F)
+    → Type 0
+Lengthens calls old size (Ok disk) =
+    Asks calls old.file disk.file (resize_call size (Some 0) ∷ sync_call (Some 0) ∷ [])
+    × (disk ≡ record old { file = disk.file; size = size })
+Lengthens calls old size (Err (fault.Lengthen cause, left)) = Asks calls old.file left (resize_call size None ∷ [])
+Lengthens calls old size (Err (fault.Sync cause, left)) =
+    Asks calls old.file left (resize_call size (Some 0) ∷ sync_call None ∷ [])
+Lengthens calls old size (Err (other, left)) = ⊥

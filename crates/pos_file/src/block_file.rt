@@ -1,0 +1,73 @@
+//! A file as a disk needs it.
+ghost use Rattle.std.specs.Prelude.{◌≡◌, ◌++◌, ◌∷◌, [], List};
+ghost use Rattle.std.specs.Io.{ReadsAtMost, WritesAtMost};
+ghost use Rattle.pos_file.specs.Calls.{Call, done_of, lock_call, locks_of, measure_call, number_of, read_call};
+ghost use Rattle.pos_file.specs.Calls.{resize_call, share_call, sync_call, write_call};
+
+use std::fs::TryLockError;
+use std::io;
+
+/// A file that is read and written by places. It counts its calls: each adds itself, with its answer, to the list of
+/// those before. What a file keeps no contract can say; what it was asked, the list says exactly.
+pub trait BlockFile {
+    /// What it was asked so far, the first call first.
+    ghost calls: { Self → List Call };
+
+    /// Locks it for this program alone, without waiting. It stays locked until it is closed.
+    ///
+    /// # Errors
+    ///
+    /// `WouldBlock` if another program has locked it, and what the system says.
+    fn try_lock(&mut self) -> Result<(), TryLockError>
+        ensures { calls self.new ≡ calls self.old ++ lock_call (locks_of result) ∷ [] };
+
+    /// Locks it for reading, without waiting: other programs may lock it for reading too.
+    ///
+    /// # Errors
+    ///
+    /// `WouldBlock` if another program has locked it for itself, and what the system says.
+    fn try_lock_shared(&mut self) -> Result<(), TryLockError>
+        ensures { calls self.new ≡ calls self.old ++ share_call (locks_of result) ∷ [] };
+
+    /// Returns how many bytes it has.
+    ///
+    /// # Errors
+    ///
+    /// What the system says.
+    fn measure(&mut self) -> io::Result<u64>
+        ensures { calls self.new ≡ calls self.old ++ measure_call (number_of result) ∷ [] };
+
+    /// Cuts it to this many bytes, or lengthens it with zeros.
+    ///
+    /// # Errors
+    ///
+    /// What the system says.
+    fn resize(&mut self, size: u64) -> io::Result<()>
+        ensures { calls self.new ≡ calls self.old ++ resize_call size (done_of result) ∷ [] };
+
+    /// Reads bytes from place `at` on, at most as many as `out` holds. Returns how many.
+    ///
+    /// # Errors
+    ///
+    /// What the system says.
+    fn read_at(&mut self, at: u64, out: &mut [u8]) -> io::Result<usize>
+        ensures bound { ReadsAtMost result out.new }
+        ensures asked { calls self.new ≡ calls self.old ++ read_call at out.new (number_of result) ∷ [] };
+
+    /// Writes bytes from place `at` on. Returns how many of them.
+    ///
+    /// # Errors
+    ///
+    /// What the system says.
+    fn write_at(&mut self, at: u64, bytes: &[u8]) -> io::Result<usize>
+        ensures bound { WritesAtMost result bytes.now }
+        ensures asked { calls self.new ≡ calls self.old ++ write_call at bytes.now (number_of result) ∷ [] };
+
+    /// Makes what was written stay.
+    ///
+    /// # Errors
+    ///
+    /// What the system says.
+    fn sync(&mut self) -> io::Result<()>
+        ensures { calls self.new ≡ calls self.old ++ sync_call (done_of result) ∷ [] };
+}

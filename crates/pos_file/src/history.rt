@@ -1,0 +1,51 @@
+//! What a file was asked so far. Only contracts and proofs read it; it takes no memory.
+ghost use Rattle.std.specs.Prelude.{◌≡◌, ◌++◌, [], ◌∷◌, cond, List, None, Option, Some};
+ghost use Rattle.std.specs.Borrow.{ftrue};
+ghost use Rattle.pos_file.specs.Calls.{Call, call_of};
+
+use crate::call_kind::CallKind;
+use std::marker::Model;
+
+/// What a file was asked so far, the first call first. It is there for contracts alone, and takes no memory.
+#[derive(Drop)]
+pub struct CallHistory {
+    pub ghost calls: { List Call },
+}
+
+impl Model for CallHistory {
+    ghost also_owns = { λ _. ftrue };
+}
+
+impl CallHistory {
+    /// Nothing was asked yet.
+    pub fn new() -> CallHistory
+        ensures { result.calls ≡ [] }
+    {
+        CallHistory {}
+    }
+
+    // One call more, which failed or answered a number.
+    fn and(
+        &self,
+        _kind: &CallKind,
+        _at: &u64,
+        _bytes: &[u8],
+        _done: &bool,
+        _number: &u64,
+    ) -> CallHistory
+        ensures { result.calls ≡ self.now.calls
+            ++ call_of _kind.now _at.now _bytes.now (cond _done.now (Some _number.now) None) ∷ [] }
+    {
+        CallHistory {}
+    }
+
+    /// One call more.
+    pub fn note(&mut self, kind: CallKind, at: u64, bytes: &[u8], answer: Option<u64>)
+        ensures { self.new.calls ≡ self.old.calls ++ call_of kind at bytes.now answer ∷ [] }
+    {
+        match answer {
+            Some(number) => *self = self.and(&kind, &at, bytes, &true, &number),
+            None => *self = self.and(&kind, &at, bytes, &false, &0),
+        }
+    }
+}

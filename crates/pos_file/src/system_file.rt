@@ -1,0 +1,78 @@
+//! A file of the system. No contract says what its calls do, so read this file: each method is one call of `File`, and
+//! notes that call with its answer.
+ghost use Rattle.std.specs.Prelude.{◌≡◌, []};
+
+use crate::answers::{done, locks, number};
+use crate::block_file::BlockFile;
+use crate::call_kind::CallKind;
+use crate::history::CallHistory;
+use std::fs::{File, TryLockError};
+use std::io;
+use std::os::unix::fs::FileExt;
+
+/// A file of the system.
+#[derive(Drop)]
+pub struct SystemFile {
+    file: File,
+    history: CallHistory,
+}
+
+impl SystemFile {
+    /// An open file, which wasn't asked anything yet.
+    pub fn new(file: File) -> SystemFile
+        ensures { result.history.calls ≡ [] }
+    {
+        SystemFile {
+            file,
+            history: CallHistory::new(),
+        }
+    }
+}
+
+impl BlockFile for SystemFile {
+    ghost calls = { λ file. file.history.calls };
+
+    fn try_lock(&mut self) -> Result<(), TryLockError> {
+        let answer = self.file.try_lock();
+        self.history.note(CallKind::Lock, 0, &[], locks(&answer));
+        answer
+    }
+
+    fn try_lock_shared(&mut self) -> Result<(), TryLockError> {
+        let answer = self.file.try_lock_shared();
+        self.history.note(CallKind::Share, 0, &[], locks(&answer));
+        answer
+    }
+
+    fn measure(&mut self) -> io::Result<u64> {
+        let answer = self.file.metadata().map(|told| told.len());
+        self.history.note(CallKind::Measure, 0, &[], answer.ok());
+        answer
+    }
+
+    fn resize(&mut self, size: u64) -> io::Result<()> {
+        let answer = self.file.set_len(size);
+        self.history
+            .note(CallKind::Resize, size, &[], done(&answer));
+        answer
+    }
+
+    fn read_at(&mut self, at: u64, out: &mut [u8]) -> io::Result<usize> {
+        let answer = self.file.read_at(out, at);
+        self.history.note(CallKind::Read, at, out, number(&answer));
+        answer
+    }
+
+    fn write_at(&mut self, at: u64, bytes: &[u8]) -> io::Result<usize> {
+        let answer = self.file.write_at(bytes, at);
+        self.history
+            .note(CallKind::Write, at, bytes, number(&answer));
+        answer
+    }
+
+    fn sync(&mut self) -> io::Result<()> {
+        let answer = self.file.sync_all();
+        self.history.note(CallKind::Sync, 0, &[], done(&answer));
+        answer
+    }
+}
