@@ -329,10 +329,13 @@ end() {
   exit
 }
 
-# is_ended: whether a test has ended for want of memory at its beginning, and says just that
+# is_ended STATUS: whether a test has ended with it for want of memory at its beginning, and says just that
 is_ended() {
-  case $(cat err) in
-    'error: AllocError' | 'error: NoMemory' | 'error: no memory for a counter' | 'error: no memory for a list') ;;
+  local why=$(sed '$d' err)
+  [ "$1" -eq 101 ] && [ "$(tail -n 1 err)" = 'the test failed: its result gives status 1' ] || return 1
+  case $why in
+    'error: AllocError' | 'error: AllocFailed { .. }' | 'error: NoMemory') ;;
+    'no memory for a counter' | 'no memory for a list') ;;
     *) return 1 ;;
   esac
 }
@@ -350,7 +353,7 @@ refuse_in_test() {
       tell "$name" "growth $number of $count isn't met"
     elif [ "$status" -eq 0 ]; then
       passed=$((passed + 1))
-    elif is_ended; then
+    elif is_ended "$status"; then
       ended=$((ended + 1))
       passed=$((passed + 1))
     else
@@ -373,8 +376,7 @@ for module in pos_totals_tests:growths pos_devices_tests:growths pos_profile_tes
     fi
     continue
   fi
-  # (a test `ample_..` asks that nothing is refused)
-  for name in $("$tests" --list | sed -n "s/^\(${module#*:}::.*\): test$/\1/p" | grep -v '::ample_'); do
+  for name in $("$tests" --list | sed -n "s/^\(${module#*:}::.*\): test$/\1/p"); do
     refuse_in_test "$tests" "$name"
   done
 done

@@ -118,11 +118,12 @@ ANY = OLD_OR_NEW + ("gates", "any", "noise", "fill")
 
 
 def plans(chance, moment, ways, budget):
-    """Ways to cut each loose entry (None: it is not there), first of all each subset of whole ones and each entry cut alone."""
+    """Ways to cut each loose entry (None: it is not there), first of all each subset of whole ones, and each of the last eight
+    cut alone."""
     count = len(moment.loose)
     for subset in range(1 << count) if count <= 7 else ():
         yield ["whole" if subset >> place & 1 else None for place in range(count)]
-    for place in range(count):
+    for place in range(max(0, count - 8), count):
         for way in ways[1:]:
             for others in (None, "whole"):
                 yield [way if other == place else others for other in range(count)]

@@ -61,20 +61,3 @@ fn a_refused_growth_queues_nothing(rt: HostRuntime) {
     }
     assert!(rt; last >= 99 && done == last && queue.is_empty());
 }
-
-#[test]
-fn ample_memory_refuses_no_event_and_no_order(rt: HostRuntime) {
-    let mut events = EventQueue::new(rt.alloc());
-    let mut orders = OutputQueue::starting(rt.alloc(), 1);
-    let mut refused: u32 = 0;
-    for _ in 0..100 {
-        match events.room(2) {
-            Ok(()) => events.status(7),
-            Err(NoMemory) => refused = refused.saturating_add(1),
-        }
-        if orders.put(Order::OpenDrawer).is_err() {
-            refused = refused.saturating_add(1);
-        }
-    }
-    assert_eq!(rt; refused, 0);
-}
