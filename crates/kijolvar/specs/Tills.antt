@@ -1,11 +1,13 @@
 -- What a till is, and what is written of its answers (abi/README.md).
-use Rattle.std.specs.Prelude.{◌≡◌, ◌≢◌, ◌⊎◌, ◌↔◌, ◌++◌, ℕ, List, [], Some, Ok, length, take, drop, nat_le}
+use Rattle.std.specs.Prelude.{◌≡◌, ◌≢◌, ◌⊎◌, ◌↔◌, ◌++◌, ℕ, List, [], Ok, length, take, drop, nat_le}
 use Rattle.pos_disk.specs.declared.device.Disk.{Ghosts as DiskGhosts}
 use Rattle.pos_service.specs.declared.peripheral.Peripheral.{Ghosts}
 use Rattle.pos_profile.specs.Entries.{Contents}
 use Rattle.pos_counter.specs.Counters.{machine}
 use Rattle.pos_counter.specs.Totals.{TotalsPart}
 use Rattle.pos_script.specs.Lines.{lines_of}
+use Rattle.pos_streams.specs.Streams.{given_with}
+use Rattle.pos_streams.specs.Transfers.{given_to}
 use Rattle.pos_run.specs.Carried.{CarriesOutLines, session_of}
 use Rattle.pos_run.specs.Running.{begun_with, off_over}
 use Rattle.pos_run.specs.Simulating.{simulated_all, simulated_devices}
@@ -32,7 +34,7 @@ pub record Begins (peripherals : Ghosts Device) (contents : Contents) (disk : Ti
       → machine peripherals till.counter part ≡ begun_with (simulated_devices contents.devices) part
   pub totals : till.counter.totals ≡ off_over disk
   pub session : session_in peripherals till ≡ begun_session (simulated_all contents.spares)
-  pub answer : till.answer.items ≡ []
+  pub answer : given_to till.answer ≡ given_with [] 0
   pub outcome : till.outcome ≡ Ok tt
   pub settlement_is : till.settlement ≡ settlement
   pub orders : till.orders.items ≡ []
@@ -42,8 +44,9 @@ pub record Begins (peripherals : Ghosts Device) (contents : Contents) (disk : Ti
 -- one. The orders that wait already stay too.
 pub record CarriesOut (bound : DiskGhosts TillDisk) (peripherals : Ghosts Device) (old : Kept)
     (text : List ℕ) (new : Kept) : Type 0 where
-  pub lines : CarriesOutLines bound peripherals old.counter (session_in peripherals old) (lines_of text) (Some [])
-      (Some new.answer.items) new.outcome (session_in peripherals new) new.counter
+  pub lines : CarriesOutLines bound peripherals old.counter (session_in peripherals old) (lines_of text)
+      (given_with [] (given_to old.answer).faults) (given_to new.answer) new.outcome (session_in peripherals new)
+      new.counter
   pub in_memory : (old.settlement ≡ InMemory) ↔ (new.settlement ≡ InMemory)
   pub profile : new.profile ≡ old.profile
   pub orders : new.orders ≡ old.orders
@@ -62,8 +65,8 @@ pub record TellsNothing (before after : List ℕ) (needed_before needed code why
 
 -- the answer is told, and the code of its lines
 pub record TellsAll (till : Kept) (before after : List ℕ) (needed code : ℕ) : Type 0 where
-  pub tells : Tells till.answer.items before after needed
-  pub code_told : code ≡ carried till.outcome (nat_le (length till.answer.items) (length before))
+  pub tells : Tells (given_to till.answer).bytes before after needed
+  pub code_told : code ≡ carried till.outcome (nat_le (length (given_to till.answer).bytes) (length before))
 
 -- what is handed over of a till's answer, by how its host stands to its disk: all of it, or nothing while errands are
 -- left or one failed

@@ -2,7 +2,7 @@
 ghost use Rattle.std.specs.Prelude.{◌≡◌};
 ghost use Rattle.kijolvar.specs.Codes.{carried};
 
-use pos_script::WriteFault;
+use pos_streams::WriteFault;
 
 /// The call did what it says.
 pub const OK: u32 = 0;

@@ -4,7 +4,7 @@ use crate::till_disk::TillDisk;
 use pos_counter::Counter;
 use pos_profile::Profile;
 use pos_run::{Names, Spares};
-use pos_script::WriteFault;
+use pos_streams::{MemorySink, WriteFault};
 use std::collections::VecDeque;
 
 /// What a till is between two calls: its profile, its counter of simulated devices over a disk, the names and the
@@ -15,7 +15,7 @@ pub struct Kept {
     pub counter: Counter<TillDisk, Device>,
     pub names: Names,
     pub spares: Spares<Device>,
-    pub answer: Vec<u8>,
+    pub answer: MemorySink,
     pub outcome: Result<(), WriteFault>,
     pub settlement: Settlement,
     pub orders: VecDeque<Vec<u8>>,

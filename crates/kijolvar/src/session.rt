@@ -18,8 +18,9 @@ use crate::tray::Tray;
 use pos_disk::Disk;
 use pos_profile::Profile;
 use pos_run::{Names, carry_out_lines, end_counter, simulate_profile};
-use pos_script::{LineBuffer, WriteFault};
+use pos_script::LineBuffer;
 use pos_service::{NoMemory, Peripheral};
+use pos_streams::{MemorySink, WriteFault};
 use std::alloc::Global;
 use std::collections::VecDeque;
 use std::marker::Model;
@@ -99,13 +100,16 @@ impl Session {
             return Err(NoMemory);
         };
         let tray = Tray::new(alloc)?;
-        let (counter, spares) = simulate_profile(alloc, &profile, disk, &tray)?;
+        let (counter, spares) = match simulate_profile(alloc, &profile, disk, &tray) {
+            Ok(made) => made,
+            Err((want, _)) => return Err(want),
+        };
         let kept = Kept {
             profile,
             counter,
             names: Names::new(alloc),
             spares,
-            answer: Vec::new(alloc),
+            answer: MemorySink::new(alloc),
             outcome: Ok(()),
             settlement,
             orders: VecDeque::new(alloc),
