@@ -1,3 +1,4 @@
 pub mod Program
 pub mod Serving
 pub mod Telling
+pub mod TotalsRuns

@@ -1,7 +1,9 @@
 -- What the program does for its words, and how it ends (docs/CONSOLE.md, "The program").
 use Rattle.std.specs.Prelude.{◌≡◌, ◌++◌, ℕ, List, Result, Ok, Err, Vec, map}
 use Rattle.pos_streams.specs.Streams.{Appends, Fails}
-use Rattle.pos_disk.specs.declared.device.Disk.{Ghosts as DiskGhosts}
+use Rattle.pos_file.specs.declared.block_file.BlockFile.{Ghosts as FileGhosts}
+use Rattle.pos_file.specs.declared.file_disk.FileDisk.{FileDisk}
+use Rattle.pos_mirror.specs.Mirror.{Mirror}
 use Rattle.pos_profile.specs.Entries.{Contents}
 use Rattle.pos_program.specs.Choices.{Chooses}
 use Rattle.pos_program.specs.Faults.{status_of}
@@ -15,10 +17,10 @@ use Rattle.pos_program.specs.declared.words.Task.{Task}
 use Rattle.pos_program.specs.declared.words.Task.TheVariants.{Demo, Run, Format, Migrate, Files}
 use Rattle.pos_run.specs.declared.scripts.RunFault.{RunFault}
 use Rattle.pos_run.specs.declared.scripts.RunFault.TheVariants as run
-use Rattle.pos_run.specs.Simulating.{ProfileLeaves}
 use Rattle.pos_run.specs.Streams.{AreUntouched, IsFlushed, Streams, Writing}
 use Rattle.pos_console.specs.Serving.{Serves}
 use Rattle.pos_console.specs.Telling.{IsBroken, IsTold}
+use Rattle.pos_console.specs.TotalsRuns.{TotalsLeave}
 
 -- what the end of a run is to the program
 abbrev pub fault_of_run : Result (Unit {0}) RunFault → Result (Unit {0}) Fault
@@ -31,19 +33,18 @@ fault_of_run (Err run.NoMemory) = Err fault.NoMemory
 abbrev pub EndsRun : (Result (Unit {0}) RunFault → Type 0) → Result (Unit {0}) Fault → Type 0
 EndsRun Serving result = (outcome : Result (Unit {0}) RunFault) × Serving outcome × (result ≡ fault_of_run outcome)
 
--- what the program does with a script over what a run's two files gave: nothing where one of them is at fault
-abbrev pub RunsOpened : {D : Type 0} → DiskGhosts D → Result (Contents × D) Fault → Streams → Result (Unit {0}) Fault
-    → Type 0
-RunsOpened {D} disks (Ok opened) streams result =
-    EndsRun (λ outcome. (after : D) × ProfileLeaves disks opened.0 opened.1 streams outcome after) result
-RunsOpened {D} disks (Err why) streams result = (result ≡ Err why) × AreUntouched streams
+-- what the program does with a script over what a run's two files gave: nothing if one of them is at fault
+abbrev pub RunsOpened : {B : Type 0} → FileGhosts B → Result (Contents × Mirror (FileDisk B)) Fault → Streams
+    → Result (Unit {0}) Fault → Type 0
+RunsOpened below (Ok opened) streams result = EndsRun (TotalsLeave below opened.0 opened.1 streams) result
+RunsOpened below (Err why) streams result = (result ≡ Err why) × AreUntouched streams
 
 -- what it does with a script over the files at these paths
-abbrev pub RunsFiles : {F D : Type 0} → Ghosts F D → DiskGhosts D → F → List ℕ → List ℕ → Streams
+abbrev pub RunsFiles : {F B : Type 0} → Ghosts F B → FileGhosts B → F → List ℕ → List ℕ → Streams
     → Result (Unit {0}) Fault → Type 0
-RunsFiles {F} {D} files disks them profile disk streams result =
-    (opened : Result (Contents × D) Fault) × OpensRun files them profile disk opened
-    × RunsOpened disks opened streams result
+RunsFiles {F} {B} files below them profile disk streams result =
+    (opened : Result (Contents × Mirror (FileDisk B)) Fault) × OpensRun files them profile disk opened
+    × RunsOpened below opened streams result
 
 -- what is answered of the disk in the file at a path, to the program
 abbrev pub EndsAtDisk : List ℕ → Result (Unit {0}) FileFault → Result (Unit {0}) Fault → Type 0
@@ -52,12 +53,12 @@ EndsAtDisk path (Err cause) (Err (fault.Disk at why)) = (at.now ≡ path) × (wh
 EndsAtDisk path (Err cause) other = ⊥
 
 -- it formats the disk in the file at a path
-abbrev pub FormatsFile : {F D : Type 0} → Ghosts F D → F → List ℕ → Result (Unit {0}) Fault → Type 0
+abbrev pub FormatsFile : {F B : Type 0} → Ghosts F B → F → List ℕ → Result (Unit {0}) Fault → Type 0
 FormatsFile files them path result =
     (answer : Result (Unit {0}) FileFault) × files.formats them path answer × EndsAtDisk path answer result
 
 -- it moves the totals on the disk in the file at a path to layout 2
-abbrev pub MigratesFile : {F D : Type 0} → Ghosts F D → F → List ℕ → Result (Unit {0}) Fault → Type 0
+abbrev pub MigratesFile : {F B : Type 0} → Ghosts F B → F → List ℕ → Result (Unit {0}) Fault → Type 0
 MigratesFile files them path result =
     (answer : Result (Unit {0}) FileFault) × files.migrates them path answer × EndsAtDisk path answer result
 
@@ -80,51 +81,51 @@ TellsBytes path (Ok bytes) old new (Err other) = ⊥
 TellsBytes path (Err cause) old new result = EndsAtDisk path (Err cause) result × (new ≡ old)
 
 -- it tells what the totals file at a path holds
-abbrev pub TellsFile : {F D : Type 0} → Ghosts F D → F → List ℕ → Writing → Writing → Result (Unit {0}) Fault → Type 0
+abbrev pub TellsFile : {F B : Type 0} → Ghosts F B → F → List ℕ → Writing → Writing → Result (Unit {0}) Fault → Type 0
 TellsFile files them path old new result =
     (read : Result (List ℕ) FileFault) × files.gives_totals them path read × TellsBytes path read old new result
 
 -- what it does for a task, over these files: by how its reader and its writer stood before, and after
-abbrev pub Does : {F D : Type 0} → Ghosts F D → DiskGhosts D → F → Task → Streams → Result (Unit {0}) Fault
+abbrev pub Does : {F B : Type 0} → Ghosts F B → FileGhosts B → F → Task → Streams → Result (Unit {0}) Fault
     → Type 0
-Does files disks them Demo streams result = EndsRun (Serves streams) result
-Does files disks them (Run profile disk) streams result =
-    RunsFiles files disks them profile.now disk.now streams result
-Does files disks them (Format disk) streams result =
+Does files below them Demo streams result = EndsRun (Serves streams) result
+Does files below them (Run profile disk) streams result =
+    RunsFiles files below them profile.now disk.now streams result
+Does files below them (Format disk) streams result =
     FormatsFile files them disk.now result × AreUntouched streams
-Does files disks them (Migrate disk) streams result =
+Does files below them (Migrate disk) streams result =
     MigratesFile files them disk.now result × AreUntouched streams
-Does files disks them (Files disk) streams result =
+Does files below them (Files disk) streams result =
     TellsFile files them disk.now streams.writer streams.writer_after result
     × (streams.reader_after ≡ streams.reader)
 
 -- what it does for what the words ask for: nothing where they ask for nothing
-abbrev pub DoesChosen : {F D : Type 0} → Ghosts F D → DiskGhosts D → F → Result Task ChoiceFault → Streams
+abbrev pub DoesChosen : {F B : Type 0} → Ghosts F B → FileGhosts B → F → Result Task ChoiceFault → Streams
     → Result (Unit {0}) Fault → Type 0
-DoesChosen files disks them (Ok task) streams result =
-    Does files disks them task streams result
-DoesChosen files disks them (Err why) streams result =
+DoesChosen files below them (Ok task) streams result =
+    Does files below them task streams result
+DoesChosen files below them (Err why) streams result =
     (result ≡ Err (fault.Words why)) × AreUntouched streams
 
 -- what it does for words
-abbrev pub DoesAsAsked : {F D : Type 0} → Ghosts F D → DiskGhosts D → F → List (List ℕ) → Streams
+abbrev pub DoesAsAsked : {F B : Type 0} → Ghosts F B → FileGhosts B → F → List (List ℕ) → Streams
     → Result (Unit {0}) Fault → Type 0
-DoesAsAsked files disks them words streams result =
+DoesAsAsked files below them words streams result =
     (chosen : Result Task ChoiceFault) × Chooses words chosen
-    × DoesChosen files disks them chosen streams result
+    × DoesChosen files below them chosen streams result
 
 -- what it does for words that were read, or not
-abbrev pub DoesAsRead : {F D S A : Type 0} → Ghosts F D → DiskGhosts D → F → (S → List ℕ)
+abbrev pub DoesAsRead : {F B S A : Type 0} → Ghosts F B → FileGhosts B → F → (S → List ℕ)
     → Result (Vec S A) ChoiceFault → Streams → Result (Unit {0}) Fault → Type 0
-DoesAsRead files disks them text (Ok words) streams result =
-    DoesAsAsked files disks them (map text words.items) streams result
-DoesAsRead files disks them text (Err why) streams result =
+DoesAsRead files below them text (Ok words) streams result =
+    DoesAsAsked files below them (map text words.items) streams result
+DoesAsRead files below them text (Err why) streams result =
     (result ≡ Err (fault.Words why)) × AreUntouched streams
 
 -- The whole program, by its words, its files, how its reader and its writer stood before and after, and the status
 -- that it ends with.
-pub record Performs {F D S A : Type 0} (files : Ghosts F D) (disks : DiskGhosts D) (them : F) (text : S → List ℕ)
+pub record Performs {F B S A : Type 0} (files : Ghosts F B) (below : FileGhosts B) (them : F) (text : S → List ℕ)
     (words : Result (Vec S A) ChoiceFault) (streams : Streams) (status : ℕ) : Type 0 where
   pub outcome : Result (Unit {0}) Fault
-  pub done : DoesAsRead files disks them text words streams outcome
+  pub done : DoesAsRead files below them text words streams outcome
   pub ends : status ≡ status_of outcome

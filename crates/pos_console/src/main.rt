@@ -6,6 +6,7 @@
 mod files;
 mod program;
 mod scripts;
+mod totals_run;
 
 use pos_program::{Fault, SystemFiles, read_words};
 use pos_run::{AnswerWriter, ScriptReader};

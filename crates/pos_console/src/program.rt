@@ -8,9 +8,10 @@ ghost use Rattle.pos_console.specs.Program.{fault_of_run};
 
 use crate::files::tell_file;
 use crate::scripts::serve_built;
-use pos_disk::Disk;
+use crate::totals_run::run_over_totals;
+use pos_file::BlockFile;
 use pos_program::{ChoiceFault, Fault, FileFault, NamedFiles, Task, choice, open_run, status_of};
-use pos_run::{AnswerWriter, RunFault, ScriptReader, run_over_profile};
+use pos_run::{AnswerWriter, RunFault, ScriptReader};
 use pos_streams::{Sink, Source};
 use std::alloc::Global;
 use std::convert::AsStr;
@@ -38,12 +39,11 @@ fn run_files<'a, F: NamedFiles, R: Source, W: Sink>(
     profile: &'a str,
     disk: &'a str,
 ) -> Result<(), Fault<'a>>
-    ensures { RunsFiles F.NamedFiles ⟦<F::Disk as Disk>⟧ files.now profile.entry.now disk.entry.now
+    ensures { RunsFiles F.NamedFiles ⟦<F::File as BlockFile>⟧ files.now profile.entry.now disk.entry.now
         (streams_of R.Source reader.old reader.new W.Sink writer.old writer.new) result }
 {
-    let (profile, disk) = open_run(files, profile, disk)?;
-    let (outcome, _disk) = run_over_profile(alloc, reader, writer, &profile, disk);
-    ended(outcome)
+    let (profile, totals) = open_run(files, profile, disk)?;
+    ended(run_over_totals(alloc, reader, writer, &profile, totals))
 }
 
 /// What is answered of the disk in a file, to the program.
@@ -78,7 +78,7 @@ fn carry_out<'a, F: NamedFiles, R: Source, W: Sink>(
     writer: &mut AnswerWriter<W>,
     task: Task<'a>,
 ) -> Result<(), Fault<'a>>
-    ensures { Does F.NamedFiles ⟦<F::Disk as Disk>⟧ files.now task.entry
+    ensures { Does F.NamedFiles ⟦<F::File as BlockFile>⟧ files.now task.entry
         (streams_of R.Source reader.old reader.new W.Sink writer.old writer.new) result }
 {
     match task {
@@ -98,7 +98,7 @@ fn carry_out_words<'a, F: NamedFiles, S: AsStr, R: Source, W: Sink>(
     writer: &mut AnswerWriter<W>,
     words: &'a [S],
 ) -> Result<(), Fault<'a>>
-    ensures { DoesAsAsked F.NamedFiles ⟦<F::Disk as Disk>⟧ files.now (map S.text words.entry.now)
+    ensures { DoesAsAsked F.NamedFiles ⟦<F::File as BlockFile>⟧ files.now (map S.text words.entry.now)
         (streams_of R.Source reader.old reader.new W.Sink writer.old writer.new) result }
 {
     match choice(alloc, words) {
@@ -129,7 +129,7 @@ pub fn perform<F: NamedFiles, E: Eprint, S: AsStr + Drop, R: Source, W: Sink>(
     writer: &mut AnswerWriter<W>,
     words: Result<Vec<S>, ChoiceFault<'_>>,
 ) -> ExitCode
-    ensures { Performs F.NamedFiles ⟦<F::Disk as Disk>⟧ files.now S.text words.entry
+    ensures { Performs F.NamedFiles ⟦<F::File as BlockFile>⟧ files.now S.text words.entry
         (streams_of R.Source reader.old reader.new W.Sink writer.old writer.new) (exit_status result) }
 {
     match words {

@@ -1,5 +1,5 @@
 //! The disk of the totals in a file, mirrored in memory.
-ghost use Rattle.std.specs.Prelude.{◌≡◌, ◌≤◌, IfOk, length, min, true};
+ghost use Rattle.std.specs.Prelude.{◌≡◌, ◌≤◌, IfOk, false, length, true};
 ghost use Rattle.std.specs.Fs.{new_options, with_create, with_read, with_write};
 ghost use Rattle.pos_image.specs.Layout.{disk_size};
 ghost use Rattle.pos_program.specs.Faults.{TellsOpen};

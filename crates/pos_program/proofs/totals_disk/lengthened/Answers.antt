@@ -1,0 +1,8 @@
+use Rattle.std.proofs.Common.{refl}
+use Rattle.pos_program.proofs.totals_disk.lengthened.Goals as goal
+
+pub returns-in-Ok : goal.returns-in-Ok
+returns-in-Ok g c = (c.lengthen.result, c.lengthen.ensures, rw c.in-Ok.is refl)
+
+pub returns : goal.returns
+returns g c = (c.lengthen.result, c.lengthen.ensures, rw c.in-Err.is c.fault_of_disk.ensures)
