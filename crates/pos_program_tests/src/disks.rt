@@ -1,61 +1,22 @@
 use pos_disk::Disk;
-use pos_program::{FileDisk, FileFault, LockFile, read_settled};
+use pos_file::{FileDisk, MemoryFile};
+use pos_program::{
+    FileFault, disk_over, lengthened, make_totals, mirrored, open_totals, read_settled,
+};
+use std::alloc::Global;
 use std::cell::Cell;
-use std::fs::{Metadata, OpenFile, TryLockError};
+use std::io::ErrorKind;
 use std::os::unix::fs::FileExt;
 use std::test::Fail;
 use std::{fs, io};
 
-/// A file of 16 bytes that moves at most so many a call, and whose syncs fail or not.
-#[derive(Drop)]
-struct StubbornFile {
-    most: usize,
-    can_sync: bool,
-}
-
-impl FileExt for StubbornFile {
-    fn read_at(&self, buf: &mut [u8], _offset: u64) -> io::Result<usize> {
-        Ok(buf.len().min(self.most))
-    }
-
-    fn write_at(&self, buf: &[u8], _offset: u64) -> io::Result<usize> {
-        Ok(buf.len().min(self.most))
-    }
-}
-
-impl OpenFile for StubbornFile {
-    fn metadata(&self) -> io::Result<Metadata> {
-        Ok(Metadata::of_file(16))
-    }
-
-    fn set_len(&self, _size: u64) -> io::Result<()> {
-        self.sync_all()
-    }
-
-    fn sync_all(&self) -> io::Result<()> {
-        if self.can_sync {
-            return Ok(());
-        }
-        Err(io::Error::from(io::ErrorKind::Other))
-    }
-
-    fn sync_data(&self) -> io::Result<()> {
-        self.sync_all()
-    }
-}
-
-impl LockFile for StubbornFile {
-    fn try_lock(&self) -> Result<(), TryLockError> {
-        Ok(())
-    }
-
-    fn try_lock_shared(&self) -> Result<(), TryLockError> {
-        Ok(())
-    }
+/// A file of 16 bytes, each a 1.
+fn small_file(alloc: Global) -> Result<MemoryFile, Fail> {
+    Ok(MemoryFile::new(vec![in alloc; 1u8; 16]?))
 }
 
 /// Whether bytes at the beginning of a disk of 16 bytes are read, and whether they are written.
-fn moves(disk: &mut FileDisk<StubbornFile>, bytes: &mut [u8]) -> (bool, bool) {
+fn moves(disk: &mut FileDisk<MemoryFile>, bytes: &mut [u8]) -> (bool, bool) {
     if disk.len() != 16 || bytes.len() > 16 {
         return (false, false);
     }
@@ -64,12 +25,57 @@ fn moves(disk: &mut FileDisk<StubbornFile>, bytes: &mut [u8]) -> (bool, bool) {
 
 #[test]
 fn short_transfers_are_faults(rt: HostRuntime) -> Result<(), Fail> {
-    let (most, can_sync) = (4, true);
-    let mut disk = FileDisk::over(StubbornFile { most, can_sync })?;
+    let mut file = small_file(rt.alloc())?;
+    file.most = 4;
+    let mut disk = disk_over(file)?;
     let (fits, exceeds) = (moves(&mut disk, &mut [0; 4]), moves(&mut disk, &mut [0; 5]));
     assert!(rt; fits == (true, true) && exceeds == (false, false) && disk.sync().is_ok());
     assert!(rt; moves(&mut disk, &mut [0; 4]) == (true, true));
     Ok(())
+}
+
+#[test]
+fn totals_in_a_file_in_memory(rt: HostRuntime) -> Result<(), Fail> {
+    let mut totals = mirrored(rt.alloc(), disk_over(small_file(rt.alloc())?)?)?;
+    let mut bytes = [7; 3];
+    assert!(rt; totals.len() == 16);
+    if totals.len() == 16 {
+        assert!(rt; totals.read(13, &mut bytes).is_ok() && bytes == [1, 1, 1]);
+        assert!(rt; totals.write(13, &[2, 3, 4]).is_ok() && totals.sync().is_ok());
+        assert!(rt; totals.read(13, &mut bytes).is_ok() && bytes == [2, 3, 4]);
+    }
+    let kept = totals.below().file().bytes();
+    assert!(rt; kept.len() == 16 && kept.starts_with(&[1; 13]) && kept.ends_with(&[2, 3, 4]));
+    Ok(())
+}
+
+#[test]
+fn files_that_are_no_totals(rt: HostRuntime) -> Result<(), Fail> {
+    let mut file = small_file(rt.alloc())?;
+    file.sync_fault = Some(ErrorKind::Other);
+    let totals = mirrored(rt.alloc(), disk_over(file)?);
+    assert!(rt; matches!(totals, Err(FileFault::NotSynced)));
+    let mut file = small_file(rt.alloc())?;
+    file.most = 15;
+    let totals = mirrored(rt.alloc(), disk_over(file)?);
+    assert!(rt; matches!(totals, Err(FileFault::NotRead)));
+    let disk = lengthened(disk_over(small_file(rt.alloc())?)?);
+    assert!(rt; matches!(disk, Err(FileFault::Lengthen(_))));
+    Ok(())
+}
+
+/// A file that has a zero byte at each place, and moves at most 4,096 bytes a call.
+#[derive(Drop)]
+struct SlowFile {}
+
+impl FileExt for SlowFile {
+    fn read_at(&self, buf: &mut [u8], _offset: u64) -> io::Result<usize> {
+        Ok(buf.len().min(4_096))
+    }
+
+    fn write_at(&self, buf: &[u8], _offset: u64) -> io::Result<usize> {
+        Ok(buf.len().min(4_096))
+    }
 }
 
 /// A file of one byte, which is the number of the reading, up to the last number.
@@ -97,8 +103,7 @@ impl FileExt for RestlessFile {
 
 #[test]
 fn readings_that_settle(rt: HostRuntime) -> Result<(), Fail> {
-    let (most, can_sync) = (4_096, true);
-    let whole = read_settled(rt.alloc(), &StubbornFile { most, can_sync })?;
+    let whole = read_settled(rt.alloc(), &SlowFile {})?;
     assert!(rt; whole.len() == 327_680);
     let (reading, last) = (Cell::new(1), 7);
     let settled = read_settled(rt.alloc(), &RestlessFile { reading, last })?;
@@ -111,8 +116,9 @@ fn readings_that_settle(rt: HostRuntime) -> Result<(), Fail> {
 
 #[test]
 fn a_failed_sync_is_for_good(rt: HostRuntime) -> Result<(), Fail> {
-    let (most, can_sync) = (16, false);
-    let mut disk = FileDisk::over(StubbornFile { most, can_sync })?;
+    let mut file = small_file(rt.alloc())?;
+    file.sync_fault = Some(ErrorKind::Other);
+    let mut disk = disk_over(file)?;
     let (before, synced) = (moves(&mut disk, &mut [0; 16]), disk.sync());
     let (after, synced_then) = (moves(&mut disk, &mut [0; 16]), disk.sync());
     assert!(rt; before == (true, true) && after == (false, false));
@@ -120,20 +126,20 @@ fn a_failed_sync_is_for_good(rt: HostRuntime) -> Result<(), Fail> {
     Ok(())
 }
 
-/// Makes a disk of 8 bytes in a file: whether bytes are written to it, and synced.
+/// Makes totals in a file: whether bytes are written to them, and synced.
 fn is_filled(rt: &HostRuntime, path: &str) -> Result<bool, FileFault> {
-    let mut disk = FileDisk::make(rt, path, 8)?;
-    if disk.len() != 8 {
+    let mut totals = make_totals(rt, path)?;
+    if totals.len() != 327_680 {
         return Ok(false);
     }
-    Ok(disk.write(5, b"abc").is_ok() && disk.write(0, b"d").is_ok() && disk.sync().is_ok())
+    Ok(totals.write(5, b"abc").is_ok() && totals.write(0, b"d").is_ok() && totals.sync().is_ok())
 }
 
-/// The first eight bytes of the disk in a file.
+/// The first eight bytes of the totals in a file.
 fn filled(rt: &HostRuntime, path: &str) -> Result<[u8; 8], FileFault> {
     let mut bytes = [1; 8];
-    let mut disk = FileDisk::open(rt, path)?;
-    if disk.len() < 8 || disk.read(0, &mut bytes).is_err() {
+    let mut totals = open_totals(rt, path)?;
+    if totals.len() < 8 || totals.read(0, &mut bytes).is_err() {
         return Err(FileFault::Device);
     }
     Ok(bytes)
@@ -145,6 +151,8 @@ fn a_disk_in_a_file(rt: HostRuntime) -> Result<(), Fail> {
     let _ = fs::remove_file(&rt, path);
     assert!(rt; is_filled(&rt, path)?);
     assert!(rt; filled(&rt, path)? == *b"d\0\0\0\0abc");
+    let bytes = fs::read(&rt, path)?;
+    assert!(rt; bytes.len() == 327_680 && bytes.starts_with(b"d\0\0\0\0abc\0"));
     fs::remove_file(&rt, path)?;
     Ok(())
 }
@@ -153,10 +161,17 @@ fn a_disk_in_a_file(rt: HostRuntime) -> Result<(), Fail> {
 fn lengths_of_files(rt: HostRuntime) -> Result<(), Fail> {
     let path = "lengths_of_files";
     fs::write(&rt, path, "abc")?;
-    assert!(rt; FileDisk::make(&rt, path, 6)?.len() == 6);
-    assert!(rt; FileDisk::make(&rt, path, 4)?.len() == 6);
+    assert!(rt; open_totals(&rt, path)?.len() == 3);
+    assert!(rt; fs::read(&rt, path)?.as_slice() == b"abc".as_slice());
+    assert!(rt; make_totals(&rt, path)?.len() == 327_680);
     let bytes = fs::read(&rt, path)?;
-    assert!(rt; bytes.as_slice() == b"abc\0\0\0".as_slice());
+    assert!(rt; bytes.len() == 327_680 && bytes.starts_with(b"abc"));
+    assert!(rt; bytes[3..].iter().all(|byte| *byte == 0));
+    let ones = vec![in rt.alloc(); 1u8; 327_681]?;
+    fs::write(&rt, path, ones.as_slice())?;
+    assert!(rt; make_totals(&rt, path)?.len() == 327_680);
+    assert!(rt; open_totals(&rt, path)?.len() == 327_680);
+    assert!(rt; fs::read(&rt, path)? == ones);
     fs::remove_file(&rt, path)?;
     Ok(())
 }

@@ -1,93 +1,87 @@
-use pos_program::{FileDisk, FileFault, LockFile, format_file, migrate_file, read_totals};
+use pos_file::{BlockFile, MemoryFile};
+use pos_program::{FileFault, disk_over, format_file, migrate_file, open_totals, read_totals};
+use std::alloc::Global;
 use std::cell::Cell;
-use std::fs::{File, Metadata, OpenFile, TryLockError};
+use std::fs::{File, TryLockError};
 use std::io::ErrorKind;
-use std::os::unix::fs::FileExt;
 use std::test::Fail;
 use std::{fs, io};
 
-/// A file of 16 bytes that counts what is asked of it, and answers this to each call for a lock.
+/// A file that counts what else than a lock is asked of it.
 #[derive(Drop)]
 struct CountingFile<'a> {
-    calls: &'a Cell<u32>,
-    refusal: Option<ErrorKind>,
+    file: MemoryFile,
+    count: &'a Cell<u32>,
 }
 
 impl CountingFile<'_> {
     /// One call more.
     fn count(&self) {
-        self.calls.set(self.calls.get().saturating_add(1));
+        self.count.set(self.count.get().saturating_add(1));
     }
 }
 
-impl FileExt for CountingFile<'_> {
-    fn read_at(&self, buf: &mut [u8], _offset: u64) -> io::Result<usize> {
-        self.count();
-        Ok(buf.len())
+impl BlockFile for CountingFile<'_> {
+    ghost calls = { λ counting. ⟦<MemoryFile as BlockFile>⟧.calls counting.file };
+
+    fn try_lock(&mut self) -> Result<(), TryLockError> {
+        self.file.try_lock()
     }
 
-    fn write_at(&self, buf: &[u8], _offset: u64) -> io::Result<usize> {
+    fn try_lock_shared(&mut self) -> Result<(), TryLockError> {
+        self.file.try_lock_shared()
+    }
+
+    fn measure(&mut self) -> io::Result<u64> {
         self.count();
-        Ok(buf.len())
+        self.file.measure()
+    }
+
+    fn resize(&mut self, size: u64) -> io::Result<()> {
+        self.count();
+        self.file.resize(size)
+    }
+
+    fn read_at(&mut self, at: u64, out: &mut [u8]) -> io::Result<usize> {
+        self.count();
+        self.file.read_at(at, out)
+    }
+
+    fn write_at(&mut self, at: u64, bytes: &[u8]) -> io::Result<usize> {
+        self.count();
+        self.file.write_at(at, bytes)
+    }
+
+    fn sync(&mut self) -> io::Result<()> {
+        self.count();
+        self.file.sync()
     }
 }
 
-impl OpenFile for CountingFile<'_> {
-    fn metadata(&self) -> io::Result<Metadata> {
-        self.count();
-        Ok(Metadata::of_file(16))
-    }
-
-    fn set_len(&self, _size: u64) -> io::Result<()> {
-        self.count();
-        Ok(())
-    }
-
-    fn sync_all(&self) -> io::Result<()> {
-        self.count();
-        Ok(())
-    }
-
-    fn sync_data(&self) -> io::Result<()> {
-        self.count();
-        Ok(())
-    }
-}
-
-impl LockFile for CountingFile<'_> {
-    fn try_lock(&self) -> Result<(), TryLockError> {
-        match self.refusal {
-            None => Ok(()),
-            Some(ErrorKind::WouldBlock) => Err(TryLockError::WouldBlock),
-            Some(kind) => Err(TryLockError::Error(io::Error::from(kind))),
-        }
-    }
-
-    fn try_lock_shared(&self) -> Result<(), TryLockError> {
-        self.try_lock()
-    }
+/// Why a file that answers this to a call for a lock is no disk, and how many calls it had besides.
+fn refused(alloc: Global, lock_fault: Option<ErrorKind>) -> Result<(Option<FileFault>, u32), Fail> {
+    let mut file = MemoryFile::new(vec![in alloc; 1u8; 16]?);
+    file.lock_fault = lock_fault;
+    let count = &Cell::new(0);
+    let fault = disk_over(CountingFile { file, count }).err();
+    Ok((fault, count.get()))
 }
 
 #[test]
-fn a_file_without_a_lock_is_asked_nothing(rt: HostRuntime) {
-    let calls = &Cell::new(0);
-    let refusal = Some(ErrorKind::WouldBlock);
-    let disk = FileDisk::over(CountingFile { calls, refusal });
-    assert!(rt; matches!(disk, Err(FileFault::InUse)) && calls.get() == 0);
-    let refusal = Some(ErrorKind::Unsupported);
-    let disk = FileDisk::over(CountingFile { calls, refusal });
-    assert!(rt; matches!(disk, Err(FileFault::Lock(_))) && calls.get() == 0);
-    let refusal = Some(ErrorKind::OutOfMemory);
-    let disk = FileDisk::over(CountingFile { calls, refusal });
-    assert!(rt; matches!(disk, Err(FileFault::NoMemory)) && calls.get() == 0);
-    let refusal = None;
-    let disk = FileDisk::over(CountingFile { calls, refusal });
-    assert!(rt; disk.is_ok() && calls.get() == 1);
+fn a_file_without_a_lock_is_asked_nothing(rt: HostRuntime) -> Result<(), Fail> {
+    let in_use = refused(rt.alloc(), Some(ErrorKind::WouldBlock))?;
+    assert!(rt; matches!(in_use, (Some(FileFault::InUse), 0)));
+    let unlocked = refused(rt.alloc(), Some(ErrorKind::Unsupported))?;
+    assert!(rt; matches!(unlocked, (Some(FileFault::Lock(_)), 0)));
+    let no_memory = refused(rt.alloc(), Some(ErrorKind::OutOfMemory))?;
+    assert!(rt; matches!(no_memory, (Some(FileFault::NoMemory), 0)));
+    assert!(rt; matches!(refused(rt.alloc(), None)?, (None, 1)));
+    Ok(())
 }
 
 /// Whether each command answers that the file is in use, and leaves these bytes in it.
 fn is_in_use(rt: &HostRuntime, path: &str, bytes: &[u8]) -> Result<bool, Fail> {
-    let refused = matches!(FileDisk::open(rt, path), Err(FileFault::InUse))
+    let refused = matches!(open_totals(rt, path), Err(FileFault::InUse))
         && matches!(format_file(rt, path), Err(FileFault::InUse))
         && matches!(migrate_file(rt, path), Err(FileFault::InUse))
         && matches!(read_totals(rt, path), Err(FileFault::InUse));
@@ -102,7 +96,7 @@ fn a_locked_file_is_in_use(rt: HostRuntime) -> Result<(), Fail> {
     assert!(rt; held.try_lock().is_ok());
     assert!(rt; is_in_use(&rt, path, b"abc")?);
     drop(held);
-    let disk = FileDisk::open(&rt, path)?;
+    let disk = open_totals(&rt, path)?;
     assert!(rt; is_in_use(&rt, path, b"abc")?);
     drop(disk);
     assert!(rt; read_totals(&rt, path).is_ok() && format_file(&rt, path).is_ok());
@@ -117,9 +111,9 @@ fn a_file_is_read_by_several(rt: HostRuntime) -> Result<(), Fail> {
     let held = File::open(&rt, path)?;
     assert!(rt; held.try_lock_shared().is_ok());
     assert!(rt; read_totals(&rt, path).is_ok());
-    assert!(rt; matches!(FileDisk::open(&rt, path), Err(FileFault::InUse)));
+    assert!(rt; matches!(open_totals(&rt, path), Err(FileFault::InUse)));
     drop(held);
-    assert!(rt; FileDisk::open(&rt, path).is_ok());
+    assert!(rt; open_totals(&rt, path).is_ok());
     fs::remove_file(&rt, path)?;
     Ok(())
 }

@@ -1,5 +1,5 @@
 use pos_program::{
-    ChoiceFault, Fault, FileDisk, FileFault, OneLine, ProfileFileFault, Task, choice,
+    ChoiceFault, Fault, FileFault, OneLine, ProfileFileFault, Task, choice, open_totals,
     profile_of_bytes, status_of,
 };
 use std::alloc::Global;
@@ -96,6 +96,24 @@ fn texts_of_locks(rt: HostRuntime) -> Result<(), Fail> {
 }
 
 #[test]
+fn texts_of_what_is_not_mirrored(rt: HostRuntime) -> Result<(), Fail> {
+    for (cause, told) in [
+        (
+            FileFault::NotSynced,
+            "d: can't be synced: check the device that it is on",
+        ),
+        (
+            FileFault::NotRead,
+            "d: can't be read whole: check the device that it is on",
+        ),
+    ] {
+        let path = "d";
+        assert!(rt; ends(rt.alloc(), Fault::Disk { path, cause }, 4, told)?);
+    }
+    Ok(())
+}
+
+#[test]
 fn texts_of_moves(rt: HostRuntime) -> Result<(), Fail> {
     for (cause, status, told) in [
         (
@@ -162,7 +180,7 @@ fn texts_of_what_is_not_told(rt: HostRuntime) -> Result<(), Fail> {
 #[test]
 fn a_file_that_is_not_there(rt: HostRuntime) -> Result<(), Fail> {
     let path = "no\nfolder/d";
-    let Err(cause) = FileDisk::open(&rt, path) else {
+    let Err(cause) = open_totals(&rt, path) else {
         panic!(rt; "a file that isn't there");
     };
     let told =
