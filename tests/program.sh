@@ -346,13 +346,13 @@ calls() {
   sed -n 's/^pwrite64(.*/w/p; s/^ftruncate(.*/l/p; s/^fsync(.*/s/p; s/^write(1,.*/t/p' trace | tr -d '\n' | tr -s w
 }
 rm -f traced.disk
-told 'the calls of format' slswswsws "$(calls format --disk traced.disk)"
+told 'the calls of format' slsswswsws "$(calls format --disk traced.disk)"
 cp traced.disk traced2.disk
-told 'the calls of a move' swsws "$(calls migrate --disk traced2.disk)"
+told 'the calls of a move' sswsws "$(calls migrate --disk traced2.disk)"
 printf 'new a HardTotals\nopen a t1\nset a DeviceEnabled true\ncall a create 41 4 false\ncall a setAll 1 7\n' > script
-told 'the calls of two changes' swswswswst "$(calls run --profile sound.toml --disk traced.disk)"
+told 'the calls of two changes' sswswswswst "$(calls run --profile sound.toml --disk traced.disk)"
 printf 'new a HardTotals\nopen a t1\nset a DeviceEnabled true\ncall a create 41 4 false\ncall a read 1 0 4\n' > script
-told 'the calls of a refused change and a read' st "$(calls run --profile sound.toml --disk traced.disk)"
+told 'the calls of a refused change and a read' sst "$(calls run --profile sound.toml --disk traced.disk)"
 
 echo "$passed passed, $failed failed"
 [ "$failed" -eq 0 ]
