@@ -12,16 +12,16 @@ use Rattle.pos_run.specs.Streams.{Streams}
 use Rattle.pos_run.specs.declared.scripts.RunFault.{RunFault}
 use Rattle.pos_store.specs.Standing.{Standing, LeavesOneOf}
 
--- A run of the machine, with this text, over totals that may be these. A power cut at any moment since the file was read
--- leaves, of a file that keeps the crash model, what the machine may leave before, in or after one of its steps.
+-- A run of the machine, with this text, over totals that may be these. A power cut at any moment since the file was
+-- read leaves, of a file that keeps the crash model, what the machine may leave before, in or after one of its steps.
 pub record RunsOverTotals {B : Type 0} (below : FileGhosts B) (contents : Contents) (left : List Standing)
     (totals after : Mirror (FileDisk B)) (streams : Streams) (result : Result (Unit {0}) RunFault) : Type 0 where
   pub run : RunsThroughProfile contents left (mirror_state totals) (mirror_state after) streams result
   pub cut : (is : IsMirrored below.calls after) (bytes : List ℕ) → CutMayLeave is bytes
       → IsLeftDuring (begun_over contents left (mirror_state totals)) (script_steps run.text.run) run.end run.run bytes
 
--- There was no memory, and nothing was read or written. Or the calls of the file make the totals that are left, and for all
--- that the file may have held the run is one of the machine.
+-- There was no memory, and nothing was read or written. Or the calls of the file make the totals that are left, and for
+-- all that the file may have held the run is one of the machine.
 abbrev pub TotalsLeave : {B : Type 0} → FileGhosts B → Contents → Mirror (FileDisk B) → Streams
     → Result (Unit {0}) RunFault → Type 0
 TotalsLeave {B} below contents totals streams result =

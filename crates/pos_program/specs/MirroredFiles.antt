@@ -8,8 +8,8 @@ use Rattle.pos_file.specs.declared.file_disk.FileDisk.{FileDisk}
 use Rattle.pos_mirror.specs.Asked.{Continues}
 use Rattle.pos_mirror.specs.Mirror.{Mirror}
 
--- The calls of the file since the mirror read it make the disk that the mirror shows. A lost mirror may have taken writes
--- since, of which the file was asked nothing.
+-- The calls of the file since the mirror read it make the disk that the mirror shows. A lost mirror may have taken
+-- writes since, of which the file was asked nothing.
 pub record IsMirrored {F : Type 0} (calls : F → List Call) (mirror : Mirror (FileDisk F)) : Type 0 where
   -- what the file was asked before, and the bytes that were read then
   pub before : List Call
@@ -20,7 +20,8 @@ pub record IsMirrored {F : Type 0} (calls : F → List Call) (mirror : Mirror (F
   pub same : mirror.lost ≡ false → mirror.memory ≡ asked
   pub continues : Continues asked mirror.memory
 
--- A power cut at some moment since the mirror read the file may leave these bytes of it, if the file keeps the crash model.
+-- A power cut at some moment since the mirror read the file may leave these bytes of it, if the file keeps the crash
+-- model.
 abbrev pub CutMayLeave : {F : Type 0} {calls : F → List Call} {mirror : Mirror (FileDisk F)} → IsMirrored calls mirror
     → List ℕ → Type 0
 CutMayLeave is bytes = CourseLeaves is.follows.since (fresh is.bytes) is.asked bytes

@@ -38,7 +38,8 @@ OpensDisk {F} calls them result =
 -- what lengthening a disk to that of totals comes to
 abbrev pub LengthensDisk : {F : Type 0} → (F → List Call) → FileDisk F → Result (FileDisk F) FileFault → Type 0
 LengthensDisk {F} calls old result =
-    (answer : Result (FileDisk F) (DiskFileFault × F)) × Lengthens calls old disk_size answer × TellsAnswer answer result
+    (answer : Result (FileDisk F) (DiskFileFault × F)) × Lengthens calls old disk_size answer
+    × TellsAnswer answer result
 
 -- a mirror is what was answered, or the fault says why there is none
 abbrev pub TellsMirror : {M D : Type 0} → Result M (MirrorFault × D) → Result M FileFault → Type 0

@@ -135,8 +135,8 @@ pub fn open_totals<R: Files<File = File> + AllocGlobal>(
     mirrored(files.alloc(), disk)
 }
 
-// Returns a disk that is long enough. A shorter one is lengthened, and before that its folder is synced, so that a crash
-// leaves no disk in a file that can't be found.
+// Returns a disk that is long enough. A shorter one is lengthened, and before that its folder is synced, so that a
+// crash leaves no disk in a file that can't be found.
 fn long_enough<R: Files<File = File>>(
     files: &R,
     path: &str,
