@@ -7,7 +7,7 @@ use std::io::ErrorKind;
 use std::test::Fail;
 use std::{fs, io};
 
-/// A file that counts what else than a lock is asked of it.
+/// A file that counts its calls, but for those for a lock.
 #[derive(Drop)]
 struct CountingFile<'a> {
     file: MemoryFile,
