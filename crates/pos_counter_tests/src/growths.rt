@@ -1,5 +1,6 @@
 //! A counter that is made, and a list of requests that are carried out. Where one of them finds no memory it is asked
 //! once more, and each request that takes memory stands twice: so with one growth refused all else is as with none.
+//! With ample memory nothing is asked again, and no request is refused: tests with names in `ample_` say so.
 ghost use Rattle.std.specs.Prelude.{IfOk, All};
 ghost use Rattle.pos_counter.specs.Counters.{IsCounterSound};
 ghost use Rattle.pos_counter.specs.Responses.{OffersInService};
@@ -18,16 +19,22 @@ use std::test::Fail;
 
 type Requests<'a> = Vec<Request<'a, (), usize, PlainDrawer>>;
 
-/// A counter over the devices of a profile. A refusal hands its disk back.
+/// A counter over the devices of a profile, for which memory may be refused once or not. A refusal hands its disk back.
 fn made<D: Disk, P: Peripheral>(
     alloc: Global,
     profile: &Profile,
     disk: D,
+    is_ample: bool,
 ) -> Result<Counter<D, P>, (NoMemory, D)>
     ensures { IfOk result (λ counter. IsCounterSound P.Peripheral counter) }
 {
     match Counter::new(alloc, profile, Vec::new(alloc), disk) {
-        Err((NoMemory, disk)) => Counter::new(alloc, profile, Vec::new(alloc), disk),
+        Err((NoMemory, disk)) => {
+            if is_ample {
+                return Err((NoMemory, disk));
+            }
+            Counter::new(alloc, profile, Vec::new(alloc), disk)
+        }
         made => made,
     }
 }
@@ -118,17 +125,23 @@ fn word<P>(response: &Response<P>) -> &'static str {
     }
 }
 
-/// Carries requests out. A refusal hands them back.
+/// Carries requests out, for which memory may be refused once or not. A refusal hands them back.
 fn performed<'a>(
     counter: &mut Counter<MemDisk, PlainDrawer>,
     requests: Requests<'a>,
+    is_ample: bool,
 ) -> Result<Vec<Response<PlainDrawer>>, (NoMemory, Requests<'a>)>
     requires sound { IsCounterSound ⟦<PlainDrawer as Peripheral>⟧ counter.old }
     requires in_service { All (OffersInService ⟦<PlainDrawer as Peripheral>⟧) requests.items }
     ensures { IsCounterSound ⟦<PlainDrawer as Peripheral>⟧ counter.new }
 {
     match counter.perform(requests) {
-        Err((NoMemory, requests)) => counter.perform(requests),
+        Err((NoMemory, requests)) => {
+            if is_ample {
+                return Err((NoMemory, requests));
+            }
+            counter.perform(requests)
+        }
         done => done,
     }
 }
@@ -156,22 +169,35 @@ fn end_drawers(mut entries: Vec<Slot<PlainDrawer>>) {
     entries.destroy_empty();
 }
 
-#[test]
-fn requests_are_performed(rt: HostRuntime) -> Result<(), Fail> {
-    let profile = Profile::built(rt.alloc())?;
-    let Ok(mut counter) = made(rt.alloc(), &profile, new_disk(rt.alloc())?) else {
+/// How many responses to the requests aren't those wanted.
+fn count_refused(alloc: Global, is_ample: bool) -> Result<usize, Fail> {
+    let profile = Profile::built(alloc)?;
+    let Ok(mut counter) = made(alloc, &profile, new_disk(alloc)?, is_ample) else {
         return Err(Fail::new("no memory for a counter"));
     };
-    let outcome = match requests(rt.alloc()) {
-        Ok(requests) => performed(&mut counter, requests),
-        Err(_) => Err((NoMemory, Vec::new(rt.alloc()))),
+    let outcome = match requests(alloc) {
+        Ok(requests) => performed(&mut counter, requests, is_ample),
+        Err(_) => Err((NoMemory, Vec::new(alloc))),
     };
     let Ended { disk: _, entries } = counter.shutdown();
     end_drawers(entries);
     let Ok(responses) = outcome else {
         return Err(Fail::new("no memory for a list"));
     };
-    assert_eq!(rt; responses.len(), WANTED.len());
-    assert!(rt; count_others(&responses) < 2);
+    if responses.len() != WANTED.len() {
+        return Err(Fail::new("requests without a response"));
+    }
+    Ok(count_others(&responses))
+}
+
+#[test]
+fn requests_are_performed(rt: HostRuntime) -> Result<(), Fail> {
+    assert!(rt; count_refused(rt.alloc(), false)? < 2);
+    Ok(())
+}
+
+#[test]
+fn ample_memory_refuses_no_request(rt: HostRuntime) -> Result<(), Fail> {
+    assert_eq!(rt; count_refused(rt.alloc(), true)?, 0);
     Ok(())
 }
