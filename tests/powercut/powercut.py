@@ -264,8 +264,9 @@ class Judge:
             print(f"{scenario.name}: without one sync of {kind}, {len(shown)} tried, at the latest file {max(filter(None, shown))} is amiss")
 
     def first_amiss(self, scenario, number, moment):
-        """How many files it takes until one is amiss without this sync; nothing if none is before the next sync."""
-        chance, kind, count = self.chance(scenario.name, number), scenario.entries[number].kind, 0
+        """How many files it takes until one is amiss without this sync; nothing if none is before the next sync. Those that follow
+        before anything is written are left out with it: opening a file syncs it, and recovering what it has does so again."""
+        chance, kind, count, is_written = self.chance(scenario.name, number), scenario.entries[number].kind, 0, False
         moment = cuts.after(moment, None)
         for entry in [*scenario.entries[number + 1:], None]:
             for image, _, plan in cuts.states(chance, moment, scenario.ways, 60, self.marks):
@@ -275,9 +276,10 @@ class Judge:
                     if not self.look(image, found):
                         told(f"{scenario.name}: the program finds what the reader finds without a sync", False, wrong)
                     return count
-            if entry is None or entry.kind == kind:
+            if entry is None or entry.kind == kind and is_written:
                 return None
-            moment = cuts.after(moment, entry)
+            is_written = is_written or entry.kind in ("W", "T")
+            moment = cuts.after(moment, None if entry.kind == kind else entry)
 
 
 class Talk:
