@@ -1,8 +1,10 @@
 #!/usr/bin/env python3
-"""Writes what the library declares, out of the exports and codes of crates/kijolvar/src and the numbers of crates/pos_service: for
-C kijolvar.h, for Python and Rust the constants alone.
+"""Writes what the library declares, out of the exports and codes of crates/kijolvar/src and the numbers of
+crates/pos_service: for C kijolvar.h, for Python the constants alone. typed_c.py and typed_rust.py write what is typed for
+C and Rust.
 
-Usage: abi/declare.py c > abi/kijolvar.h; abi/declare.py python > abi/python/standard.py; abi/declare.py rust > abi/rust/standard.rs
+Usage: abi/declare.py c > abi/kijolvar.h
+       abi/declare.py python > abi/python/standard.py
 """
 import pathlib
 import re
@@ -22,22 +24,58 @@ TYPES = {
 }
 RESULTS = {"u32": "uint32_t", None: "void"}
 
-# The numbers of the standard that stand in lines and answers, and that no enum of the crates names.
+SPECS = TOP / "crates/pos_service/specs"
+
+# The numbers of the standard that no enum of the crates names. Each is read from a definition: its file, its name, and
+# the form of the text in which the number is.
 STANDARD = [
-    ("States of a control (State).", {"S_CLOSED": 1, "S_IDLE": 2, "S_BUSY": 3, "S_ERROR": 4}),
-    ("Statuses of a cash drawer, in StatusUpdateEvents.", {"CASH_SUE_DRAWERCLOSED": 0, "CASH_SUE_DRAWEROPEN": 1}),
+    ("States of a control (State).", {
+        "S_CLOSED": ("Controls", "state_of", r"is_none control\.device then (\d+)"),
+        "S_IDLE": ("Controls", "state_of", r"else (\d+)\)\)"),
+        "S_BUSY": ("Controls", "state_of", r"is_outstanding \S+ then (\d+)"),
+        "S_ERROR": ("Controls", "state_of", r"is_in_error control then (\d+)")}),
+    ("Statuses of a cash drawer, in StatusUpdateEvents.", {
+        "CASH_SUE_DRAWERCLOSED": ("Statuses", "drawer_status", r"false = (\d+)"),
+        "CASH_SUE_DRAWEROPEN": ("Statuses", "drawer_status", r"true = (\d+)")}),
     ("Statuses of a printer, in StatusUpdateEvents.", {
-        "PTR_SUE_COVER_OPEN": 11, "PTR_SUE_COVER_OK": 12, "PTR_SUE_REC_EMPTY": 24, "PTR_SUE_REC_NEAREMPTY": 25,
-        "PTR_SUE_REC_PAPEROK": 26}),
-    ("Statuses of power, in StatusUpdateEvents.", {"SUE_POWER_ONLINE": 2001, "SUE_POWER_OFF_OFFLINE": 2004}),
+        "PTR_SUE_COVER_OPEN": ("Statuses", "cover_status", r"true = (\d+)"),
+        "PTR_SUE_COVER_OK": ("Statuses", "cover_status", r"false = (\d+)"),
+        "PTR_SUE_REC_EMPTY": ("Statuses", "paper_status", r"paper\.Empty = (\d+)"),
+        "PTR_SUE_REC_NEAREMPTY": ("Statuses", "paper_status", r"paper\.NearEnd = (\d+)"),
+        "PTR_SUE_REC_PAPEROK": ("Statuses", "paper_status", r"paper\.Good = (\d+)")}),
+    ("Statuses of power, in StatusUpdateEvents.", {
+        "SUE_POWER_ONLINE": ("Statuses", "power_status", r"true = (\d+)"),
+        "SUE_POWER_OFF_OFFLINE": ("Statuses", "power_status", r"false = (\d+)")}),
     ("Power: CapPowerReporting, PowerNotify, PowerState.", {
-        "PR_NONE": 0, "PR_STANDARD": 1, "PN_DISABLED": 0, "PN_ENABLED": 1, "PS_UNKNOWN": 2000, "PS_ONLINE": 2001,
-        "PS_OFF_OFFLINE": 2004}),
+        "PR_NONE": ("Properties", "power_reporting", r"false = (\d+)"),
+        "PR_STANDARD": ("Properties", "power_reporting", r"true = (\d+)"),
+        "PN_DISABLED": ("Properties", "notify_number", r"false = (\d+)"),
+        "PN_ENABLED": ("Properties", "notify_number", r"true = (\d+)"),
+        "PS_UNKNOWN": ("Properties", "power_state", r"else (\d+)"),
+        "PS_ONLINE": ("Statuses", "power_status", r"true = (\d+)"),
+        "PS_OFF_OFFLINE": ("Statuses", "power_status", r"false = (\d+)")}),
     ("Attributes of a display's text, and directions of a scroll.", {
-        "DISP_DT_NORMAL": 0, "DISP_DT_BLINK": 1, "DISP_DT_REVERSE": 2, "DISP_DT_BLINK_REVERSE": 3, "DISP_ST_UP": 1,
-        "DISP_ST_DOWN": 2, "DISP_ST_LEFT": 3, "DISP_ST_RIGHT": 4}),
-    ("The station of a receipt printer.", {"PTR_S_RECEIPT": 2}),
+        "DISP_DT_NORMAL": ("Displays", "attribute_number_of", r"attribute\.Normal = (\d+)"),
+        "DISP_DT_BLINK": ("Displays", "attribute_number_of", r"attribute\.Blink = (\d+)"),
+        "DISP_DT_REVERSE": ("Displays", "attribute_number_of", r"attribute\.Reverse = (\d+)"),
+        "DISP_DT_BLINK_REVERSE": ("Displays", "attribute_number_of", r"attribute\.BlinkReverse = (\d+)"),
+        "DISP_ST_UP": ("Displays", "direction_number_of", r"direction\.Up = (\d+)"),
+        "DISP_ST_DOWN": ("Displays", "direction_number_of", r"direction\.Down = (\d+)"),
+        "DISP_ST_LEFT": ("Displays", "direction_number_of", r"direction\.Left = (\d+)"),
+        "DISP_ST_RIGHT": ("Displays", "direction_number_of", r"direction\.Right = (\d+)")}),
+    ("The station of a receipt printer.", {"PTR_S_RECEIPT": ("PrinterCalls", "is_receipt", r"n == (\d+)")}),
 ]
+
+
+def definition(path, name):
+    """The text of a definition: its equations, up to an empty line."""
+    return re.search(rf"^{name}\b(?! :).*?(?=\n\n|\Z)", path.read_text(), re.M | re.S)[0]
+
+
+def defined(file, name, form):
+    """The number that a definition of the devices has in this form, once."""
+    (found,) = re.findall(form, definition(SPECS / f"{file}.antt", name))
+    return int(found)
 
 
 def doc_before(source, at):
@@ -69,7 +107,8 @@ def groups():
     yield "The result codes of the standard, which stand in answers.", numbers("crates/pos_service/src/code.rt", "Code")
     yield "Extended codes, behind E_EXTENDED.", extended()
     yield "Where an error stands, in ErrorEvents.", numbers("crates/pos_service/src/event.rt", "Locus")
-    yield from STANDARD
+    for what, named in STANDARD:
+        yield what, {word: defined(*where) for word, where in named.items()}
 
 
 def comment(lines):
@@ -112,7 +151,8 @@ def codes():
 
 def constants(source):
     """All numbers, each group with what it is."""
-    named = {"KIJOLVAR_VERSION": version(source), "KIJOLVAR_DISK_LENGTH": disk_length()} | {word: number for word, number, _ in codes()}
+    named = {"KIJOLVAR_VERSION": version(source), "KIJOLVAR_DISK_LENGTH": disk_length()}
+    named |= {word: number for word, number, _ in codes()}
     yield "The version of the library, the bytes of a file for totals, and what calls answer.", named
     yield from groups()
 
@@ -166,13 +206,7 @@ def python(source):
         print("\n".join(f"{word} = {number}" for word, number in named.items()))
 
 
-def rust(source):
-    print("//! The numbers that stand in lines and answers. Written by abi/declare.py: don't change it by hand.")
-    for what, named in constants(source):
-        print(f"\n// {what}")
-        print("\n".join(f"pub const {word}: u32 = {number};" for word, number in named.items()))
-
-
-if len(sys.argv) != 2 or sys.argv[1] not in ("c", "python", "rust"):
-    sys.exit(__doc__)
-{"c": c, "python": python, "rust": rust}[sys.argv[1]]((LIBRARY / "lib.rt").read_text())
+if __name__ == "__main__":
+    if len(sys.argv) != 2 or sys.argv[1] not in ("c", "python"):
+        sys.exit(__doc__)
+    {"c": c, "python": python}[sys.argv[1]]((LIBRARY / "lib.rt").read_text())

@@ -1,7 +1,7 @@
 #!/usr/bin/env bash
-# Tries the library: its archive by both compilers, the header against the exports, the examples in C, Rust and Python,
-# which have to print the same, want of memory at each allocation in turn, two tills on two threads, and the stack that each
-# export takes. valgrind looks for misuse of the heap by the library and by the three wrappers. It installs nothing, and a
+# Tries the library: its archive by both compilers, the header against the exports, the typed layers against their description,
+# the sale in C, Rust and Python, which have to print the same, want of memory at each allocation in turn, two tills on two
+# threads, and the stack that each export takes. valgrind looks for misuse of the heap by the library and by the three layers. It installs nothing, and a
 # tool that is missing is a failure that names its package. Usage: tests/abi.sh. Its last line is 'N passed, M failed'.
 set -u
 top=$(cd "$(dirname "$0")/.." && pwd)
@@ -57,7 +57,10 @@ fi
 # the interpreter itself, for valgrind: python3 may be a script that finds it
 python=$(python3 -c 'import sys; print(sys.executable)')
 
-# links NAME SOURCE FLAG ..: builds a program in C over the archive $archive and a heap
+# what a program in C has beside the archive: the heap, and the typed layer
+typed=("$abi/heap.c" "$abi"/c/kij_*.c)
+
+# links NAME SOURCE HEAP FLAG ..: builds a program in C over the archive $archive and a heap
 links() {
   local name=$1 source=$2 heap=$3
   shift 3
@@ -96,13 +99,13 @@ reads() {
 tries() {
   local who=$1
   shift
-  links "$who: the sale in C" "$abi/c/sale.c" "$abi/heap.c" "$@"
+  links "$who: the sale in C" "$abi/c/sale.c" "${typed[*]}" "$@"
   sells "$who: the sale in C" "$work/program"
   links "$who: want of memory" "$abi/c/memory.c" "" "$@"
   told "$who: want of memory" "whole in the end, and nothing is left" "$("$work/program" 2>&1 | tail -n 1)"
   links "$who: short answers" "$abi/c/short.c" "$abi/heap.c" "$@"
   told "$who: short answers" "as they should be" "$("$work/program" 2>&1 | tail -n 1)"
-  links "$who: devices of the host's" "$abi/c/orders.c" "$abi/heap.c" "$@"
+  links "$who: devices of the host's" "$abi/c/orders.c" "${typed[*]}" "$@"
   told "$who: devices of the host's" "as they should be" "$("$work/program" 2>&1 | tail -n 1)"
   links "$who: two threads" "$abi/c/threads.c" "$abi/heap.c" "$@"
   told "$who: two threads" "the same" "$("$work/program" 2>&1 | tail -n 1)"
@@ -110,7 +113,7 @@ tries() {
 
 # watches WHO: what needs a build without a sanitizer: the sale under valgrind, and the stack
 watches() {
-  links "$1: the sale in C, watched" "$abi/c/sale.c" "$abi/heap.c"
+  links "$1: the sale in C, watched" "$abi/c/sale.c" "${typed[*]}"
   sells "$1: the sale in C, watched" watched "$work/program"
   links "$1: the stack" "$abi/c/stack.c" "$abi/heap.c"
   "$work/program" "${scripts[@]}" > "$work/stack" 2>&1
@@ -128,7 +131,8 @@ told "scripts for the stack" 0 "$?"
 
 told "the header is that of the exports" "$(python3 "$abi/declare.py" c)" "$(cat "$abi/kijolvar.h")"
 told "the numbers for Python" "$(python3 "$abi/declare.py" python)" "$(cat "$abi/python/standard.py")"
-told "the numbers for Rust" "$(python3 "$abi/declare.py" rust)" "$(cat "$abi/rust/standard.rs")"
+runs "what is typed for C" python3 "$abi/typed_c.py" --check
+runs "what is typed for Rust" python3 "$abi/typed_rust.py" --check
 
 (cd "$top/crates/kijolvar" && rt lib > "$work/lib" 2>&1)
 told "the archive by LLVM" 0 "$?"
@@ -139,18 +143,19 @@ tries "LLVM under the address sanitizer" -fsanitize=address,undefined -fno-sanit
 runs "the heap for Rust" gcc -Wall -Wextra -Werror -O1 -c -fPIC -o "$work/heap.o" "$abi/heap.c"
 cp "$archive" "$work/libkijolvar.a"
 runs "the heap is added" ar r "$work/libkijolvar.a" "$work/heap.o"
-runs "the sale in Rust is built" rustc -D warnings -O -o "$work/sale_rust" "$abi/rust/sale.rs" -L "native=$work" \
-  -l static=kijolvar
+runs "the crate is built" rustc -D warnings -O --edition 2021 --crate-type rlib --crate-name kijolvar \
+  -o "$work/libkijolvar.rlib" "$abi/rust/kijolvar/src/lib.rs" -L "native=$work" -l static=kijolvar
+crate=(rustc -D warnings -O --edition 2021 --extern "kijolvar=$work/libkijolvar.rlib" -L "native=$work")
+runs "the sale in Rust is built" "${crate[@]}" -o "$work/sale_rust" "$abi/rust/sale.rs"
 sells "the sale in Rust" "$work/sale_rust"
 sells "the sale in Rust, watched" watched "$work/sale_rust"
-runs "the totals in Rust are built" rustc -D warnings -O -o "$work/totals_rust" "$abi/rust/totals.rs" -L "native=$work" \
-  -l static=kijolvar
+runs "the totals in Rust are built" "${crate[@]}" -o "$work/totals_rust" "$abi/rust/totals.rs"
 
 runs "the shared object" gcc -shared -o "$work/libkijolvar.so" -Wl,--whole-archive "$work/libkijolvar.a" \
   -Wl,--no-whole-archive
 export PYTHONDONTWRITEBYTECODE=1
 sells "the sale in Python" python3 -W error "$abi/python/sale.py" "$work/libkijolvar.so"
-links "the totals in C" "$abi/c/totals.c" "$abi/heap.c"
+links "the totals in C" "$abi/c/totals.c" "${typed[*]}"
 mv "$work/program" "$work/totals_c"
 reads "a long answer in C, watched" "$work/totals_c"
 reads "a long answer in Rust, watched" "$work/totals_rust"

@@ -418,7 +418,10 @@ def opening(wrapper):
 
 def locks(library, wrapper):
     """A file is locked as long as a till has it, from its creation on."""
-    for word, image in [("create", None), ("open", b"")]:
+    wrapper.has(None)
+    wrapper.runs("create")
+    whole = pathlib.Path(wrapper.path).read_bytes()
+    for word, image in [("create", None), ("open", whole)]:
         wrapper.has(image)
         printing = wrapper.recorded(word)[2].index("print ready") + 1
         wrapper.has(image)

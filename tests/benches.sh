@@ -56,6 +56,8 @@ counts store 20 '^layout [12], .*, round [1-5]: [1-9][0-9]* commits a second, [0
 counts run 4 ' lines a second$' "$bench/run.sh" 1000 "$program"
 counts totals 2 ' lines a second$' "$bench/totals.sh" 1000 "$program"
 counts file 4 '^(floor|single|tens|sqlite) .* changes a second ' "$bench/file.sh" 50 "$work" "$program"
+counts typed 8 ' instructions by text, +[0-9]+ typed: [0-9.]+ times$' "$bench/typed.sh"
+counts python 8 ': [0-9.]+ of a bare call$' "$bench/python.sh" --small
 counts partner 2 '^(pos_console|cat) +100 lines,' "$bench/partner.py" 100 "$program"
 
 listed=$(cd "$bench" && ls *.sh partner.py | grep -vc '^crates.sh$')

@@ -1,13 +1,17 @@
 #!/usr/bin/env bash
-# Checks README.md, abi/README.md and docs/ against the tree. Each rule looks at one kind of claim:
+# Checks README.md, CONTRIBUTING.md, CHANGELOG.md, abi/README.md and docs/ against the tree. Each rule looks at one kind of
+# claim:
 #   paths      a file or folder in backticks exists; a command's first word is one
-#   links      a link leads to a file and to a heading of it, and so does a heading that is quoted behind a link
+#   links      a link leads to a file, and to a heading or a line of it, and so does a heading that is quoted behind a link
 #   comments   a document and a heading that a source, a test or a script names exist
 #   names      `crate::function`, `Type::method`, `Type::Variant` and `crate.Module.name` are declared there
 #   words      a single word in backticks that looks like a name is a word of the sources, or of the list of others below
-#   proofs     what an item of docs/PROOFS.md is about is declared in the crate of its heading; each function of the crate
-#              that its users can call and that has a clause is named there
+#   proofs     each function that a crate's users can call and that has a clause is in the crate's table of docs/CONTRACTS.md, and
+#              each function of a table is the crate's
+#   generated  docs/CONTRACTS.md and the lists of docs/TRUST.md are what tools/contracts.py and tools/trust.py write
 #   clauses    a clause that is named beside a function, and a field beside a definition, is there
+#   theorems   in docs/THEOREMS.md, a function is one that its crate's users can call and has the clause, and its contract
+#              leads to the relation; a quoted refusal is in docs/DECISIONS.md; a part without a function is said to be missing
 #   commits    a commit's id is one of this history
 #   kit        the kit that README names is the one that `rt version` tells
 #   crates     the crates and what they stand on are those of crates.txt
@@ -26,12 +30,14 @@ cd "$(dirname "$0")/.." || exit 1
 exec python3 - "$@" <<'PROGRAM'
 import functools, glob, os, re, shutil, subprocess, sys
 
-DOCUMENTS = ["README.md", "abi/README.md", *sorted(glob.glob("docs/*.md"))]
+DOCUMENTS = ["README.md", "CONTRIBUTING.md", "CHANGELOG.md", "abi/README.md",
+             *sorted(glob.glob("docs/**/*.md", recursive=True))]
 CRATES = sorted(os.path.basename(path) for path in glob.glob("crates/*"))
 # Files that a command makes, or that stand for those of a reader.
-MADE = {"out/pos_console", "till.disk", "till.toml", "libkijolvar.a", "libkijolvar.so"}
+MADE = {"out/pos_console", "crates/pos_console/out/pos_console", "out/libkijolvar.a", "crates/kijolvar/out/libkijolvar.a",
+        "abi/out", "till.disk", "till.toml", "day.py", "drawer.c", "libkijolvar.a", "libkijolvar.so"}
 # Words in backticks that are of the standard, of the system or of the checker, and so of no source here.
-OTHERS = {"checkHealth", "directIO", "transactionPrint", "paste", "strace", "dmesg", "smartctl", "libc", "LendsIf",
+OTHERS = {"checkHealth", "directIO", "transactionPrint", "paste", "diff", "strace", "dmesg", "smartctl", "libc", "LendsIf",
           "pos_"}
 # Names of files that the checker refuses, as docs/DECISIONS.md says.
 REFUSED = {"Contracts.antt", "proofs/Formatting.antt"}
@@ -209,8 +215,12 @@ def links(documents):
             if not os.path.exists(path):
                 faults.append(f"{name}: a link to {found[1]}, which isn't there")
                 continue
-            if anchor and anchor not in map(slug, headings(path, documents)):
-                faults.append(f"{name}: a link to {found[1]}, which has no such heading")
+            if re.fullmatch(r"L\d+", anchor):
+                there = int(anchor[1:]) <= read(path).count("\n") + 1
+            else:
+                there = not anchor or anchor in map(slug, headings(path, documents))
+            if not there:
+                faults.append(f"{name}: a link to {found[1]}, which has no such heading or line")
             for heading in re.findall(r'"([^"]+)"', found[2]):
                 looked += 1
                 if not has_heading(path, " ".join(heading.split()), documents):
@@ -228,7 +238,8 @@ def comments(documents):
     for path in FILES:
         if path.endswith(".md") or not re.match(r"(crates|tests|bench|abi|\.ci)/", path) or path == "tests/documents.sh":
             continue
-        for name, heading in re.findall(r'(docs/\w+\.md)(?:,\s+(?:(?://[/!]?|#|--|\*)\s+)?"([^"]+)")?', read(path)):
+        quoted = r'\b((?:docs/(?:guide/)?|abi/)[\w-]+\.md)(?:,\s+(?:(?://[/!]?|#|--|\*)\s+)?"([^"]+)")?'
+        for name, heading in re.findall(quoted, read(path)):
             looked += 1
             heading = re.sub(r"\s*\n\s*(//[/!]?|#|--|\*)?\s*", " ", heading)
             if not os.path.exists(name):
@@ -243,6 +254,15 @@ def is_declared(owner, name):
     if any(owner in f.owners for f in BY_NAME.get(name, [])):
         return True
     return any(re.search(rf"^\s+{name}\b", body, re.M) for _, body in TYPES.get(owner, []))
+
+
+def is_in_package(owner, name):
+    """Whether a type of the Rust package has a method or a variant of this name, in the type's file."""
+    for path in glob.glob("abi/rust/**/*.rs", recursive=True):
+        text = read(path)
+        if re.search(rf"^pub (?:struct|enum|trait) {owner}\b", text, re.M):
+            return bool(re.search(rf"\bfn {name}\b|^    {name}\b", text, re.M))
+    return False
 
 
 def fault_of_name(span):
@@ -261,6 +281,8 @@ def fault_of_name(span):
     owner, name = parts[-2:]
     if is_declared(owner, name) or any(f.path.endswith(f"/{owner}.rt") for f in BY_NAME.get(name, [])):
         return None
+    if is_in_package(owner, name):
+        return None
     return f"there is no {span}"
 
 
@@ -274,7 +296,7 @@ def names(documents):
                 fault = fault_of_name(span)
                 if fault:
                     faults.append(f"{document}: {fault}")
-            elif re.fullmatch(r"pos_\w+\.\w+\.\w+", span):
+            elif re.fullmatch(r"(?:pos_\w+|kijolvar)\.\w+\.\w+", span):
                 looked += 1
                 crate, module, name = span.split(".")
                 if not any(found[:2] == (crate, module) for found in DEFINITIONS.get(name, [])):
@@ -318,52 +340,48 @@ def words(documents):
     return looked, faults
 
 
-def sections_of_proofs(text):
-    """The crates of each heading of 'Each contract', with what stands under it."""
-    part = text.partition("### Each contract")[2].partition("### End to end")[0]
-    for block in re.split(r"^#### ", part, flags=re.M)[1:]:
-        heading, _, body = block.partition("\n")
-        yield [name.strip() for name in heading.split(",")], body
+def tables_of_contracts(text):
+    """The crate of each heading of docs/CONTRACTS.md, with the functions that its table names, as (owner, name)."""
+    for block in re.split(r"^## ", text, flags=re.M)[1:]:
+        crate, _, body = block.partition("\n")
+        rows = re.findall(r"^\| \[`([\w:]+)`\]", body, re.M)
+        yield crate.strip(), [tuple(row.split("::")) if "::" in row else ("", row) for row in rows]
 
 
 @rule
 def proofs(documents):
     looked, faults = 0, []
-    document = "docs/PROOFS.md"
-    direct, closed = stands_on()
+    document = "docs/CONTRACTS.md"
     headed = set()
-    for crates, body in sections_of_proofs(documents[document]):
-        headed.update(crates)
-        known = set().union(*(WORDS.get(crate, set()) for crate in crates))
-        below = set().union(*(WORDS[crate] for crate in closed({crate for crate in crates if crate in direct})))
-        said = set()
-        for span in ticked(body):
-            said.update(re.findall(r"\w+", span))
-            word = re.sub(r"\(.*", "", span)
-            if re.fullmatch(r"\w+", word) and not word.isdigit():
+    for crate, rows in tables_of_contracts(documents[document]):
+        headed.add(crate)
+        there = [function for function in FUNCTIONS if function.crate == crate]
+        for owner, name in rows:
+            looked += 1
+            if not any(function.name == name and (not owner or owner in function.owners) for function in there):
+                faults.append(f"{document}: {crate} has no {owner + '::' if owner else ''}{name}")
+        for function in there:
+            if is_exported(function) and re.search(r"\bensures\b", function.contract):
                 looked += 1
-                if word not in below and word not in CRATES:
-                    faults.append(f"{document}: {', '.join(crates)} and what it stands on name no {word}")
-        for item in re.findall(r"^- (.*?):(?:\s|$)", body, re.M | re.S):
-            if item.count("\n") > 3 or "." in re.sub(r"`[^`]*`", "", item):
-                continue
-            for span in ticked(item):
-                for word in re.findall(r"\b[a-z_]\w*", span):
-                    looked += 1
-                    if word not in known:
-                        faults.append(f"{document}: {', '.join(crates)} has no {word}")
-        for crate in crates:
-            for function in FUNCTIONS:
-                if function.crate == crate and is_exported(function) and re.search(r"\bensures\b", function.contract):
-                    looked += 1
-                    if function.name not in said:
-                        faults.append(f"{document}: {crate}: nothing is said of {function.name} ({function.path})")
+                if not any(name == function.name and (not owner or owner in function.owners) for owner, name in rows):
+                    faults.append(f"{document}: {crate}: nothing is said of {function.name} ({function.path})")
     for crate in CRATES:
         if crate not in headed and not crate.endswith("_tests"):
             faults.append(f"{document}: {crate} has no heading")
     for crate in headed - set(CRATES):
         faults.append(f"{document}: there is no crate {crate}")
     return looked, faults
+
+
+@rule
+def generated(documents):
+    """What the tools write, by the tools' own comparison."""
+    sys.dont_write_bytecode = True
+    sys.path.insert(0, "tools")
+    import contracts, trust
+    looked, faults = contracts.faults(documents["docs/CONTRACTS.md"])
+    more, others = trust.faults(documents["docs/TRUST.md"], documents)
+    return looked + more, faults + others
 
 
 def has_clause(name, clause):
@@ -393,7 +411,7 @@ def clauses(documents):
         named = re.findall(rf"{one}, clause\s+`(\w+)`", text)
         for row in re.findall(r"^\|.*\|$", text, re.M):
             cells = [cell.strip() for cell in row.strip("|").split("|")]
-            if document == "docs/PROOFS.md" and len(cells) == 3 and cells[1].startswith("`"):
+            if document == "docs/PROOFS.md" and len(cells) == 3 and re.fullmatch(r"`[\w:]+`", cells[1]):
                 named += [(cells[1].strip("`"), clause) for clause in re.findall(r"`(\w+)`", cells[2])]
         parts_of = [(name, part) for part, *names in re.findall(rf"`(\w+)`\s+of\s+{one}(?:\s+and\s+of\s+{one})?", text)
                     for name in names if name and part.islower()]
@@ -401,6 +419,79 @@ def clauses(documents):
         faults += [f"{document}: {name} has no clause {clause}" for name, clause in named
                    if not (has_clause(name, clause) or name in DEFINITIONS and has_part(name, clause))]
         faults += [f"{document}: {name} has no {part}" for name, part in parts_of if not has_part(name, part)]
+    return looked, faults
+
+
+THEOREMS = "docs/THEOREMS.md"
+# What a row has in place of a function.
+NO_FUNCTION = {"missing", "every function", "every function with an error"}
+
+
+@functools.cache
+def sources_tree():
+    sys.dont_write_bytecode = True
+    sys.path.insert(0, "tools")
+    import sources
+    return sources, sources.Tree()
+
+
+@functools.cache
+def functions_named(path):
+    """The functions with a contract that a path means and users can call: one, or all of a type."""
+    sources, tree = sources_tree()
+    crate, *_, name = path.split("::")
+    if crate not in sources.crates():
+        return ()
+    if name[0].isupper():
+        named = [function for function in tree.functions(crate) if name in function.owner]
+    else:
+        owner = path.split("::")[-2]
+        named = [function for function in tree.functions(crate) if function.name == name and
+                 (owner == crate or owner in function.owner or function.path.endswith(f"/{owner}.rt"))]
+    return tuple(function for function in named if function.clauses and sources.is_exported(function))
+
+
+@functools.cache
+def reached_by(function):
+    """The names of the clauses of a function, and of the definitions that its contract leads to."""
+    _, tree = sources_tree()
+    clauses = {name for _, name in function.clauses if name}
+    return clauses | {name for _, _, name in tree.closure(tree.named_by_contract(function))}
+
+
+def fault_of_row(function, clause, left):
+    """What is wrong with a row of docs/THEOREMS.md."""
+    paths = ticked(function)
+    if not paths:
+        if function not in NO_FUNCTION or not left:
+            return f"no function is named, but {function!r}"
+        return None if function != "missing" or left.startswith("missing") else "it isn't said to be missing"
+    unknown = [path for path in paths if not functions_named(path)]
+    if unknown:
+        return f"no function with a contract is {unknown[0]}"
+    reached = set().union(*(reached_by(found) for path in paths for found in functions_named(path)))
+    for word in ticked(clause):
+        name, _, part = word.partition(".")
+        if name not in reached:
+            return f"no clause leads to {name}"
+        if part and not any(re.search(rf"^  pub {part} :", block, re.M) for _, _, block in DEFINITIONS.get(name, [])):
+            return f"{name} has no {part}"
+    return None if left else "nothing is said of what is left out"
+
+
+@rule
+def theorems(documents):
+    looked, faults = 0, []
+    decisions = " ".join(documents["docs/DECISIONS.md"].split())
+    for table in re.findall(r"^\| Part \|.*\n\|[-|]*\n((?:^\|.*\n)+)", documents[THEOREMS], re.M):
+        for row in table.strip().split("\n"):
+            cells = [cell.strip() for cell in row.strip("|").split("|")]
+            looked += 1
+            fault = fault_of_row(cells[2], cells[3], cells[5]) if len(cells) == 6 else "it doesn't have six cells"
+            if fault:
+                faults.append(f"{THEOREMS}: {cells[0]}: {fault}")
+            faults += [f"{THEOREMS}: {cells[0]}: docs/DECISIONS.md quotes no {quoted}"
+                       for quoted in re.findall(r'"([^"]+)"', cells[-1]) if quoted not in decisions]
     return looked, faults
 
 
@@ -653,19 +744,33 @@ PLANTS = [
     ("links", behind("docs/DISK.md", "See [MODEL.md](MODEL.md#no-such-heading).")),
     ("links", behind("docs/DISK.md", 'See [MODEL.md](MODEL.md), "No such heading".')),
     ("links", behind("docs/DISK.md", 'See "No such heading", above.')),
+    ("links", behind("docs/DISK.md", "See [it](../tests/rules.sh#L999).")),
     ("comments", instead("docs/DISK.md", r"^## The layouts$", "## Layouts of the disk")),
+    ("comments", instead("abi/README.md", r"^## Codes$", "## Numbers")),
     ("names", behind("README.md", "So does `pos_counter::nothing`.")),
+    ("names", behind("docs/guide/totals.md", "So does `Totals::nothing`.")),
     ("names", behind("README.md", "So does `pos_counter::Counter::nothing`.")),
     ("names", behind("docs/PROOFS.md", "So does `Counter::nothing`.")),
     ("names", behind("docs/RULES.md", "So does `pos_counter.Steps.Nothing`.")),
     ("words", behind("docs/MODEL.md", "See `NothingOfIt`.")),
-    ("proofs", instead("docs/PROOFS.md", r"^#### pos_log$", "#### pos_log\n\n- `nothing_of_it`: no such function.")),
-    ("proofs", instead("docs/PROOFS.md", r"`renew`, `migrate`: a crash", "`migrate`: a crash")),
-    ("proofs", instead("docs/PROOFS.md", r"^#### pos_log$", "#### pos_log\n\nIt takes a `DisplayCells`.")),
-    ("proofs", instead("docs/PROOFS.md", r"^#### pos_log$", "#### pos_lag")),
+    ("proofs", instead("docs/CONTRACTS.md", r"^(\| \[`Log::)append(`\].*)$", r"\1append\2\n\1nothing_of_it\2")),
+    ("proofs", instead("docs/CONTRACTS.md", r"^\| \[`Log::renew`\].*\n", "")),
+    ("proofs", instead("docs/CONTRACTS.md", r"^## pos_log$", "## pos_lag")),
+    ("generated", instead("docs/CONTRACTS.md", r"^(\| \[`Log::append`\].*)`appends`", r"\1`append`")),
+    ("generated", instead("docs/TRUST.md", r"`MayLeave` \d+", "`MayLeave` 99")),
+    ("generated", behind("docs/PROOFS.md", "So does `pos_dir::wider_directory`.")),
     ("clauses", behind("README.md", "`pos_counter::Counter::call`, clause `nothing_of_it`.")),
     ("clauses", behind("docs/DISK.md", "This is `nothing_of_it` of `Images::publish`.")),
-    ("clauses", instead("docs/PROOFS.md", r"\| `laws::crash_prefix` \| `after` \|", "| `laws::crash_prefix` | `afterwards` |")),
+    ("clauses", instead("docs/PROOFS.md", r"`pos_counter::laws::crash_prefix` \| `after` \|", "`pos_counter::laws::crash_prefix` | `afterwards` |")),
+    ("theorems", instead(THEOREMS, r"`pos_store::Store::commit` \| `Commits\.crash`",
+                         "`pos_store::Store::commits` | `Commits.crash`")),
+    ("theorems", instead(THEOREMS, r"`pos_log::Log::append`, `pos_log::Log::open`",
+                         "`pos_log::Log::append`, `pos_log::read_records`")),
+    ("theorems", instead(THEOREMS, r"`any_moment`, `log`, `HasEither`", "`any_moments`, `log`, `HasEither`")),
+    ("theorems", instead(THEOREMS, r"`Commits\.crash`, `LeavesBeforeOrAfter`", "`Commits.crash`, `LeavesItsFilesMoved`")),
+    ("theorems", instead(THEOREMS, r"`Commits\.crash`", "`Commits.nothing_of_it`")),
+    ("theorems", instead(THEOREMS, r'"a type … whose', '"a type … never whose')),
+    ("theorems", instead(THEOREMS, r"\| missing as a clause: ", "| whole, as a clause: ")),
     ("commits", behind("docs/MEASURES.md", "It was measured at 0123abcd.")),
     ("kit", instead("README.md", r"rattle-kit-\w+", "rattle-kit-0z")),
     ("crates", instead("docs/ARCHITECTURE.md", r"^\| store \|.*\n", "")),

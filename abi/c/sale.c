@@ -1,65 +1,82 @@
-/* Rings up a sale: a code is scanned, shown, printed and added to the totals, and the drawer opens; then another till finds
-   the totals. Usage: sale FILE, with a file of totals without files, or a name for a new one. */
-#include "till.h"
+/* Rings up a sale by typed calls and by lines of the text interface: a code is scanned, shown, printed and added to the
+   totals, and the drawer opens; then another till finds the totals. Usage: sale FILE, which is created if it is
+   missing. */
+#include "kij.h"
+#include <stdio.h>
+#include <string.h>
 
-static void heard(till *self, const char *event, void *with) {
-    (void)self;
-    printf("%s: %s\n", (const char *)with, event);
+/* Carries out a line, and prints its answer. */
+static void tell(kij_till *till, const char *line) {
+    const char *answer = "";
+    kij_carry_out(till, line, KIJ_ZERO_ENDED, &answer);
+    bool is_done = strncmp(answer, "ok", 2) == 0;
+    answer += is_done ? 2 : 4;
+    printf("%s: %s%.*s\n", line, is_done ? "0" : "", (int)strcspn(answer, "\n"), answer);
 }
 
-static void tell(till *self, const char *line) {
-    const char *value = "";
-    int code = till_ask(self, line, &value);
-    printf("%s: %d%s%s\n", line, code, *value ? " " : "", value);
+/* A control by its name, opened, claimed and enabled: its code. */
+static int control_code(kij_till *till, kij_category category, const char *name, const char *device,
+                        kij_control **control) {
+    kij_result result = kij_new(till, category, name, control);
+    if (result.code == KIJ_OK) result = kij_control_open(*control, device);
+    if (result.code == KIJ_OK) result = kij_control_claim(*control, 0);
+    if (result.code == KIJ_OK) result = kij_set_bool(*control, KIJ_PROP_DEVICE_ENABLED, true);
+    return result.code;
 }
 
-static void sell(till *self) {
-    static const char *const controls[][3] = {
-        {"drawer", "CashDrawer", "d1"}, {"scanner", "Scanner", "s1"}, {"display", "LineDisplay", "p1"},
-        {"printer", "POSPrinter", "r1"}, {"totals", "HardTotals", "t1"},
+static kij_reply heard(const kij_event *event, void *with) {
+    (void)with;
+    if (event->kind == KIJ_DATA_EVENT) printf("%s: DataEvent 0\n", kij_name(event->control));
+    if (event->kind == KIJ_STATUS_UPDATE_EVENT)
+        printf("%s: StatusUpdateEvent %d\n", kij_name(event->control), event->status);
+    return KIJ_ER_DEFAULT;
+}
+
+static void sell(kij_till *till) {
+    static const struct {
+        kij_category category;
+        const char *name, *device;
+    } controls[] = {
+        {KIJ_CASH_DRAWER, "drawer", "d1"},  {KIJ_SCANNER, "scanner", "s1"},    {KIJ_LINE_DISPLAY, "display", "p1"},
+        {KIJ_POS_PRINTER, "printer", "r1"}, {KIJ_HARD_TOTALS, "totals", "t1"},
     };
+    kij_control *made[5];
     printf("controls:");
     for (size_t place = 0; place < 5; place++)
-        printf(" %d", till_control(self, controls[place][0], controls[place][1], controls[place][2]));
+        printf(" %d", control_code(till, controls[place].category, controls[place].name, controls[place].device,
+                                   &made[place]));
     printf("\n");
-    tell(self, "set scanner DataEventEnabled true");
-    tell(self, "input s1 scan 104 34303036333831 34303036333831");
-    till_pump(self, "scanner", heard, "scanner");
-    tell(self, "get scanner ScanData");
-    printf("display: %d\n", till_display_text(self, "display", "4.50"));
-    printf("print: %d\n", till_print(self, "printer", "Bread 4.50\n"));
-    tell(self, "call printer cutPaper 100");
-    printf("drawer: %d\n", till_open_drawer(self, "drawer"));
-    till_pump(self, "drawer", heard, "drawer");
-    tell(self, "call totals create 64617973616c6573 4 false");
-    tell(self, "call totals write 1 0 000001c2");
-    tell(self, "show r1");
-    tell(self, "show p1");
+    tell(till, "set scanner DataEventEnabled true");
+    tell(till, "input s1 scan 104 34303036333831 34303036333831");
+    kij_pump(made[1], heard, NULL);
+    tell(till, "get scanner ScanData");
+    printf("display: %d\n", kij_display_text(made[2], "4.50", KIJ_ZERO_ENDED, KIJ_DISP_DT_NORMAL).code);
+    printf("print: %d\n", kij_printer_print(made[3], KIJ_PTR_S_RECEIPT, "Bread 4.50\n", KIJ_ZERO_ENDED).code);
+    tell(till, "call printer cutPaper 100");
+    printf("drawer: %d\n", kij_drawer_open(made[0]).code);
+    kij_pump(made[0], heard, NULL);
+    tell(till, "call totals create 64617973616c6573 4 false");
+    tell(till, "call totals write 1 0 000001c2");
+    tell(till, "show r1");
+    tell(till, "show p1");
 }
 
-static void look(till *self) {
-    printf("totals: %d\n", till_control(self, "totals", "HardTotals", "t1"));
-    tell(self, "call totals find 64617973616c6573");
-    tell(self, "call totals read 1 0 4");
-}
-
-/* The file of the totals: it is created if it is missing, else opened. */
-static int totals_file(const char *path) {
-    int file = till_open_totals(path);
-    return file < 0 && errno == ENOENT ? till_create_totals(path) : file;
+static void look(kij_till *till) {
+    kij_control *totals;
+    printf("totals: %d\n", control_code(till, KIJ_HARD_TOTALS, "totals", "t1", &totals));
+    tell(till, "call totals find 64617973616c6573");
+    tell(till, "call totals read 1 0 4");
 }
 
 int main(int count, char **words) {
+    static void (*const parts[])(kij_till *) = {sell, look};
     if (count != 2) return fprintf(stderr, "usage: sale FILE\n"), 2;
-    int file = totals_file(words[1]);
-    if (file < 0) return perror(words[1]), 1;
-    static void (*const parts[])(till *) = {sell, look};
     for (size_t part = 0; part < 2; part++) {
-        till self;
-        if (till_open(&self, "", file) != KIJOLVAR_OK) return 1;
-        parts[part](&self);
-        till_close(&self);
+        kij_till *till;
+        kij_result result = kij_open(NULL, words[1], KIJ_CREATE, &till);
+        if (result.code != KIJ_OK) return fprintf(stderr, "%s: %s\n", words[1], kij_strerror(result)), 1;
+        parts[part](till);
+        kij_close(till);
     }
-    close(file);
     return 0;
 }

@@ -1,16 +1,61 @@
--- What a till's host is told of an errand (abi/README.md, "Totals in a file").
-use Rattle.std.specs.Prelude.{◌≡◌, ◌≤◌, ◌<◌, ◌⊎◌, ◌++◌, ℕ, List, length, drop}
+-- What a till's host has to do to its file, and what it is told of it (abi/README.md, "Totals in a file").
+use Rattle.std.specs.Prelude.{◌≡◌, ◌≢◌, ◌≤◌, ◌<◌, ◌⊎◌, ◌++◌, ◌∷◌, [], ℕ, Bool, List, Option, Some, None, Ok, Err, true, false, length, drop}
+use Rattle.std.specs.Bool.{MatchBool}
+use Rattle.pos_disk.specs.State.{Answer, splice}
 use Rattle.kijolvar.specs.declared.errands.Errand.{Errand}
 use Rattle.kijolvar.specs.declared.errands.Errand.TheVariants.{Write, Sync}
-use Rattle.kijolvar.specs.Codes.{disk_failed, ok, short, sync, write}
+use Rattle.kijolvar.specs.Codes.{ok, short, sync, write}
+
+-- What a host has to do: the errands, the oldest first; whether one was lost, because there was no memory for it; and
+-- the bytes of its file, once it has done all that isn't among the errands any more.
+pub record HostWork : Type 0 where
+  pub errands : List Errand
+  pub lost : Bool
+  pub file : List ℕ
+
+-- nothing has to be done, and the file has these bytes
+abbrev pub no_work : List ℕ → HostWork
+no_work bytes = record { errands = []; lost = false; file = bytes }
 
 -- the errand writes these bytes at this place
 abbrev pub IsWrite : (at : ℕ) (bytes : List ℕ) → Errand → Type 0
 IsWrite at bytes (Write place written) = (place ≡ at) × (written.items ≡ bytes)
 IsWrite at bytes Sync = ⊥
 
--- The bytes of an errand are written where there is room for them, with their place, and else how many there are alone.
--- A sync has nothing to tell but itself.
+-- the errand is a sync
+abbrev pub IsSync : Errand → Type 0
+IsSync (Write place written) = ⊥
+IsSync Sync = Unit {0}
+
+-- the bytes of a file after an errand was done in it
+abbrev pub file_after : Errand → List ℕ → List ℕ
+file_after (Write at bytes) file = splice file at bytes.items
+file_after Sync file = file
+
+-- the bytes of a file after errands were done in it, one after another
+abbrev pub file_after_all : List Errand → List ℕ → List ℕ
+file_after_all [] file = file
+file_after_all (errand ∷ errands) file = file_after_all errands (file_after errand file)
+
+-- exactly one errand more is there, after the others; or it is lost, and so is each later one
+abbrev pub Adds : (Errand → Type 0) → HostWork → HostWork → Answer → Type 0
+Adds Is old new (Ok done) =
+    (old.lost ≡ false) × ((one : Errand) × Is one × (new ≡ record old { errands = old.errands ++ one ∷ [] }))
+Adds Is old new (Err fault) = new ≡ record old { lost = true }
+
+-- the oldest errand is done, if there is one
+abbrev pub Does : HostWork → HostWork → Option Errand → Type 0
+Does old new (Some one) =
+    (old.errands ≡ one ∷ new.errands) × (new ≡ record old { errands = new.errands; file = file_after one old.file })
+Does old new None = (old.errands ≡ []) × (new ≡ old)
+
+-- this is the oldest errand, if there is one
+abbrev pub IsOldest : List Errand → Option Errand → Type 0
+IsOldest [] found = found ≡ None
+IsOldest (errand ∷ errands) found = found ≡ Some errand
+
+-- The bytes of an errand are written with their place, if there is room for them, else only how many they are. A sync
+-- has nothing to tell but itself.
 abbrev pub TellsErrand : Errand → (at_before at : ℕ) (before after : List ℕ) (needed_before needed code : ℕ) → Type 0
 TellsErrand (Write place bytes) at_before at before after needed_before needed code = (needed ≡ length bytes.items)
     × (((length bytes.items ≤ length before) × (code ≡ write) × (at ≡ place)
@@ -19,20 +64,11 @@ TellsErrand (Write place bytes) at_before at before after needed_before needed c
 TellsErrand Sync at_before at before after needed_before needed code =
     (code ≡ sync) × (at ≡ at_before) × (after ≡ before) × (needed ≡ needed_before)
 
--- an errand is written; or there is too little room for it, and only how many bytes it has is written
-abbrev pub WritesSomeErrand : (at_before at : ℕ) (before after : List ℕ) (needed_before needed code : ℕ) → Type 0
-WritesSomeErrand at_before at before after needed_before needed code =
-    (errand : Errand) × TellsErrand errand at_before at before after needed_before needed code
-
--- Nothing is written: no errand is left, or the file fell behind.
-pub record WritesNoErrand (at_before at : ℕ) (before after : List ℕ) (needed_before needed code : ℕ) : Type 0 where
-  pub at_stays : at ≡ at_before
-  pub bytes_stay : after ≡ before
-  pub needed_stays : needed ≡ needed_before
-  pub code_told : (code ≡ ok) ⊎ (code ≡ disk_failed)
-
--- one of the errands that are left is written, or nothing
-abbrev pub WritesNextErrand : (at_before at : ℕ) (before after : List ℕ) (needed_before needed code : ℕ) → Type 0
-WritesNextErrand at_before at before after needed_before needed code =
-    WritesSomeErrand at_before at before after needed_before needed code
-    ⊎ WritesNoErrand at_before at before after needed_before needed code
+-- Of these errands the oldest is told, if there is one. It counts as told unless there was too little room.
+abbrev pub TellsOldest : List Errand → (at_before at : ℕ) (before after : List ℕ) (needed_before needed code : ℕ)
+    (told : Bool) → Type 0
+TellsOldest [] at_before at before after needed_before needed code told =
+    (code ≡ ok) × (at ≡ at_before) × (after ≡ before) × (needed ≡ needed_before) × (told ≡ false)
+TellsOldest (errand ∷ errands) at_before at before after needed_before needed code told =
+    TellsErrand errand at_before at before after needed_before needed code
+    × MatchBool told (code ≢ short) (code ≡ short)

@@ -1,5 +1,6 @@
 pub mod Codes
 pub mod Errands
+pub mod TillDisks
 pub mod Orders
 pub mod Hosting
 pub mod Opening

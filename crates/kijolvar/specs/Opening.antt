@@ -1,6 +1,6 @@
 -- What the calls that open a till answer, and the till that they leave (abi/README.md).
-use Rattle.std.specs.Prelude.{◌≡◌, ◌⊎◌, ℕ, List, length, nat_lt, if◌then◌else◌}
-use Rattle.pos_disk.specs.Memory.{Memory, state_of}
+use Rattle.std.specs.Prelude.{◌≡◌, ◌⊎◌, ℕ, List, Some, false, length, nat_lt, if◌then◌else◌}
+use Rattle.pos_disk.specs.Memory.{state_of}
 use Rattle.pos_image.specs.Layout.{disk_size}
 use Rattle.pos_image.specs.NewDisk.{KeepsRest}
 use Rattle.pos_image.specs.Standing.{HasNoFiles, is_marked}
@@ -11,8 +11,8 @@ use Rattle.kijolvar.specs.Profiles.{GivesProfile, IsRefused, RefusesProfile}
 use Rattle.kijolvar.specs.Tills.{Begins}
 use Rattle.kijolvar.specs.declared.device.Device.{Device}
 use Rattle.kijolvar.specs.declared.kept.Kept.{Kept}
-use Rattle.kijolvar.specs.declared.settlement.Settlement.{Settlement}
-use Rattle.kijolvar.specs.declared.till_disk.TillDisk.{TillDisk}
+use Rattle.kijolvar.specs.declared.settlement.Settlement.TheVariants.{Owed}
+use Rattle.kijolvar.specs.TillDisks.{HostedDisk, IsInStep, file_of, settlement_with}
 
 -- the code for the bytes of a file: whether they are enough for a disk
 abbrev pub open_code : List ℕ → ℕ
@@ -23,21 +23,25 @@ abbrev pub format_code : List ℕ → ℕ
 format_code bytes =
     if nat_lt (length bytes) disk_size then too_small else if is_marked bytes then formatted else ok
 
--- The disk that formatting makes of these bytes: it has no files, and no byte changed but gates and the first fields.
-pub record IsFormattedOf (bytes : List ℕ) (memory : Memory) : Type 0 where
-  pub files : HasNoFiles (state_of memory)
-  pub rest : KeepsRest bytes memory.present.reading
+-- The disk that formatting makes of a file of these bytes: it has no files, and no byte changed but gates and the first
+-- fields. The file is as it was; once the errands that its host has are done, it has the bytes of the disk.
+pub record IsFormattedOf (bytes : List ℕ) (disk : HostedDisk) : Type 0 where
+  pub files : HasNoFiles (state_of disk.memory)
+  pub rest : KeepsRest bytes disk.memory.present.reading
+  pub file : file_of disk ≡ Some bytes
+  pub in_step : IsInStep disk
+  pub owed : settlement_with disk.work false ≡ Owed
 
 -- What a call answers that opens a till: there was no memory; or the profile is refused; or the code for the file, and
 -- the profile isn't refused.
 abbrev pub AnswersOpening : (profile : List ℕ) (of_file : ℕ) (code : ℕ) → Type 0
 AnswersOpening profile of_file code = RefusesProfile profile code ⊎ ((code ≡ of_file) × ¬ (IsRefused profile))
 
--- A new till of the profile of these bytes, over a disk with such a memory, and with this settlement.
-pub record Opens (peripherals : Ghosts Device) (profile : List ℕ) (IsOver : Memory → Type 0) (settlement : Settlement)
-    (till : Kept) : Type 0 where
+-- A new till of the profile of these bytes, over such a disk.
+pub record Opens (peripherals : Ghosts Device) (profile : List ℕ) (IsOver : HostedDisk → Type 0) (till : Kept)
+    : Type 0 where
   pub contents : Contents
   pub gives : GivesProfile profile contents
-  pub disk : TillDisk
-  pub over : IsOver disk.memory
-  pub begins : Begins peripherals contents disk settlement till
+  pub disk : HostedDisk
+  pub over : IsOver disk
+  pub begins : Begins peripherals contents disk till

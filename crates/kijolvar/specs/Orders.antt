@@ -1,5 +1,5 @@
 -- What a till's host is told of its devices' orders (abi/README.md, "Devices of one's own").
-use Rattle.std.specs.Prelude.{◌≡◌, ◌≤◌, ◌<◌, ◌⊎◌, ◌++◌, ◌∷◌, [], ℕ, List, MatchResult, Result, Ok, false, true, codes, decimal, drop, length, map}
+use Rattle.std.specs.Prelude.{◌≡◌, ◌≤◌, ◌<◌, ◌⊎◌, ◌++◌, ◌∷◌, [], ℕ, List, IfSome, MatchResult, Result, Ok, false, true, codes, decimal, drop, length, map}
 use Rattle.std.specs.declared.vec.Vec.{Vec}
 use Rattle.pos_service.specs.declared.memory.NoMemory.{NoMemory}
 use Rattle.pos_service.specs.declared.order.Argument.{Argument}
@@ -10,7 +10,7 @@ use Rattle.pos_service.specs.declared.order.Reply.TheVariants as reply
 use Rattle.pos_service.specs.Peripherals.{Asked, PeripheralState, order_arguments, order_fits, order_word}
 use Rattle.pos_script.specs.Text.{hex_text}
 use Rattle.pos_run.specs.declared.wrapped.Wrapped.{Wrapped}
-use Rattle.pos_run.specs.Simulating.{wrapped_state}
+use Rattle.pos_run.specs.Simulating.{Mounts, wrapped_state}
 use Rattle.kijolvar.specs.declared.device.Device.{Device}
 use Rattle.kijolvar.specs.Codes.{ok, order_told, short}
 
@@ -39,6 +39,11 @@ order_text device asked = with_arguments (device ++ codes " " ++ order_word aske
 -- device
 abbrev pub device_state : Device → PeripheralState
 device_state device = record (wrapped_state device.twin) { orders = device.asks }
+
+-- a simulated peripheral is put into a device, whose orders are kept under the name of its entry; a spare's aren't kept
+abbrev pub mounts_device : Mounts Device
+mounts_device entry made device =
+    (device.twin ≡ made) × IfSome device.post (λ post. post.device.items ≡ entry.name)
 
 -- the simulated peripheral was given an order; or there was no memory for its line, and it wasn't
 abbrev pub AsksTwin : Wrapped → Order → Result Reply NoMemory → Wrapped → Type 0

@@ -1,9 +1,10 @@
 -- What a till is, and what is written of its answers (abi/README.md).
-use Rattle.std.specs.Prelude.{◌≡◌, ◌≢◌, ◌⊎◌, ◌↔◌, ◌++◌, ℕ, List, [], Ok, length, take, drop, nat_le}
+use Rattle.std.specs.Prelude.{◌≡◌, ◌≢◌, ◌++◌, ℕ, List, [], Ok, false, true, length, take, drop, nat_le}
 use Rattle.pos_disk.specs.declared.device.Disk.{Ghosts as DiskGhosts}
 use Rattle.pos_service.specs.declared.peripheral.Peripheral.{Ghosts}
 use Rattle.pos_profile.specs.Entries.{Contents}
 use Rattle.pos_counter.specs.Counters.{machine}
+use Rattle.pos_counter.specs.declared.counter.Counter.{Counter}
 use Rattle.pos_counter.specs.Totals.{TotalsPart}
 use Rattle.pos_script.specs.Lines.{lines_of}
 use Rattle.pos_streams.specs.Streams.{given_with}
@@ -14,21 +15,32 @@ use Rattle.pos_run.specs.Simulating.{simulated_all, simulated_devices}
 use Rattle.pos_run.specs.Transcript.{Session, begun_session}
 use Rattle.kijolvar.specs.declared.device.Device.{Device}
 use Rattle.kijolvar.specs.declared.kept.Kept.{Kept}
-use Rattle.kijolvar.specs.declared.till_disk.TillDisk.{TillDisk}
 use Rattle.kijolvar.specs.declared.settlement.Settlement.{Settlement}
 use Rattle.kijolvar.specs.declared.settlement.Settlement.TheVariants.{InMemory, Settled, Owed, Failed}
 use Rattle.kijolvar.specs.Orders.{Refills, TellsOrder, order_lines}
-use Rattle.kijolvar.specs.Errands.{WritesSomeErrand}
+use Rattle.kijolvar.specs.Errands.{TellsOldest}
+use Rattle.kijolvar.specs.TillDisks.{DoesTold, HostedDisk, IsInFile, IsInStep, errands_of, file_of, settlement_with}
 use Rattle.kijolvar.specs.Codes.{carried, disk_failed, errands_left, ok, undone}
 
 -- what the lines of a till have: the names of its controls, and its spares
 abbrev pub session_in : Ghosts Device → Kept → Session
 session_in peripherals till = session_of peripherals till.names till.spares
 
+-- the disk of a till
+abbrev pub disk_of : Kept → HostedDisk
+disk_of till = till.counter.totals.disk
+
+-- a counter with this disk
+abbrev pub with_disk : Counter HostedDisk Device → HostedDisk → Counter HostedDisk Device
+with_disk counter disk = record counter { totals = record counter.totals { disk = disk } }
+
+-- how the host of a till stands to its disk
+abbrev pub settlement_of : Kept → Settlement
+settlement_of till = settlement_with (disk_of till).work till.failed
+
 -- A new till over a disk: the devices of a profile, each served by what is simulated for it, its spares, no control,
--- totals that are off, and no order.
-pub record Begins (peripherals : Ghosts Device) (contents : Contents) (disk : TillDisk) (settlement : Settlement)
-    (till : Kept) : Type 0 where
+-- totals that are off, and no order; no errand was told, and none failed.
+pub record Begins (peripherals : Ghosts Device) (contents : Contents) (disk : HostedDisk) (till : Kept) : Type 0 where
   pub profile : till.profile ≡ contents
   pub served : (part : TotalsPart)
       → machine peripherals till.counter part ≡ begun_with (simulated_devices contents.devices) part
@@ -36,18 +48,22 @@ pub record Begins (peripherals : Ghosts Device) (contents : Contents) (disk : Ti
   pub session : session_in peripherals till ≡ begun_session (simulated_all contents.spares)
   pub answer : given_to till.answer ≡ given_with [] 0
   pub outcome : till.outcome ≡ Ok tt
-  pub settlement_is : till.settlement ≡ settlement
+  pub told : till.told ≡ false
+  pub failed : till.failed ≡ false
   pub orders : till.orders.items ≡ []
 
 -- The lines of a text are carried out in order, and the new answer is what they print; or, where there was no memory
--- for that, they are as far as it is there, and it is a front. A till in memory alone stays one, and no other becomes
--- one. The orders that wait already stay too.
-pub record CarriesOut (bound : DiskGhosts TillDisk) (peripherals : Ghosts Device) (old : Kept)
+-- for that, they are as far as it is there, and it is a front. The host's file stays as it is, and none of the errands
+-- was told; once they are done in it, it has the bytes of the totals' disk. The orders that wait already stay too.
+pub record CarriesOut (bound : DiskGhosts HostedDisk) (peripherals : Ghosts Device) (old : Kept)
     (text : List ℕ) (new : Kept) : Type 0 where
   pub lines : CarriesOutLines bound peripherals old.counter (session_in peripherals old) (lines_of text)
       (given_with [] (given_to old.answer).faults) (given_to new.answer) new.outcome (session_in peripherals new)
       new.counter
-  pub in_memory : (old.settlement ≡ InMemory) ↔ (new.settlement ≡ InMemory)
+  pub file : file_of (disk_of new) ≡ file_of (disk_of old)
+  pub in_step : IsInStep (disk_of new)
+  pub told : new.told ≡ false
+  pub failed : new.failed ≡ old.failed
   pub profile : new.profile ≡ old.profile
   pub orders : new.orders ≡ old.orders
 
@@ -68,21 +84,22 @@ pub record TellsAll (till : Kept) (before after : List ℕ) (needed code : ℕ) 
   pub tells : Tells (given_to till.answer).bytes before after needed
   pub code_told : code ≡ carried till.outcome (nat_le (length (given_to till.answer).bytes) (length before))
 
--- what is handed over of a till's answer, by how its host stands to its disk: all of it, or nothing while errands are
--- left or one failed
+-- what is handed over of a till's answer, by how its host stands to its disk: all of it, and the host's file has the
+-- bytes of the totals' disk; or nothing while errands are left or one failed
 abbrev pub HandsOverBy : Settlement → (till : Kept) (before after : List ℕ) (needed_before needed code : ℕ) → Type 0
 HandsOverBy InMemory till before after needed_before needed code = TellsAll till before after needed code
-HandsOverBy Settled till before after needed_before needed code = TellsAll till before after needed code
+HandsOverBy Settled till before after needed_before needed code =
+    IsInFile (disk_of till) × TellsAll till before after needed code
 HandsOverBy Owed till before after needed_before needed code =
     TellsNothing before after needed_before needed code errands_left
 HandsOverBy Failed till before after needed_before needed code =
     TellsNothing before after needed_before needed code disk_failed
 
 abbrev pub HandsOver : (till : Kept) (before after : List ℕ) (needed_before needed code : ℕ) → Type 0
-HandsOver till = HandsOverBy till.settlement till
+HandsOver till = HandsOverBy (settlement_of till) till
 
 -- the lines of a text are carried out, and their answer is handed over
-pub record Served (bound : DiskGhosts TillDisk) (peripherals : Ghosts Device) (old : Kept)
+pub record Served (bound : DiskGhosts HostedDisk) (peripherals : Ghosts Device) (old : Kept)
     (text before after : List ℕ) (needed_before needed code : ℕ) (new : Kept) : Type 0 where
   pub carries : CarriesOut bound peripherals old text new
   pub hands_over : HandsOver new before after needed_before needed code
@@ -93,7 +110,7 @@ pub record Undone (old : Kept) (before after : List ℕ) (needed_before needed c
   pub tells : TellsNothing before after needed_before needed code why
 
 -- what a call with lines leaves, by how the till's host stands to its disk
-abbrev pub AnswersBy : Settlement → DiskGhosts TillDisk → Ghosts Device → (old : Kept)
+abbrev pub AnswersBy : Settlement → DiskGhosts HostedDisk → Ghosts Device → (old : Kept)
     (text before after : List ℕ) (needed_before needed code : ℕ) (new : Kept) → Type 0
 AnswersBy InMemory bound peripherals old text before after needed_before needed code new =
     Served bound peripherals old text before after needed_before needed code new
@@ -104,47 +121,47 @@ AnswersBy Owed bound peripherals old text before after needed_before needed code
 AnswersBy Failed bound peripherals old text before after needed_before needed code new =
     Undone old before after needed_before needed code disk_failed new
 
-abbrev pub Answers : DiskGhosts TillDisk → Ghosts Device → (old : Kept)
+abbrev pub Answers : DiskGhosts HostedDisk → Ghosts Device → (old : Kept)
     (text before after : List ℕ) (needed_before needed code : ℕ) (new : Kept) → Type 0
-Answers bound peripherals old = AnswersBy old.settlement bound peripherals old
+Answers bound peripherals old = AnswersBy (settlement_of old) bound peripherals old
 
--- No errand is written, and the code says why. The till has this settlement now, and else is the same.
-pub record AnswersNoErrand (old : Kept) (at_before at : ℕ) (before after : List ℕ) (needed_before needed code why : ℕ)
-    (settlement : Settlement) (new : Kept) : Type 0 where
-  pub stays : new ≡ record old { settlement = settlement }
+-- No errand is told, the code says why, and the till is the same.
+pub record TellsNoErrand (old : Kept) (at_before at : ℕ) (before after : List ℕ) (needed_before needed code why : ℕ)
+    (new : Kept) : Type 0 where
+  pub stays : new ≡ old
   pub at_stays : at ≡ at_before
   pub tells : TellsNothing before after needed_before needed code why
 
--- While errands are left: one is written, and the till is the same; or none is left, and the file has all; or the file
--- fell behind.
-abbrev pub AnswersOwed : (old : Kept) (at_before at : ℕ) (before after : List ℕ) (needed_before needed code : ℕ)
-    (new : Kept) → Type 0
-AnswersOwed old at_before at before after needed_before needed code new =
-    (WritesSomeErrand at_before at before after needed_before needed code × (new ≡ old))
-    ⊎ AnswersNoErrand old at_before at before after needed_before needed code ok Settled new
-    ⊎ AnswersNoErrand old at_before at before after needed_before needed code disk_failed Failed new
+-- The errand that was told is done, if one was. Of those that are left the oldest is told, if there is one and room for
+-- it. If none is left, the host's file has the bytes of the totals' disk.
+pub record TellsNext (old : Kept) (at_before at : ℕ) (before after : List ℕ) (needed_before needed code : ℕ)
+    (new : Kept) : Type 0 where
+  pub done : DoesTold old.told (disk_of old) (disk_of new)
+  pub tells : TellsOldest (errands_of (disk_of new).work) at_before at before after needed_before needed code new.told
+  pub in_file : code ≡ ok → IsInFile (disk_of new)
+  pub stays : new ≡ record old { counter = with_disk old.counter (disk_of new); told = new.told }
 
--- what a call for the next errand writes and answers, by the settlement before it
+-- what a call for the next errand writes and answers, by how the till's host stands to its disk
 abbrev pub AnswersNextErrandBy : Settlement → (old : Kept) (at_before at : ℕ) (before after : List ℕ)
     (needed_before needed code : ℕ) (new : Kept) → Type 0
 AnswersNextErrandBy InMemory old at_before at before after needed_before needed code new =
-    AnswersNoErrand old at_before at before after needed_before needed code ok InMemory new
+    TellsNoErrand old at_before at before after needed_before needed code ok new
 AnswersNextErrandBy Settled old at_before at before after needed_before needed code new =
-    AnswersNoErrand old at_before at before after needed_before needed code ok Settled new
+    IsInFile (disk_of old) × TellsNoErrand old at_before at before after needed_before needed code ok new
 AnswersNextErrandBy Owed old at_before at before after needed_before needed code new =
-    AnswersOwed old at_before at before after needed_before needed code new
+    TellsNext old at_before at before after needed_before needed code new
 AnswersNextErrandBy Failed old at_before at before after needed_before needed code new =
-    AnswersNoErrand old at_before at before after needed_before needed code disk_failed Failed new
+    TellsNoErrand old at_before at before after needed_before needed code disk_failed new
 
 abbrev pub AnswersNextErrand : (old : Kept) (at_before at : ℕ) (before after : List ℕ) (needed_before needed code : ℕ)
     (new : Kept) → Type 0
-AnswersNextErrand old = AnswersNextErrandBy old.settlement old
+AnswersNextErrand old = AnswersNextErrandBy (settlement_of old) old
 
--- that an errand failed is taken as said, but where there is no file
+-- that an errand failed is taken as said, unless there is no file
 pub record Fails (old new : Kept) : Type 0 where
-  pub stays : new ≡ record old { settlement = new.settlement }
-  pub failed : old.settlement ≢ InMemory → new.settlement ≡ Failed
-  pub in_memory : old.settlement ≡ InMemory → new.settlement ≡ InMemory
+  pub stays : new ≡ record old { failed = true }
+  pub failed : settlement_of old ≢ InMemory → settlement_of new ≡ Failed
+  pub in_memory : settlement_of old ≡ InMemory → settlement_of new ≡ InMemory
 
 -- The oldest of the orders that wait is told, or of those that devices have kept since where none waits, and nothing
 -- else changes.
@@ -154,16 +171,17 @@ pub record HandsOut (old : Kept) (before after : List ℕ) (needed code : ℕ) (
   pub tells : TellsOrder waiting before after needed code (order_lines new.orders.items)
   pub stays : new ≡ record old { orders = new.orders }
 
--- what a host that asks for the next order is told, by how it stands to the disk: an order, or nothing while errands
--- are left or one failed
+-- what a host that asks for the next order is told, by how it stands to the disk: an order, and its file has the bytes
+-- of the totals' disk; or nothing while errands are left or one failed
 abbrev pub NextOrderBy : Settlement → (old : Kept) (before after : List ℕ) (needed_before needed code : ℕ) (new : Kept)
     → Type 0
 NextOrderBy InMemory old before after needed_before needed code new = HandsOut old before after needed code new
-NextOrderBy Settled old before after needed_before needed code new = HandsOut old before after needed code new
+NextOrderBy Settled old before after needed_before needed code new =
+    IsInFile (disk_of old) × HandsOut old before after needed code new
 NextOrderBy Owed old before after needed_before needed code new =
     Undone old before after needed_before needed code errands_left new
 NextOrderBy Failed old before after needed_before needed code new =
     Undone old before after needed_before needed code disk_failed new
 
 abbrev pub NextOrder : (old : Kept) (before after : List ℕ) (needed_before needed code : ℕ) (new : Kept) → Type 0
-NextOrder old = NextOrderBy old.settlement old
+NextOrder old = NextOrderBy (settlement_of old) old

@@ -1,5 +1,6 @@
 //! The devices of a till.
-ghost use Rattle.kijolvar.specs.Orders.{device_state};
+ghost use Rattle.std.specs.Prelude.{◌≡◌, true};
+ghost use Rattle.kijolvar.specs.Orders.{device_state, mounts_device};
 
 use crate::tray::{Post, Tray};
 use pos_profile::Entry;
@@ -8,8 +9,7 @@ use pos_service::{Ends, Input, Kind, NoMemory, Order, Peripheral, Reply, Signs, 
 
 /// A device of a till, or a spare: a simulated peripheral. Where the host has the device, the simulated one stands for
 /// it: it answers at once, and each order that it carries out is kept for the host. A spare has no name, and none of
-/// its orders is kept.
-#[derive(Drop)]
+/// its orders is kept. It ends only parked: whoever lets it go has to show that.
 pub struct Device {
     twin: Wrapped,
     asks: u64,
@@ -52,19 +52,39 @@ impl Peripheral for Device {
     }
 }
 
+impl Drop for Device {
+    fn drop(self)
+        requires { (device_state self).is_parked ≡ true }
+    {
+        let Device {
+            twin,
+            asks: _,
+            post: _,
+        } = self;
+        drop(twin);
+    }
+}
+
 impl Ends for Device {
     fn end(self) {
-        drop(self);
+        let mut ending = self;
+        ending.park();
     }
 }
 
 impl Mount<Device> for Tray {
+    ghost mounts = { mounts_device };
+
     fn mount(&self, entry: &Entry, simulation: Wrapped) -> Result<Device, NoMemory> {
         let name = entry.name.as_bytes();
         let post = if name.is_empty() {
             None
         } else {
-            Some(self.post(name)?)
+            let Ok(post) = self.post(name) else {
+                simulation.end();
+                return Err(NoMemory);
+            };
+            Some(post)
         };
         Ok(Device {
             twin: simulation,

@@ -1,15 +1,13 @@
 //! What a till's host has to do to its file.
-ghost use Rattle.std.specs.Prelude.{◌≢◌, IfOk};
-ghost use Rattle.kijolvar.specs.Errands.{IsWrite, TellsErrand, WritesNextErrand};
-ghost use Rattle.kijolvar.specs.declared.settlement.Settlement.TheVariants.{InMemory};
+ghost use Rattle.std.specs.Prelude.{◌≡◌, IfOk, Some, option_map};
+ghost use Rattle.kijolvar.specs.Errands.{Adds, Does, IsOldest, IsSync, IsWrite, TellsErrand, no_work};
 
-use crate::codes::{DISK_FAILED, OK, SHORT, SYNC, WRITE};
-use crate::settlement::Settlement;
-use crate::telling::tell;
+use crate::codes::{SHORT, SYNC, WRITE};
+use crate::host_file::HostFile;
+use pos_disk::DiskFault;
 use std::alloc::{AllocError, Global};
-use std::cell::{Cell, RefCell};
 use std::collections::VecDeque;
-use std::rc::Rc;
+use std::marker::Model;
 
 /// One thing that the host has to do to its file.
 #[derive(Drop)]
@@ -52,90 +50,99 @@ pub fn tell_errand(errand: &Errand, at: &mut u64, bytes: &mut [u8], needed: &mut
     }
 }
 
-/// The errands, the oldest first, and whether one was lost.
-#[derive(Drop)]
-struct Kept {
-    errands: RefCell<VecDeque<Errand>>,
-    is_lost: Cell<bool>,
-}
-
-/// What a till's host has to do to its file, in order: the disk of the till adds to it, and the host takes from it.
-/// Where there is no memory for an errand, it is lost, and what comes after it too.
+/// What a till's host has to do to its file, the oldest errand first. An errand without memory is lost, and so is each
+/// later one.
 #[derive(Drop)]
 pub struct Errands {
     alloc: Global,
-    kept: Rc<Kept>,
+    errands: VecDeque<Errand>,
+    is_lost: bool,
+    file: HostFile,
+}
+
+impl Model for Errands {
+    ghost use Rattle.kijolvar.specs.Errands.{HostWork};
+
+    ghost Value = { HostWork };
+
+    ghost view = { λ e. record { errands = e.errands.items; lost = e.is_lost; file = e.file.bytes } };
+
+    ghost invariant = { λ _. Unit {0} };
 }
 
 impl Errands {
-    /// No errand.
-    pub fn new(alloc: Global) -> Result<Errands, AllocError> {
-        let kept = Kept {
-            errands: RefCell::new(VecDeque::new(alloc)),
-            is_lost: Cell::new(false),
-        };
-        match Rc::new(alloc, kept) {
-            Ok(kept) => Ok(Errands { alloc, kept }),
-            Err(_) => Err(AllocError),
-        }
-    }
-
-    /// The same errands, for another owner.
-    pub fn share(&self) -> Result<Errands, AllocError> {
-        Ok(Errands {
-            alloc: self.alloc,
-            kept: self.kept.clone()?,
-        })
-    }
-
-    // Adds an errand, or loses it.
-    fn add(&self, errand: Result<Errand, AllocError>) {
-        let is_added = match (errand, self.kept.errands.try_borrow_mut()) {
-            (Ok(errand), Ok(mut errands)) => errands.push_back(errand).is_ok(),
-            _ => false,
-        };
-        if !is_added {
-            self.kept.is_lost.set(true);
+    /// No errand of a host whose file has these bytes.
+    pub fn new(alloc: Global, bytes: &[u8]) -> Errands
+        ensures { result ≡ no_work bytes.now }
+    {
+        Errands {
+            alloc,
+            errands: VecDeque::new(alloc),
+            is_lost: false,
+            file: HostFile::of(bytes),
         }
     }
 
     /// Adds that bytes are to be written at a place.
-    pub fn add_write(&self, at: u64, bytes: &[u8]) {
-        self.add(write_errand(self.alloc, at, bytes));
+    ///
+    /// # Errors
+    ///
+    /// There is no memory for the errand, or was none for an earlier one: it is lost.
+    pub fn add_write(&mut self, at: u64, bytes: &[u8]) -> Result<(), DiskFault>
+        ensures { Adds (IsWrite at bytes.now) self.old self.new result }
+    {
+        let errand = write_errand(self.alloc, at, bytes);
+        self.add(errand)
     }
 
     /// Adds that what was written is to stay.
-    pub fn add_sync(&self) {
-        self.add(Ok(Errand::Sync));
+    ///
+    /// # Errors
+    ///
+    /// There is no memory for the errand, or was none for an earlier one: it is lost.
+    pub fn add_sync(&mut self) -> Result<(), DiskFault>
+        ensures { Adds IsSync self.old self.new result }
+    {
+        self.add(Ok(Errand::Sync))
     }
 
-    /// How the file stands to the disk of the till.
-    pub fn settlement(&self) -> Settlement
-        ensures { result ≢ InMemory }
+    // Adds an errand, or loses it.
+    fn add(&mut self, errand: Result<Errand, AllocError>) -> Result<(), DiskFault>
+        ensures { Adds (λ one. errand ≡ Ok one) self.old self.new result }
     {
-        match self.kept.errands.try_borrow() {
-            Ok(_) if self.kept.is_lost.get() => Settlement::Failed,
-            Ok(errands) if errands.is_empty() => Settlement::Settled,
-            Ok(_) => Settlement::Owed,
-            Err(_) => Settlement::Failed,
+        if !self.is_lost {
+            if let Ok(errand) = errand {
+                if self.errands.push_back(errand).is_ok() {
+                    return Ok(());
+                }
+            }
         }
+        self.is_lost = true;
+        Err(DiskFault)
     }
 
-    /// Takes out the oldest errand and tells it; one for which there is no room stays. Answers as `tell_errand`, or OK
-    /// where none is left.
-    pub fn next(&self, at: &mut u64, bytes: &mut [u8], needed: &mut usize) -> u32
-        ensures { WritesNextErrand at.old at.new bytes.old bytes.new needed.old needed.new result }
+    /// The oldest errand, if there is one.
+    pub fn oldest(&self) -> Option<&Errand>
+        ensures { IsOldest self.now.errands (option_map (λ errand. errand.now) result) }
     {
-        let Ok(mut errands) = self.kept.errands.try_borrow_mut() else {
-            return DISK_FAILED;
-        };
-        let Some(errand) = errands.front() else {
-            return OK;
-        };
-        let code = tell_errand(errand, at, bytes, needed);
-        if code != SHORT {
-            errands.pop_front();
+        self.errands.front()
+    }
+
+    /// Whether an errand was lost.
+    pub fn is_lost(&self) -> bool
+        ensures { result ≡ self.now.lost }
+    {
+        self.is_lost
+    }
+
+    /// Takes it as said that the oldest errand is done, and takes it out, if there is one.
+    pub fn next(&mut self) -> Option<Errand>
+        ensures { Does self.old self.new result }
+    {
+        let oldest = self.errands.pop_front();
+        if let Some(errand) = &oldest {
+            self.file = self.file.after(errand);
         }
-        code
+        oldest
     }
 }

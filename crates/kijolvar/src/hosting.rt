@@ -63,7 +63,7 @@ fn tell_next(kept: &mut Kept, tray: &Tray, text: &mut [u8], needed: &mut usize) 
 pub fn next_order(kept: &mut Kept, tray: &Tray, text: &mut [u8], needed: &mut usize) -> u32
     ensures { NextOrder kept.old text.old text.new needed.old needed.new result kept.new }
 {
-    match kept.settlement {
+    match kept.settlement() {
         Settlement::Owed => ERRANDS,
         Settlement::Failed => DISK_FAILED,
         Settlement::InMemory | Settlement::Settled => tell_next(kept, tray, text, needed),

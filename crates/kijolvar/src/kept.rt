@@ -1,4 +1,13 @@
+//! What a till is between two calls.
+ghost use Rattle.std.specs.Prelude.{◌≡◌};
+ghost use Rattle.kijolvar.specs.Errands.{TellsOldest};
+ghost use Rattle.kijolvar.specs.TillDisks.{DoesTold, IsInFile, errands_of};
+ghost use Rattle.kijolvar.specs.Tills.{AnswersNextErrand, TellsNext, disk_of, settlement_of, with_disk};
+ghost use Rattle.kijolvar.specs.declared.settlement.Settlement.TheVariants.{Owed, Settled};
+
+use crate::codes::{DISK_FAILED, OK, SHORT};
 use crate::device::Device;
+use crate::errands::tell_errand;
 use crate::settlement::Settlement;
 use crate::till_disk::TillDisk;
 use pos_counter::Counter;
@@ -9,7 +18,8 @@ use std::collections::VecDeque;
 
 /// What a till is between two calls: its profile, its counter of simulated devices over a disk, the names and the
 /// spares of its lines, the answer to the lines that it was given last and whether there was memory for all of it,
-/// whether what they wrote to the disk is where it has to stay, and the lines of the orders that its host is told next.
+/// whether its host was told the oldest errand, and whether the host said that one failed, and the lines of the orders
+/// that the host is told next.
 pub struct Kept {
     pub profile: Profile,
     pub counter: Counter<TillDisk, Device>,
@@ -17,6 +27,68 @@ pub struct Kept {
     pub spares: Spares<Device>,
     pub answer: MemorySink,
     pub outcome: Result<(), WriteFault>,
-    pub settlement: Settlement,
+    pub told: bool,
+    pub failed: bool,
     pub orders: VecDeque<Vec<u8>>,
+}
+
+impl Kept {
+    /// How its host stands to its disk. If no errand is left and none failed, the host's file has the bytes of the
+    /// totals' disk.
+    pub fn settlement(&self) -> Settlement
+        ensures settlement { result ≡ settlement_of self.now }
+        ensures in_file { result ≡ Settled → IsInFile (disk_of self.now) }
+    {
+        let disk = self.counter.disk();
+        disk.is_in_step();
+        disk.settlement(self.failed)
+    }
+
+    /// Tells the next errand, and takes it as said that the one that was told is done. Returns OK if none is left, else
+    /// WRITE, SYNC, SHORT or DISK_FAILED.
+    pub fn next_errand(&mut self, at: &mut u64, bytes: &mut [u8], needed: &mut usize) -> u32
+        ensures { AnswersNextErrand self.old at.old at.new bytes.old bytes.new needed.old needed.new result self.new }
+    {
+        match self.settlement() {
+            Settlement::InMemory | Settlement::Settled => OK,
+            Settlement::Failed => DISK_FAILED,
+            Settlement::Owed => self.tell_next(at, bytes, needed),
+        }
+    }
+
+    // The errand that was told is done: tells the next.
+    fn tell_next(&mut self, at: &mut u64, bytes: &mut [u8], needed: &mut usize) -> u32
+        requires { settlement_of self.old ≡ Owed }
+        ensures { TellsNext self.old at.old at.new bytes.old bytes.new needed.old needed.new result self.new }
+    {
+        self.do_told();
+        let code = self.tell_oldest(at, bytes, needed);
+        self.counter.disk().is_in_step();
+        code
+    }
+
+    // Takes out the errand that was told, if one was: it is done.
+    fn do_told(&mut self)
+        ensures done { DoesTold self.old.told (disk_of self.old) (disk_of self.new) }
+        ensures stays { self.new ≡ record self.old { counter = with_disk self.old.counter (disk_of self.new) } }
+    {
+        if self.told {
+            self.counter.next();
+        }
+    }
+
+    // Tells the oldest errand, if there is one.
+    fn tell_oldest(&mut self, at: &mut u64, bytes: &mut [u8], needed: &mut usize) -> u32
+        ensures tells { TellsOldest (errands_of (disk_of self.old).work) at.old at.new bytes.old bytes.new needed.old
+            needed.new result self.new.told }
+        ensures stays { self.new ≡ record self.old { told = self.new.told } }
+    {
+        let Some(errand) = self.counter.disk().oldest() else {
+            self.told = false;
+            return OK;
+        };
+        let code = tell_errand(errand, at, bytes, needed);
+        self.told = code != SHORT;
+        code
+    }
 }

@@ -1,20 +1,22 @@
 //! A till for C, and for whatever calls C: lines in, the text of their answers out (docs/CONSOLE.md, abi/README.md).
 #![tactic(auto)]
 
-ghost use Rattle.std.specs.Prelude.{◌≡◌, ◌≢◌, IfOk, MatchOption, MatchResult, Some};
+ghost use Rattle.std.specs.Prelude.{◌≡◌, ◌≢◌, IfOk, MatchOption, MatchResult, None, Some};
 ghost use Rattle.pos_disk.specs.Memory.{fresh, state_of};
 ghost use Rattle.pos_image.specs.Standing.{HasNoFiles};
 ghost use Rattle.kijolvar.specs.Codes.{ok};
+ghost use Rattle.kijolvar.specs.Errands.{no_work};
 ghost use Rattle.kijolvar.specs.Hosting.{IsHostCode};
 ghost use Rattle.kijolvar.specs.Opening.{AnswersOpening, IsFormattedOf, Opens, format_code, open_code};
 ghost use Rattle.kijolvar.specs.Profiles.{GivesProfile, IsRefused, RefusesProfile};
 ghost use Rattle.kijolvar.specs.Tills.{Answers, Begins, Fails, HandsOver, AnswersNextErrand, NextOrder};
-ghost use Rattle.kijolvar.specs.declared.settlement.Settlement.TheVariants.{InMemory, Owed, Settled};
+ghost use Rattle.kijolvar.specs.TillDisks.{hosted};
 
 mod codes;
 mod device;
 mod disk;
 mod errands;
+mod host_file;
 mod hosting;
 mod kept;
 mod loose;
@@ -28,8 +30,7 @@ mod tray;
 
 use codes::{BAD_PROFILE, DISK_FAILED, NO_MEMORY, OK, TOO_SMALL, UNDONE};
 use device::Device;
-use disk::{SIZE, disk_of, format_disk};
-use errands::Errands;
+use disk::{SIZE, format_in_file};
 use pos_disk::Disk;
 use pos_image::new_disk;
 use pos_profile::{Profile, ProfileFault};
@@ -80,29 +81,14 @@ fn leave(session: Box<Session>, out: &mut Slot)
 }
 
 /// A new session of a profile over a disk.
-fn begin(
-    alloc: Global,
-    profile: Profile,
-    disk: TillDisk,
-    errands: Option<Errands>,
-    settlement: Settlement,
-) -> Result<Box<Session>, NoMemory>
-    ensures { IfOk result (λ session. Begins ⟦<Device as Peripheral>⟧ profile disk settlement session.value) }
+fn begin(alloc: Global, profile: Profile, disk: TillDisk) -> Result<Box<Session>, NoMemory>
+    ensures { IfOk result (λ session. Begins ⟦<Device as Peripheral>⟧ profile disk session.value) }
 {
-    let session = Session::new(alloc, profile, disk, errands, settlement)?;
+    let session = Session::new(alloc, profile, disk)?;
     match Box::new(alloc, session) {
         Ok(kept) => Ok(kept),
         Err(_) => Err(NoMemory),
     }
-}
-
-/// The disk of a file's bytes, and the errands that it adds to.
-fn disk_in_file(alloc: Global, bytes: &[u8]) -> Result<(TillDisk, Errands), NoMemory>
-    ensures { IfOk result (λ made. made.0.memory ≡ fresh bytes.now) }
-{
-    let errands = Errands::new(alloc)?;
-    let memory = disk_of(alloc, bytes)?;
-    Ok((TillDisk::new(memory, Some(errands.share()?)), errands))
 }
 
 /// A new till over the devices of a profile, which are simulated, with totals on a formatted disk in memory. The
@@ -113,7 +99,7 @@ fn disk_in_file(alloc: Global, bytes: &[u8]) -> Result<(TillDisk, Errands), NoMe
 pub extern "C" fn kijolvar_open(alloc: Global, profile: &[u8], out: &mut Slot) -> u32
     ensures code { AnswersOpening profile.now ok result }
     ensures opened { result ≡ ok → MatchOption out.new.left ⊥ (Opens ⟦<Device as Peripheral>⟧ profile.now
-        (λ memory. HasNoFiles (state_of memory)) InMemory) }
+        (λ disk. HasNoFiles (state_of disk.memory) × (disk.work ≡ None))) }
     ensures refused { result ≢ ok → out.new ≡ out.old }
 {
     let profile = match read_profile(alloc, profile) {
@@ -123,8 +109,7 @@ pub extern "C" fn kijolvar_open(alloc: Global, profile: &[u8], out: &mut Slot) -
     let Ok(memory) = new_disk(alloc) else {
         return NO_MEMORY;
     };
-    let disk = TillDisk::new(memory, None);
-    let Ok(session) = begin(alloc, profile, disk, None, Settlement::InMemory) else {
+    let Ok(session) = begin(alloc, profile, TillDisk::in_memory(memory)) else {
         return NO_MEMORY;
     };
     leave(session, out);
@@ -147,7 +132,7 @@ pub extern "C" fn kijolvar_open_file(
 ) -> u32
     ensures code { AnswersOpening profile.now (open_code bytes.now) result }
     ensures opened { result ≡ ok → MatchOption out.new.left ⊥ (Opens ⟦<Device as Peripheral>⟧ profile.now
-        (λ memory. memory ≡ fresh bytes.now) Settled) }
+        (λ disk. disk ≡ hosted (fresh bytes.now) (Some (no_work bytes.now)))) }
     ensures refused { result ≢ ok → out.new ≡ out.old }
 {
     let profile = match read_profile(alloc, profile) {
@@ -157,10 +142,10 @@ pub extern "C" fn kijolvar_open_file(
     if bytes.len() < SIZE {
         return TOO_SMALL;
     }
-    let Ok((disk, errands)) = disk_in_file(alloc, bytes) else {
+    let Ok(disk) = TillDisk::in_file(alloc, bytes) else {
         return NO_MEMORY;
     };
-    let Ok(session) = begin(alloc, profile, disk, Some(errands), Settlement::Settled) else {
+    let Ok(session) = begin(alloc, profile, disk) else {
         return NO_MEMORY;
     };
     leave(session, out);
@@ -181,24 +166,18 @@ pub extern "C" fn kijolvar_format_file(
 ) -> u32
     ensures code { AnswersOpening profile.now (format_code bytes.now) result }
     ensures opened { result ≡ ok → MatchOption out.new.left ⊥ (Opens ⟦<Device as Peripheral>⟧ profile.now
-        (IsFormattedOf bytes.now) Owed) }
+        (IsFormattedOf bytes.now)) }
     ensures refused { result ≢ ok → out.new ≡ out.old }
 {
     let profile = match read_profile(alloc, profile) {
         Ok(profile) => profile,
         Err(code) => return code,
     };
-    let Ok((disk, errands)) = disk_in_file(alloc, bytes) else {
-        return NO_MEMORY;
-    };
-    let disk = match format_disk(disk) {
+    let disk = match format_in_file(alloc, bytes) {
         Ok(formatted) => formatted,
         Err(code) => return code,
     };
-    if errands.settlement() != Settlement::Owed {
-        return NO_MEMORY;
-    }
-    let Ok(session) = begin(alloc, profile, disk, Some(errands), Settlement::Owed) else {
+    let Ok(session) = begin(alloc, profile, disk) else {
         return NO_MEMORY;
     };
     leave(session, out);

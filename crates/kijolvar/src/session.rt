@@ -1,14 +1,10 @@
 //! What is behind a till's pointer.
-ghost use Rattle.std.specs.Prelude.{◌≡◌, ◌≢◌, ◌↔◌, IfOk};
-ghost use Rattle.kijolvar.specs.Codes.{disk_failed, ok};
-ghost use Rattle.kijolvar.specs.Errands.{WritesNextErrand};
+ghost use Rattle.std.specs.Prelude.{◌≡◌, IfOk};
 ghost use Rattle.kijolvar.specs.Hosting.{IsHostCode};
-ghost use Rattle.kijolvar.specs.Tills.{Begins, CarriesOut, Fails, HandsOver, AnswersNextErrand, NextOrder};
-ghost use Rattle.kijolvar.specs.declared.settlement.Settlement.TheVariants.{Failed, InMemory, Owed, Settled};
+ghost use Rattle.kijolvar.specs.Tills.{Begins, CarriesOut, Fails, HandsOver, AnswersNextErrand, NextOrder, settlement_of};
 
-use crate::codes::{DISK_FAILED, ERRANDS, OK, code_of};
+use crate::codes::{DISK_FAILED, ERRANDS, code_of};
 use crate::device::Device;
-use crate::errands::Errands;
 use crate::hosting::{host_device, next_order};
 use crate::kept::Kept;
 use crate::settlement::Settlement;
@@ -25,14 +21,13 @@ use std::alloc::Global;
 use std::collections::VecDeque;
 use std::marker::Model;
 
-/// A till that the library keeps between calls, with room for a line, what its devices have for its host, and the
-/// errands of its host, where its disk is in a file. Its counter and its spares are sound.
+/// A till that the library keeps between calls, with room for a line, and what its devices have for its host. Its
+/// counter and its spares are sound.
 pub struct Session {
     alloc: Global,
     kept: Kept,
     buffer: LineBuffer,
     tray: Tray,
-    errands: Option<Errands>,
 }
 
 impl Model for Session {
@@ -51,50 +46,10 @@ impl Model for Session {
         × AreSparesSound ⟦<Device as Peripheral>⟧ s.kept.spares };
 }
 
-// How a till's host stands to its disk after lines.
-fn settlement_after(settlement: Settlement, errands: &Option<Errands>) -> Settlement
-    ensures { (settlement ≡ InMemory) ↔ (result ≡ InMemory) }
-{
-    match errands {
-        Some(errands) if settlement != Settlement::InMemory => errands.settlement(),
-        _ => settlement,
-    }
-}
-
-// Tells the next errand of a host, if it has errands.
-fn next_of(errands: &Option<Errands>, at: &mut u64, bytes: &mut [u8], needed: &mut usize) -> u32
-    ensures { WritesNextErrand at.old at.new bytes.old bytes.new needed.old needed.new result }
-{
-    match errands {
-        Some(errands) => errands.next(at, bytes, needed),
-        None => OK,
-    }
-}
-
-// How a host that had errands left stands to the disk, by what it was told of the next.
-fn settlement_by(code: u32) -> Settlement
-    ensures settled { code ≡ ok → result ≡ Settled }
-    ensures failed { code ≡ disk_failed → result ≡ Failed }
-    ensures owed { code ≢ ok → code ≢ disk_failed → result ≡ Owed }
-{
-    match code {
-        OK => Settlement::Settled,
-        DISK_FAILED => Settlement::Failed,
-        _ => Settlement::Owed,
-    }
-}
-
 impl Session {
-    /// A till of a profile over a disk, with this settlement. The disk adds to the errands, if there are any. Want of
-    /// memory ends the disk.
-    pub fn new(
-        alloc: Global,
-        profile: Profile,
-        disk: TillDisk,
-        errands: Option<Errands>,
-        settlement: Settlement,
-    ) -> Result<Session, NoMemory>
-        ensures { IfOk result (λ till. Begins ⟦<Device as Peripheral>⟧ profile disk settlement till) }
+    /// A till of a profile over a disk. Want of memory ends the disk.
+    pub fn new(alloc: Global, profile: Profile, disk: TillDisk) -> Result<Session, NoMemory>
+        ensures { IfOk result (λ till. Begins ⟦<Device as Peripheral>⟧ profile disk till) }
     {
         let Ok(buffer) = LineBuffer::new(alloc) else {
             return Err(NoMemory);
@@ -111,7 +66,8 @@ impl Session {
             spares,
             answer: MemorySink::new(alloc),
             outcome: Ok(()),
-            settlement,
+            told: false,
+            failed: false,
             orders: VecDeque::new(alloc),
         };
         Ok(Session {
@@ -119,15 +75,14 @@ impl Session {
             kept,
             buffer,
             tray,
-            errands,
         })
     }
 
     /// How its host stands to its disk.
     pub fn settlement(&self) -> Settlement
-        ensures { result ≡ self.now.settlement }
+        ensures { result ≡ settlement_of self.now }
     {
-        self.kept.settlement
+        self.kept.settlement()
     }
 
     /// Carries out the lines of a text, and keeps what they print as the answer. Where there is no memory for what a
@@ -135,6 +90,7 @@ impl Session {
     pub fn carry_out(&mut self, lines: &[u8])
         ensures { CarriesOut ⟦<TillDisk as Disk>⟧ ⟦<Device as Peripheral>⟧ self.old lines.now self.new }
     {
+        self.kept.told = false;
         self.kept.answer.clear();
         self.kept.outcome = carry_out_lines(
             self.alloc,
@@ -145,7 +101,7 @@ impl Session {
             &mut self.kept.names,
             &mut self.kept.spares,
         );
-        self.kept.settlement = settlement_after(self.kept.settlement, &self.errands);
+        self.kept.counter.disk().is_in_step();
     }
 
     /// Writes the answer to the lines that were given last, where no errand is left and none failed, and how long it
@@ -153,7 +109,7 @@ impl Session {
     pub fn hand_over(&self, text: &mut [u8], needed: &mut usize) -> u32
         ensures { HandsOver self.now text.old text.new needed.old needed.new result }
     {
-        match self.kept.settlement {
+        match self.kept.settlement() {
             Settlement::Owed => ERRANDS,
             Settlement::Failed => DISK_FAILED,
             Settlement::InMemory | Settlement::Settled => code_of(
@@ -168,15 +124,7 @@ impl Session {
     pub fn next_errand(&mut self, at: &mut u64, bytes: &mut [u8], needed: &mut usize) -> u32
         ensures { AnswersNextErrand self.old at.old at.new bytes.old bytes.new needed.old needed.new result self.new }
     {
-        match self.kept.settlement {
-            Settlement::InMemory | Settlement::Settled => OK,
-            Settlement::Failed => DISK_FAILED,
-            Settlement::Owed => {
-                let code = next_of(&self.errands, at, bytes, needed);
-                self.kept.settlement = settlement_by(code);
-                code
-            }
-        }
+        self.kept.next_errand(at, bytes, needed)
     }
 
     /// Keeps the orders of the device of a name for the host from now on. Answers OK; or NO_DEVICE where no device of
@@ -199,9 +147,7 @@ impl Session {
     pub fn fail(&mut self)
         ensures { Fails self.old self.new }
     {
-        if self.kept.settlement != Settlement::InMemory {
-            self.kept.settlement = Settlement::Failed;
-        }
+        self.kept.failed = true;
     }
 }
 
@@ -212,7 +158,6 @@ impl Drop for Session {
             kept,
             buffer: _,
             tray: _,
-            errands: _,
         } = self;
         let Kept {
             profile: _,
@@ -221,10 +166,11 @@ impl Drop for Session {
             spares,
             answer: _,
             outcome: _,
-            settlement: _,
+            told: _,
+            failed: _,
             orders: _,
         } = kept;
         end_counter(counter);
-        drop(spares.into_peripherals());
+        spares.park_all();
     }
 }

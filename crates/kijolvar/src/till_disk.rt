@@ -1,52 +1,150 @@
 //! The disk of a till.
-ghost use Rattle.std.specs.Prelude.{◌≡◌};
+ghost use Rattle.std.specs.Prelude.{◌≡◌, IfOk, None, Some, option_map};
+ghost use Rattle.pos_disk.specs.Memory.{fresh};
+ghost use Rattle.kijolvar.specs.Errands.{IsOldest, IsSync, IsWrite, no_work};
+ghost use Rattle.kijolvar.specs.TillDisks.{AddsIfHosted, DoesIfHosted, IsInStep, errands_of, hosted, settlement_with};
 
-use crate::errands::Errands;
-use pos_disk::{Disk, DiskFault, MemDisk};
+use crate::errands::{Errand, Errands};
+use crate::settlement::Settlement;
+use pos_disk::{Disk, DiskFault, MemDisk, Relay};
+use std::alloc::{AllocError, Global};
+use std::marker::Model;
 
-/// The disk of a till: one in memory. Where a host has it in a file, each write and each sync becomes an errand of the
-/// host's too.
+/// The disk of a till: one in memory. If a host keeps it in a file, each write and each sync is an errand of the host
+/// too. Once the errands are done, the file has the bytes of the disk. A call whose errand is lost is a fault, and so
+/// is each later write and sync.
 #[derive(Drop)]
 pub struct TillDisk {
     memory: MemDisk,
     errands: Option<Errands>,
 }
 
+impl Model for TillDisk {
+    ghost use Rattle.kijolvar.specs.TillDisks.{HostedDisk, IsInStep, hosted};
+
+    ghost Value = { HostedDisk };
+
+    ghost view = { λ d. hosted d.memory d.errands };
+
+    ghost invariant = { λ d. IsInStep (hosted d.memory d.errands) };
+}
+
 impl TillDisk {
-    /// The disk over one in memory.
-    pub fn new(memory: MemDisk, errands: Option<Errands>) -> TillDisk
-        ensures { result.memory ≡ memory }
+    /// A disk in memory alone.
+    pub fn in_memory(memory: MemDisk) -> TillDisk
+        ensures { result ≡ hosted memory None }
     {
-        TillDisk { memory, errands }
+        TillDisk {
+            memory,
+            errands: None,
+        }
+    }
+
+    /// The disk of a host's file, which has these bytes. No errand is left.
+    pub fn in_file(alloc: Global, bytes: &[u8]) -> Result<TillDisk, AllocError>
+        ensures { IfOk result (λ disk. disk ≡ hosted (fresh bytes.now) (Some (no_work bytes.now))) }
+    {
+        Ok(TillDisk {
+            memory: MemDisk::new(alloc, bytes.to_vec(alloc)?)?,
+            errands: Some(Errands::new(alloc, bytes)),
+        })
+    }
+
+    /// What is true of every disk of a till: once the errands are done in the host's file, it has the bytes of the
+    /// disk, unless an errand was lost.
+    pub fn is_in_step(&self)
+        ensures { IsInStep self.now }
+    {
+        let _memory = &self.memory;
+    }
+
+    /// How its host stands to it, by whether the host said that an errand failed.
+    pub fn settlement(&self, has_failed: bool) -> Settlement
+        ensures { result ≡ settlement_with self.now.work has_failed }
+    {
+        match &self.errands {
+            None => Settlement::InMemory,
+            Some(errands) if errands.is_lost() || has_failed => Settlement::Failed,
+            Some(errands) => match errands.oldest() {
+                Some(_) => Settlement::Owed,
+                None => Settlement::Settled,
+            },
+        }
+    }
+
+    /// The oldest errand of its host, if there is one.
+    pub fn oldest(&self) -> Option<&Errand>
+        ensures { IsOldest (errands_of self.now.work) (option_map (λ errand. errand.now) result) }
+    {
+        match &self.errands {
+            Some(errands) => errands.oldest(),
+            None => None,
+        }
+    }
+}
+
+// Adds that bytes are to be written at a place, if there is a host.
+fn add_write(errands: &mut Option<Errands>, at: u64, bytes: &[u8]) -> Result<(), DiskFault>
+    ensures { AddsIfHosted (IsWrite at bytes.now) errands.old errands.new result }
+{
+    match errands {
+        Some(errands) => errands.add_write(at, bytes),
+        None => Ok(()),
+    }
+}
+
+// Adds that what was written is to stay, if there is a host.
+fn add_sync(errands: &mut Option<Errands>) -> Result<(), DiskFault>
+    ensures { AddsIfHosted IsSync errands.old errands.new result }
+{
+    match errands {
+        Some(errands) => errands.add_sync(),
+        None => Ok(()),
+    }
+}
+
+// Takes out the oldest errand, if there is a host, and it has one.
+fn next_of(errands: &mut Option<Errands>) -> Option<Errand>
+    ensures { DoesIfHosted errands.old errands.new result }
+{
+    match errands {
+        Some(errands) => errands.next(),
+        None => None,
     }
 }
 
 impl Disk for TillDisk {
     ghost use Rattle.std.specs.Prelude.{length, ⊤};
     ghost use Rattle.std.proofs.Common.{refl};
-    ghost use Rattle.pos_disk.specs.Memory.{state_of, MemoryReads, MemoryWrites, MemorySyncs};
-    ghost use Rattle.pos_disk.specs.Kept.{counts, only};
+    ghost use Rattle.kijolvar.specs.TillDisks.{HostedReads, HostedSyncs, HostedWrites, file_of};
+    ghost use Rattle.kijolvar.specs.TillDisks.{counts_hosted, hosted_state, only_hosted};
 
     ghost size = { λ disk. length disk.memory.present.reading };
 
+    ghost fixed = { λ disk. file_of disk };
+
     ghost honest = { λ _. ⊤ };
 
-    ghost state = { λ disk. state_of disk.memory };
+    ghost state = { λ disk. hosted_state disk };
 
-    ghost own_read = { λ old new. MemoryReads old.memory new.memory };
+    ghost own_read = { HostedReads };
 
-    ghost own_write = { λ old new. MemoryWrites old.memory new.memory };
+    ghost own_write = { HostedWrites };
 
-    ghost own_sync = { λ old new. MemorySyncs old.memory new.memory };
+    ghost own_sync = { HostedSyncs };
 
     ghost whole = { λ disk _. refl };
 
-    ghost counts_now = { λ disk t bytes _. counts disk.memory t bytes };
+    ghost counts_now = { λ disk t bytes _. counts_hosted disk t bytes };
 
-    ghost only_now = { λ disk bytes _. only disk.memory bytes };
+    ghost only_now = { λ disk bytes _. only_hosted disk bytes };
 
     fn len(&self) -> u64 {
         self.memory.len()
+    }
+
+    fn reads_bytes(&self) {
+        self.memory.reads_bytes();
     }
 
     fn read(&mut self, at: u64, out: &mut [u8]) -> Result<(), DiskFault> {
@@ -54,16 +152,25 @@ impl Disk for TillDisk {
     }
 
     fn write(&mut self, at: u64, bytes: &[u8]) -> Result<(), DiskFault> {
-        if let Some(errands) = &self.errands {
-            errands.add_write(at, bytes);
-        }
-        self.memory.write(at, bytes)
+        let answer = add_write(&mut self.errands, at, bytes);
+        let _ = self.memory.write(at, bytes);
+        answer
     }
 
     fn sync(&mut self) -> Result<(), DiskFault> {
-        if let Some(errands) = &self.errands {
-            errands.add_sync();
-        }
+        add_sync(&mut self.errands)?;
         self.memory.sync()
+    }
+}
+
+impl Relay for TillDisk {
+    ghost use Rattle.kijolvar.specs.TillDisks.{HostDoes};
+
+    type Errand = Errand;
+
+    ghost takes = { HostDoes };
+
+    fn next(&mut self) -> Option<Errand> {
+        next_of(&mut self.errands)
     }
 }

@@ -1,4 +1,5 @@
 //! What a till's devices have for its host.
+ghost use Rattle.std.specs.Prelude.{◌≡◌, IfOk};
 ghost use Rattle.kijolvar.specs.Orders.{AsksTwin};
 
 use crate::orders::ask_keeping;
@@ -70,7 +71,9 @@ impl Tray {
     }
 
     /// Where the device of this name puts its orders.
-    pub fn post(&self, device: &[u8]) -> Result<Post, NoMemory> {
+    pub fn post(&self, device: &[u8]) -> Result<Post, NoMemory>
+        ensures { IfOk result (λ post. post.device.items ≡ device.now) }
+    {
         Ok(Post {
             device: Vec::from_slice(self.alloc, device)?,
             tray: self.share()?,

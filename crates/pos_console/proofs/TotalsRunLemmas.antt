@@ -1,5 +1,6 @@
 -- What a run over the totals in a file leaves, from what a run over any disk leaves.
 use Rattle.std.proofs.Common.{List, ap, inr, length, subst, sym, ℕ, ◌≡◌}
+use Rattle.pos_disk.specs.declared.device.Disk.{Ghosts as DiskGhosts}
 use Rattle.std.specs.Prelude.{Result}
 use Rattle.pos_file.specs.declared.block_file.BlockFile.{Ghosts as FileGhosts}
 use Rattle.pos_file.specs.declared.file_disk.FileDisk.{FileDisk}
@@ -7,7 +8,7 @@ use Rattle.pos_mirror.specs.Mirror.{Mirror, mirror_state}
 use Rattle.pos_profile.specs.Entries.{Contents}
 use Rattle.pos_program.specs.MirroredFiles.{CutMayLeave, IsMirrored}
 use Rattle.pos_program.specs.TotalsDisks.{IsNewMirror}
-use Rattle.pos_run.specs.Simulating.{RunsThroughProfile}
+use Rattle.pos_run.specs.Simulating.{RunsSimulated, RunsThroughProfile}
 use Rattle.pos_run.specs.Streams.{Streams}
 use Rattle.pos_run.specs.declared.scripts.RunFault.{RunFault}
 use Rattle.pos_store.specs.Standing.{Standing, LeavesOneOf}
@@ -27,6 +28,14 @@ module _ {B : Type 0} (below : FileGhosts B) (contents : Contents) (totals : Mir
     cut = λ is bytes cut. run.any_moment.each bytes (subst (λ (t : ℕ). (mirror_state after).left_since t bytes) (sym begins) (cuts is bytes cut));
   }
 
-  pub totals_leave : ((left : List Standing) → LeavesOneOf left (mirror_state totals) → RunsThroughProfile contents left (mirror_state totals) (mirror_state after) streams result)
-      → TotalsLeave below contents totals streams result
-  totals_leave runs = inr (after, mirrored, λ left leaves. over_totals left (runs left leaves))
+  pub totals_leave : (mirrors : DiskGhosts (Mirror (FileDisk B))) → RunsSimulated mirrors contents totals streams result after
+      → ((left : List Standing) → LeavesOneOf left (mirror_state totals) → RunsThroughProfile contents left (mirror_state totals) (mirror_state after) streams result)
+      → TotalsLeave below mirrors contents totals streams result
+  totals_leave mirrors keys runs = inr (
+    after,
+    record {
+      file = mirrored;
+      runs = λ left leaves. over_totals left (runs left leaves);
+      keys = keys;
+    },
+  )

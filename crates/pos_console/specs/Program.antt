@@ -1,12 +1,15 @@
 -- What the program does for its words, and how it ends (docs/CONSOLE.md, "The program").
 use Rattle.std.specs.Prelude.{◌≡◌, ◌++◌, ℕ, List, Result, Ok, Err, Vec, map}
 use Rattle.pos_streams.specs.Streams.{Appends, Fails}
+use Rattle.pos_disk.specs.declared.device.Disk.{Ghosts as DiskGhosts}
 use Rattle.pos_file.specs.declared.block_file.BlockFile.{Ghosts as FileGhosts}
 use Rattle.pos_file.specs.declared.file_disk.FileDisk.{FileDisk}
 use Rattle.pos_mirror.specs.Mirror.{Mirror}
 use Rattle.pos_profile.specs.Entries.{Contents}
 use Rattle.pos_program.specs.Choices.{Chooses}
 use Rattle.pos_program.specs.Faults.{status_of}
+use Rattle.pos_program.specs.Formatting.{FormatsFile}
+use Rattle.pos_program.specs.Migrating.{MigratesFile}
 use Rattle.pos_program.specs.Opening.{OpensRun}
 use Rattle.pos_program.specs.declared.choice_fault.ChoiceFault.{ChoiceFault}
 use Rattle.pos_program.specs.declared.fault.Fault.{Fault}
@@ -34,17 +37,18 @@ abbrev pub EndsRun : (Result (Unit {0}) RunFault → Type 0) → Result (Unit {0
 EndsRun Serving result = (outcome : Result (Unit {0}) RunFault) × Serving outcome × (result ≡ fault_of_run outcome)
 
 -- what the program does with a script over what a run's two files gave: nothing if one of them is at fault
-abbrev pub RunsOpened : {B : Type 0} → FileGhosts B → Result (Contents × Mirror (FileDisk B)) Fault → Streams
-    → Result (Unit {0}) Fault → Type 0
-RunsOpened below (Ok opened) streams result = EndsRun (TotalsLeave below opened.0 opened.1 streams) result
-RunsOpened below (Err why) streams result = (result ≡ Err why) × AreUntouched streams
+abbrev pub RunsOpened : {B : Type 0} → FileGhosts B → DiskGhosts (Mirror (FileDisk B))
+    → Result (Contents × Mirror (FileDisk B)) Fault → Streams → Result (Unit {0}) Fault → Type 0
+RunsOpened below mirrors (Ok opened) streams result =
+    EndsRun (TotalsLeave below mirrors opened.0 opened.1 streams) result
+RunsOpened below mirrors (Err why) streams result = (result ≡ Err why) × AreUntouched streams
 
 -- what it does with a script over the files at these paths
-abbrev pub RunsFiles : {F B : Type 0} → Ghosts F B → FileGhosts B → F → List ℕ → List ℕ → Streams
-    → Result (Unit {0}) Fault → Type 0
-RunsFiles {F} {B} files below them profile disk streams result =
+abbrev pub RunsFiles : {F B : Type 0} → Ghosts F B → FileGhosts B → DiskGhosts (Mirror (FileDisk B)) → F → List ℕ
+    → List ℕ → Streams → Result (Unit {0}) Fault → Type 0
+RunsFiles {F} {B} files below mirrors them profile disk streams result =
     (opened : Result (Contents × Mirror (FileDisk B)) Fault) × OpensRun files them profile disk opened
-    × RunsOpened below opened streams result
+    × RunsOpened below mirrors opened streams result
 
 -- what is answered of the disk in the file at a path, to the program
 abbrev pub EndsAtDisk : List ℕ → Result (Unit {0}) FileFault → Result (Unit {0}) Fault → Type 0
@@ -52,15 +56,17 @@ EndsAtDisk path (Ok u) result = result ≡ Ok tt
 EndsAtDisk path (Err cause) (Err (fault.Disk at why)) = (at.now ≡ path) × (why ≡ cause)
 EndsAtDisk path (Err cause) other = ⊥
 
--- it formats the disk in the file at a path
-abbrev pub FormatsFile : {F B : Type 0} → Ghosts F B → F → List ℕ → Result (Unit {0}) Fault → Type 0
-FormatsFile files them path result =
-    (answer : Result (Unit {0}) FileFault) × files.formats them path answer × EndsAtDisk path answer result
+-- it formats the totals in the file at a path
+abbrev pub EndsFormat : {F B : Type 0} → Ghosts F B → FileGhosts B → F → List ℕ → Result (Unit {0}) Fault → Type 0
+EndsFormat files below them path result =
+    (answer : Result (Unit {0}) FileFault) × FormatsFile files below.calls them path answer
+    × EndsAtDisk path answer result
 
--- it moves the totals on the disk in the file at a path to layout 2
-abbrev pub MigratesFile : {F B : Type 0} → Ghosts F B → F → List ℕ → Result (Unit {0}) Fault → Type 0
-MigratesFile files them path result =
-    (answer : Result (Unit {0}) FileFault) × files.migrates them path answer × EndsAtDisk path answer result
+-- it moves the totals in the file at a path to layout 2
+abbrev pub EndsMove : {F B : Type 0} → Ghosts F B → FileGhosts B → F → List ℕ → Result (Unit {0}) Fault → Type 0
+EndsMove files below them path result =
+    (answer : Result (Unit {0}) FileFault) × MigratesFile files below.calls them path answer
+    × EndsAtDisk path answer result
 
 -- all of a text was given to the sink, which was flushed
 abbrev pub IsWritten : Writing → Writing → List ℕ → Type 0
@@ -86,46 +92,47 @@ TellsFile files them path old new result =
     (read : Result (List ℕ) FileFault) × files.gives_totals them path read × TellsBytes path read old new result
 
 -- what it does for a task, over these files: by how its reader and its writer stood before, and after
-abbrev pub Does : {F B : Type 0} → Ghosts F B → FileGhosts B → F → Task → Streams → Result (Unit {0}) Fault
-    → Type 0
-Does files below them Demo streams result = EndsRun (Serves streams) result
-Does files below them (Run profile disk) streams result =
-    RunsFiles files below them profile.now disk.now streams result
-Does files below them (Format disk) streams result =
-    FormatsFile files them disk.now result × AreUntouched streams
-Does files below them (Migrate disk) streams result =
-    MigratesFile files them disk.now result × AreUntouched streams
-Does files below them (Files disk) streams result =
+abbrev pub Does : {F B : Type 0} → Ghosts F B → FileGhosts B → DiskGhosts (Mirror (FileDisk B)) → F → Task → Streams
+    → Result (Unit {0}) Fault → Type 0
+Does files below mirrors them Demo streams result = EndsRun (Serves streams) result
+Does files below mirrors them (Run profile disk) streams result =
+    RunsFiles files below mirrors them profile.now disk.now streams result
+Does files below mirrors them (Format disk) streams result =
+    EndsFormat files below them disk.now result × AreUntouched streams
+Does files below mirrors them (Migrate disk) streams result =
+    EndsMove files below them disk.now result × AreUntouched streams
+Does files below mirrors them (Files disk) streams result =
     TellsFile files them disk.now streams.writer streams.writer_after result
     × (streams.reader_after ≡ streams.reader)
 
 -- what it does for what the words ask for: nothing where they ask for nothing
-abbrev pub DoesChosen : {F B : Type 0} → Ghosts F B → FileGhosts B → F → Result Task ChoiceFault → Streams
-    → Result (Unit {0}) Fault → Type 0
-DoesChosen files below them (Ok task) streams result =
-    Does files below them task streams result
-DoesChosen files below them (Err why) streams result =
+abbrev pub DoesChosen : {F B : Type 0} → Ghosts F B → FileGhosts B → DiskGhosts (Mirror (FileDisk B)) → F
+    → Result Task ChoiceFault → Streams → Result (Unit {0}) Fault → Type 0
+DoesChosen files below mirrors them (Ok task) streams result =
+    Does files below mirrors them task streams result
+DoesChosen files below mirrors them (Err why) streams result =
     (result ≡ Err (fault.Words why)) × AreUntouched streams
 
 -- what it does for words
-abbrev pub DoesAsAsked : {F B : Type 0} → Ghosts F B → FileGhosts B → F → List (List ℕ) → Streams
-    → Result (Unit {0}) Fault → Type 0
-DoesAsAsked files below them words streams result =
+abbrev pub DoesAsAsked : {F B : Type 0} → Ghosts F B → FileGhosts B → DiskGhosts (Mirror (FileDisk B)) → F
+    → List (List ℕ) → Streams → Result (Unit {0}) Fault → Type 0
+DoesAsAsked files below mirrors them words streams result =
     (chosen : Result Task ChoiceFault) × Chooses words chosen
-    × DoesChosen files below them chosen streams result
+    × DoesChosen files below mirrors them chosen streams result
 
 -- what it does for words that were read, or not
-abbrev pub DoesAsRead : {F B S A : Type 0} → Ghosts F B → FileGhosts B → F → (S → List ℕ)
-    → Result (Vec S A) ChoiceFault → Streams → Result (Unit {0}) Fault → Type 0
-DoesAsRead files below them text (Ok words) streams result =
-    DoesAsAsked files below them (map text words.items) streams result
-DoesAsRead files below them text (Err why) streams result =
+abbrev pub DoesAsRead : {F B S A : Type 0} → Ghosts F B → FileGhosts B → DiskGhosts (Mirror (FileDisk B)) → F
+    → (S → List ℕ) → Result (Vec S A) ChoiceFault → Streams → Result (Unit {0}) Fault → Type 0
+DoesAsRead files below mirrors them text (Ok words) streams result =
+    DoesAsAsked files below mirrors them (map text words.items) streams result
+DoesAsRead files below mirrors them text (Err why) streams result =
     (result ≡ Err (fault.Words why)) × AreUntouched streams
 
 -- The whole program, by its words, its files, how its reader and its writer stood before and after, and the status
 -- that it ends with.
-pub record Performs {F B S A : Type 0} (files : Ghosts F B) (below : FileGhosts B) (them : F) (text : S → List ℕ)
+pub record Performs {F B S A : Type 0} (files : Ghosts F B) (below : FileGhosts B)
+    (mirrors : DiskGhosts (Mirror (FileDisk B))) (them : F) (text : S → List ℕ)
     (words : Result (Vec S A) ChoiceFault) (streams : Streams) (status : ℕ) : Type 0 where
   pub outcome : Result (Unit {0}) Fault
-  pub done : DoesAsRead files below them text words streams outcome
+  pub done : DoesAsRead files below mirrors them text words streams outcome
   pub ends : status ≡ status_of outcome

@@ -1,13 +1,14 @@
 -- What a run over a profile and the totals in a file leaves (docs/CONSOLE.md, "The program").
 use Rattle.std.specs.Prelude.{◌⊎◌, ℕ, List, Result}
 use Rattle.pos_counter.specs.Counters.{IsLeftDuring}
+use Rattle.pos_disk.specs.declared.device.Disk.{Ghosts as DiskGhosts}
 use Rattle.pos_file.specs.declared.block_file.BlockFile.{Ghosts as FileGhosts}
 use Rattle.pos_file.specs.declared.file_disk.FileDisk.{FileDisk}
 use Rattle.pos_mirror.specs.Mirror.{Mirror, mirror_state}
 use Rattle.pos_profile.specs.Entries.{Contents}
 use Rattle.pos_program.specs.MirroredFiles.{CutMayLeave, IsMirrored}
 use Rattle.pos_run.specs.Running.{script_steps}
-use Rattle.pos_run.specs.Simulating.{FindsNoMemory, RunsThroughProfile, begun_over}
+use Rattle.pos_run.specs.Simulating.{FindsNoMemory, RunsSimulated, RunsThroughProfile, begun_over}
 use Rattle.pos_run.specs.Streams.{Streams}
 use Rattle.pos_run.specs.declared.scripts.RunFault.{RunFault}
 use Rattle.pos_store.specs.Standing.{Standing, LeavesOneOf}
@@ -20,11 +21,19 @@ pub record RunsOverTotals {B : Type 0} (below : FileGhosts B) (contents : Conten
   pub cut : (is : IsMirrored below.calls after) (bytes : List ℕ) → CutMayLeave is bytes
       → IsLeftDuring (begun_over contents left (mirror_state totals)) (script_steps run.text.run) run.end run.run bytes
 
--- There was no memory, and nothing was read or written. Or the calls of the file make the totals that are left, and for
--- all that the file may have held the run is one of the machine.
-abbrev pub TotalsLeave : {B : Type 0} → FileGhosts B → Contents → Mirror (FileDisk B) → Streams
-    → Result (Unit {0}) RunFault → Type 0
-TotalsLeave {B} below contents totals streams result =
+-- A run over totals in a file. The calls of the file make the totals that are left, and for all that the file may have
+-- held the run is one of the machine. The devices and the spares are in the wrappers that the profile's keys ask for.
+pub record TotalsRun {B : Type 0} (below : FileGhosts B) (mirrors : DiskGhosts (Mirror (FileDisk B)))
+    (contents : Contents) (totals after : Mirror (FileDisk B)) (streams : Streams) (result : Result (Unit {0}) RunFault)
+    : Type 0 where
+  pub file : IsMirrored below.calls after
+  pub runs : (left : List Standing) → LeavesOneOf left (mirror_state totals)
+      → RunsOverTotals below contents left totals after streams result
+  pub keys : RunsSimulated mirrors contents totals streams result after
+
+-- there was no memory, and nothing was read or written; or it is such a run
+abbrev pub TotalsLeave : {B : Type 0} → FileGhosts B → DiskGhosts (Mirror (FileDisk B)) → Contents
+    → Mirror (FileDisk B) → Streams → Result (Unit {0}) RunFault → Type 0
+TotalsLeave {B} below mirrors contents totals streams result =
     FindsNoMemory streams result
-    ⊎ ((after : Mirror (FileDisk B)) × IsMirrored below.calls after × ((left : List Standing)
-    → LeavesOneOf left (mirror_state totals) → RunsOverTotals below contents left totals after streams result))
+    ⊎ ((after : Mirror (FileDisk B)) × TotalsRun below mirrors contents totals after streams result)

@@ -3,14 +3,18 @@ ghost use Rattle.std.specs.Prelude.{◌≡◌, map};
 ghost use Rattle.std.specs.Process.{exit_status};
 ghost use Rattle.pos_program.specs.Faults.{status_of};
 ghost use Rattle.pos_run.specs.Streams.{streams_of};
-ghost use Rattle.pos_console.specs.Program.{Does, DoesAsAsked, EndsAtDisk, FormatsFile, MigratesFile, Performs, RunsFiles};
+ghost use Rattle.pos_console.specs.Program.{Does, DoesAsAsked, EndsAtDisk, EndsFormat, EndsMove, Performs, RunsFiles};
 ghost use Rattle.pos_console.specs.Program.{fault_of_run};
 
 use crate::files::tell_file;
 use crate::scripts::serve_built;
 use crate::totals_run::run_over_totals;
+use pos_disk::Disk;
 use pos_file::BlockFile;
-use pos_program::{ChoiceFault, Fault, FileFault, NamedFiles, Task, choice, open_run, status_of};
+use pos_program::{
+    ChoiceFault, Fault, FileFault, NamedFiles, Task, TotalsDisk, choice, format_file, migrate_file,
+    open_run, status_of,
+};
 use pos_run::{AnswerWriter, RunFault, ScriptReader};
 use pos_streams::{Sink, Source};
 use std::alloc::Global;
@@ -39,7 +43,8 @@ fn run_files<'a, F: NamedFiles, R: Source, W: Sink>(
     profile: &'a str,
     disk: &'a str,
 ) -> Result<(), Fault<'a>>
-    ensures { RunsFiles F.NamedFiles ⟦<F::File as BlockFile>⟧ files.now profile.entry.now disk.entry.now
+    ensures { RunsFiles F.NamedFiles ⟦<F::File as BlockFile>⟧ ⟦<TotalsDisk<F::File> as Disk>⟧ files.now
+        profile.entry.now disk.entry.now
         (streams_of R.Source reader.old reader.new W.Sink writer.old writer.new) result }
 {
     let (profile, totals) = open_run(files, profile, disk)?;
@@ -58,16 +63,16 @@ fn at_disk<'a>(path: &'a str, answer: Result<(), FileFault>) -> Result<(), Fault
 
 /// Formats the disk in a file.
 fn format<'a, F: NamedFiles>(files: &F, path: &'a str) -> Result<(), Fault<'a>>
-    ensures { FormatsFile F.NamedFiles files.now path.entry.now result }
+    ensures { EndsFormat F.NamedFiles ⟦<F::File as BlockFile>⟧ files.now path.entry.now result }
 {
-    at_disk(path, files.format_disk(path))
+    at_disk(path, format_file(files, path))
 }
 
 /// Moves the totals on the disk in a file to layout 2.
-fn migrate<'a, F: NamedFiles>(files: &F, path: &'a str) -> Result<(), Fault<'a>>
-    ensures { MigratesFile F.NamedFiles files.now path.entry.now result }
+fn migrate<'a, F: NamedFiles>(alloc: Global, files: &F, path: &'a str) -> Result<(), Fault<'a>>
+    ensures { EndsMove F.NamedFiles ⟦<F::File as BlockFile>⟧ files.now path.entry.now result }
 {
-    at_disk(path, files.migrate_disk(path))
+    at_disk(path, migrate_file(alloc, files, path))
 }
 
 /// Does what the words of the command line chose.
@@ -78,14 +83,14 @@ fn carry_out<'a, F: NamedFiles, R: Source, W: Sink>(
     writer: &mut AnswerWriter<W>,
     task: Task<'a>,
 ) -> Result<(), Fault<'a>>
-    ensures { Does F.NamedFiles ⟦<F::File as BlockFile>⟧ files.now task.entry
+    ensures { Does F.NamedFiles ⟦<F::File as BlockFile>⟧ ⟦<TotalsDisk<F::File> as Disk>⟧ files.now task.entry
         (streams_of R.Source reader.old reader.new W.Sink writer.old writer.new) result }
 {
     match task {
         Task::Demo => ended(serve_built(alloc, reader, writer)),
         Task::Run { profile, disk } => run_files(alloc, files, reader, writer, profile, disk),
         Task::Format { disk } => format(files, disk),
-        Task::Migrate { disk } => migrate(files, disk),
+        Task::Migrate { disk } => migrate(alloc, files, disk),
         Task::Files { disk } => tell_file(alloc, files, writer, disk),
     }
 }
@@ -98,8 +103,8 @@ fn carry_out_words<'a, F: NamedFiles, S: AsStr, R: Source, W: Sink>(
     writer: &mut AnswerWriter<W>,
     words: &'a [S],
 ) -> Result<(), Fault<'a>>
-    ensures { DoesAsAsked F.NamedFiles ⟦<F::File as BlockFile>⟧ files.now (map S.text words.entry.now)
-        (streams_of R.Source reader.old reader.new W.Sink writer.old writer.new) result }
+    ensures { DoesAsAsked F.NamedFiles ⟦<F::File as BlockFile>⟧ ⟦<TotalsDisk<F::File> as Disk>⟧ files.now
+        (map S.text words.entry.now) (streams_of R.Source reader.old reader.new W.Sink writer.old writer.new) result }
 {
     match choice(alloc, words) {
         Ok(task) => carry_out(alloc, files, reader, writer, task),
@@ -129,8 +134,8 @@ pub fn perform<F: NamedFiles, E: Eprint, S: AsStr + Drop, R: Source, W: Sink>(
     writer: &mut AnswerWriter<W>,
     words: Result<Vec<S>, ChoiceFault<'_>>,
 ) -> ExitCode
-    ensures { Performs F.NamedFiles ⟦<F::File as BlockFile>⟧ files.now S.text words.entry
-        (streams_of R.Source reader.old reader.new W.Sink writer.old writer.new) (exit_status result) }
+    ensures { Performs F.NamedFiles ⟦<F::File as BlockFile>⟧ ⟦<TotalsDisk<F::File> as Disk>⟧ files.now S.text
+        words.entry (streams_of R.Source reader.old reader.new W.Sink writer.old writer.new) (exit_status result) }
 {
     match words {
         Ok(words) => {

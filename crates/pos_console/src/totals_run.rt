@@ -3,6 +3,7 @@ ghost use Rattle.pos_console.specs.TotalsRuns.{TotalsLeave};
 ghost use Rattle.pos_program.specs.TotalsDisks.{IsNewMirror};
 ghost use Rattle.pos_run.specs.Streams.{streams_of};
 
+use pos_disk::Disk;
 use pos_file::BlockFile;
 use pos_profile::Profile;
 use pos_program::{TotalsDisk, file_is_mirrored};
@@ -19,7 +20,7 @@ pub fn run_over_totals<R: Source, W: Sink, F: BlockFile + Drop>(
     totals: TotalsDisk<F>,
 ) -> Result<(), RunFault>
     requires { IsNewMirror totals }
-    ensures { TotalsLeave ⟦<F as BlockFile>⟧ profile.now totals
+    ensures { TotalsLeave ⟦<F as BlockFile>⟧ ⟦<TotalsDisk<F> as Disk>⟧ profile.now totals
         (streams_of R.Source reader.old reader.new W.Sink writer.old writer.new) result }
 {
     let (outcome, after) = run_over_profile(alloc, reader, writer, profile, totals);

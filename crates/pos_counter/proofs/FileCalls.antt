@@ -27,9 +27,9 @@ pub data Comes (P : Type 0) (old : Totals) (result : Answer) (new : Totals) : Li
 
 grouped : (P : Type 0) (old : Totals) (transactions : List (Option (List TotalsChange))) (change : TotalsChange) (others : List TotalsChange) (given : Value)
     (result : Answer) (new : Totals)
-    → RunsOut old result new ⊎ GroupDone P (record old { transactions = transactions }) (change ∷ others) given result new
+    → RunsOut old (change ∷ others) result new ⊎ GroupDone P (record old { transactions = transactions }) (change ∷ others) given result new
     → Comes P old result new (change ∷ others)
-grouped P old transactions change others given result new (inl out) = Stays old.transactions (λ some. rw out.1 tt) out.2
+grouped P old transactions change others given result new (inl out) = Stays old.transactions (λ some. rw out.2 tt) out.3
 grouped P old transactions change others given result new (inr done) = Groups change others transactions given done
 
 pub puts_comes : (asked : FileCall) (P : Type 0) (old : Totals) (n : ℕ) (result : Answer) (new : Totals) → Puts asked P old n result new

@@ -15,3 +15,5 @@ pub mod Steps
 pub mod PrefixRuns
 pub mod Prefixes
 pub mod Reopening
+pub mod Errands
+mod MovesLemmas

@@ -19,7 +19,7 @@ run_fits history old (s ∷ steps) new run fits =
     run_fits (history_with history old s.0 s.1 run.0) run.0 steps new run.2 (step_fits history old s.0 s.1 run.0 fits run.1)
 
 -- bytes that stand for one of the standings
-some_left : (P : Standing → Type 0) (left : List Standing) (bytes : List ℕ) → ((standing : Standing) → IsOneOf left standing → P standing)
+pub some_left : (P : Standing → Type 0) (left : List Standing) (bytes : List ℕ) → ((standing : Standing) → IsOneOf left standing → P standing)
     → StandsForOneOf left bytes → StandsForSome P bytes
 some_left P [] bytes each is = absurd is
 some_left P (standing ∷ left) bytes each (inl is) = record { standing = standing; stands = is; has = each standing (inl refl) }

@@ -225,6 +225,12 @@ module _ (limits wider : Limits) (are : AreWider limits wider) where
       let there = made_then (outcome_of_all limits files group) (λ next. after_groups limits next groups) last done in
       rw (wider_group files group there.0 there.1) (wider_groups there.0 groups last there.2)
 
+-- what groups make within the limits of a layout, they make within those of layout 2
+pub made_by_layout_2 : (layout : Layout) (start : List PlainFile) (groups : List Group) (files : List PlainFile)
+    → after_groups (limits_of layout) start groups ≡ Ok files → after_groups (limits_of Layout2) start groups ≡ Ok files
+made_by_layout_2 Layout1 start groups files made = search (rules, wider_groups)
+made_by_layout_2 Layout2 start groups files made = made
+
 module _ (history : History) (held : List Group) (files : List PlainFile) (sequence : ℕ) (is : IsPrefix history held (Stands Layout1 files sequence)) where
   -- the groups of the prefix make the same files by layout 2
   made_moved : files_after (moved_with history is.prefix) is.prefix ≡ Ok files

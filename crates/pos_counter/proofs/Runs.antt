@@ -22,7 +22,7 @@ run_append a b c [] more run rest = subst (λ m. Run m more c) run rest
 run_append a b c (s ∷ steps) more run rest = (run.0, run.1, run_append run.0 b c steps more run.2 rest)
 
 -- what is left before a run is left during it
-left_first : (a c : Machine) (more : List (machine.Request × machine.Response)) (run : Run a more c) (bytes : List ℕ)
+pub left_first : (a c : Machine) (more : List (machine.Request × machine.Response)) (run : Run a more c) (bytes : List ℕ)
     → StandsForOneOf a.totals.left bytes → IsLeftDuring a more c run bytes
 left_first a c [] run bytes h = h
 left_first a c (s ∷ more) run bytes h = inl h

@@ -32,7 +32,7 @@ pub record Begins {D P : Type 0} (peripherals : Ghosts P)
   pub totals : counter.totals
       ≡ record {
         disk = disk;
-        totals = record { layout = Layout1; mode = Off; next = 1; area = None; transactions = [] };
+        totals = record { layout = Layout1; mode = Off; tail = 0; next = 1; area = None; transactions = [] };
       }
 
 -- From an old counter to a new one, a step in which the totals have no part: the request gets this response.

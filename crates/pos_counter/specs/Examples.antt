@@ -29,7 +29,7 @@ pub record MayHave (first : Machine) (layout : Layout) (start : List PlainFile)
 -- files by layout 1
 abbrev pub new_machine : Machine
 new_machine = machine_with [] (None ∷ []) (totals_devices (Some (116 ∷ 49 ∷ []))) (record {
-  totals = record { layout = Layout1; mode = Off; next = 1; area = None; transactions = [] };
+  totals = record { layout = Layout1; mode = Off; tail = 0; next = 1; area = None; transactions = [] };
   left = Stands Layout1 [] 1 ∷ [];
   failures = 0;
 })

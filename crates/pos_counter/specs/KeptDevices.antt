@@ -5,6 +5,7 @@ use Rattle.pos_service.specs.Hardware.{hardware_of}
 use Rattle.pos_counter.specs.Machine.{Device, Machine}
 use Rattle.pos_counter.specs.declared.devices.Devices.{Devices}
 use Rattle.pos_profile.specs.declared.entry.Entry.{Entry}
+use Rattle.pos_profile.specs.declared.slot.Slot.{Slot}
 use Rattle.pos_profile.specs.Categories.{is_totals}
 use Rattle.pos_profile.specs.Registries.{Device as Registered, IsRegistrySound, devices as registered, vacant_devices}
 use Rattle.pos_service.specs.declared.peripheral.Peripheral.{Ghosts}
@@ -42,6 +43,10 @@ profile_devices entries = devices_of (vacant_devices entries) (totals_name entri
 -- the devices that a counter keeps
 abbrev pub devices_in : {P : Type 0} → Ghosts P → Devices P → List Device
 devices_in peripherals devices = devices_of (registered peripherals devices.registry) devices.totals
+
+-- the slots of the devices that may have a peripheral, in order, each with its peripheral
+abbrev pub slots_in : {P : Type 0} → Devices P → List (Slot P)
+slots_in devices = devices.registry.slots.items
 
 -- What is true of the devices of every counter: their registry is sound.
 pub record AreDevicesSound {P : Type 0} (peripherals : Ghosts P) (devices : Devices P) : Type 0 where

@@ -2,12 +2,14 @@ pub mod AtDevices
 pub mod Counters
 pub mod Crashes
 pub mod DiskUse
+pub mod Errands
 pub mod Examples
 pub mod FileCalls
 pub mod History
 pub mod KeptDevices
 pub mod Leaving
 pub mod Machine
+pub mod Moves
 pub mod Prefixes
 pub mod Reopening
 pub mod Responses

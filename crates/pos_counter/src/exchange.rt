@@ -3,8 +3,8 @@ ghost use Rattle.std.specs.Prelude.{◌≡◌, ℕ, Some, false, true, IfErr, If
 ghost use Rattle.std.specs.List.{list_any};
 ghost use Rattle.pos_service.specs.Hardware.{hardware_of};
 ghost use Rattle.pos_profile.specs.Places.{place_of};
-ghost use Rattle.pos_profile.specs.Registries.{devices as registered, names_of};
-ghost use Rattle.pos_counter.specs.KeptDevices.{AreDevicesSound};
+ghost use Rattle.pos_profile.specs.Registries.{PutsInto, devices as registered, names_of};
+ghost use Rattle.pos_counter.specs.KeptDevices.{AreDevicesSound, slots_in};
 ghost use Rattle.pos_counter.specs.Counters.{IsStepBeside, IsCounterSound};
 ghost use Rattle.pos_counter.specs.Responses.{attached, detached};
 ghost use Rattle.pos_counter.specs.Steps.{Attach, Detach, has_open};
@@ -27,6 +27,7 @@ impl<D: Disk, P: Peripheral> Counter<D, P> {
         ensures step { IsStepBeside P.Peripheral self.old
             (Attach name.now (hardware_of (P.Peripheral.state peripheral)))
             (attached P.Peripheral.state result) self.new }
+        ensures puts { PutsInto (slots_in self.old.devices) name.now peripheral result (slots_in self.new.devices) }
         ensures handed_back { IfErr result (λ refusal. refusal.1 ≡ peripheral) }
         ensures sound { IsCounterSound P.Peripheral self.new }
     {

@@ -14,11 +14,14 @@ ghost use Rattle.pos_service.specs.declared.code.Code.TheVariants.{Failure};
 ghost use Rattle.pos_service.specs.declared.property.Property.TheVariants.{DeviceEnabled};
 ghost use Rattle.pos_service.specs.Controls.{Control};
 ghost use Rattle.pos_store.specs.Layouts.{limits_of};
-ghost use Rattle.pos_store.specs.Standing.{Standing, Stands, StandsFor, IsBytes, IsOneOf};
+ghost use Rattle.pos_store.specs.Recoveries.{EndsAt};
+ghost use Rattle.pos_store.specs.Standing.{Standing, Stands, StandsFor, IsOneOf};
 ghost use Rattle.pos_totals.specs.Recoveries.{HasTooMany};
-ghost use Rattle.pos_counter.specs.Counters.{Begins, IsLeftDuring, IsRun, IsStep, IsStepBeside, RunsAnyhow, RunsFrom};
+ghost use Rattle.pos_totals.specs.Views.{WhenReady};
+ghost use Rattle.pos_counter.specs.Counters.{Begins, IsCounterSound, IsLeftDuring, IsRun, IsStep, IsStepBeside, RunsAnyhow, RunsFrom};
 ghost use Rattle.pos_counter.specs.Crashes.{BeginsOver, HasBegun, HasRun, KeepsPrefix, KeepsPrefixes};
 ghost use Rattle.pos_counter.specs.DiskUse.{SparesDisk};
+ghost use Rattle.pos_counter.specs.Errands.{HasRunSame, IsSameCounter};
 ghost use Rattle.pos_counter.specs.Examples.{MayHave, new_machine, steps_into_doubt, steps_through_doubt, a_group};
 ghost use Rattle.pos_counter.specs.History.{Group, History, FilesEvent, begun, told};
 ghost use Rattle.pos_counter.specs.History.{history_along, history_of, history_with};
@@ -34,6 +37,8 @@ ghost use Rattle.pos_counter.specs.Totals.{Recovers, TotalsPart, asks_recovery};
 use crate::counter::Counter;
 use pos_disk::Disk;
 use pos_service::Peripheral;
+use pos_store::laws::disk_stands;
+use pos_totals::laws::ends_behind_their_records;
 
 /// Whatever a machine runs through, from totals whose disk stands for some files: a crash leaves the files after a
 /// prefix of the history, each group whole or absent, which holds each group that was settled before.
@@ -161,8 +166,50 @@ pub fn enabling_finds_the_files()
 /// leaves that alone.
 pub fn new_counter_leaves_one_thing<D: Disk, P: Peripheral>(counter: &Counter<D, P>)
     ensures { (entries : List Entry) (disk : D) → Begins P.Peripheral entries disk counter.now
-        → D.honest disk → IsAtRest (D.state disk) → IsBytes (D.state disk).reading
+        → D.honest disk → IsAtRest (D.state disk)
         → (standing : Standing) × Leaves D.Disk counter.now.totals (standing ∷ []) }
+{
+    disk_stands(counter.disk());
+}
+
+/// The tail of a counter's totals that are ready lies behind the records of their disk: a change is refused for want of
+/// a sequence only where its group doesn't fit behind these.
+pub fn ends_behind_its_records<D: Disk, P>(counter: &Counter<D, P>)
+    ensures { D.honest counter.now.totals.disk → WhenReady counter.now.totals.totals.mode
+        (EndsAt counter.now.totals.totals.layout counter.now.totals.totals.tail
+        (D.state counter.now.totals.disk).reading) }
+{
+    ends_behind_their_records(&counter.totals);
+}
+
+/// What the disk of a counter keeps for its owner can be taken out before each call and after it: the counter is the
+/// same but for the disk, of which all that is known stays.
+pub fn errands_change_nothing<D: Disk, P: Peripheral>(counter: &Counter<D, P>)
+    ensures sound { (old : _) → IsSameCounter D.Disk old counter.now
+        → IsCounterSound P.Peripheral old → IsCounterSound P.Peripheral counter.now }
+    // a crash leaves the same
+    ensures leaves { (left : List Standing) (old : _) → IsSameCounter D.Disk old counter.now
+        → Leaves D.Disk old.totals left → Leaves D.Disk counter.now.totals left }
+    // it has run through the same steps since it began, with the same history
+    ensures past { (layout : Layout) (start : List File) (sequence : ℕ) (steps : List (Request × Response)) (old : _)
+        → IsSameCounter D.Disk old counter.now
+        → (past : HasRun D.Disk P.Peripheral layout start sequence steps old)
+        → HasRunSame D.Disk P.Peripheral layout start sequence steps old past counter.now }
+    // a run up to it is one to the counter that is left
+    ensures before { (left : List Standing) (steps : List (Request × Response)) (first old : _)
+        → IsSameCounter D.Disk old counter.now
+        → RunsFrom D.Disk P.Peripheral left first steps old
+        → RunsFrom D.Disk P.Peripheral left first steps counter.now }
+    // a run from the counter that is left is one from it
+    ensures after { (left : List Standing) (steps : List (Request × Response)) (old mid : _)
+        → IsSameCounter D.Disk old mid → Leaves D.Disk old.totals left
+        → RunsFrom D.Disk P.Peripheral left mid steps counter.now
+        → RunsFrom D.Disk P.Peripheral left old steps counter.now }
+    // and one run behind another is a run
+    ensures join { (left : List Standing) (steps more : List (Request × Response)) (first mid : _)
+        (runs : RunsFrom D.Disk P.Peripheral left first steps mid)
+        → RunsFrom D.Disk P.Peripheral runs.after mid more counter.now
+        → RunsFrom D.Disk P.Peripheral left first (steps ++ more) counter.now }
 {}
 
 /// Whatever the disk of a counter is, honest or not: each request of a run that spares the disk is a step of the

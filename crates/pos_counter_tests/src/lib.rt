@@ -13,6 +13,8 @@ mod growths;
 #[cfg(test)]
 mod moves;
 #[cfg(test)]
+mod orders;
+#[cfg(test)]
 mod requests;
 #[cfg(test)]
 mod rows;

@@ -54,7 +54,7 @@ fn a_control_is_told_of_its_devices_power(rt: HostRuntime) -> Result<(), Fail> {
 }
 
 /// A scan and a fault, behind which the last scan is cleared.
-fn scanner_steps(alloc: Global) -> Result<[Step; 3], NoMemory> {
+pub fn scanner_steps(alloc: Global) -> Result<[Step; 3], NoMemory> {
     let scan = Input::Scan {
         kind: 104,
         bytes: Bytes::from_slice(alloc, b"AB")?,
@@ -78,7 +78,7 @@ fn a_scan_and_a_fault_reach_the_control(rt: HostRuntime) -> Result<(), Fail> {
 }
 
 /// Each call of a display.
-fn display_steps(alloc: Global) -> Result<[Step; 4], NoMemory> {
+pub fn display_steps(alloc: Global) -> Result<[Step; 4], NoMemory> {
     let text = Call::DisplayText(Bytes::from_slice(alloc, b"ABCDEFGHI")?, 2);
     let letter = Call::DisplayTextAt(0, 1, Bytes::from_slice(alloc, b"J")?, 0);
     let (clear, scroll) = (Call::ClearText, Call::ScrollText(4, 1));
@@ -111,7 +111,7 @@ fn a_display_shows_what_is_asked(rt: HostRuntime) -> Result<(), Fail> {
 }
 
 /// Requests of a printer, of which two wait, work on these, and its inputs.
-fn printer_steps(alloc: Global) -> Result<[Step; 8], NoMemory> {
+pub fn printer_steps(alloc: Global) -> Result<[Step; 8], NoMemory> {
     let later = Call::PrintNormal(2, Bytes::from_slice(alloc, b"J\n")?);
     let sooner = Call::PrintImmediate(2, Bytes::from_slice(alloc, b"ABCDEFGHI\x1b|cA\n")?);
     Ok([
@@ -138,7 +138,7 @@ fn has_printed(printer: &Snapshot, marks: &[Mark], bytes: &[u8]) -> bool {
 
 /// What a printer's control delivers after those steps: the cover is opened and closed, the paper is near its end, two
 /// requests are done, and paper is put in.
-const EVENTS: [Event; 6] = [
+pub const EVENTS: [Event; 6] = [
     Event::StatusUpdate(11),
     Event::StatusUpdate(12),
     Event::StatusUpdate(25),

@@ -10,7 +10,7 @@ pub use Rattle.std.specs.List.{list_any, take-map}
 pub use Rattle.pos_disk.specs.Fuse.{Loosens, Spoils}
 pub use Rattle.pos_disk.specs.Memory.{LeftAt, LeftSince, Memory, Moment, choose, filled, fresh, state_of, synced, written}
 pub use Rattle.pos_disk.specs.Stamps.{IsKept, IsSaved, loose_by, memory_of, moment_of}
-pub use Rattle.pos_disk.specs.State.{DiskState, Elapses, HasCause, InRange, IsAtRest, LeavesOnly, MayLeave, Reads, Rises, Syncs, Watches, Writes, part, splice}
+pub use Rattle.pos_disk.specs.State.{DiskState, Elapses, HasCause, InRange, IsAtRest, IsSame, LeavesOnly, MayLeave, Reads, Rises, Syncs, Watches, Writes, part, splice}
 pub use Rattle.pos_disk.specs.declared.device.DiskFault.{DiskFault}
 pub use base.Logic.{SProp, emp, ent, fst∗, via}
 pub use contract.Monad.{Fun}

@@ -1,5 +1,5 @@
 -- What a disk is at a moment, what its calls do, and what a crash may leave.
-use Rattle.std.specs.Prelude.{◌≡◌, ◌⊎◌, ◌≤◌, ◌<◌, ◌^◌, ℕ, ◌+◌, List, ◌++◌, length, take, drop, get_or, Result, OnOk, OnErr}
+use Rattle.std.specs.Prelude.{◌≡◌, ◌↔◌, ◌⊎◌, ◌≤◌, ◌<◌, ◌^◌, ℕ, ◌+◌, List, ◌++◌, length, take, drop, get_or, Result, OnOk, OnErr}
 use Rattle.pos_disk.specs.declared.device.DiskFault.{DiskFault}
 
 -- what a read, a write or a sync answers
@@ -22,6 +22,10 @@ pub record DiskState : Type 1 where
 -- no place is loose
 abbrev pub IsAtRest : DiskState → Type 0
 IsAtRest disk = (i : ℕ) → ¬ (disk.loose i)
+
+-- each of them is a byte
+abbrev pub IsBytes : List ℕ → Type 0
+IsBytes bytes = (i : ℕ) → get_or bytes i 0 < 256
 
 -- A crash at this moment may leave these bytes.
 pub record MayLeave (disk : DiskState) (bytes : List ℕ) : Type 0 where
@@ -112,3 +116,11 @@ pub record Watches (old new : DiskState) : Type 0 where
   pub reading : new.reading ≡ old.reading
   pub loose : (i : ℕ) → new.loose i → old.loose i
   pub any_moment : LeavesOnly old new (MayLeave old)
+
+-- Nothing that is known of an honest disk has changed.
+pub record IsSame (old new : DiskState) : Type 0 where
+  pub reading : new.reading ≡ old.reading
+  pub loose : (i : ℕ) → old.loose i ↔ new.loose i
+  pub moment : new.moment ≡ old.moment
+  pub left_since : (t : ℕ) (bytes : List ℕ) → old.left_since t bytes ↔ new.left_since t bytes
+  pub failures : new.failures ≡ old.failures

@@ -1,6 +1,6 @@
 // A disk as the layers above see it, honest or not.
-ghost use Rattle.std.specs.Prelude.{◌↔◌, ◌≡◌, ◌≤◌, ◌+◌, List, ℕ, length};
-ghost use Rattle.pos_disk.specs.State.{DiskState, Answer, MayLeave, Reads, Writes, Syncs};
+ghost use Rattle.std.specs.Prelude.{◌↔◌, ◌≡◌, ◌≤◌, ◌+◌, List, Option, ℕ, length};
+ghost use Rattle.pos_disk.specs.State.{DiskState, Answer, IsBytes, MayLeave, Reads, Writes, Syncs};
 
 use thiserror::Error;
 
@@ -16,6 +16,10 @@ pub struct DiskFault;
 pub trait Disk {
     /// How many bytes it has, whether it is honest or not.
     ghost size: { Self → ℕ };
+
+    /// What no call of this very disk changes, whether it is honest or not: the bytes of a file that follows it later,
+    /// if there is one.
+    ghost fixed: { Self → Option (List ℕ) };
 
     /// It keeps the model. A call makes no disk honest that wasn't, and none dishonest that was.
     ghost honest: { Self → Type 0 };
@@ -41,6 +45,7 @@ pub trait Disk {
     fn read(&mut self, at: u64, out: &mut [u8]) -> Result<(), DiskFault>
         requires { at + length out.old ≤ size self.old }
         ensures size { size self.new ≡ size self.old }
+        ensures fixed { fixed self.new ≡ fixed self.old }
         ensures honest { honest self.old ↔ honest self.new }
         ensures reads { honest self.old → Reads (state self.old) (state self.new) at out.new result }
         ensures own { own_read self.old self.new at out.old out.new result };
@@ -50,6 +55,7 @@ pub trait Disk {
     fn write(&mut self, at: u64, bytes: &[u8]) -> Result<(), DiskFault>
         requires { at + length bytes.now ≤ size self.old }
         ensures size { size self.new ≡ size self.old }
+        ensures fixed { fixed self.new ≡ fixed self.old }
         ensures honest { honest self.old ↔ honest self.new }
         ensures writes { honest self.old → Writes (state self.old) (state self.new) at bytes.now result }
         ensures own { own_write self.old self.new at bytes.now result };
@@ -58,9 +64,14 @@ pub trait Disk {
     /// to have settled.
     fn sync(&mut self) -> Result<(), DiskFault>
         ensures size { size self.new ≡ size self.old }
+        ensures fixed { fixed self.new ≡ fixed self.old }
         ensures honest { honest self.old ↔ honest self.new }
         ensures syncs { honest self.old → Syncs (state self.old) (state self.new) result }
         ensures own { own_sync self.old self.new result };
+
+    /// What is true of every honest disk: a read of it gives bytes. It asks nothing of the disk.
+    fn reads_bytes(&self)
+        ensures { honest self.now → IsBytes (state self.now).reading };
 
     /// An honest disk has as many bytes as its size.
     ghost whole: { (disk : Self) → honest disk → length (state disk).reading ≡ size disk };

@@ -71,6 +71,7 @@ fn loosen<D: Disk>(disk: &mut D, from: u64, end: u64)
     requires range { from ≤ end }
     requires size { end ≤ D.size disk.old }
     ensures size { D.size disk.new ≡ D.size disk.old }
+    ensures fixed { D.fixed disk.new ≡ D.fixed disk.old }
     ensures honest { D.honest disk.old ↔ D.honest disk.new }
     ensures loosens { D.honest disk.old → Loosens (D.state disk.old) (D.state disk.new) from (end - from) }
 {
@@ -85,6 +86,7 @@ fn loosen<D: Disk>(disk: &mut D, from: u64, end: u64)
 fn put_half<D: Disk>(disk: &mut D, at: u64, bytes: &[u8])
     requires { at + length bytes.now ≤ D.size disk.old }
     ensures size { D.size disk.new ≡ D.size disk.old }
+    ensures fixed { D.fixed disk.new ≡ D.fixed disk.old }
     ensures honest { D.honest disk.old ↔ D.honest disk.new }
     ensures half { D.honest disk.old → PutsHalf (D.state disk.old) (D.state disk.new) at bytes.now }
 {
@@ -109,6 +111,8 @@ impl<D: Disk> Disk for FuseDisk<D> {
 
     ghost size = { λ f. D.size f.inner };
 
+    ghost fixed = { λ f. D.fixed f.inner };
+
     ghost honest = { λ f. D.honest f.inner };
 
     ghost state = { fuse_state D.Disk };
@@ -129,9 +133,15 @@ impl<D: Disk> Disk for FuseDisk<D> {
         self.inner.len()
     }
 
+    fn reads_bytes(&self) {
+        let inner = &self.inner;
+        inner.reads_bytes();
+    }
+
     fn read(&mut self, at: u64, out: &mut [u8]) -> Result<(), DiskFault>
         requires { at + length out.old ≤ D.size self.old.inner }
         ensures size { D.size self.new.inner ≡ D.size self.old.inner }
+        ensures fixed { D.fixed self.new.inner ≡ D.fixed self.old.inner }
         ensures honest { D.honest self.old.inner ↔ D.honest self.new.inner }
         ensures reads { HonestReads D.Disk self.old self.new at out.new result }
         ensures fuse { FuseReads D.Disk self.old self.new at out.old out.new result }
@@ -152,6 +162,7 @@ impl<D: Disk> Disk for FuseDisk<D> {
     fn write(&mut self, at: u64, bytes: &[u8]) -> Result<(), DiskFault>
         requires { at + length bytes.now ≤ D.size self.old.inner }
         ensures size { D.size self.new.inner ≡ D.size self.old.inner }
+        ensures fixed { D.fixed self.new.inner ≡ D.fixed self.old.inner }
         ensures honest { D.honest self.old.inner ↔ D.honest self.new.inner }
         ensures writes { HonestWrites D.Disk self.old self.new at bytes.now result }
         ensures fuse { FuseWrites D.Disk self.old self.new at bytes.now result }
@@ -172,6 +183,7 @@ impl<D: Disk> Disk for FuseDisk<D> {
 
     fn sync(&mut self) -> Result<(), DiskFault>
         ensures size { D.size self.new.inner ≡ D.size self.old.inner }
+        ensures fixed { D.fixed self.new.inner ≡ D.fixed self.old.inner }
         ensures honest { D.honest self.old.inner ↔ D.honest self.new.inner }
         ensures syncs { HonestSyncs D.Disk self.old self.new result }
         ensures fuse { FuseSyncs D.Disk self.old self.new result }

@@ -1,4 +1,5 @@
-//! A disk with a written model of crashes, a disk in memory that keeps it, and one that fails on demand.
+//! A disk with a written model of crashes, a disk in memory that keeps it, one that fails on demand, and a disk that
+//! keeps something for its owner.
 #![tactic(auto)]
 
 mod device;
@@ -6,8 +7,10 @@ mod fill;
 mod fuse;
 mod memory;
 mod past;
+mod relay;
 
 pub use device::{Disk, DiskFault};
 pub use fill::Fill;
 pub use fuse::FuseDisk;
 pub use memory::MemDisk;
+pub use relay::Relay;

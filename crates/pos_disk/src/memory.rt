@@ -1,8 +1,8 @@
 // A disk in memory.
-ghost use Rattle.std.specs.Prelude.{◌≡◌, ◌≤◌, ◌<◌, ◌+◌, ◌==◌, ℕ, List, length, get_or, replicate, IfOk, Ok, ⊤};
+ghost use Rattle.std.specs.Prelude.{◌≡◌, ◌≤◌, ◌<◌, ◌+◌, ◌==◌, ℕ, List, length, get_or, replicate, IfOk, None, Ok, ⊤};
 ghost use Rattle.std.specs.List.{list_any};
 ghost use Rattle.std.proofs.Common.{refl};
-ghost use Rattle.pos_disk.specs.State.{splice};
+ghost use Rattle.pos_disk.specs.State.{IsBytes, splice};
 ghost use Rattle.pos_disk.specs.Stamps.{IsSaved};
 
 use crate::past::Past;
@@ -147,12 +147,21 @@ fn next_stamp(stamps: &mut Vec<u32>, stamp: u32) -> u32
     1
 }
 
+// What the type of a slice says of its items.
+fn are_bytes(bytes: &[u8])
+    ensures { IsBytes bytes.now }
+{
+    let _count = bytes.len();
+}
+
 impl Disk for MemDisk {
     ghost use Rattle.pos_disk.specs.State.{Reads, Writes, Syncs};
     ghost use Rattle.pos_disk.specs.Memory.{state_of, written, synced, MemoryReads, MemoryWrites, MemorySyncs};
     ghost use Rattle.pos_disk.specs.Kept.{counts, only};
 
     ghost size = { λ m. length m.present.reading };
+
+    ghost fixed = { λ _. None };
 
     ghost honest = { λ _. ⊤ };
 
@@ -172,6 +181,12 @@ impl Disk for MemDisk {
 
     fn len(&self) -> u64 {
         self.bytes.len() as u64
+    }
+
+    fn reads_bytes(&self)
+        ensures { IsBytes self.now.present.reading }
+    {
+        are_bytes(&self.bytes);
     }
 
     fn read(&mut self, at: u64, out: &mut [u8]) -> Result<(), DiskFault>

@@ -1,5 +1,5 @@
 //! A disk in a file.
-ghost use Rattle.std.specs.Prelude.{◌≡◌, false};
+ghost use Rattle.std.specs.Prelude.{◌≡◌, None, false};
 ghost use Rattle.pos_disk.specs.Unkept.{is_fault, unknown_state};
 ghost use Rattle.pos_file.specs.Answers.{answer_of};
 ghost use Rattle.pos_file.specs.Calls.{number_of};
@@ -104,6 +104,8 @@ impl<F: BlockFile + Drop> Disk for FileDisk<F> {
 
     ghost size = { λ disk. disk.size };
 
+    ghost fixed = { λ _. None };
+
     ghost honest = { λ _. ⊥ };
 
     ghost state = { λ _. unknown_state };
@@ -123,6 +125,8 @@ impl<F: BlockFile + Drop> Disk for FileDisk<F> {
     fn len(&self) -> u64 {
         self.size
     }
+
+    fn reads_bytes(&self) {}
 
     fn read(&mut self, at: u64, out: &mut [u8]) -> Result<(), DiskFault> {
         self.check()?;

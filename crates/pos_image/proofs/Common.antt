@@ -13,14 +13,14 @@ pub use Rattle.pos_disk.specs.State.{DiskState, InRange, IsAtRest, LeavesOnly, M
 pub use Rattle.pos_disk.specs.Within.{IsWithin, SameBut}
 pub use Rattle.pos_disk.specs.declared.device.Disk.{Ghosts}
 pub use Rattle.pos_disk.specs.declared.device.DiskFault.{DiskFault}
-pub use Rattle.pos_image.specs.DiskCalls.{CrashClosing, Stages}
+pub use Rattle.pos_image.specs.DiskCalls.{CrashClosing, SameAside, Stages, StagesAside}
 pub use Rattle.pos_image.specs.Found.{prepared_image}
 pub use Rattle.pos_image.specs.Images.{HasEither, HasPrepared, IsBeside, IsReady, IsSound, Prepared, View, image_of, images_of, next_of, prepared_or}
 pub use Rattle.pos_image.specs.Layout.{first_of, is_open, layout_of, log_place, log_size, longest, other, slot_size, start}
 unfoldable pub use Rattle.pos_image.specs.Layout.{body_at, layout_on, length_at, sequence_at}
 pub use Rattle.pos_image.specs.NewDisk.{HasClosedGates, KeepsRest, no_files}
 pub use Rattle.pos_image.specs.Slots.{HasFields, HasHead, HasHeads, IsCurrent, IsFound, IsPrepared}
-pub use Rattle.pos_image.specs.Spans.{IsHeld, IsInSpan, IsWritable, KeepsImage, WritesSpan, span_of}
+pub use Rattle.pos_image.specs.Spans.{IsHeld, IsInSpan, IsWritable, KeepsImage, WritesOnly, WritesSpan, span_of}
 pub use Rattle.pos_image.specs.Standing.{DamagedImage, HasImage, HasNewImage, IsNewDisk, NoImage, ShowsImage, current_on, image_in, is_marked, is_tied, log_in}
 unfoldable pub use Rattle.pos_image.specs.Standing.{image_on, log_of}
 pub use Rattle.pos_image.specs.declared.formatting.TheConstants.{GATES}

@@ -1,11 +1,13 @@
 -- What the calls of a log leave of the images, and of the log span.
 use Rattle.pos_image.proofs.Common.{DiskFault, DiskState, Err, Ghosts, HasPrepared, InRange, IsCurrent, IsHeld, IsInSpan, IsReady, IsWithin, IsWritable}
 use Rattle.pos_image.proofs.Common.{KeepsImage, Layout, LeavesOnly, List, MatchOption, MayLeave, None, Ok, OnOk, Option, Prepared, Result, SameBut, ShowsImage}
-use Rattle.pos_image.proofs.Common.{Slot, Some, Syncs, View, Watches, Writes, WritesSpan, arith, cases_lt, current_on, get_or, get_or-part, goes_on, image_on}
+use Rattle.pos_image.proofs.Common.{Slot, Some, Syncs, View, Watches, Writes, WritesOnly, WritesSpan, arith, cases_lt, current_on, get_or, get_or-part, goes_on, image_on}
 use Rattle.pos_image.proofs.Common.{in_range, layout_of, le-ltb, leaves_within, length, length-part, length-splice, log_of, log_place, log_size, part}
 use Rattle.pos_image.proofs.Common.{part-part, refl, slot_size, span_of, splice, splice_elsewhere, spliced_within, start, started, sym, weaker, within_here}
 use Rattle.pos_image.proofs.Common.{within_write, ℕ, ⊤, ◌+◌, ◌-◌, ◌<◌, ◌^◌, ◌↔◌, ◌∙◌, ◌≡◌, ◌≤◌}
 use Rattle.std.proofs.lemmas.List.{ext_get_or, get_or_past}
+use Rattle.pos_disk.proofs.Same.{same_rest}
+use Rattle.pos_disk.specs.Keeps.{KeepsState}
 use Rattle.pos_image.proofs.Changes.{ready}
 use Rattle.pos_image.proofs.Current.{HasBody, OpensNone, current_stands, kept_away, kept_body, kept_head}
 use Rattle.pos_image.proofs.Logs.{log_here}
@@ -14,7 +16,7 @@ use Rattle.pos_image.proofs.Refused.{short_stands}
 use Rattle.pos_image.proofs.Staged.{so_ok}
 
 -- where the log of a slot begins
-abbrev log_start : Slot → ℕ
+abbrev pub log_start : Slot → ℕ
 log_start slot = start slot + log_place (layout_of slot)
 
 -- bytes that differ in the log span of a slot alone
@@ -27,6 +29,10 @@ module _ (slot : Slot) (old new : List ℕ) (whole : 327680 ≤ length old) (sam
   opens_none : OpensNone old new
   opens_none s opened =
       let kept = kept_head same s whole (λ i inside. let here = places s in unreached s i (omega arith)) in (sym kept.0 ∙ opened, kept.1)
+
+  -- an image in any slot that is the current one stays so
+  pub any_current : {s : Slot} {body : List ℕ} {sequence : ℕ} → IsCurrent old s body sequence → IsCurrent new s body sequence
+  any_current {s = s} current = kept_away current same (unreached s) opens_none
 
   -- the current image is there
   log_current : {body : List ℕ} {sequence : ℕ} → IsCurrent old slot body sequence → IsCurrent new slot body sequence
@@ -53,7 +59,7 @@ module _ (slot : Slot) (old new : List ℕ) (whole : 327680 ≤ length old) (sam
 
 -- the log span of the current slot, place by place
 module _ {slot : Slot} {bytes body : List ℕ} {sequence : ℕ} (current : IsCurrent bytes slot body sequence) where
-  span_fits : log_start slot + log_size (layout_of slot) ≤ length bytes
+  pub span_fits : log_start slot + log_size (layout_of slot) ≤ length bytes
   span_fits = let here = places slot in let whole = current.whole in omega arith
 
   -- it is whole
@@ -77,7 +83,7 @@ module _ {slot : Slot} {bytes body : List ℕ} {sequence : ℕ} (current : IsCur
       (part-part (log_start slot) (log_size (layout_of slot)) (at - log_place (layout_of slot)) n (start slot + at) bytes (omega arith) (omega arith) span_fits)
 
 -- spans agree where the disks do
-spans_agree : {slot : Slot} {old new body : List ℕ} {sequence : ℕ} → IsCurrent old slot body sequence → IsCurrent new slot body sequence → (i : ℕ)
+pub spans_agree : {slot : Slot} {old new body : List ℕ} {sequence : ℕ} → IsCurrent old slot body sequence → IsCurrent new slot body sequence → (i : ℕ)
     → (i < log_size (layout_of slot) → get_or new (log_start slot + i) 0 ≡ get_or old (log_start slot + i) 0)
     → get_or (log_of new) i 0 ≡ get_or (log_of old) i 0
 spans_agree {slot = slot} was is i agree =
@@ -89,6 +95,14 @@ pub record WritesLog {D T : Type 0} (images : View D) (old new : DiskState) (at 
   pub only : (c : List ℕ) → old.left_since old.moment c → MayLeave old c
   pub inside : IsInSpan (layout_of images.slot) at (length bytes)
   pub writes : Writes old new (start images.slot + at) bytes result
+
+-- a write leaves all else of the disk
+pub writes_only : {T : Type 0} {old new : DiskState} {at : ℕ} {bytes : List ℕ} {result : Result T DiskFault} → Writes old new at bytes result
+    → WritesOnly at (length bytes) old new
+writes_only writes = record {
+  same = record { same_length = writes.same_length; elsewhere = writes.elsewhere };
+  loose = λ i. (writes.loose i, writes.reached i);
+}
 
 module _ {D : Type 0} {images : View D} where
   -- a crash leaves the current image, and of its log what is settled
@@ -192,3 +206,27 @@ pub image_length : (layout : Layout) (body : List ℕ) (sequence : ℕ) (bytes :
     → length (log_of bytes) ≡ log_size layout
 unfolding log_of
 image_length layout body sequence bytes shows = grind (arith, cases_lt, short_stands, places, length-part, shown_layout)
+
+-- writable images stay writable where all that is known of the disk is as it was
+pub same_writable : {D : Type 0} (bound : Ghosts D) (images : View D) (disk : D) → KeepsState bound images.disk disk → IsWritable bound images
+    → IsWritable bound (record images { disk = disk })
+same_writable bound images disk keeps was =
+    writable bound (record images { disk = disk }) (omega (arith, was.large, keeps.size)) was.counted (λ now.
+    let before = keeps.honest.1 now in
+    let same = keeps.same before in
+    let held = looked_held {new = bound.state disk} (was.held before) same.reading (λ i loose. (same.loose i).1 loose) in
+    record { loose = held.loose; current = held.current; prepared = held.prepared })
+
+-- and ready ones ready
+pub same_ready : {D : Type 0} (bound : Ghosts D) (images : View D) (disk : D) → KeepsState bound images.disk disk → IsReady bound images
+    → IsReady bound (record images { disk = disk })
+same_ready bound images disk keeps was =
+    ready bound (record images { disk = disk }) (omega (arith, was.large, keeps.size)) was.counted (λ now.
+    let before = keeps.honest.1 now in
+    let same = keeps.same before in
+    let sound = was.sound before in
+    record {
+      at_rest = same_rest _ _ same sound.at_rest;
+      current = rw same.reading sound.current;
+      prepared = rw same.reading sound.prepared;
+    })

@@ -1,9 +1,8 @@
 -- What the steps of a change leave.
-use Rattle.pos_image.proofs.Common.{DiskFault, DiskState, Err, HasFields, IsAtRest, IsWithin, LeavesOnly, List, MayLeave, Ok, OnOk, Result, SameBut, Slot}
-use Rattle.pos_image.proofs.Common.{Stages, Syncs, Writes, [], ap, arith, big_bytes, false, if◌then◌else◌, is_open, kept_part, layout_of, length, log_place}
-use Rattle.pos_image.proofs.Common.{longest, part, part-splice, slot_size, splice, spliced_same, start, within_here, ℕ, ◌++◌, ◌+◌, ◌-◌, ◌<◌, ◌^◌, ◌∙◌, ◌∷◌, ◌≡◌}
-use Rattle.pos_image.proofs.Common.{◌≤◌}
-use Rattle.pos_image.proofs.Current.{kept_gate}
+use Rattle.pos_image.proofs.Common.{DiskFault, DiskState, Err, HasFields, InRange, LeavesOnly, List, MayLeave, Ok, OnOk, Result, SameBut, Slot}
+use Rattle.pos_image.proofs.Common.{SameAside, StagesAside, Syncs, Writes, [], ap, arith, big_bytes, false, if◌then◌else◌, is_open, kept_part, layout_of, length, log_place}
+use Rattle.pos_image.proofs.Common.{longest, part, part-splice, slot_size, splice, spliced_same, start, ℕ, ◌++◌, ◌+◌, ◌-◌, ◌<◌, ◌^◌, ◌∙◌, ◌∷◌, ◌≡◌}
+use Rattle.pos_image.proofs.Common.{◌≤◌, ◌⊎◌}
 use Rattle.pos_image.proofs.Fields.{fields}
 use Rattle.pos_image.proofs.Places.{places}
 
@@ -36,22 +35,25 @@ pub so_ok : {T E : Type 0} (r : Result T E) (P Q : Type 0) → (P → Q) → OnO
 so_ok (Ok x) P Q to holds = to holds
 so_ok (Err e) P Q to holds = tt
 
--- while the gate of a slot is closed
-pub closing_stages : (slot : Slot) (old c : List ℕ) → SameBut (start slot) (if is_open old (start slot) then 1 else 0) old c → Stages slot old c
-closing_stages slot old c same = grind arith
+-- while the gate of a slot is closed, which wasn't loose
+pub closing_stages : (slot : Slot) (loose : ℕ → Type 0) (old c : List ℕ) → ¬ (loose (start slot))
+    → SameAside loose (start slot) (if is_open old (start slot) then 1 else 0) old c → StagesAside loose slot old c
+closing_stages slot loose old c settled same = grind (arith, places slot)
 
 -- and while an image is written behind it
-pub writing_stages : (slot : Slot) (old mid c : List ℕ) → SameBut (start slot) 1 old mid → is_open mid (start slot) ≡ false
-    → SameBut (start slot + 1) (slot_size (layout_of slot) - 1) mid c → Stages slot old c
-writing_stages slot old mid c first shut second = grind (arith, places, kept_gate)
+pub writing_stages : (slot : Slot) (loose still : ℕ → Type 0) (old mid c : List ℕ) → ¬ (loose (start slot)) → ((i : ℕ) → still i → loose i)
+    → SameBut (start slot) 1 old mid → is_open mid (start slot) ≡ false
+    → SameAside still (start slot + 1) (slot_size (layout_of slot) - 1) mid c → StagesAside loose slot old c
+writing_stages slot loose still old mid c settled within first shut second = grind (arith, places slot)
 
--- Disk calls so far wrote within one range alone, and a crash at any moment of them leaves the rest.
+-- Disk calls so far wrote within one range alone, and a crash at any moment of them leaves the rest, beside what was loose.
 pub record IsRun (at n : ℕ) (old new : DiskState) : Type 0 where
-  pub within : IsWithin old.reading at n new
-  pub moments : LeavesOnly old new (SameBut at n old.reading)
+  pub same : SameBut at n old.reading new.reading
+  pub loose : (i : ℕ) → new.loose i → old.loose i ⊎ InRange at n i
+  pub moments : LeavesOnly old new (SameAside old.loose at n old.reading)
 
-pub run_start : {at n : ℕ} {old : DiskState} → IsAtRest old → ((c : List ℕ) → old.left_since old.moment c → MayLeave old c) → IsRun at n old old
-run_start {old = old} rest only = grind (arith, within_here)
+pub run_start : {at n : ℕ} {old : DiskState} → ((c : List ℕ) → old.left_since old.moment c → MayLeave old c) → IsRun at n old old
+run_start {old = old} only = grind arith
 
 pub run_write : {at n place : ℕ} {old mid new : DiskState} {result : Result (Unit {0}) DiskFault} {bytes : List ℕ} → at ≤ place
     → place + length bytes ≤ at + n → Writes mid new place bytes result → IsRun at n old mid → IsRun at n old new

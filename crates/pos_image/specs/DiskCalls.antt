@@ -1,6 +1,6 @@
 -- What each step of a change does to the bytes of a disk.
 use Rattle.std.specs.Prelude.{◌≡◌, ◌+◌, ◌-◌, ℕ, List, length, get_or, true, if◌then◌else◌}
-use Rattle.pos_disk.specs.State.{DiskState, LeavesOnly, splice}
+use Rattle.pos_disk.specs.State.{DiskState, InRange, LeavesOnly, splice}
 use Rattle.pos_disk.specs.Within.{SameBut}
 use Rattle.pos_image.specs.Layout.{is_open, closed_gate, start, layout_of, slot_size, log_place, IsOfImage}
 use Rattle.pos_image.specs.declared.slot.Slot.{Slot}
@@ -13,9 +13,14 @@ IsWritten at bytes old new = new.reading ≡ splice old.reading at bytes
 abbrev pub Keeps : ℕ → ℕ → DiskState → DiskState → Type 0
 Keeps at n old new = SameBut at n old.reading new.reading
 
--- whenever a crash came, only these differ
+-- Only the n bytes from a place on differ, and those at places that were loose.
+pub record SameAside (loose : ℕ → Type 0) (at n : ℕ) (was bytes : List ℕ) : Type 0 where
+  pub same_length : length bytes ≡ length was
+  pub elsewhere : (i : ℕ) → ¬ (InRange at n i) → ¬ (loose i) → get_or bytes i 0 ≡ get_or was i 0
+
+-- whenever a crash came, only these differ, beside what was loose before
 abbrev pub CrashKeeps : ℕ → ℕ → DiskState → DiskState → Type 0
-CrashKeeps at n old new = LeavesOnly old new (SameBut at n old.reading)
+CrashKeeps at n old new = LeavesOnly old new (SameAside old.loose at n old.reading)
 
 -- the gate at this place was closed where it was open, and else kept its byte
 abbrev pub ClosesGate : ℕ → DiskState → DiskState → Type 0
@@ -46,6 +51,12 @@ pub record Stages (slot : Slot) (old new : List ℕ) : Type 0 where
   pub same : SameBut (start slot) (slot_size (layout_of slot)) old new
   pub behind : is_open new (start slot) ≡ true → (is_open old (start slot) ≡ true) × SameBut (start slot) 1 old new
 
--- whenever a crash came, no more had happened to the slot
+-- The same of bytes of which those at some places may be any.
+pub record StagesAside (loose : ℕ → Type 0) (slot : Slot) (old new : List ℕ) : Type 0 where
+  pub same : SameAside loose (start slot) (slot_size (layout_of slot)) old new
+  pub behind : is_open new (start slot) ≡ true
+      → (is_open old (start slot) ≡ true) × SameAside loose (start slot) 1 old new
+
+-- whenever a crash came, no more had happened to the slot, beside what was loose before
 abbrev pub CrashStages : Slot → DiskState → DiskState → Type 0
-CrashStages slot old new = LeavesOnly old new (Stages slot old.reading)
+CrashStages slot old new = LeavesOnly old new (StagesAside old.loose slot old.reading)

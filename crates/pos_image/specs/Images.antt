@@ -1,13 +1,13 @@
 -- What contracts see of images on a disk.
-use Rattle.std.specs.Prelude.{◌≡◌, ◌↔◌, ◌⊎◌, ◌≤◌, ◌<◌, ◌+◌, ◌^◌, ℕ, List, length, Option, Some, None, true}
+use Rattle.std.specs.Prelude.{◌≡◌, ◌↔◌, ◌⊎◌, ◌≤◌, ◌<◌, ◌+◌, ◌^◌, ℕ, List, length, get_or, Option, Some, None, true}
 use Rattle.std.specs.Prelude.{Result, Ok, Err, OnOk, IsErr, IsErrOf, ⊤, MatchOption}
 use Rattle.pos_disk.specs.State.{DiskState, IsAtRest, MayLeave, LeavesOnly, Rises, HasNotFailed, Watches}
 use Rattle.pos_disk.specs.Keeps.{KeepsDisk}
 use Rattle.pos_disk.specs.declared.device.Disk.{Ghosts}
-use Rattle.pos_image.specs.Layout.{disk_size, longest, start, other, layout_of}
+use Rattle.pos_image.specs.Layout.{disk_size, log_place, longest, start, other, layout_of}
 use Rattle.pos_image.specs.DiskCalls.{Keeps, ClosesGate, KeepsBeside}
 use Rattle.pos_image.specs.Slots.{IsCurrent, IsPrepared}
-use Rattle.pos_image.specs.Standing.{HasImage, HasNewImage, NoImage, DamagedImage}
+use Rattle.pos_image.specs.Standing.{HasImage, HasNewImage, ShowsImage, NoImage, DamagedImage}
 use Rattle.pos_image.specs.Standing.{image_on, is_marked, log_of}
 use Rattle.pos_image.specs.declared.fault.ImageFault.{ImageFault}
 use Rattle.pos_image.specs.declared.fault.ImageFault.TheVariants as fault
@@ -37,6 +37,28 @@ pub record View (D : Type 0) : Type 0 where
 abbrev pub images_of : {D : Type 0} → D → Slot → List ℕ → ℕ → Option Prepared → View D
 images_of disk slot body sequence prepared =
     record { disk = disk; slot = slot; body = body; sequence = sequence; prepared = prepared }
+
+-- The bytes of a log span, and the places of it, counted from its first, that a write has reached since the last sync.
+pub record Span : Type 1 where
+  pub bytes : List ℕ
+  pub loose : ℕ → Type 0
+
+-- the log span of the current slot
+abbrev pub span_of : {D : Type 0} → View D → DiskState → Span
+span_of images disk = record {
+  bytes = log_of disk.reading;
+  loose = λ i. disk.loose (start images.slot + log_place (layout_of images.slot) + i);
+}
+
+-- A crash may leave these bytes of a span.
+pub record MayHold (span : Span) (bytes : List ℕ) : Type 0 where
+  pub same_length : length bytes ≡ length span.bytes
+  pub settled : (i : ℕ) → ¬ (span.loose i) → get_or bytes i 0 ≡ get_or span.bytes i 0
+
+-- The bytes hold the current image, and behind it what a crash may leave of this span.
+pub record KeepsImage {D : Type 0} (images : View D) (span : Span) (bytes : List ℕ) : Type 0 where
+  pub image : ShowsImage (layout_of images.slot) images.body images.sequence bytes
+  pub log : MayHold span (log_of bytes)
 
 -- the next image with this body, in the slot beside the current one
 abbrev pub next_image : {D : Type 0} → View D → List ℕ → Prepared
@@ -92,9 +114,9 @@ pub record Prepares {D : Type 0} (bound : Ghosts D) (old : View D) (it : Prepare
   -- whatever it answers, nothing but the gate, fields, body and log gate of its slot was written
   pub rest : bound.honest old.disk
       → KeepsBeside it.slot (length it.body) (bound.state old.disk) (bound.state new.disk)
-  -- a crash at any moment of the call leaves the current image and its log
+  -- a crash at any moment of the call leaves the current image, and of its log what a crash before it may leave
   pub any_moment : bound.honest old.disk → LeavesOnly (bound.state old.disk) (bound.state new.disk)
-      (HasImage (layout_of old.slot) old.body old.sequence (log_of (bound.state old.disk).reading))
+      (KeepsImage old (span_of old (bound.state old.disk)))
   pub too_large : IsErrOf result fault.TooLarge ↔ (longest (layout_of it.slot) < length it.body)
   pub exhausted : IsErrOf result fault.Exhausted
       ↔ (length it.body ≤ longest (layout_of it.slot)) × (it.sequence ≡ 2 ^ 64)
@@ -119,9 +141,9 @@ abbrev pub published : {D : Type 0} → View D → D → View D
 published images disk =
     images_of disk (next_of images).slot (next_of images).body (next_of images).sequence None
 
--- while an image is published: the old one as it was, with this log span, or the new one with no log
-abbrev pub HasEither : {D : Type 0} → View D → List ℕ → Prepared → List ℕ → Type 0
-HasEither images span it bytes = HasImage (layout_of images.slot) images.body images.sequence span bytes
+-- while an image is published: the old one, with what a crash may leave of this span, or the new one with no log
+abbrev pub HasEither : {D : Type 0} → View D → Span → Prepared → List ℕ → Type 0
+HasEither images span it bytes = KeepsImage images span bytes
     ⊎ HasNewImage (layout_of it.slot) it.body it.sequence bytes
 
 -- the gate of the prepared image was written, and nothing else

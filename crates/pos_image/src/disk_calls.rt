@@ -1,5 +1,5 @@
 // The few disk calls of which each change of the images is made.
-ghost use Rattle.std.specs.Prelude.{◌≡◌, ◌≤◌, ◌<◌, ◌+◌, ◌^◌, ◌++◌, length, OnOk, false};
+ghost use Rattle.std.specs.Prelude.{◌≡◌, ◌≤◌, ◌<◌, ◌+◌, ◌^◌, ◌++◌, ℕ, length, OnOk, false};
 ghost use Rattle.byteorder.specs.Endian.{big_bytes};
 ghost use Rattle.pos_disk.specs.State.{IsAtRest, HasCause};
 ghost use Rattle.pos_disk.specs.Keeps.{KeepsDisk};
@@ -17,7 +17,6 @@ use pos_disk::{Disk, DiskFault};
 /// Writes and syncs.
 pub fn write_through<D: Disk>(disk: &mut D, at: u64, bytes: &[u8]) -> Result<(), DiskFault>
     requires fits { at + length bytes.now ≤ D.size disk.old }
-    requires at_rest { D.honest disk.old → IsAtRest (D.state disk.old) }
     ensures keeps { KeepsDisk D.Disk disk.old disk.new }
     ensures at_rest { D.honest disk.old → OnOk result (IsAtRest (D.state disk.new)) }
     ensures written { D.honest disk.old → OnOk result (IsWritten at bytes.now (D.state disk.old) (D.state disk.new)) }
@@ -32,9 +31,9 @@ pub fn write_through<D: Disk>(disk: &mut D, at: u64, bytes: &[u8]) -> Result<(),
 /// Closes a gate. One that reads closed isn't written.
 pub fn close_gate<D: Disk>(disk: &mut D, at: u64) -> Result<(), DiskFault>
     requires fits { at + 1 ≤ D.size disk.old }
-    requires at_rest { D.honest disk.old → IsAtRest (D.state disk.old) }
     ensures keeps { KeepsDisk D.Disk disk.old disk.new }
-    ensures at_rest { D.honest disk.old → OnOk result (IsAtRest (D.state disk.new)) }
+    ensures loose { D.honest disk.old
+        → OnOk result ((i : ℕ) → (D.state disk.new).loose i → (D.state disk.old).loose i) }
     ensures closed { D.honest disk.old → OnOk result (is_open (D.state disk.new).reading at ≡ false) }
     ensures gate { D.honest disk.old → OnOk result (ClosesGate at (D.state disk.old) (D.state disk.new)) }
     ensures same { D.honest disk.old → Keeps at 1 (D.state disk.old) (D.state disk.new) }
@@ -62,7 +61,6 @@ fn head_of(sequence: u64, length: u32) -> [u8; 12]
 pub fn write_image<D: Disk>(disk: &mut D, image: &Image) -> Result<(), DiskFault>
     requires large { disk_size ≤ D.size disk.old }
     requires short { length image.now.body.items ≤ longest (layout_of image.now.slot) }
-    requires at_rest { D.honest disk.old → IsAtRest (D.state disk.old) }
     ensures keeps { KeepsDisk D.Disk disk.old disk.new }
     ensures at_rest { D.honest disk.old → OnOk result (IsAtRest (D.state disk.new)) }
     ensures written { D.honest disk.old
@@ -89,7 +87,7 @@ pub fn write_image<D: Disk>(disk: &mut D, image: &Image) -> Result<(), DiskFault
 pub fn place_image<D: Disk>(disk: &mut D, image: &Image) -> Result<(), DiskFault>
     requires large { disk_size ≤ D.size disk.old }
     requires short { length image.now.body.items ≤ longest (layout_of image.now.slot) }
-    requires at_rest { D.honest disk.old → IsAtRest (D.state disk.old) }
+    requires gate { D.honest disk.old → ¬ ((D.state disk.old).loose (start image.now.slot)) }
     ensures keeps { KeepsDisk D.Disk disk.old disk.new }
     ensures at_rest { D.honest disk.old → OnOk result (IsAtRest (D.state disk.new)) }
     ensures closed { D.honest disk.old

@@ -4,7 +4,7 @@ ghost use Rattle.pos_disk.specs.State.{IsAtRest, LeavesOnly, Watches};
 ghost use Rattle.pos_disk.specs.Keeps.{KeepsDisk};
 ghost use Rattle.pos_image.specs.Layout.{disk_size, longest, layout_of};
 ghost use Rattle.pos_image.specs.NewDisk.{KeepsRest, HasClosedGates, no_files};
-ghost use Rattle.pos_image.specs.Standing.{is_marked, log_of, ShowsImage, HasNewImage};
+ghost use Rattle.pos_image.specs.Standing.{is_marked, ShowsImage, HasNewImage};
 ghost use Rattle.pos_image.specs.declared.fault.ImageFault.TheVariants.{NoMemory, Device, TooLarge, TooSmall, Exhausted};
 
 use crate::disk_calls::{place_image, write_through};
@@ -44,6 +44,7 @@ impl<D: Disk> Images<D> {
     ghost use Rattle.pos_image.specs.Images.{RefusesMarked, FailsWithCause, FailsFor, CountsFaults, KeepsButGate};
     ghost use Rattle.pos_image.specs.Images.{disk_after, handed_back, without_disk, next_of, published, HasEither};
     ghost use Rattle.pos_image.specs.Images.{next_image, migrated_image};
+    ghost use Rattle.pos_image.specs.Spans.{IsWritable, span_of};
     ghost use Rattle.pos_image.specs.declared.layout.Layout.TheVariants.{Layout1};
 
     /// Makes the current image of the disk that of no files, body `0000` and sequence 1 by layout 1, and gives it
@@ -131,7 +132,7 @@ impl<D: Disk> Images<D> {
 
     /// The body of the current image.
     pub fn body(&self) -> &[u8]
-        requires { IsReady D.Disk self.now }
+        requires { IsWritable D.Disk self.now }
         ensures { result.now ≡ self.now.body }
     {
         &self.current.body
@@ -155,7 +156,7 @@ impl<D: Disk> Images<D> {
     /// The number of the current image: 1 after formatting, and one more with each image that is published; that of the
     /// first image of layout 2 is 1 again.
     pub fn sequence(&self) -> u64
-        requires { IsReady D.Disk self.now }
+        requires { IsWritable D.Disk self.now }
         ensures { result ≡ self.now.sequence }
     {
         self.current.sequence
@@ -177,13 +178,13 @@ impl<D: Disk> Images<D> {
     /// is the last one, else `NoMemory`: nothing has changed. `Device` where the disk failed: the images have to be
     /// opened again.
     pub fn prepare(&mut self, body: &[u8]) -> Result<(), ImageFault>
-        requires { IsReady D.Disk self.old }
+        requires { IsWritable D.Disk self.old }
         ensures prepares { Prepares D.Disk self.old (next_image self.old body.now) result self.new }
         ensures faults { IfErr result (λ e. IsPrepareFault e ⊎ (e ≡ NoMemory)) }
     {
         self.check(body.len())?;
         let body = Vec::from_slice(self.alloc, body)?;
-        self.put_beside(self.next(body))
+        self.put_beside(self.successor(body))
     }
 
     /// As `prepare`, but it takes the body over: it copies nothing and takes no memory.
@@ -193,12 +194,12 @@ impl<D: Disk> Images<D> {
     /// `TooLarge` where the body has more bytes than the layout lets it, else `Exhausted` where the current sequence
     /// is the last one: nothing has changed. `Device` where the disk failed: the images have to be opened again.
     pub fn prepare_owned(&mut self, body: Vec<u8>) -> Result<(), ImageFault>
-        requires { IsReady D.Disk self.old }
+        requires { IsWritable D.Disk self.old }
         ensures prepares { Prepares D.Disk self.old (next_image self.old body.items) result self.new }
         ensures faults { IfErr result IsPrepareFault }
     {
         self.check(body.len())?;
-        self.put_beside(self.next(body))
+        self.put_beside(self.successor(body))
     }
 
     /// Puts the first image of layout 2 beside the current one of layout 1, which stays the current one: it has
@@ -210,7 +211,7 @@ impl<D: Disk> Images<D> {
     /// `TooLarge` where the body has more than 81,907 bytes: nothing has changed. `Device` where the disk failed: the
     /// images have to be opened again.
     pub fn prepare_layout2(&mut self, body: Vec<u8>) -> Result<(), ImageFault>
-        requires ready { IsReady D.Disk self.old }
+        requires ready { IsWritable D.Disk self.old }
         requires layout { layout_of self.old.slot ≡ Layout1 }
         ensures prepares { Prepares D.Disk self.old (migrated_image body.items) result self.new }
         ensures faults { IfErr result (λ e. (e ≡ TooLarge) ⊎ (e ≡ Device)) }
@@ -232,7 +233,7 @@ impl<D: Disk> Images<D> {
     ///
     /// `Device` where the disk failed: the images have to be opened again.
     pub fn publish(&mut self) -> Result<(), ImageFault>
-        requires ready { IsReady D.Disk self.old }
+        requires ready { IsWritable D.Disk self.old }
         requires prepared { IsSome self.old.prepared }
         ensures ready { OnOk result (IsReady D.Disk self.new) }
         ensures published { OnOk result (self.new ≡ published self.old self.new.disk) }
@@ -242,9 +243,10 @@ impl<D: Disk> Images<D> {
         // Whatever it answers, nothing but the gate of the prepared image was written.
         ensures rest { D.honest self.old.disk → KeepsButGate self.old (D.state self.old.disk) (D.state self.new.disk) }
 
-        // A crash at any moment of the call leaves the current image and its log, or the new one with a closed log.
+        // A crash at any moment of the call leaves the current image, and of its log what a crash before it may leave,
+        // or the new image with a closed log.
         ensures any_moment { D.honest self.old.disk → LeavesOnly (D.state self.old.disk) (D.state self.new.disk)
-            (HasEither self.old (log_of (D.state self.old.disk).reading) (next_of self.old)) }
+            (HasEither self.old (span_of self.old (D.state self.old.disk)) (next_of self.old)) }
 
         ensures faults { IsErr result → IsErrOf result Device }
         ensures failed { IsErr result → self.new ≡ record self.old { disk = self.new.disk; prepared = None } }
@@ -262,7 +264,8 @@ impl<D: Disk> Images<D> {
 }
 
 impl<D: Disk> Images<D> {
-    ghost use Rattle.pos_image.specs.Images.{IsReady, Prepares, IsBeside, image_of, next_image};
+    ghost use Rattle.pos_image.specs.Images.{Prepares, IsBeside, image_of, next_image};
+    ghost use Rattle.pos_image.specs.Spans.{IsWritable};
 
     // Refuses a body that is too long, and any body after the last sequence.
     fn check(&self, length: usize) -> Result<(), ImageFault>
@@ -281,7 +284,7 @@ impl<D: Disk> Images<D> {
     }
 
     // The next image, with this body.
-    fn next(&self, body: Vec<u8>) -> Image
+    fn successor(&self, body: Vec<u8>) -> Image
         requires { self.now.sequence + 1 < 2 ^ 64 }
         ensures { image_of result.slot result.body.items result.sequence ≡ next_image self.now body.items }
     {
@@ -294,7 +297,7 @@ impl<D: Disk> Images<D> {
 
     // Puts an image beside the current one.
     fn put_beside(&mut self, image: Image) -> Result<(), ImageFault>
-        requires ready { IsReady D.Disk self.old }
+        requires ready { IsWritable D.Disk self.old }
         requires short { length image.body.items ≤ longest (layout_of image.slot) }
         requires beside { IsBeside
             self.old.slot self.old.sequence (image_of image.slot image.body.items image.sequence) }

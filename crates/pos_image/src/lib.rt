@@ -10,6 +10,7 @@ mod images;
 mod layout;
 mod memory;
 mod reading;
+mod relay;
 mod slot;
 mod spans;
 

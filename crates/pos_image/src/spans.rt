@@ -1,8 +1,8 @@
 // The calls of a log on the span behind the current image.
-ghost use Rattle.std.specs.Prelude.{◌≡◌, ◌-◌, length, IfErr, OnOk, IsErr, IsErrOf};
+ghost use Rattle.std.specs.Prelude.{◌≡◌, ◌+◌, ◌-◌, length, IfErr, OnOk, IsErr, IsErrOf};
 ghost use Rattle.pos_disk.specs.State.{Watches, part};
 ghost use Rattle.pos_disk.specs.Keeps.{KeepsDisk};
-ghost use Rattle.pos_image.specs.Layout.{log_place, slot_size, layout_of};
+ghost use Rattle.pos_image.specs.Layout.{log_place, slot_size, start, layout_of};
 ghost use Rattle.pos_image.specs.Spans.{IsInSpan};
 ghost use Rattle.pos_image.specs.Standing.{log_of};
 ghost use Rattle.pos_image.specs.declared.fault.ImageFault.TheVariants.{Device};
@@ -16,7 +16,7 @@ use pos_disk::Disk;
 /// span".
 impl<D: Disk> Images<D> {
     ghost use Rattle.pos_image.specs.Images.{IsReady, FailsFor, CountsFaults};
-    ghost use Rattle.pos_image.specs.Spans.{IsWritable, WritesSpan, CrashKeepsImage, span_of};
+    ghost use Rattle.pos_image.specs.Spans.{IsWritable, WritesSpan, WritesOnly, CrashKeepsImage, span_of};
 
     /// Where the log lies in a slot: its first place, and the one behind its last: 16,384 and 32,768, by layout 2
     /// 81,920 and 131,072.
@@ -63,6 +63,10 @@ impl<D: Disk> Images<D> {
         ensures same { self.new ≡ record self.old { disk = self.new.disk } }
         ensures span { D.honest self.old.disk → WritesSpan (span_of self.old (D.state self.old.disk))
             (span_of self.old (D.state self.new.disk)) (at - log_place (layout_of self.old.slot)) bytes.now result }
+
+        // Whatever it answers, nothing but these bytes was written, and their places alone became loose.
+        ensures rest { D.honest self.old.disk → WritesOnly (start self.old.slot + at) (length bytes.now)
+            (D.state self.old.disk) (D.state self.new.disk) }
 
         // A crash at any moment of the call leaves the current image, and of its log what a crash after it may leave.
         ensures any_moment { D.honest self.old.disk →

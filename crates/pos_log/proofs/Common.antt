@@ -17,7 +17,7 @@ pub use Rattle.pos_disk.specs.Within.{SameBut}
 pub use Rattle.pos_disk.specs.declared.device.Disk.{Ghosts}
 pub use Rattle.pos_image.proofs.Places.{log_some, places, same_layout}
 pub use Rattle.pos_image.proofs.Spanned.{image_length, span_length}
-pub use Rattle.pos_image.specs.Images.{CountsFaults, HasEither, IsReady, IsSound, Prepared, View, migrated_image, next_image}
+pub use Rattle.pos_image.specs.Images.{CountsFaults, HasEither, IsReady, IsSound, Prepared, View, migrated_image, next_image, next_of}
 pub use Rattle.pos_image.specs.Layout.{is_open, layout_of, log_place, log_size, slot_size}
 pub use Rattle.pos_image.specs.Standing.{HasNewImage, ShowsImage, log_of}
 pub use Rattle.pos_log.specs.Logs.{Appends, HasNoRecords, HasOldOrNew, IsLogReady, KeepsRecords, Renews, log_over}

@@ -3,9 +3,9 @@ use Rattle.std.specs.Prelude.{◌≡◌, ◌↔◌, ◌⊎◌, ◌≤◌, ◌<�
 use Rattle.pos_disk.specs.State.{LeavesOnly, Rises}
 use Rattle.pos_disk.specs.Keeps.{KeepsDisk}
 use Rattle.pos_disk.specs.declared.device.Disk.{Ghosts}
-use Rattle.pos_image.specs.Images.{View, Prepared, IsReady, CountsFaults, HasEither, image_of}
+use Rattle.pos_image.specs.Images.{View, Prepared, IsReady, CountsFaults, HasEither, image_of, span_of}
 use Rattle.pos_image.specs.Layout.{longest, layout_of}
-use Rattle.pos_image.specs.Standing.{log_of, HasNewImage}
+use Rattle.pos_image.specs.Standing.{HasNewImage}
 use Rattle.pos_image.specs.declared.fault.ImageFault.{ImageFault}
 use Rattle.pos_image.specs.declared.fault.ImageFault.TheVariants as fault
 
@@ -18,7 +18,7 @@ pub record Replaces {D : Type 0} (bound : Ghosts D) (old : View D) (it : Prepare
   pub log : bound.honest old.disk → OnOk result
       (HasNewImage (layout_of it.slot) it.body it.sequence (bound.state new.disk).reading)
   pub any_moment : bound.honest old.disk → LeavesOnly (bound.state old.disk) (bound.state new.disk)
-      (HasEither old (log_of (bound.state old.disk).reading) it)
+      (HasEither old (span_of old (bound.state old.disk)) it)
   pub too_large : IsErrOf result fault.TooLarge ↔ (longest (layout_of it.slot) < length it.body)
   pub exhausted : IsErrOf result fault.Exhausted
       ↔ (length it.body ≤ longest (layout_of it.slot)) × (it.sequence ≡ 2 ^ 64)

@@ -6,6 +6,7 @@ mod fault;
 mod layout;
 mod log;
 mod reading;
+mod relay;
 mod renewing;
 mod writing;
 

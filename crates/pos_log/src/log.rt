@@ -2,7 +2,8 @@
 ghost use Rattle.std.specs.Prelude.{◌≢◌, map, ◌≡◌, ◌⊎◌, ◌+◌, length, nat_le, IfErr, IfOk};
 ghost use Rattle.pos_disk.specs.State.{Rises, Watches};
 ghost use Rattle.pos_disk.specs.Keeps.{KeepsDisk};
-ghost use Rattle.pos_image.specs.Layout.{slot_size, layout_of};
+ghost use Rattle.pos_image.specs.DiskCalls.{KeepsBeside};
+ghost use Rattle.pos_image.specs.Layout.{slot_size, other, layout_of};
 ghost use Rattle.pos_image.specs.Standing.{log_of};
 ghost use Rattle.pos_log.specs.Records.{HoldsRecords, HoldsSome, end_of};
 
@@ -21,7 +22,7 @@ use std::marker::Model;
 #[derive(Drop)]
 pub struct Log<D: Disk> {
     alloc: Global,
-    images: Images<D>,
+    pub(crate) images: Images<D>,
     // As long as the log: what was read at first, then the record that was appended last.
     buffer: Vec<u8>,
     tail: u64,
@@ -44,6 +45,7 @@ impl<D: Disk> Model for Log<D> {
 impl<D: Disk> Log<D> {
     ghost use Rattle.pos_image.specs.Images.{IsReady, IsPrepareFault};
     ghost use Rattle.pos_image.specs.declared.layout.Layout.TheVariants.{Layout1, Layout2};
+    ghost use Rattle.pos_image.specs.declared.slot.Slot.TheVariants.{Third};
     ghost use Rattle.pos_image.specs.declared.fault.ImageFault.TheVariants.{TooLarge, Device, NoMemory};
     ghost use Rattle.pos_log.specs.Logs.{IsLogReady, Appends, Renews, CountsLogFaults, IsOpenFault};
     ghost use Rattle.pos_log.specs.Logs.{images_after, without_images, room_of};
@@ -156,6 +158,11 @@ impl<D: Disk> Log<D> {
         requires { IsLogReady D.Disk self.old }
         ensures renews { Renews D.Disk self.old (layout_of self.old.images.slot) body.items
             (self.old.images.sequence + 1) result self.new }
+
+        // Whatever it answers, nothing but the new image was written, in the slot beside the current one.
+        ensures rest { D.honest self.old.images.disk → KeepsBeside (other self.old.images.slot) (length body.items)
+            (D.state self.old.images.disk) (D.state self.new.images.disk) }
+
         ensures faults { IfErr result IsPrepareFault }
     {
         match renew_images(&mut self.images, body) {
@@ -179,6 +186,11 @@ impl<D: Disk> Log<D> {
         requires ready { IsLogReady D.Disk self.old }
         requires layout { layout_of self.old.images.slot ≡ Layout1 }
         ensures migrates { Renews D.Disk self.old Layout2 body.items 1 result self.new }
+
+        // Whatever it answers, nothing but the new image was written: no slot of layout 1, and no gate of one.
+        ensures rest { D.honest self.old.images.disk → KeepsBeside Third (length body.items)
+            (D.state self.old.images.disk) (D.state self.new.images.disk) }
+
         ensures faults { IfErr result (λ e. (e ≡ TooLarge) ⊎ (e ≡ NoMemory) ⊎ (e ≡ Device)) }
     {
         if body.len() > Layout::Layout2.longest() as usize {

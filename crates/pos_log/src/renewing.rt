@@ -1,8 +1,10 @@
 // A new image in the place of the current one.
-ghost use Rattle.std.specs.Prelude.{◌≡◌, ◌⊎◌, IfErr};
-ghost use Rattle.pos_image.specs.Layout.{layout_of};
+ghost use Rattle.std.specs.Prelude.{◌≡◌, ◌⊎◌, length, IfErr};
+ghost use Rattle.pos_image.specs.DiskCalls.{KeepsBeside};
+ghost use Rattle.pos_image.specs.Layout.{layout_of, other};
 ghost use Rattle.pos_image.specs.Images.{IsReady, IsPrepareFault, next_image, migrated_image};
 ghost use Rattle.pos_image.specs.declared.layout.Layout.TheVariants.{Layout1};
+ghost use Rattle.pos_image.specs.declared.slot.Slot.TheVariants.{Third};
 ghost use Rattle.pos_image.specs.declared.fault.ImageFault.TheVariants.{TooLarge, Device};
 ghost use Rattle.pos_log.specs.Renewing.{Replaces};
 
@@ -13,6 +15,8 @@ use pos_image::{ImageFault, Images};
 pub fn renew_images<D: Disk>(images: &mut Images<D>, body: Vec<u8>) -> Result<(), ImageFault>
     requires { IsReady D.Disk images.old }
     ensures replaces { Replaces D.Disk images.old (next_image images.old body.items) result images.new }
+    ensures rest { D.honest images.old.disk → KeepsBeside (other images.old.slot) (length body.items)
+        (D.state images.old.disk) (D.state images.new.disk) }
     ensures faults { IfErr result IsPrepareFault }
 {
     images.prepare_owned(body)?;
@@ -24,6 +28,8 @@ pub fn migrate_images<D: Disk>(images: &mut Images<D>, body: Vec<u8>) -> Result<
     requires ready { IsReady D.Disk images.old }
     requires layout { layout_of images.old.slot ≡ Layout1 }
     ensures replaces { Replaces D.Disk images.old (migrated_image body.items) result images.new }
+    ensures rest { D.honest images.old.disk → KeepsBeside Third (length body.items)
+        (D.state images.old.disk) (D.state images.new.disk) }
     ensures faults { IfErr result (λ e. (e ≡ TooLarge) ⊎ (e ≡ Device)) }
 {
     images.prepare_layout2(body)?;

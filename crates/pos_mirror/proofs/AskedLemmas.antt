@@ -1,11 +1,11 @@
 -- What the disk below a mirror was asked makes what memory shows.
 use Rattle.std.proofs.Common.{subst}
-use Rattle.std.proofs.Math.Seq.{get_or-append_seam}
-use Rattle.pos_disk.proofs.Common.{Bool, Err, List, Memory, Moment, Ok, [], arith, false, fresh, get_or, get_or_append_left, get_or_default, length, length-append}
-use Rattle.pos_disk.proofs.Common.{refl, sym, synced, true, written, ℕ, ◌++◌, ◌+◌, ◌∙◌, ◌<◌, ◌∷◌, ◌≡◌, ◌≤◌}
+use Rattle.pos_disk.proofs.Common.{Bool, Err, List, Memory, Ok, arith, false, fresh, length}
+use Rattle.pos_disk.proofs.Common.{refl, sym, synced, true, written, ℕ, ◌≤◌}
 use Rattle.pos_disk.proofs.Bytes.{part-splice}
 use Rattle.pos_disk.specs.Memory.{LeftSince}
 use Rattle.pos_disk.specs.declared.device.Disk.{Ghosts}
+use Rattle.pos_mirror.proofs.ShownLemmas.{keeps, longer}
 use Rattle.pos_mirror.specs.Asked.{Continues, IsAskedFor, IsAsking, and_write, no_more}
 use Rattle.pos_mirror.specs.Mirror.{Makes, begun, found, ignored, settled, unread, unsettled, wrote}
 
@@ -27,9 +27,9 @@ module _ {D : Type 0} (bound : Ghosts D) (Asked : D → Memory → Type 0) (is :
       let after = is.spoiled old mid at bytes left memory own long (asked_at old memory (asked_for old memory false so_far)) in
       here new (written at left memory) false (is.looked mid new at before left (Ok tt) (written at left memory) read
       (sym (part-splice memory.present.reading left at (rw long fits))) after)
-  asked_for _ _ _ (unread old mid new memory at bytes before left fits so_far own read) =
-      let after = is.spoiled old mid at bytes bytes memory own refl (asked_at old memory (asked_for old memory false so_far)) in
-      here new (written at bytes memory) true (is.looked mid new at before left (Err record {}) (written at bytes memory) read tt after)
+  asked_for _ _ _ (unread old mid new memory at bytes before left fits long so_far own read) =
+      let after = is.spoiled old mid at bytes left memory own long (asked_at old memory (asked_for old memory false so_far)) in
+      here new (written at left memory) true (is.looked mid new at before left (Err record {}) (written at left memory) read tt after)
   asked_for _ _ _ (settled old new memory so_far own) =
       here new (synced memory) false (is.settled old new memory own (asked_at old memory (asked_for old memory false so_far)))
   asked_for _ _ _ (unsettled old new memory so_far own) =
@@ -37,20 +37,6 @@ module _ {D : Type 0} (bound : Ghosts D) (Asked : D → Memory → Type 0) (is :
   asked_for _ _ _ (ignored below memory at bytes fits so_far) =
       let before = asked_for below memory true so_far in
       record { asked = before.asked; is_asked = before.is_asked; same = λ present. absurd (cc); continues = and_write memory at bytes before.continues }
-
--- one moment more has gone by
-module _ (past : List Moment) (present next : Moment) where
-  longer : length (past ++ present ∷ []) ≡ length past + 1
-  longer = length-append past (present ∷ [])
-
-  earlier : (k : ℕ) → k < length past → get_or (past ++ present ∷ []) k next ≡ get_or past k present
-  earlier k before = get_or_append_left past (present ∷ []) next k before ∙ get_or_default past k next present before
-
-  latest : get_or (past ++ present ∷ []) (length past) next ≡ present
-  latest = get_or-append_seam past present [] next
-
-  keeps : (t : ℕ) (c : List ℕ) → t ≤ length past → LeftSince past present t c → LeftSince (past ++ present ∷ []) next t c
-  keeps t c le left = grind (arith, longer, earlier, length, latest)
 
 -- so a crash leaves of what was asked only what it may leave of the mirror
 pub left_within : (asked memory : Memory) → Continues asked memory → (t : ℕ) (c : List ℕ) → t ≤ length asked.past

@@ -1,4 +1,5 @@
 pub mod AskedLemmas
 mod CallsLemmas
 mod MirrorLemmas
+mod ShownLemmas
 mod StepLemmas

@@ -1,5 +1,5 @@
 -- A call more of a mirror.
-use Rattle.pos_disk.proofs.Common.{Elapses, Err, IsAtRest, List, MayLeave, Memory, Ok, Reads, Spoils, Syncs, Writes, arith, false, fresh, length, refl}
+use Rattle.pos_disk.proofs.Common.{Elapses, Err, IsAtRest, List, MayLeave, Memory, Ok, Reads, Spoils, Syncs, Writes, arith, false, fresh, length, part, refl}
 use Rattle.pos_disk.proofs.Common.{state_of, sym, synced, true, written, ℕ, ◌+◌, ◌<◌, ◌^◌, ◌↔◌, ◌≡◌, ◌≤◌}
 use Rattle.std.proofs.Common.{ap, subst}
 use Rattle.pos_disk.specs.Fuse.{counted}
@@ -120,28 +120,29 @@ module _ {D : Type 0} (bound : Ghosts D) (whole : (disk : D) → bound.honest di
   -- a write that failed, and the read of its range
   module _ (m n : Memory) (b mid c : D) (f at : ℕ) (bytes : List ℕ) (is : IsMirror bound (mirror_of m b f false))
       (fits : at + length bytes ≤ length m.present.reading) (spoils : Spoils (state_of m) (state_of n) at (length bytes)) where
-    reread_makes : (first : D) (again : Answer) → Rereads bound mid c at bytes m n again → bound.own_write b mid at bytes (Err record {})
+    reread_makes : (first : D) (again : Answer) → Rereads bound mid c at (length bytes) m n again → bound.own_write b mid at bytes (Err record {})
         → Makes bound first b m false → Makes bound first c n (is_fault again)
     reread_makes first (Ok u) rereads own makes =
         subst (λ k. Makes bound first c k false) (sym rereads.shown)
-        (found b mid c m at bytes rereads.before rereads.found fits rereads.same_length makes own rereads.read)
+        (found b mid c m at bytes (part at (length bytes) m.present.reading) rereads.left fits rereads.same_length makes own rereads.read)
     reread_makes first (Err e) rereads own makes =
-        subst (λ k. Makes bound first c k true) (sym rereads.shown) (unread b mid c m at bytes rereads.before rereads.found fits makes own rereads.read)
+        subst (λ k. Makes bound first c k true) (sym rereads.shown)
+        (unread b mid c m at bytes (part at (length bytes) m.present.reading) rereads.left fits rereads.same_length makes own rereads.read)
 
-    reread_shows : (first again : Answer) → Rereads bound mid c at bytes m n again → bound.honest b → bound.honest mid
+    reread_shows : (first again : Answer) → Rereads bound mid c at (length bytes) m n again → bound.honest b → bound.honest mid
         → Writes (bound.state b) (bound.state mid) at bytes first → Shows (bound.state c) (state_of n) (is_fault again)
     reread_shows first (Ok u) rereads start then below =
-        shows_found (bound.state b) (bound.state mid) (bound.state c) (state_of m) (state_of n) at bytes rereads.found first (Ok u) u refl
+        shows_found (bound.state b) (bound.state mid) (bound.state c) (state_of m) (state_of n) at bytes rereads.left first (Ok u) u refl
         rereads.same_length (rw rereads.same_length fits) below (rereads.reads then) spoils
         (ap (λ (k : Memory). k.present.reading) rereads.shown) (is.shows start)
     reread_shows first (Err e) rereads start then below =
         shows_lost (bound.state c) (state_of n)
-        (covers_looked (bound.state mid) (bound.state c) (state_of n) at rereads.found (Err e) (rereads.reads then)
+        (covers_looked (bound.state mid) (bound.state c) (state_of n) at rereads.left (Err e) (rereads.reads then)
         (covers_both (bound.state b) (bound.state mid) (state_of m) (state_of n) at (length bytes) (spoils_of below) spoils (is.shows start).covers))
 
     pub reread_on : (first again : Answer) → first ≡ Err record {} → bound.size mid ≡ bound.size b → bound.size c ≡ bound.size mid
         → bound.honest b ↔ bound.honest mid → bound.honest mid ↔ bound.honest c → (bound.honest b → Writes (bound.state b) (bound.state mid) at bytes first)
-        → bound.own_write b mid at bytes first → Rereads bound mid c at bytes m n again
+        → bound.own_write b mid at bytes first → Rereads bound mid c at (length bytes) m n again
         → IsMirror bound (mirror_of n c (counted f) (is_fault again))
         × (bound.honest b → FollowsOn bound (mirror_of m b f false) (mirror_of n c (counted f) (is_fault again)))
     unfolding After

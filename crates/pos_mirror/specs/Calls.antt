@@ -1,6 +1,6 @@
 -- What each call of a mirror asks of the disk below, and what it makes of the mirror.
-use Rattle.std.specs.Prelude.{◌≡◌, ◌⊎◌, ℕ, List, true, false, Result, Ok, Err, OnErr, OnOk, length, replicate}
-use Rattle.pos_disk.specs.State.{Answer, Reads}
+use Rattle.std.specs.Prelude.{◌≡◌, ℕ, List, true, false, Result, Ok, Err, OnErr, OnOk, length, replicate}
+use Rattle.pos_disk.specs.State.{Answer, Reads, part}
 use Rattle.pos_disk.specs.Memory.{Memory, fresh, written, synced}
 use Rattle.pos_disk.specs.Fuse.{counted, failures_after}
 use Rattle.pos_disk.specs.Unkept.{is_fault}
@@ -22,14 +22,13 @@ pub record ReadsAll {D : Type 0} (bound : Ghosts D) (old new : D) (size : ℕ) (
   pub read : bound.own_read mid new 0 (replicate size 0) bytes answer
 
 -- Each answer to opening a mirror over so many bytes of a disk has its cause, and says what the disk was asked: a
--- sync, and then a read. Want of memory is found before both or after both.
+-- sync, and then a read. Want of memory is found before both.
 abbrev pub Opens : {D : Type 0} → Ghosts D → D → ℕ → Result (Mirror D) (MirrorFault × D) → Type 0
 Opens bound below size (Ok mirror) =
     ReadsAll bound below mirror.below size mirror.memory.present.reading (Ok tt)
     × (length mirror.memory.present.reading ≡ size)
     × (mirror ≡ mirror_of (fresh mirror.memory.present.reading) mirror.below 0 false)
-Opens bound below size (Err (fault.NoMemory, disk)) =
-    (disk ≡ below) ⊎ ((bytes : List ℕ) × ReadsAll bound below disk size bytes (Ok tt))
+Opens bound below size (Err (fault.NoMemory, disk)) = disk ≡ below
 Opens bound below size (Err (fault.Sync, disk)) = bound.own_sync below disk (Err record {})
 Opens bound below size (Err (fault.Read, disk)) =
     (bytes : List ℕ) × ReadsAll bound below disk size bytes (Err record {})
@@ -41,27 +40,22 @@ pub record MirrorReads {D : Type 0} (old new : Mirror D) (at : ℕ) (before afte
   pub untouched : old.lost ≡ true → after ≡ before
   pub same : new ≡ record old { failures = failures_after old.failures answer }
 
--- what memory has in a range after a write that failed: what a read found there, or what was to be written
-abbrev pub shown_by : Answer → List ℕ → List ℕ → List ℕ
-shown_by (Ok done) found bytes = found
-shown_by (Err fault) found bytes = bytes
-
--- The range of a write that failed was read once, and memory has what was found, if the read succeeded.
-pub record Rereads {D : Type 0} (bound : Ghosts D) (old new : D) (at : ℕ) (bytes : List ℕ) (memory after : Memory)
-    (answer : Answer) : Type 0 where
-  pub before : List ℕ
-  pub found : List ℕ
-  pub same_length : length found ≡ length bytes
-  pub read : bound.own_read old new at before found answer
-  pub reads : bound.honest old → Reads (bound.state old) (bound.state new) at found answer
-  pub shown : after ≡ written at (shown_by answer found bytes) memory
+-- A range of memory, that of a write that failed, was read once from the disk below, and memory has what that left in
+-- it: what was found, if the read succeeded, else any bytes.
+pub record Rereads {D : Type 0} (bound : Ghosts D) (old new : D) (at n : ℕ) (memory after : Memory) (answer : Answer)
+    : Type 0 where
+  pub left : List ℕ
+  pub same_length : length left ≡ n
+  pub read : bound.own_read old new at (part at n memory.present.reading) left answer
+  pub reads : bound.honest old → Reads (bound.state old) (bound.state new) at left answer
+  pub shown : after ≡ written at left memory
 
 -- A write of a mirror failed below: that was one write of the disk below, and then one read of the range.
 pub record FailsBelow {D : Type 0} (bound : Ghosts D) (old new : Mirror D) (at : ℕ) (bytes : List ℕ) : Type 0 where
   pub mid : D
   pub asked : bound.own_write old.below mid at bytes (Err record {})
   pub again : Answer
-  pub rereads : Rereads bound mid new.below at bytes old.memory new.memory again
+  pub rereads : Rereads bound mid new.below at (length bytes) old.memory new.memory again
   pub counts : new.failures ≡ counted old.failures
   pub losing : new.lost ≡ is_fault again
 

@@ -46,11 +46,11 @@ pub data Makes {D : Type 0} (bound : Ghosts D) (first : D) : D → Memory → Bo
       → at + length bytes ≤ length memory.present.reading → length left ≡ length bytes
       → Makes bound first old memory false → bound.own_write old mid at bytes (Err record {})
       → bound.own_read mid new at before left (Ok tt) → Makes bound first new (written at left memory) false
-  -- a write failed, and the read of its range too
+  -- a write failed, and the read of its range too: memory has what that left in the range
   unread : (old mid new : D) (memory : Memory) (at : ℕ) (bytes before left : List ℕ)
-      → at + length bytes ≤ length memory.present.reading
+      → at + length bytes ≤ length memory.present.reading → length left ≡ length bytes
       → Makes bound first old memory false → bound.own_write old mid at bytes (Err record {})
-      → bound.own_read mid new at before left (Err record {}) → Makes bound first new (written at bytes memory) true
+      → bound.own_read mid new at before left (Err record {}) → Makes bound first new (written at left memory) true
   -- a sync succeeded
   settled : (old new : D) (memory : Memory) → Makes bound first old memory false → bound.own_sync old new (Ok tt)
       → Makes bound first new (synced memory) false
@@ -99,8 +99,3 @@ pub record IsMirror {D : Type 0} (bound : Ghosts D) (mirror : Mirror D) : Type 0
   pub last : mirror.failures < 2 ^ 64
   pub shows : bound.honest mirror.below → Shows (bound.state mirror.below) (state_of mirror.memory) mirror.lost
   pub history : History bound mirror
-
--- a mirror with room for the range of a failed write
-pub record IsBuilt {D : Type 0} (bound : Ghosts D) (mirror : Mirror D) (room : List ℕ) : Type 0 where
-  pub has_room : length room ≡ length mirror.memory.present.reading
-  pub is_mirror : IsMirror bound mirror

@@ -7,7 +7,9 @@
 #![tactic(auto)]
 
 mod fault;
+mod known;
 mod mirror;
+mod shown;
 
 pub use fault::MirrorFault;
 pub use mirror::MirrorDisk;

@@ -1,13 +1,13 @@
 // A disk in memory over another disk, which needn't be honest.
-ghost use Rattle.std.specs.Prelude.{◌≡◌, ◌≤◌, ◌+◌, ◌↔◌, List, ℕ, length, min, take};
+ghost use Rattle.std.specs.Prelude.{◌≡◌, ◌↔◌, List, ℕ, length, min, take};
 ghost use Rattle.pos_disk.specs.State.{MayLeave};
-ghost use Rattle.pos_disk.specs.Memory.{state_of};
-ghost use Rattle.pos_disk.specs.Fuse.{Spoils, counted};
+ghost use Rattle.pos_disk.specs.Fuse.{counted};
 ghost use Rattle.pos_mirror.specs.Mirror.{FollowsSince, IsMirror, mirror_state};
-ghost use Rattle.pos_mirror.specs.Calls.{Calls, Opens, Rereads, disk_of};
+ghost use Rattle.pos_mirror.specs.Calls.{Calls, Opens, disk_of};
 
 use crate::fault::MirrorFault;
-use pos_disk::{Disk, DiskFault, MemDisk};
+use crate::shown::Shown;
+use pos_disk::{Disk, DiskFault};
 use std::alloc::Global;
 use std::marker::Model;
 
@@ -17,25 +17,24 @@ use std::marker::Model;
 /// fails: the system may count as settled what the device never had. A lost mirror answers each call with a fault and
 /// asks nothing of the disk below.
 ///
-/// It has seven bytes of memory for each byte of the disk, all taken when it is made.
+/// It has one byte of memory for each byte of the disk, taken when it is made. No call takes memory, and each but a
+/// sync takes as long as its range is.
 #[derive(Drop)]
 pub struct MirrorDisk<D: Disk> {
-    memory: MemDisk,
+    memory: Shown,
     below: D,
-    // Where the range of a failed write is read again.
-    room: Vec<u8>,
     failures: u64,
     lost: bool,
 }
 
 impl<D: Disk> Model for MirrorDisk<D> {
-    ghost use Rattle.pos_mirror.specs.Mirror.{Mirror, IsBuilt, mirror_of};
+    ghost use Rattle.pos_mirror.specs.Mirror.{Mirror, IsMirror, mirror_of};
 
     ghost Value = { Mirror D };
 
     ghost view = { λ m. mirror_of m.memory m.below m.failures m.lost };
 
-    ghost invariant = { λ m. IsBuilt D.Disk (mirror_of m.memory m.below m.failures m.lost) m.room.items };
+    ghost invariant = { λ m. IsMirror D.Disk (mirror_of m.memory m.below m.failures m.lost) };
 }
 
 impl<D: Disk> MirrorDisk<D> {
@@ -54,25 +53,18 @@ impl<D: Disk> MirrorDisk<D> {
         let Ok(mut bytes) = vec![in alloc; 0; size] else {
             return Err((MirrorFault::NoMemory, below));
         };
-        let Ok(room) = vec![in alloc; 0; size] else {
-            return Err((MirrorFault::NoMemory, below));
-        };
         if below.sync().is_err() {
             return Err((MirrorFault::Sync, below));
         }
         if below.read(0, &mut bytes).is_err() {
             return Err((MirrorFault::Read, below));
         }
-        match MemDisk::new(alloc, bytes) {
-            Ok(memory) => Ok(MirrorDisk {
-                memory,
-                below,
-                room,
-                failures: 0,
-                lost: false,
-            }),
-            Err(_) => Err((MirrorFault::NoMemory, below)),
-        }
+        Ok(MirrorDisk {
+            memory: Shown::new(bytes),
+            below,
+            failures: 0,
+            lost: false,
+        })
     }
 
     /// Whether the mirror is lost.
@@ -124,40 +116,15 @@ fn count(failures: &mut u64)
     *failures = failures.saturating_add(1);
 }
 
-// Reads the range of a write that failed on the disk below, and puts into memory what the disk has there. If the read
-// fails too, memory has what was to be written.
-fn reread<D: Disk>(
-    below: &mut D,
-    memory: &mut MemDisk,
-    room: &mut [u8],
-    at: u64,
-    bytes: &[u8],
-) -> Result<(), DiskFault>
-    requires below { at + length bytes.now ≤ D.size below.old }
-    requires memory { at + length bytes.now ≤ length memory.old.present.reading }
-    requires room { length bytes.now ≤ length room.old }
-    ensures size { D.size below.new ≡ D.size below.old }
-    ensures honest { D.honest below.old ↔ D.honest below.new }
-    ensures rereads { Rereads D.Disk below.old below.new at bytes.now memory.old memory.new result }
-    ensures spoils { Spoils (state_of memory.old) (state_of memory.new) at (length bytes.now) }
-{
-    let found = &mut room[..bytes.len()];
-    let answer = below.read(at, found);
-    if answer.is_ok() {
-        let _ = memory.write(at, found);
-    } else {
-        let _ = memory.write(at, bytes);
-    }
-    answer
-}
-
 impl<D: Disk> Disk for MirrorDisk<D> {
-    ghost use Rattle.std.specs.Prelude.{⊤};
+    ghost use Rattle.std.specs.Prelude.{None, ⊤};
     ghost use Rattle.std.proofs.Common.{refl};
     ghost use Rattle.pos_mirror.specs.Mirror.{counts_mirrored, only_mirrored};
     ghost use Rattle.pos_mirror.specs.Calls.{MirrorReads, MirrorWrites, MirrorSyncs};
 
     ghost size = { λ m. length m.memory.present.reading };
+
+    ghost fixed = { λ _. None };
 
     ghost honest = { λ _. ⊤ };
 
@@ -179,25 +146,31 @@ impl<D: Disk> Disk for MirrorDisk<D> {
         self.memory.len()
     }
 
+    fn reads_bytes(&self) {
+        self.memory.shows_bytes();
+    }
+
     fn read(&mut self, at: u64, out: &mut [u8]) -> Result<(), DiskFault> {
         if self.lost {
             count(&mut self.failures);
             return Err(DiskFault);
         }
-        self.memory.read(at, out)
+        self.memory.read(at, out);
+        Ok(())
     }
 
     fn write(&mut self, at: u64, bytes: &[u8]) -> Result<(), DiskFault> {
         if self.lost {
             count(&mut self.failures);
-            let _ = self.memory.write(at, bytes);
+            self.memory.write(at, bytes);
             return Err(DiskFault);
         }
         if self.below.write(at, bytes).is_ok() {
-            return self.memory.write(at, bytes);
+            self.memory.write(at, bytes);
+            return Ok(());
         }
         count(&mut self.failures);
-        let again = reread(&mut self.below, &mut self.memory, &mut self.room, at, bytes);
+        let again = self.memory.reread(&mut self.below, at, bytes.len());
         self.lost = again.is_err();
         Err(DiskFault)
     }
@@ -212,6 +185,7 @@ impl<D: Disk> Disk for MirrorDisk<D> {
             self.lost = true;
             return Err(DiskFault);
         }
-        self.memory.sync()
+        self.memory.sync();
+        Ok(())
     }
 }

@@ -6,7 +6,7 @@ pub use Rattle.pos_profile.specs.Mistakes.{IsFlawedList, IsFlawedValue, IsMistak
 pub use Rattle.pos_profile.specs.Places.{IsIndexOf, first_of, looked_up, place_from, place_of, where_same}
 pub use Rattle.pos_profile.specs.Profiles.{IsLowest, IsRead, entries_of, is_faulty, is_refused, is_refused_after, is_repeated, is_root, is_totals_entry}
 pub use Rattle.pos_profile.specs.Profiles.{names_of}
-pub use Rattle.pos_profile.specs.Registries.{Device, HasKindInRange, IsInUse, IsNamed, IsRegistrySound, IsServed, MayServe, device_of, devices, devices_of}
+pub use Rattle.pos_profile.specs.Registries.{Device, HasKindInRange, IsInUse, IsNamed, IsPut, IsRegistrySound, IsServed, MayServe, device_of, devices, devices_of}
 pub use Rattle.pos_profile.specs.Registries.{parked, planned_for, planned_of, standing_at, vacant, vacant_devices, with_peripheral}
 pub use Rattle.pos_profile.specs.Soundness.{AreOrders, IsInItsRange, IsNamedFor, IsSoundEntry, IsSoundProfile, differs_by, number_in}
 pub use Rattle.pos_profile.specs.Tables.{allowed, category_for, data_of, failing_in, flaky_in, has_only, is_key, key_of, name_for, number_within, values_at}

@@ -1,7 +1,8 @@
 -- The index of a registry finds each name at its first place.
-use Rattle.pos_profile.proofs.Common.{Bool, IfSome, List, None, Option, Planned, Some, [], arith, common_steps, cond, false, false≢true, first_of, get_or, gets}
-use Rattle.pos_profile.proofs.Common.{is_some, length, lookup, map, place_from, place_of, refl, slice_get, slice_get-map, slice_get_within, take, true}
+use Rattle.pos_profile.proofs.Common.{Bool, IfSome, List, None, Option, Planned, Some, [], ap, arith, bytes_eq, common_steps, cond, false, false≢true, first_of, get_or, gets}
+use Rattle.pos_profile.proofs.Common.{is_some, length, lookup, map, place_from, place_of, refl, slice_get, slice_get-map, slice_get_within, suc, sym, take, true}
 use Rattle.pos_profile.proofs.Common.{where_same, ℕ, ◌++◌, ◌+◌, ◌<◌, ◌∷◌, ◌≡◌}
+use Rattle.std.proofs.lemmas.Option.{same_Some}
 use Rattle.std.proofs.lemmas.Slice.Eq.{bytes_eq-Decides}
 use Rattle.pos_profile.proofs.ListLemmas.{take_next}
 
@@ -30,6 +31,31 @@ place_bound at name (first ∷ names) = grind (arith, place_bound (at + 1) name 
 
 pub place_within : (names : List (List ℕ)) (name : List ℕ) (place : ℕ) → place_of names name ≡ Some place → place < length names
 place_within names name place found = let bound = rw found at (place_bound 0 name names) in omega (arith, bound)
+
+-- a name that has a place is there: it is the first one, or is among the others
+there_else : (same : Bool) (at : ℕ) (name first : List ℕ) (names : List (List ℕ)) (place : ℕ) → bytes_eq name first ≡ same
+    → (place_from (at + 1) name names ≡ Some place → (i : ℕ) × (place ≡ (at + 1) + i) × (slice_get names i ≡ Some name))
+    → cond same (Some at) (place_from (at + 1) name names) ≡ Some place → (i : ℕ) × (place ≡ at + i) × (slice_get (first ∷ names) i ≡ Some name)
+there_else true at name first names place same else found =
+    let here = same_Some at place found in
+    (0, omega (arith, here), ap (λ (n : List ℕ). Some n) (sym ((bytes_eq-Decides name first).0 same)))
+there_else false at name first names place same else found =
+    let later = else found in
+    let is = later.1 in
+    (suc later.0, omega (arith, is), later.2)
+
+there_from : (at : ℕ) (name : List ℕ) (names : List (List ℕ)) (place : ℕ) → place_from at name names ≡ Some place
+    → (i : ℕ) × (place ≡ at + i) × (slice_get names i ≡ Some name)
+there_from at name [] place found = absurd cc
+there_from at name (first ∷ names) place found =
+    there_else (bytes_eq name first) at name first names place refl (λ is. there_from (at + 1) name names place is) found
+
+pub name_there : (names : List (List ℕ)) (name : List ℕ) (place : ℕ) → place_of names name ≡ Some place → slice_get names place ≡ Some name
+name_there names name place found =
+    let there = there_from 0 name names place found in
+    let is = there.1 in
+    let same : place ≡ there.0 = omega (arith, is) in
+    rw same there.2
 
 -- what is found already is found first
 found_first : (same : Bool) (place : ℕ) (found : Option ℕ) → (same ≡ true → is_some found ≡ true) → found ≡ first_of found (cond same (Some place) None)

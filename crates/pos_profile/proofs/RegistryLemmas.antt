@@ -1,9 +1,10 @@
 -- The devices of a registry, where the peripheral of one changes.
-use Rattle.pos_profile.proofs.Common.{AllByRecursion, Device, Entry, HasKindInRange, IfSome, IsInRange, IsInUse, IsIndexOf, IsNamed, IsRegistrySound, IsServed}
-use Rattle.pos_profile.proofs.Common.{IsSoundEntry, List, MayServe, Option, PeripheralState, Planned, Some, [], arith, common_steps, cons_option, device_of}
+use Rattle.pos_profile.proofs.Common.{AllByRecursion, Device, Entry, HasKindInRange, IfSome, IsInRange, IsInUse, IsIndexOf, IsNamed, IsPut, IsRegistrySound, IsServed}
+use Rattle.pos_profile.proofs.Common.{IsSoundEntry, List, MayServe, Option, PeripheralState, Planned, Some, [], ap, arith, common_steps, cons_option, device_of}
 use Rattle.pos_profile.proofs.Common.{devices, devices_of, drop, get_or, get_or-map, gets, is_some, kind_of, length, length-map, map, map-set, parked}
-use Rattle.pos_profile.proofs.Common.{planned_for, planned_of, refl, set, slice_get, slice_get-map, slice_get_past, standing_at, suc, take, take_more, true}
-use Rattle.pos_profile.proofs.Common.{vacant, vacant_devices, with_peripheral, zero, ℕ, ◌++◌, ◌+◌, ◌<◌, ◌∷◌, ◌≡◌, ◌≤◌}
+use Rattle.pos_profile.proofs.Common.{place_of, planned_for, planned_of, refl, set, slice_get, slice_get-map, slice_get_past, standing_at, suc, sym, take, take_more, true}
+use Rattle.pos_profile.proofs.Common.{vacant, vacant_devices, with_peripheral, zero, ℕ, ◌++◌, ◌+◌, ◌<◌, ◌∙◌, ◌∷◌, ◌≡◌, ◌≤◌}
+use Rattle.pos_profile.proofs.PlaceLemmas.{name_there}
 use Rattle.pos_profile.specs.Registries.{names_of}
 use Rattle.std.proofs.lemmas.Simd.{map-map}
 use Rattle.pos_profile.specs.declared.registry.Registry.{Registry}
@@ -12,6 +13,7 @@ use Rattle.pos_service.specs.declared.kind.Kind.{Kind}
 use Rattle.pos_service.specs.declared.peripheral.Peripheral.{Ghosts}
 use Rattle.std.proofs.lemmas.List.Edits.{map_over_more}
 use Rattle.std.proofs.lemmas.List.Elements.{filter_map-append, recursion_from_All}
+use Rattle.std.proofs.lemmas.Option.{same_Some}
 use Rattle.std.specs.List.{All}
 use Rattle.std.specs.Option.{option_map}
 use Rattle.pos_profile.specs.declared.role.Role.TheVariants as role
@@ -51,6 +53,15 @@ standing_within list place stands = grind (arith, slice_get_past)
 -- what stands at the place of a device
 pub standing_is : (list : List Device) (place : ℕ) (device : Device) → slice_get list place ≡ Some device → standing_at list place ≡ device.peripheral
 standing_is list place device at = rw at
+
+-- what is put at the place of a name is put into a slot of that name
+pub put_named : {P : Type 0} (peripherals : Ghosts P) (slots new : List (Slot P)) (name : List ℕ) (place : ℕ) (peripheral : P)
+    → place_of (names_of (devices_of peripherals slots)) name ≡ Some place → (put : IsPut slots place peripheral new) → put.slot.name ≡ name
+put_named peripherals slots new name place peripheral found put =
+    let named = slice_get-map (λ (d : Device). d.name) (devices_of peripherals slots) place
+    ∙ ap (option_map (λ (d : Device). d.name))
+    (slice_get-map (λ s. device_of peripherals s) slots place ∙ ap (option_map (λ s. device_of peripherals s)) put.at) in
+    same_Some put.slot.name name (sym named ∙ name_there (names_of (devices_of peripherals slots)) name place found)
 
 -- the names stay
 names_with : (list : List Device) (place : ℕ) (x : Option PeripheralState) → names_of (with_peripheral list place x) ≡ names_of list

@@ -1,5 +1,5 @@
 -- What contracts see of a registry: its devices in the profile's order, each with the peripheral that serves it.
-use Rattle.std.specs.Prelude.{◌≡◌, ℕ, zero, suc, Bool, true, false, List, [], ◌∷◌, Option, Some, None, Result, Ok, Err, IfSome, map, option_and_then, slice_get}
+use Rattle.std.specs.Prelude.{◌≡◌, ℕ, zero, suc, Bool, true, false, List, [], ◌∷◌, Option, Some, None, Result, Ok, Err, IfSome, map, option_and_then, slice_get, slice_set}
 use Rattle.std.specs.List.{AllByRecursion, filter_map}
 use Rattle.std.specs.Option.{option_map}
 use Rattle.pos_service.specs.declared.kind.Kind.{Kind}
@@ -99,6 +99,19 @@ pub record MayServe (devices : List Device) (place : ℕ) (state : PeripheralSta
   pub at : slice_get devices place ≡ Some device
   pub vacant : device.peripheral ≡ None
   pub kind : state.kind ≡ device.kind
+
+-- A peripheral was put into the slot at a place, and nothing else changed.
+pub record IsPut {P : Type 0} (old : List (Slot P)) (place : ℕ) (peripheral : P) (new : List (Slot P)) : Type 0 where
+  pub slot : Slot P
+  pub at : slice_get old place ≡ Some slot
+  pub is : new ≡ slice_set old place (record slot { peripheral = Some peripheral })
+
+-- the slots after a peripheral was to be attached to the device of a name: that very peripheral is in one of this name;
+-- or they are as they were
+abbrev pub PutsInto : {U B P : Type 0} → List (Slot P) → List ℕ → P → Result U B → List (Slot P) → Type 0
+PutsInto old name peripheral (Ok done) new =
+    (place : ℕ) × (put : IsPut old place peripheral new) × (put.slot.name ≡ name)
+PutsInto old name peripheral (Err refusal) new = new ≡ old
 
 -- a device has this name, and it is the first that has it
 pub record IsNamed (devices : List Device) (name : List ℕ) (device : Device) : Type 0 where

@@ -4,7 +4,7 @@ ghost use Rattle.std.specs.Borrow.{sem};
 ghost use Rattle.pos_service.specs.Hardware.{StaysInService};
 ghost use Rattle.pos_profile.specs.Lending.{registry_lends, registry_with};
 ghost use Rattle.pos_profile.specs.Places.{IsIndexOf, place_of};
-ghost use Rattle.pos_profile.specs.Registries.{Attaches, Detaches, IsNamed, IsRegistrySound, MayServe, device_of, devices, devices_of, kind_at, names_of, parked, planned_of, standing_at, vacant, vacant_devices, with_peripheral};
+ghost use Rattle.pos_profile.specs.Registries.{Attaches, Detaches, IsNamed, IsPut, IsRegistrySound, MayServe, PutsInto, device_of, devices, devices_of, kind_at, names_of, parked, planned_of, standing_at, vacant, vacant_devices, with_peripheral};
 
 use crate::laws::is_profile;
 use crate::places::Places;
@@ -166,6 +166,7 @@ impl<P: Peripheral> Registry<P> {
         requires unparked { (P.Peripheral.state peripheral).is_parked ≡ false }
         ensures served { devices P.Peripheral self.new
             ≡ with_peripheral (devices P.Peripheral self.old) place (Some (P.Peripheral.state peripheral)) }
+        ensures put { IsPut self.old.slots.items place peripheral self.new.slots.items }
         ensures sound { IsRegistrySound P.Peripheral self.new }
     {
         match self.slots[place].peripheral.replace(peripheral) {
@@ -183,6 +184,7 @@ impl<P: Peripheral> Registry<P> {
         requires unparked { (P.Peripheral.state peripheral).is_parked ≡ false }
         ensures attaches { Attaches (devices P.Peripheral self.old) name.now (P.Peripheral.state peripheral) result
             (devices P.Peripheral self.new) }
+        ensures puts { PutsInto self.old.slots.items name.now peripheral result self.new.slots.items }
         ensures handed_back { IfErr result (λ refusal. refusal.1 ≡ peripheral) }
         ensures sound { IsRegistrySound P.Peripheral self.new }
     {

@@ -1,3 +1,4 @@
+mod LeftLemmas
 pub mod Migrated
 mod MirroredLemmas
 pub mod Options

@@ -1,19 +1,19 @@
 -- What a move to layout 2 did, by what the store's recovery and migration did.
-use Rattle.std.proofs.Common.{◌≡◌, inl, inr, ⊎_elim, ℕ, List, [], ◌∷◌, map, Result, Ok, Err, IsErrOf, refl, ap, subst}
+use Rattle.std.proofs.Common.{◌≡◌, inl, inr, ⊎_elim, ℕ, List, [], ◌∷◌, map, Result, Ok, Err, IsErrOf, refl, ap, subst, ◌⊎◌, ◌∙◌}
 use Rattle.pos_dir.specs.declared.file.File.{File}
-use Rattle.pos_disk.specs.State.{IsAtRest, LeavesOnly, Rises}
+use Rattle.pos_disk.specs.State.{HasNotFailed, IsAtRest, LeavesOnly, Rises}
 use Rattle.pos_disk.specs.declared.device.Disk.{Ghosts}
 use Rattle.pos_disk.proofs.Moments.{followed_by, weaker}
 use Rattle.pos_image.specs.declared.layout.Layout.{Layout}
 use Rattle.pos_image.specs.declared.layout.Layout.TheVariants.{Layout1, Layout2}
 use Rattle.pos_image.specs.Layout.{log_place}
-use Rattle.pos_store.specs.Migrations.{AnswersMigration, Migrates}
+use Rattle.pos_store.specs.Migrations.{AnswersMigration, KeepsFirstLayout, Migrates}
 use Rattle.pos_store.specs.StoreViews.{StoreState, StoreView, Off, Ready, WhenReady, settled}
 use Rattle.pos_store.specs.Recoveries.{Recovers, RecoversOneOf}
 use Rattle.pos_store.specs.Standing.{Standing, Stands, IsOneOf, StandsFor, StandsForOneOf, StandsForEither, LeavesOneOf, Passes}
 use Rattle.pos_store.specs.declared.fault.StoreFault.{StoreFault}
 use Rattle.pos_store.specs.declared.fault.StoreFault.TheVariants as fault
-use Rattle.pos_program.specs.Migrating.{AnswersMove, MovesAny, MovesOneOf, moved}
+use Rattle.pos_store.specs.MovedDisks.{AnswersMove, MovesAny, MovesOneOf, moved}
 
 -- a new store over a disk
 abbrev pub new_store : {D : Type 0} → D → StoreView D
@@ -131,3 +131,21 @@ module _ {D : Type 0} (bound : Ghosts D) (disk : D) where
       let there = recovers.keeps.honest.0 honest in
       found_moves mid layout files sequence tail recovers honest candidates leaves layout refl result new migrates.answer (migrates.crash there)
       (at_rest (migrates.keeps.honest.0 there)) (migrates.device there)
+
+  -- no slot of layout 1 was written
+  pub migrated_rest : (mid : StoreView D) (result : Result (Unit {0}) StoreFault) → Recovers bound (new_store disk) result mid
+      → bound.honest disk → KeepsFirstLayout (bound.state disk).reading (bound.state mid.disk).reading
+  migrated_rest mid result recovers honest = rw (recovers.reading honest) (record { same_length = refl; each = λ i first. refl })
+
+  pub moved_rest : (mid new : StoreView D) (found result : Result (Unit {0}) StoreFault) → Recovers bound (new_store disk) found mid
+      → Migrates bound mid result new → bound.honest disk → KeepsFirstLayout (bound.state disk).reading (bound.state new.disk).reading
+  moved_rest mid new found result recovers migrates honest =
+      rw (recovers.reading honest) at (migrates.rest (recovers.keeps.honest.0 honest))
+
+  -- the disk failed in neither call, where neither answers its fault
+  pub moved_counts : (mid new : StoreView D) (result : Result (Unit {0}) StoreFault) → Recovers bound (new_store disk) (Ok tt) mid
+      → Migrates bound mid result new → bound.honest disk
+      → IsErrOf result fault.Device ⊎ HasNotFailed (bound.state disk) (bound.state new.disk)
+  moved_counts mid new result recovers migrates honest =
+      let first : HasNotFailed (bound.state disk) (bound.state mid.disk) = ⊎_elim (λ is. absurd cc) (λ same. same) (recovers.counts honest) in
+      ⊎_elim (λ is. inl is) (λ same. inr (same ∙ first)) (migrates.counts (recovers.keeps.honest.0 honest))

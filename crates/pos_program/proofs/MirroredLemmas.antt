@@ -1,23 +1,25 @@
 -- What the file below a mirror was asked makes the disk that the mirror shows.
 use Rattle.std.proofs.Common.{Bool, List, Option, [], ap, append-nil, arith, false, length, refl, subst, sym, true, true≢false, ℕ}
-use Rattle.std.proofs.Common.{Err, Ok, ◌+◌, ◌∙◌, ◌≡◌, ◌≤◌}
+use Rattle.std.proofs.Common.{Err, None, Ok, Some, append_assoc, ◌++◌, ◌==◌, ◌∙◌, ◌∷◌, ◌≡◌}
+use Rattle.std.proofs.lemmas.Bool.Decides.{nat_tests}
 use Rattle.std.proofs.Math.Seq.{take-length}
 use Rattle.std.specs.Bool.{MatchBool}
 use Rattle.pos_disk.proofs.Bytes.{part-splice}
-use Rattle.pos_disk.specs.Memory.{Memory, fresh, state_of, synced, written}
+use Rattle.pos_disk.specs.Memory.{Memory, fresh, synced, written}
 use Rattle.pos_disk.specs.State.{Answer}
 use Rattle.pos_disk.specs.Unkept.{is_fault}
 use Rattle.pos_disk.specs.declared.device.Disk.{Ghosts}
 use Rattle.pos_file.proofs.CourseLemmas.{left}
 use Rattle.pos_file.proofs.FollowsLemmas.{read_follows, sync_follows, write_follows}
-use Rattle.pos_file.specs.Calls.{Call}
+use Rattle.pos_file.specs.Answers.{answer_of, fault_unless}
+use Rattle.pos_file.specs.Calls.{Call, read_call, sync_call, write_call}
 use Rattle.pos_file.specs.Disks.{FileReads, FileSyncs, FileWrites}
 use Rattle.pos_file.specs.Follows.{Follows}
 use Rattle.pos_file.specs.declared.file_disk.FileDisk.{FileDisk}
 use Rattle.pos_mirror.proofs.AskedLemmas.{left_within}
 use Rattle.pos_mirror.specs.Asked.{Continues, and_write, no_more}
 use Rattle.pos_mirror.specs.Mirror.{Makes, Mirror, begun, found, ignored, mirror_state, settled, unread, unsettled, wrote}
-use Rattle.pos_program.specs.MirroredFiles.{CutMayLeave, IsMirrored}
+use Rattle.pos_program.specs.MirroredFiles.{CutMayLeave, HasRead, IsMirrored}
 
 -- what is known of a disk that has not failed
 unfailed : (A B : Type 0) (failed : Bool) → failed ≡ false → MatchBool failed A B → B
@@ -29,9 +31,27 @@ sound_of : (A B : Type 0) (failed : Bool) → (A → false ≡ true) → MatchBo
 sound_of A B false never is = refl
 sound_of A B true never is = absurd (true≢false (sym (never is)))
 
+-- a read that is answered as done gave all its bytes
+is_done : (done : Bool) → Ok tt ≡ fault_unless done → done ≡ true
+is_done true is = refl
+is_done false is = cc
+
+all_moved : (size : ℕ) (moved : Option ℕ) → Ok tt ≡ answer_of size moved → moved ≡ Some size
+all_moved size None is = absurd (true≢false (sym (is_done false is)))
+all_moved size (Some n) is =
+    let same : (n == size) ≡ true = is_done (n == size) is in
+    ap Some (grind (arith, nat_tests))
+
+-- one call more stands behind that read
+read_before : (before : List Call) (bytes : List ℕ) (old new : List Call) (call : Call) → HasRead before bytes old → new ≡ old ++ call ∷ []
+    → HasRead before bytes new
+read_before before bytes old new call (more, is) asks =
+    (more ++ call ∷ [], asks ∙ ap (λ (all : List Call). all ++ call ∷ []) is ∙ append_assoc before (read_call 0 bytes (Some (length bytes)) ∷ more) (call ∷ []))
+
 -- What is known of a disk in a file, by the calls that make what the mirror over it shows.
 record FileMakes {F : Type 0} (calls : F → List Call) (before : List Call) (below : FileDisk F) (memory : Memory) (lost : Bool) : Type 0 where
   bytes : List ℕ
+  read : HasRead before bytes (calls below.file)
   asked : Memory
   follows : Follows calls before (fresh bytes) below.file asked
   same : lost ≡ false → memory ≡ asked
@@ -49,16 +69,36 @@ module _ {F : Type 0} (calls : F → List Call) (bound : Ghosts (FileDisk F))
   before = calls first.file
 
   -- the calls of the file make this very memory
-  here : (bytes : List ℕ) (below : FileDisk F) (memory : Memory) (lost : Bool) → Follows calls before (fresh bytes) below.file memory
-      → (lost ≡ false → below.has_failed ≡ false) → FileMakes calls before below memory lost
-  here bytes below memory lost follows sound = record {
+  here : (bytes : List ℕ) (below : FileDisk F) (memory : Memory) (lost : Bool) → HasRead before bytes (calls below.file)
+      → Follows calls before (fresh bytes) below.file memory → (lost ≡ false → below.has_failed ≡ false) → FileMakes calls before below memory lost
+  here bytes below memory lost read follows sound = record {
     bytes = bytes;
+    read = read;
     asked = memory;
     follows = follows;
     same = λ present. refl;
     continues = no_more;
     sound = sound;
   }
+
+  -- the read with which the mirror began is still there after a call of a disk that has not failed
+  read_after : (b : List ℕ) (old new : FileDisk F) (at : ℕ) (was out : List ℕ) (answer : Answer) → old.has_failed ≡ false
+      → HasRead before b (calls old.file) → bound.own_read old new at was out answer → HasRead before b (calls new.file)
+  read_after b old new at was out answer sound read own =
+      let (moved, asks, same, is) = unfailed _ _ old.has_failed sound (reads old new at was out answer own) in
+      read_before before b (calls old.file) (calls new.file) (read_call at out moved) read asks
+
+  written_after : (b : List ℕ) (old new : FileDisk F) (at : ℕ) (bytes : List ℕ) (answer : Answer) → old.has_failed ≡ false
+      → HasRead before b (calls old.file) → bound.own_write old new at bytes answer → HasRead before b (calls new.file)
+  written_after b old new at bytes answer sound read own =
+      let (moved, asks, same, is) = unfailed _ _ old.has_failed sound (writes old new at bytes answer own) in
+      read_before before b (calls old.file) (calls new.file) (write_call at bytes moved) read asks
+
+  synced_after : (b : List ℕ) (old new : FileDisk F) (answer : Answer) → old.has_failed ≡ false
+      → HasRead before b (calls old.file) → bound.own_sync old new answer → HasRead before b (calls new.file)
+  synced_after b old new answer sound read own =
+      let (done, asks, same, is) = unfailed _ _ old.has_failed sound (syncs old new answer own) in
+      read_before before b (calls old.file) (calls new.file) (sync_call done) read asks
 
   -- a call that moves bytes leaves a disk as sound as it was
   still : (old new : FileDisk F) → old.has_failed ≡ false → new ≡ record old { file = new.file } → new.has_failed ≡ false
@@ -84,42 +124,49 @@ module _ {F : Type 0} (calls : F → List Call) (bound : Ghosts (FileDisk F))
       let asks = reads first below 0 was bytes (Ok tt) read in
       let sound = sound_of _ _ first.has_failed (λ nothing. ap is_fault nothing.0.0) asks in
       let start : Follows calls before (fresh bytes) first.file (fresh bytes) = record { since = []; asked = sym (append-nil before); course = refl } in
+      let (moved, asked, same, is) = unfailed _ _ first.has_failed sound asks in
+      let all = all_moved (length bytes) moved is in
       here bytes below (fresh bytes) false
+      ([], asked ∙ ap (λ (n : Option ℕ). before ++ read_call 0 bytes n ∷ []) all)
       (read_follows calls before (fresh bytes) (fresh bytes) first below start sound (Ok tt) 0 was bytes asks (λ done. sym (take-length bytes)))
       (λ present. still first below sound (unfailed _ _ first.has_failed sound asks).2)
   file_makes _ _ _ (wrote old new memory at bytes fits so_far own) =
       let past = file_makes old memory false so_far in
       let next = after_write old new memory at bytes bytes (Ok tt) past own refl (λ done. refl) in
-      here past.bytes new (written at bytes memory) false next.0 (λ present. next.1)
+      here past.bytes new (written at bytes memory) false (written_after past.bytes old new at bytes (Ok tt) (past.sound refl) past.read own) next.0
+      (λ present. next.1)
   file_makes _ _ _ (found old mid new memory at bytes was put fits long so_far own read) =
       let past = file_makes old memory false so_far in
       let next = after_write old mid memory at bytes put (Err record {}) past own long (λ done. absurd (true≢false done)) in
       let asks = reads mid new at was put (Ok tt) read in
       here past.bytes new (written at put memory) false
+      (read_after past.bytes mid new at was put (Ok tt) next.1 (written_after past.bytes old mid at bytes (Err record {}) (past.sound refl) past.read own) read)
       (read_follows calls before (fresh past.bytes) (written at put memory) mid new next.0 next.1 (Ok tt) at was put asks
       (λ done. sym (part-splice memory.present.reading put at (rw long fits))))
       (λ present. still mid new next.1 (unfailed _ _ mid.has_failed next.1 asks).2)
-  file_makes _ _ _ (unread old mid new memory at bytes was put fits so_far own read) =
+  file_makes _ _ _ (unread old mid new memory at bytes was put fits long so_far own read) =
       let past = file_makes old memory false so_far in
-      let next = after_write old mid memory at bytes bytes (Err record {}) past own refl (λ done. absurd (true≢false done)) in
+      let next = after_write old mid memory at bytes put (Err record {}) past own long (λ done. absurd (true≢false done)) in
       let asks = reads mid new at was put (Err record {}) read in
-      here past.bytes new (written at bytes memory) true
-      (read_follows calls before (fresh past.bytes) (written at bytes memory) mid new next.0 next.1 (Err record {}) at was put asks
+      here past.bytes new (written at put memory) true
+      (read_after past.bytes mid new at was put (Err record {}) next.1 (written_after past.bytes old mid at bytes (Err record {}) (past.sound refl) past.read own) read)
+      (read_follows calls before (fresh past.bytes) (written at put memory) mid new next.0 next.1 (Err record {}) at was put asks
       (λ done. absurd (true≢false done)))
       (λ present. absurd (true≢false present))
   file_makes _ _ _ (settled old new memory so_far own) =
       let past = file_makes old memory false so_far in let sound = past.sound refl in let asks = syncs old new (Ok tt) own in
-      here past.bytes new (synced memory) false
+      here past.bytes new (synced memory) false (synced_after past.bytes old new (Ok tt) sound past.read own)
       (sync_follows calls before (fresh past.bytes) memory old new (at_memory old memory past) sound (Ok tt) asks)
       (λ present. ap (λ (disk : FileDisk F). disk.has_failed) (unfailed _ _ old.has_failed sound asks).2)
   file_makes _ _ _ (unsettled old new memory so_far own) =
       let past = file_makes old memory false so_far in let asks = syncs old new (Err record {}) own in
-      here past.bytes new memory true
+      here past.bytes new memory true (synced_after past.bytes old new (Err record {}) (past.sound refl) past.read own)
       (sync_follows calls before (fresh past.bytes) memory old new (at_memory old memory past) (past.sound refl) (Err record {}) asks)
       (λ present. absurd (true≢false present))
   file_makes _ _ _ (ignored below memory at bytes fits so_far) =
       let past = file_makes below memory true so_far in record {
         bytes = past.bytes;
+        read = past.read;
         asked = past.asked;
         follows = past.follows;
         same = λ present. absurd (true≢false present);
@@ -132,6 +179,7 @@ module _ {F : Type 0} (calls : F → List Call) (bound : Ghosts (FileDisk F))
       let has = file_makes mirror.below mirror.memory mirror.lost makes in record {
         before = before;
         bytes = has.bytes;
+        read = has.read;
         asked = has.asked;
         follows = has.follows;
         same = has.same;

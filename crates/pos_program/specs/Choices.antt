@@ -107,3 +107,7 @@ abbrev pub TellsUnread : IoKind → ChoiceFault → Type 0
 TellsUnread kind NotUtf8 = kind ≢ io.OutOfMemory
 TellsUnread kind NoMemory = kind ≡ io.OutOfMemory
 TellsUnread kind other = ⊥
+
+-- the words couldn't be read, for this reason: one is no UTF-8, or there was no memory
+abbrev pub AreUnread : ChoiceFault → Type 0
+AreUnread why = (why ≡ NotUtf8) ⊎ (why ≡ NoMemory)

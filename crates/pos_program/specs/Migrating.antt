@@ -1,59 +1,17 @@
--- What moving the totals on a disk to layout 2 answers, and what it leaves (docs/DISK.md, "The move to layout 2").
-use Rattle.std.specs.Prelude.{◌≡◌, ℕ, List, [], ◌∷◌, map, Result, Ok, Err}
-use Rattle.pos_dir.specs.declared.file.File.{File}
-use Rattle.pos_disk.specs.State.{DiskState, IsAtRest, LeavesOnly, MayLeave, Rises}
-use Rattle.pos_image.specs.declared.layout.Layout.TheVariants.{Layout1, Layout2}
+-- What moving the totals in a file to layout 2 answers, and what it leaves (docs/DISK.md, "The move to layout 2").
+use Rattle.std.specs.Prelude.{◌≡◌, ℕ, List, map, Result, Ok, Err, OnOk}
+use Rattle.pos_disk.specs.Memory.{state_of}
+use Rattle.pos_file.specs.Calls.{Call}
+use Rattle.pos_file.specs.declared.file_disk.FileDisk.{FileDisk}
+use Rattle.pos_mirror.specs.Mirror.{Mirror, mirror_state}
+use Rattle.pos_program.specs.MirroredFiles.{CutMayLeave, IsMirrored}
 use Rattle.pos_program.specs.declared.file_fault.FileFault.{FileFault}
 use Rattle.pos_program.specs.declared.file_fault.FileFault.TheVariants as file
-use Rattle.pos_store.specs.Standing.{Standing, Unformatted, Damaged, Stands, IsOneOf, LeavesOneOf, StandsForEither}
+use Rattle.pos_program.specs.declared.named_files.NamedFiles.{Ghosts}
+use Rattle.pos_store.specs.MovedDisks.{AreMoved, MovesAny, moved}
+use Rattle.pos_store.specs.Standing.{Standing, LeavesOneOf, StandsForEither}
 use Rattle.pos_store.specs.declared.fault.StoreFault.{StoreFault}
 use Rattle.pos_store.specs.declared.fault.StoreFault.TheVariants as fault
-
--- for what bytes stand once their files were moved: the same files by layout 2, with sequence 1
-abbrev pub moved : Standing → Standing
-moved (Stands layout files sequence) = Stands Layout2 files 1
-moved other = other
-
--- Files that were found by layout 1 are on the disk by layout 2, which is at rest, and a crash leaves them alone.
-pub record AreMoved (candidates : List Standing) (new : DiskState) : Type 0 where
-  pub files : List File
-  pub sequence : ℕ
-  pub found : IsOneOf candidates (Stands Layout1 files sequence)
-  pub at_rest : IsAtRest new
-  pub now : LeavesOneOf (Stands Layout2 files 1 ∷ []) new
-
--- Files were found by layout 2.
-pub record AreThere (candidates : List Standing) : Type 0 where
-  pub files : List File
-  pub sequence : ℕ
-  pub found : IsOneOf candidates (Stands Layout2 files sequence)
-
--- the bytes of the disk are what they were, and a crash leaves one of the candidates
-abbrev pub IsLeft : List Standing → DiskState → DiskState → Type 0
-IsLeft candidates old new = (new.reading ≡ old.reading) × LeavesOneOf candidates new
-
--- what is answered, of a disk that may leave one of the candidates, and the disk then
-abbrev pub AnswersMove : List Standing → DiskState → Result (Unit {0}) StoreFault → DiskState → Type 0
-AnswersMove candidates old (Ok _) new = AreMoved candidates new
-AnswersMove candidates old (Err fault.AlreadyLayout2) new = AreThere candidates × IsLeft candidates old new
-AnswersMove candidates old (Err fault.Unformatted) new = IsOneOf candidates Unformatted × IsLeft candidates old new
-AnswersMove candidates old (Err fault.Damaged) new = IsOneOf candidates Damaged × IsLeft candidates old new
-AnswersMove candidates old (Err fault.NoMemory) new = IsLeft candidates old new
-AnswersMove candidates old (Err fault.Device) new = Rises old.failures new.failures
-AnswersMove candidates old (Err other) new = ⊥
-
--- A disk that may leave one of the candidates is moved. A crash at any moment leaves one of them, or one with its files
--- moved, and so does a crash then.
-pub record MovesOneOf (candidates : List Standing) (old new : DiskState) (result : Result (Unit {0}) StoreFault)
-    : Type 0 where
-  pub answer : AnswersMove candidates old result new
-  pub any_moment : LeavesOnly old new (StandsForEither candidates (map moved candidates))
-  pub now : (bytes : List ℕ) → MayLeave new bytes → StandsForEither candidates (map moved candidates) bytes
-
--- whatever candidates the disk leaves
-abbrev pub MovesAny : DiskState → DiskState → Result (Unit {0}) StoreFault → Type 0
-MovesAny old new result =
-    (candidates : List Standing) → LeavesOneOf candidates old → MovesOneOf candidates old new result
 
 -- a store's fault of a move, as a fault of the disk's file; a move has no other
 abbrev pub told_as : StoreFault → FileFault
@@ -67,3 +25,35 @@ told_as other = file.Move
 abbrev pub told_of : Result (Unit {0}) StoreFault → Result (Unit {0}) FileFault
 told_of (Ok u) = Ok tt
 told_of (Err why) = Err (told_as why)
+
+-- Totals in a file were moved, or not, whatever candidates the bytes that were read stand for. The calls of the file
+-- make what is left.
+pub record LeavesMoved {F : Type 0} (calls : F → List Call) (totals after : Mirror (FileDisk F))
+    (outcome : Result (Unit {0}) StoreFault) : Type 0 where
+  pub file : IsMirrored calls after
+  pub moves : MovesAny (mirror_state totals) (mirror_state after) outcome
+  -- moved is the disk that the calls of the file make
+  pub made : (candidates : List Standing) → LeavesOneOf candidates (mirror_state totals) → (is : IsMirrored calls after)
+      → OnOk outcome (AreMoved candidates (state_of is.asked))
+  -- a power cut at any moment since the file was read leaves one of the candidates, or one with its files moved
+  pub cut : (candidates : List Standing) → LeavesOneOf candidates (mirror_state totals) → (is : IsMirrored calls after)
+      → (bytes : List ℕ) → CutMayLeave is bytes → StandsForEither candidates (map moved candidates) bytes
+
+-- moving totals in a file comes to this
+abbrev pub MigratesTotals : {F : Type 0} → (F → List Call) → Mirror (FileDisk F) → Result (Unit {0}) FileFault → Type 0
+MigratesTotals {F} calls totals result =
+    (after : Mirror (FileDisk F)) × (outcome : Result (Unit {0}) StoreFault)
+    × LeavesMoved calls totals after outcome × (result ≡ told_of outcome)
+
+-- moving what opening a file gave, if it gave totals
+abbrev pub MigratesOpened : {F : Type 0} → (F → List Call) → Result (Mirror (FileDisk F)) FileFault
+    → Result (Unit {0}) FileFault → Type 0
+MigratesOpened calls (Ok totals) result = MigratesTotals calls totals result
+MigratesOpened calls (Err why) result = result ≡ Err why
+
+-- moving the totals in the file at a path: what opening them answered, and what became of them
+abbrev pub MigratesFile : {F B : Type 0} → Ghosts F B → (B → List Call) → F → List ℕ → Result (Unit {0}) FileFault
+    → Type 0
+MigratesFile {F} {B} files calls them path result =
+    (opened : Result (Mirror (FileDisk B)) FileFault) × files.gives_disk them path opened
+    × MigratesOpened calls opened result

@@ -1,5 +1,5 @@
 -- What the bytes of a profile's file give (docs/PROFILE.md, docs/CONSOLE.md).
-use Rattle.std.specs.Prelude.{◌≡◌, ◌≢◌, ◌+◌, ℕ, List, Option, Some, Result, Ok, Err, ◌==◌, count_by, take, IsUtf8, ⊤, Vec}
+use Rattle.std.specs.Prelude.{◌≡◌, ◌≢◌, ◌⊎◌, ◌+◌, ℕ, List, Option, Some, Result, Ok, Err, ◌==◌, count_by, take, IsUtf8, ⊤, Vec}
 use Rattle.std.specs.IoError.{error_kind}
 use Rattle.std.specs.declared.io.Error.{Error}
 use Rattle.std.specs.declared.io.ErrorKind.TheVariants.{OutOfMemory}
@@ -49,3 +49,9 @@ abbrev pub ReadsFile : {A : Type 0} → Result (Vec ℕ A) Error → Result Cont
 ReadsFile (Ok bytes) result = ReadsBytes bytes.items result
 ReadsFile (Err cause) (Ok contents) = ⊥
 ReadsFile (Err cause) (Err why) = TellsRead cause why
+
+-- what reading some file gives: what the bytes give that the system answered, or what its error is told as
+abbrev pub ReadsSome : Result Contents ProfileFileFault → Type 0
+ReadsSome result =
+    ((bytes : List ℕ) × ReadsBytes bytes result)
+    ⊎ ((cause : Error) × (why : ProfileFileFault) × TellsRead cause why × (result ≡ Err why))

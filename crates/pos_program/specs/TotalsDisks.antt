@@ -1,5 +1,5 @@
 -- How the disk of the totals in a file is opened (docs/CONSOLE.md, "The program").
-use Rattle.std.specs.Prelude.{◌≡◌, ◌⊎◌, ◌≤◌, ℕ, List, false, max, min, length, Result, Ok, Err}
+use Rattle.std.specs.Prelude.{◌≡◌, List, false, max, min, Result, Ok, Err}
 use Rattle.pos_disk.specs.Memory.{fresh}
 use Rattle.pos_disk.specs.declared.device.Disk.{Ghosts}
 use Rattle.pos_file.specs.Calls.{Call}

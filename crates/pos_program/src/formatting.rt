@@ -1,14 +1,17 @@
 //! Formatting a file.
-ghost use Rattle.std.specs.Prelude.{◌≡◌, ◌≤◌, ◌⊎◌, IfErr, IfOk};
+ghost use Rattle.std.specs.Prelude.{◌≤◌, IfErr, IfOk, length};
 ghost use Rattle.pos_image.specs.Layout.{disk_size};
-ghost use Rattle.pos_program.specs.Formatting.{Answers, IsFormatted, IsUnformatted};
+ghost use Rattle.pos_image.specs.NewDisk.{KeepsRest};
+ghost use Rattle.pos_program.specs.Formatting.{FormatsFile, FormatsTotals, IsFormatted, IsUnformatted, disk_of};
+ghost use Rattle.pos_program.specs.TotalsDisks.{IsNewMirror};
 
 use crate::file_fault::FileFault;
-use crate::totals_disk::make_totals;
+use crate::mirrored_file::file_is_mirrored;
+use crate::named_files::NamedFiles;
+use crate::totals_disk::TotalsDisk;
 use pos_disk::Disk;
+use pos_file::BlockFile;
 use pos_image::{ImageFault, Images};
-use std::fs::File;
-use std::rt::Files;
 
 /// Puts no files on a disk that is long enough. `Formatted` where totals are there, which stay as they are; `Device`
 /// where the disk failed. A refusal hands the disk back.
@@ -16,6 +19,7 @@ pub fn format_disk<D: Disk + Drop>(disk: D) -> Result<D, (FileFault, D)>
     requires { disk_size ≤ D.size disk }
     ensures formatted { D.honest disk → IfOk result (λ formatted. IsFormatted (D.state disk) (D.state formatted)) }
     ensures refused { D.honest disk → IfErr result (λ e. IsUnformatted (D.state disk) (D.state e.1) e.0) }
+    ensures rest { D.honest disk → KeepsRest (D.state disk).reading (D.state (disk_of result)).reading }
 {
     match Images::format(disk) {
         Ok(disk) => Ok(disk),
@@ -24,22 +28,38 @@ pub fn format_disk<D: Disk + Drop>(disk: D) -> Result<D, (FileFault, D)>
     }
 }
 
-// What formatting answers, without the disk.
-fn without_disk<D: Drop>(formatted: Result<D, (FileFault, D)>) -> Result<(), FileFault>
-    ensures { Answers formatted result }
+/// Formats totals in a file, as `format_disk` does. The file is written and synced as the disk is, and closed then.
+///
+/// # Errors
+///
+/// `Formatted` and `Device`.
+pub fn format_totals<F: BlockFile + Drop>(totals: TotalsDisk<F>) -> Result<(), FileFault>
+    requires new { IsNewMirror totals }
+    requires large { disk_size ≤ length totals.memory.present.reading }
+    ensures { FormatsTotals F.calls totals result }
 {
-    match formatted {
-        Ok(_) => Ok(()),
-        Err((fault, _)) => Err(fault),
+    match format_disk(totals) {
+        Ok(after) => {
+            file_is_mirrored(&after);
+            Ok(())
+        }
+        Err((fault, after)) => {
+            file_is_mirrored(&after);
+            Err(fault)
+        }
     }
 }
 
-/// Formats the disk in a file. The file is made where it isn't there, and lengthened with zero bytes to 327,680 where
-/// it is shorter; a longer one keeps its length. Then `format_disk` puts no files on it, and refuses it where totals
-/// are there. Each step is synced before the next.
-pub fn format_file<R: Files<File = File> + AllocGlobal>(
-    files: &R,
-    path: &str,
-) -> Result<(), FileFault> {
-    without_disk(format_disk(make_totals(files, path)?))
+/// Formats the totals in a file, which is made where it isn't there.
+///
+/// # Errors
+///
+/// Those of `NamedFiles::make_disk` and of `format_totals`.
+pub fn format_file<F: NamedFiles>(files: &F, path: &str) -> Result<(), FileFault>
+    ensures { FormatsFile F.NamedFiles ⟦<F::File as BlockFile>⟧.calls files.now path.now result }
+{
+    match files.make_disk(path) {
+        Ok(totals) => format_totals(totals),
+        Err(cause) => Err(cause),
+    }
 }

@@ -10,11 +10,9 @@ ghost use Rattle.pos_program.specs.declared.file_fault.FileFault.{FileFault};
 ghost use Rattle.pos_program.specs.declared.profile_fault.ProfileFileFault.{ProfileFileFault};
 
 use crate::file_fault::FileFault;
-use crate::formatting::format_file;
-use crate::migrating::migrate_file;
 use crate::profile_fault::ProfileFileFault;
 use crate::profile_file::read_profile;
-use crate::totals_disk::{TotalsDisk, open_totals};
+use crate::totals_disk::{TotalsDisk, make_totals, open_totals};
 use crate::totals_file::read_totals;
 use pos_file::{BlockFile, SystemFile};
 use pos_profile::Profile;
@@ -33,11 +31,8 @@ pub trait NamedFiles {
     /// What opening the disk in a file may answer.
     ghost gives_disk: { Self → List ℕ → Result (Mirror (FileDisk Self.File)) FileFault → Type 0 } = { λ _ _ _. ⊤ };
 
-    /// What formatting the disk in a file may answer.
-    ghost formats: { Self → List ℕ → Result (Unit {0}) FileFault → Type 0 } = { λ _ _ _. ⊤ };
-
-    /// What moving the totals on the disk in a file to layout 2 may answer.
-    ghost migrates: { Self → List ℕ → Result (Unit {0}) FileFault → Type 0 } = { λ _ _ _. ⊤ };
+    /// What opening the disk in a file that may not be there may answer.
+    ghost makes_disk: { Self → List ℕ → Result (Mirror (FileDisk Self.File)) FileFault → Type 0 } = { λ _ _ _. ⊤ };
 
     /// What reading the totals in a file may answer, as its bytes.
     ghost gives_totals: { Self → List ℕ → Result (List ℕ) FileFault → Type 0 } = { λ _ _ _. ⊤ };
@@ -51,13 +46,12 @@ pub trait NamedFiles {
         ensures given { gives_disk self.now path.now result }
         ensures new { IfOk result (λ totals. IsNewMirror totals) };
 
-    /// Formats the disk in a file, as `format_file` does.
-    fn format_disk(&self, path: &str) -> Result<(), FileFault>
-        ensures { formats self.now path.now result };
-
-    /// Moves the totals on the disk in a file to layout 2, as `migrate_file` does.
-    fn migrate_disk(&self, path: &str) -> Result<(), FileFault>
-        ensures { migrates self.now path.now result };
+    /// The totals in a file, which is made where it isn't there, and lengthened to the length of a disk of totals where
+    /// it is shorter; mirrored in memory.
+    fn make_disk(&self, path: &str) -> Result<TotalsDisk<Self::File>, FileFault>
+        ensures given { makes_disk self.now path.now result }
+        ensures new { IfOk result (λ totals. IsNewMirror totals) }
+        ensures length { IfOk result (λ totals. disk_size ≤ length totals.memory.present.reading) };
 
     /// The bytes of the totals in a file, which is only read, as `read_totals` does.
     fn read_totals(&self, path: &str) -> Result<Vec<u8>, FileFault>
@@ -89,12 +83,8 @@ impl<R: Files<File = File> + AllocGlobal> NamedFiles for SystemFiles<'_, R> {
         open_totals(self.rt, path)
     }
 
-    fn format_disk(&self, path: &str) -> Result<(), FileFault> {
-        format_file(self.rt, path)
-    }
-
-    fn migrate_disk(&self, path: &str) -> Result<(), FileFault> {
-        migrate_file(self.rt, path)
+    fn make_disk(&self, path: &str) -> Result<TotalsDisk<SystemFile>, FileFault> {
+        make_totals(self.rt, path)
     }
 
     fn read_totals(&self, path: &str) -> Result<Vec<u8>, FileFault> {

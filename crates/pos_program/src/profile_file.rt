@@ -2,7 +2,7 @@
 ghost use Rattle.std.specs.Prelude.{◌≡◌, ◌≤◌, length, None, Err};
 ghost use Rattle.toml.specs.Parse.{parse_document};
 ghost use Rattle.pos_profile.specs.Mistakes.{Explains};
-ghost use Rattle.pos_program.specs.ProfileFiles.{Reads, ReadsBytes, ReadsFile, TellsRead, line_at};
+ghost use Rattle.pos_program.specs.ProfileFiles.{Reads, ReadsBytes, ReadsFile, ReadsSome, TellsRead, line_at};
 
 use crate::profile_fault::ProfileFileFault;
 use pos_profile::{Profile, ProfileFault, find_mistake};
@@ -95,9 +95,8 @@ fn profile_of_read(alloc: Global, read: io::Result<Vec<u8>>) -> Result<Profile, 
 }
 
 /// The profile in a file.
-pub fn read_profile<R: Files + AllocGlobal>(
-    rt: &R,
-    path: &str,
-) -> Result<Profile, ProfileFileFault> {
+pub fn read_profile<R: Files + AllocGlobal>(rt: &R, path: &str) -> Result<Profile, ProfileFileFault>
+    ensures { ReadsSome result }
+{
     profile_of_read(rt.alloc(), fs::read(rt, path))
 }

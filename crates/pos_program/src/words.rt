@@ -3,7 +3,7 @@ ghost use Rattle.std.specs.Prelude.{◌≡◌, Err, IfErr, IfOk, codes, map};
 ghost use Rattle.std.specs.IoError.{error_kind};
 ghost use Rattle.clap.specs.Words.{rule_of};
 ghost use Rattle.clap.specs.Built.{TakesValue};
-ghost use Rattle.pos_program.specs.Choices.{AsksAtDisk, Chooses, FitsAlone, Names, NamesDisk, TellsUnread, TellsWhy};
+ghost use Rattle.pos_program.specs.Choices.{AreUnread, AsksAtDisk, Chooses, FitsAlone, Names, NamesDisk, TellsUnread, TellsWhy};
 ghost use Rattle.pos_program.specs.Choices.{is_help, path_rule};
 
 use crate::choice_fault::ChoiceFault;
@@ -40,7 +40,9 @@ fn fault_of_unread<'a>(cause: &io::Error) -> ChoiceFault<'a>
 }
 
 /// The words after the program's name. Answers `NotUtf8` or `NoMemory` where they can't be read.
-pub fn read_words<'a, R: Env + AllocGlobal>(rt: &R) -> Result<Vec<String>, ChoiceFault<'a>> {
+pub fn read_words<'a, R: Env + AllocGlobal>(rt: &R) -> Result<Vec<String>, ChoiceFault<'a>>
+    ensures { IfErr result AreUnread }
+{
     let words = match env::args(rt) {
         Ok(words) => words,
         Err(cause) => return Err(fault_of_unread(&cause)),

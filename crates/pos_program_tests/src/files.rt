@@ -12,7 +12,7 @@ const FORMATTED: [u8; 15] = [0xA5, 0, 0, 0, 0, 0, 0, 0, 1, 0, 0, 0, 2, 0, 0];
 /// Whether a file that holds these bytes is formatted, and the bytes that it holds then.
 fn formatted(rt: &HostRuntime, path: &str, bytes: &[u8]) -> Result<(bool, Vec<u8>), Fail> {
     fs::write(rt, path, bytes)?;
-    let is_formatted = format_file(rt, path).is_ok();
+    let is_formatted = format_file(&SystemFiles::of(rt), path).is_ok();
     let after = fs::read(rt, path)?;
     fs::remove_file(rt, path)?;
     Ok((is_formatted, after))
@@ -32,20 +32,40 @@ fn a_file_is_formatted_once(rt: HostRuntime) -> Result<(), Fail> {
 #[test]
 fn a_file_is_moved_once(rt: HostRuntime) -> Result<(), Fail> {
     let path = "a_file_is_moved_once";
-    assert!(rt; matches!(migrate_file(&rt, path), Err(FileFault::Open(_))));
+    assert!(rt;
+        matches!(
+            migrate_file(rt.alloc(), &SystemFiles::of(&rt), path),
+            Err(FileFault::Open(_))
+        )
+    );
     fs::write(&rt, path, b"abc")?;
-    assert!(rt; matches!(migrate_file(&rt, path), Err(FileFault::Unformatted)));
-    assert!(rt; format_file(&rt, path).is_ok());
-    assert!(rt; migrate_file(&rt, path).is_ok());
+    assert!(rt;
+        matches!(
+            migrate_file(rt.alloc(), &SystemFiles::of(&rt), path),
+            Err(FileFault::Unformatted)
+        )
+    );
+    assert!(rt; format_file(&SystemFiles::of(&rt), path).is_ok());
+    assert!(rt; migrate_file(rt.alloc(), &SystemFiles::of(&rt), path).is_ok());
     let bytes = fs::read(&rt, path)?;
     assert!(rt; bytes.len() == 327_680);
     assert!(rt; bytes.starts_with(&FORMATTED) && bytes[65_536..].starts_with(&FORMATTED));
-    assert!(rt; matches!(migrate_file(&rt, path), Err(FileFault::Moved)));
+    assert!(rt;
+        matches!(
+            migrate_file(rt.alloc(), &SystemFiles::of(&rt), path),
+            Err(FileFault::Moved)
+        )
+    );
     assert!(rt; fs::read(&rt, path)? == bytes);
     let mut damaged = bytes;
     damaged[65_548] = 3;
     fs::write(&rt, path, damaged.as_slice())?;
-    assert!(rt; matches!(migrate_file(&rt, path), Err(FileFault::Damaged)));
+    assert!(rt;
+        matches!(
+            migrate_file(rt.alloc(), &SystemFiles::of(&rt), path),
+            Err(FileFault::Damaged)
+        )
+    );
     fs::remove_file(&rt, path)?;
     Ok(())
 }
@@ -76,7 +96,12 @@ fn bytes_of_totals(rt: HostRuntime) -> Result<(), Fail> {
 
 #[test]
 fn files_that_cannot_be_read(rt: HostRuntime) {
-    assert!(rt; matches!(format_file(&rt, "."), Err(FileFault::Open(_))));
+    assert!(rt;
+        matches!(
+            format_file(&SystemFiles::of(&rt), "."),
+            Err(FileFault::Open(_))
+        )
+    );
     assert!(rt; matches!(read_totals(&rt, "."), Err(FileFault::Unreadable(_))));
     let outcome = read_profile(&rt, ".");
     assert!(rt; matches!(outcome, Err(ProfileFileFault::Unreadable(_))));

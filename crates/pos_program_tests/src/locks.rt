@@ -1,5 +1,7 @@
 use pos_file::{BlockFile, MemoryFile};
-use pos_program::{FileFault, disk_over, format_file, migrate_file, open_totals, read_totals};
+use pos_program::{
+    FileFault, SystemFiles, disk_over, format_file, migrate_file, open_totals, read_totals,
+};
 use std::alloc::Global;
 use std::cell::Cell;
 use std::fs::{File, TryLockError};
@@ -82,8 +84,14 @@ fn a_file_without_a_lock_is_asked_nothing(rt: HostRuntime) -> Result<(), Fail> {
 /// Whether each command answers that the file is in use, and leaves these bytes in it.
 fn is_in_use(rt: &HostRuntime, path: &str, bytes: &[u8]) -> Result<bool, Fail> {
     let refused = matches!(open_totals(rt, path), Err(FileFault::InUse))
-        && matches!(format_file(rt, path), Err(FileFault::InUse))
-        && matches!(migrate_file(rt, path), Err(FileFault::InUse))
+        && matches!(
+            format_file(&SystemFiles::of(rt), path),
+            Err(FileFault::InUse)
+        )
+        && matches!(
+            migrate_file(rt.alloc(), &SystemFiles::of(rt), path),
+            Err(FileFault::InUse)
+        )
         && matches!(read_totals(rt, path), Err(FileFault::InUse));
     Ok(refused && fs::read(rt, path)?.as_slice() == bytes)
 }
@@ -99,7 +107,7 @@ fn a_locked_file_is_in_use(rt: HostRuntime) -> Result<(), Fail> {
     let disk = open_totals(&rt, path)?;
     assert!(rt; is_in_use(&rt, path, b"abc")?);
     drop(disk);
-    assert!(rt; read_totals(&rt, path).is_ok() && format_file(&rt, path).is_ok());
+    assert!(rt; read_totals(&rt, path).is_ok() && format_file(&SystemFiles::of(&rt), path).is_ok());
     fs::remove_file(&rt, path)?;
     Ok(())
 }

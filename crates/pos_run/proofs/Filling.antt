@@ -23,7 +23,7 @@ the_same : {A : Type 0} {a b : A} → Some a ≡ Some b → a ≡ b
 the_same same = cc
 
 -- an option has something or nothing
-some_or_none : {A : Type 0} (o : Option A) → (o ≡ None) ⊎ ((x : A) × (o ≡ Some x))
+pub some_or_none : {A : Type 0} (o : Option A) → (o ≡ None) ⊎ ((x : A) × (o ≡ Some x))
 some_or_none None = inl refl
 some_or_none (Some x) = inr (x, refl)
 
@@ -73,7 +73,7 @@ all_vacant (entry ∷ entries) = elim (some_or_none (kind_of entry)) [
   | inr some ↦ rw some.1 (ap (λ (ds : List Device). device_with entry.name some.0 None ∷ ds) (all_vacant entries))
 ]
 
-vacant_profile : (entries : List Entry) → profile_devices entries ≡ partly [] entries (totals_name entries)
+pub vacant_profile : (entries : List Entry) → profile_devices entries ≡ partly [] entries (totals_name entries)
 vacant_profile entries = ap (λ (ds : List Device). ds ++ totals_devices (totals_name entries)) (all_vacant entries)
 
 pub begins_partly : (entries : List Entry) (part : TotalsPart)

@@ -7,3 +7,4 @@ pub mod ReadLemmas
 pub mod Starting
 pub mod Filling
 pub mod Profiling
+pub mod MountLemmas

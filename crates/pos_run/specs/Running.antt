@@ -124,13 +124,13 @@ begun_with devices part = machine_with [] (replicate (length devices) None) devi
 abbrev pub off_over : {D : Type 0} → D → TotalsView D
 off_over disk = record {
   disk = disk;
-  totals = record { layout = Layout1; mode = Off; next = 1; area = None; transactions = [] };
+  totals = record { layout = Layout1; mode = Off; tail = 0; next = 1; area = None; transactions = [] };
 }
 
 -- totals that are off, over a disk that may leave these and has failed so often
 abbrev pub new_totals : List Standing → ℕ → TotalsPart
 new_totals left failures = record {
-  totals = record { layout = Layout1; mode = Off; next = 1; area = None; transactions = [] };
+  totals = record { layout = Layout1; mode = Off; tail = 0; next = 1; area = None; transactions = [] };
   left = left;
   failures = failures;
 }

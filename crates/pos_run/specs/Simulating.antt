@@ -1,5 +1,5 @@
 -- What is simulated for the entries of a profile (docs/CONSOLE.md, "The program").
-use Rattle.std.specs.Prelude.{◌≡◌, ◌≤◌, ◌⊎◌, ◌++◌, ℕ, Bool, true, false, List, Option, Some, None, Result, Err, IfSome, map, option_map, ⊤}
+use Rattle.std.specs.Prelude.{◌≡◌, ◌≤◌, ◌⊎◌, ◌++◌, ◌∷◌, [], ℕ, Bool, true, false, List, Option, Some, None, Result, Err, IfSome, map, option_map, slice_get, ⊤}
 use Rattle.pos_service.specs.declared.kind.Kind.{Kind}
 use Rattle.pos_service.specs.declared.kind.Kind.TheVariants as kind
 use Rattle.pos_service.specs.declared.plant.Form.{Form}
@@ -20,13 +20,15 @@ use Rattle.pos_profile.specs.declared.entry.Entry.{Entry}
 use Rattle.pos_profile.specs.declared.optional.OptionalKey.TheVariants.{Ring}
 use Rattle.pos_profile.specs.Kinds.{kind_of}
 use Rattle.pos_profile.specs.OptionalKeys.{has_option}
-use Rattle.std.specs.List.{filter_map}
+use Rattle.std.specs.List.{AllByRecursion, filter_map}
 use Rattle.pos_disk.specs.State.{DiskState, LeavesOnly}
 use Rattle.pos_disk.specs.declared.device.Disk.{Ghosts as DiskGhosts}
 use Rattle.pos_profile.specs.Entries.{Contents}
 use Rattle.pos_store.specs.Standing.{Standing, LeavesOneOf}
 use Rattle.pos_counter.specs.Machine.{Device, Machine}
-use Rattle.pos_counter.specs.KeptDevices.{totals_devices, totals_name}
+use Rattle.pos_counter.specs.KeptDevices.{slots_in, totals_devices, totals_name}
+use Rattle.pos_profile.specs.Registries.{IsPut}
+use Rattle.pos_profile.specs.declared.slot.Slot.{Slot}
 use Rattle.pos_counter.specs.Counters.{IsCounterSound, IsLeftDuring, machine}
 use Rattle.pos_counter.specs.Sparing.{RunSparing}
 use Rattle.pos_counter.specs.Steps.{Run}
@@ -35,6 +37,7 @@ use Rattle.pos_run.specs.declared.spares.Spares.{Spares}
 use Rattle.pos_counter.specs.Totals.{TotalsPart}
 use Rattle.pos_run.specs.declared.scripts.RunFault.{RunFault}
 use Rattle.pos_run.specs.declared.scripts.RunFault.TheVariants as fault
+use Rattle.pos_run.specs.Carried.{CarriesOutScript}
 use Rattle.pos_run.specs.Running.{RunsScript, begun_with, device_with, new_totals, off_over, script_steps}
 use Rattle.pos_run.specs.Spares.{AreSparesSound, SpareStates, spares_in}
 use Rattle.pos_run.specs.Streams.{AreUntouched, Streams}
@@ -116,6 +119,45 @@ pub record IsSimulatedFor (entry : Entry) (made : Option Wrapped) : Type 0 where
   pub simulates : IsDeviceFor entry device
   pub wrapped : made ≡ option_map (wrapped_by entry.flaky entry.recorded) device
 
+-- what a simulated peripheral is put into, by the entry that it is simulated for
+abbrev pub Mounts : Type 0 → Type 1
+Mounts P = Entry → Wrapped → P → Type 0
+
+-- it is left as it is
+abbrev pub as_it_is : Mounts Wrapped
+as_it_is entry made peripheral = peripheral ≡ made
+
+-- What serves for an entry: what is simulated for it, in the wrappers that it asks for, mounted.
+pub record IsMountedFor {P : Type 0} (mounts : Mounts P) (entry : Entry) (peripheral : P) : Type 0 where
+  pub made : Wrapped
+  pub simulated : IsSimulatedFor entry (Some made)
+  pub mounted : mounts entry made peripheral
+
+-- What serves the device of a name: it is mounted for an entry of that name.
+pub record IsMountedAs {P : Type 0} (mounts : Mounts P) (entries : List Entry) (name : List ℕ) (peripheral : P)
+    : Type 0 where
+  pub place : ℕ
+  pub entry : Entry
+  pub entry_is : slice_get entries place ≡ Some entry
+  pub named : entry.name ≡ name
+  pub mounted : IsMountedFor mounts entry peripheral
+
+-- what serves the device of a slot, if anything does, is mounted for an entry of its name
+abbrev pub HasMounted : {P : Type 0} → Mounts P → List Entry → Slot P → Type 0
+HasMounted mounts entries slot = IfSome slot.peripheral (IsMountedAs mounts entries slot.name)
+
+-- the spares that are there are mounted each for its entry, in order
+abbrev pub AreSparesMounted : {P : Type 0} → Mounts P → List Entry → List (Option P) → Type 0
+AreSparesMounted mounts [] [] = ⊤
+AreSparesMounted mounts (entry ∷ entries) (spare ∷ spares) =
+    IfSome spare (IsMountedFor mounts entry) × AreSparesMounted mounts entries spares
+AreSparesMounted mounts entries spares = ⊥
+
+-- a peripheral that is offered to the device of a name is in a slot of that name, or nothing changed
+abbrev pub Offers : {P : Type 0} → List (Slot P) → List ℕ → P → List (Slot P) → Type 0
+Offers old name peripheral new =
+    ((place : ℕ) × (put : IsPut old place peripheral new) × (put.slot.name ≡ name)) ⊎ (new ≡ old)
+
 -- what is simulated for entries, in order
 abbrev pub simulated_all : List Entry → SpareStates
 simulated_all entries = map simulated_for entries
@@ -150,6 +192,13 @@ pub record IsSimulatedCounter {D P : Type 0} (peripherals : Ghosts P) (contents 
   pub left : spares_in peripherals spares ≡ simulated_all contents.spares
   pub sound : IsCounterSound peripherals counter
   pub in_service : AreSparesSound peripherals spares
+
+-- The devices of a counter and the spares are those that are simulated for a profile's, each in the wrappers that its
+-- entry asks for, and mounted.
+pub record AreMounted {D P : Type 0} (mounts : Mounts P) (contents : Contents) (counter : Counter D P)
+    (spares : Spares P) : Type 0 where
+  pub devices : AllByRecursion (HasMounted mounts contents.devices) (slots_in counter.devices)
+  pub left : AreSparesMounted mounts contents.spares spares.peripherals.items
 
 -- What a run over a profile leaves: it is one from the profile's devices, each served by what is simulated for it, and
 -- totals that are off, with what is simulated for the spares.
@@ -193,3 +242,27 @@ abbrev pub ProfileLeaves : {D : Type 0} → DiskGhosts D → Contents → D → 
     → Type 0
 ProfileLeaves bound contents disk streams result after =
     (FindsNoMemory streams result × (after ≡ disk)) ⊎ ProfileRuns bound contents disk streams result after
+
+-- what contracts see of what is simulated
+abbrev pub wrapped_devices : Ghosts Wrapped
+wrapped_devices = record { state = λ device. wrapped_state device }
+
+-- A run over a profile is one of a counter of the profile's devices with its spares, each of them what is simulated for
+-- its entry, in the wrappers that the entry asks for; and the disk that is left is that counter's.
+pub record RunsSimulated {D : Type 0} (bound : DiskGhosts D) (contents : Contents) (disk : D) (streams : Streams)
+    (result : Result (Unit {0}) RunFault) (after : D) : Type 0 where
+  pub counter : Counter D Wrapped
+  pub spares : Spares Wrapped
+  pub simulated : IsSimulatedCounter wrapped_devices contents disk counter spares
+  pub mounted : AreMounted as_it_is contents counter spares
+  pub left : Session
+  pub end : Counter D Wrapped
+  pub run : CarriesOutScript bound wrapped_devices counter (begun_session (spares_in wrapped_devices spares)) streams
+      result left end
+  pub disk_left : after ≡ end.totals.disk
+
+-- likewise, or there was no memory, and the disk is as it was
+abbrev pub SimulatedLeaves : {D : Type 0} → DiskGhosts D → Contents → D → Streams → Result (Unit {0}) RunFault → D
+    → Type 0
+SimulatedLeaves bound contents disk streams result after =
+    (FindsNoMemory streams result × (after ≡ disk)) ⊎ RunsSimulated bound contents disk streams result after

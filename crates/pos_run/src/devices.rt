@@ -1,7 +1,11 @@
 //! The peripherals of a counter as a run begins, and as it ends.
 ghost use Rattle.std.specs.Prelude.{◌≡◌, false};
+ghost use Rattle.pos_disk.specs.State.{IsAtRest};
+ghost use Rattle.pos_totals.specs.Views.{WhenReady};
 ghost use Rattle.pos_counter.specs.Counters.{IsCounterSound, IsStepBeside};
 ghost use Rattle.pos_counter.specs.Steps.{Attach, Response};
+ghost use Rattle.pos_counter.specs.KeptDevices.{slots_in};
+ghost use Rattle.pos_run.specs.Simulating.{Offers};
 ghost use Rattle.pos_service.specs.Hardware.{hardware_of};
 
 use pos_counter::Counter;
@@ -14,6 +18,7 @@ pub fn offer<D: Disk, P: Peripheral + Ends>(counter: &mut Counter<D, P>, name: &
     requires unparked { (P.Peripheral.state peripheral).is_parked ≡ false }
     ensures step { (response : Response) × IsStepBeside P.Peripheral counter.old
         (Attach name.now (hardware_of (P.Peripheral.state peripheral))) response counter.new }
+    ensures puts { Offers (slots_in counter.old.devices) name.now peripheral (slots_in counter.new.devices) }
     ensures sound { IsCounterSound P.Peripheral counter.new }
 {
     if let Err((_, refused)) = counter.attach(name, peripheral) {
@@ -21,10 +26,12 @@ pub fn offer<D: Disk, P: Peripheral + Ends>(counter: &mut Counter<D, P>, name: &
     }
 }
 
-/// Shuts a counter down, ends what is left of it, and returns its disk.
+/// Shuts a counter down, ends what is left of it, its peripherals out of service, and returns its disk, which is at
+/// rest if the totals were ready.
 pub fn end_counter<D: Disk, P: Peripheral + Ends>(counter: Counter<D, P>) -> D
     requires { IsCounterSound P.Peripheral counter }
-    ensures { result ≡ counter.totals.disk }
+    ensures disk { result ≡ counter.totals.disk }
+    ensures at_rest { D.honest result → WhenReady counter.totals.totals.mode (IsAtRest (D.state result)) }
 {
     counter.shutdown().end()
 }

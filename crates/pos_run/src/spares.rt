@@ -1,10 +1,10 @@
 ghost use Rattle.std.specs.Prelude.{◌≡◌, false, None, Some, All, IfSome, option_map};
 ghost use Rattle.pos_run.specs.Spares.{AreSparesSound, IsEmptyAt, IsInService, spare_at, spares_in, states_in, with_spare};
 
-use pos_service::{Peripheral, PeripheralBox};
+use pos_service::{Ends, Peripheral};
 
 /// Peripherals in service that no device has, by their numbers, counted from 1. The place of one that was attached is
-/// empty. They are ended by `into_peripherals`, and boxes by `park_all`.
+/// empty. They are ended by `park_all`, or handed out by `into_peripherals`.
 pub struct Spares<P> {
     peripherals: Vec<Option<P>>,
 }
@@ -14,6 +14,7 @@ impl<P: Peripheral> Spares<P> {
     pub fn new(peripherals: Vec<Option<P>>) -> Self
         requires { All IsInService (states_in P.Peripheral peripherals.items) }
         ensures spares { spares_in P.Peripheral result ≡ states_in P.Peripheral peripherals.items }
+        ensures kept { result.peripherals ≡ peripherals }
         ensures sound { AreSparesSound P.Peripheral result }
     {
         Spares { peripherals }
@@ -59,23 +60,23 @@ impl<P: Peripheral> Spares<P> {
     }
 }
 
-impl Spares<PeripheralBox> {
+impl<P: Peripheral + Ends> Spares<P> {
     /// Takes the spares that are left out of service, and ends them. It takes no memory.
     pub fn park_all(self)
         requires { Unit {0} }
     {
-        end_boxes(self.into_peripherals());
+        end_peripherals(self.into_peripherals());
     }
 }
 
 /// Takes peripherals out of service, and ends them. It takes no memory.
-pub fn end_boxes(mut boxes: Vec<Option<PeripheralBox>>)
+pub(crate) fn end_peripherals<P: Ends>(mut peripherals: Vec<Option<P>>)
     requires { Unit {0} }
 {
-    while let Some(spare) = boxes.pop() {
+    while let Some(spare) = peripherals.pop() {
         if let Some(peripheral) = spare {
             peripheral.end();
         }
     }
-    boxes.destroy_empty();
+    peripherals.destroy_empty();
 }

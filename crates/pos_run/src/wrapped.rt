@@ -1,5 +1,5 @@
 //! The wrappers of a simulated peripheral.
-ghost use Rattle.std.specs.Prelude.{◌≡◌, false};
+ghost use Rattle.std.specs.Prelude.{◌≡◌, false, true};
 ghost use Rattle.pos_run.specs.Simulating.{state_of, wrapped_by, wrapped_state};
 
 use crate::simulation::Simulation;
@@ -7,8 +7,7 @@ use pos_service::{Ends, Input, Kind, NoMemory, Order, Peripheral, Reply, Signs, 
 use pos_sims::{Flaky, Recorder};
 
 /// A simulated peripheral with the wrappers that its entry asks for. One type has them all, so that a counter's devices
-/// are boxes of one type.
-#[derive(Drop)]
+/// are boxes of one type. It ends only parked: whoever lets it go has to show that.
 pub enum Wrapped {
     /// Without a wrapper.
     Bare(Simulation),
@@ -107,8 +106,22 @@ impl Peripheral for Wrapped {
     }
 }
 
+impl Drop for Wrapped {
+    fn drop(self)
+        requires { (wrapped_state self).is_parked ≡ true }
+    {
+        match self {
+            Wrapped::Bare(device) => drop(device),
+            Wrapped::Flaky(flaky) => drop(flaky),
+            Wrapped::Recorded(recorder) => drop(recorder),
+            Wrapped::Both(recorder) => drop(recorder),
+        }
+    }
+}
+
 impl Ends for Wrapped {
     fn end(self) {
-        drop(self);
+        let mut ending = self;
+        ending.park();
     }
 }

@@ -1,12 +1,13 @@
 -- What a move to layout 2 answers, and what a crash during it may leave.
-use Rattle.std.specs.Prelude.{◌≡◌, ◌⊎◌, List, [], ◌∷◌, Result, Ok, Err, IsErrOf, ⊤}
+use Rattle.std.specs.Prelude.{◌≡◌, ◌⊎◌, ◌<◌, ℕ, List, length, get_or, [], ◌∷◌, Result, Ok, Err, IsErrOf, ⊤}
 use Rattle.pos_disk.specs.State.{DiskState, Rises, HasNotFailed}
 use Rattle.pos_disk.specs.Keeps.{KeepsDisk}
 use Rattle.pos_disk.specs.declared.device.Disk.{Ghosts}
 use Rattle.pos_dir.specs.declared.file.File.{File}
-use Rattle.pos_image.specs.Layout.{log_place}
+use Rattle.pos_image.specs.Layout.{log_place, start}
 use Rattle.pos_image.specs.declared.layout.Layout.{Layout}
 use Rattle.pos_image.specs.declared.layout.Layout.TheVariants.{Layout1, Layout2}
+use Rattle.pos_image.specs.declared.slot.Slot.TheVariants.{Third}
 use Rattle.pos_store.specs.StoreViews.{StoreState, StoreView, Off, Ready, settled}
 use Rattle.pos_store.specs.Standing.{Stands, Passes}
 use Rattle.pos_store.specs.declared.fault.StoreFault.{StoreFault}
@@ -37,6 +38,11 @@ LeavesItsFilesMoved layout (Ready files sequence) then_layout now old new =
     Passes old new (Stands layout files sequence ∷ [])
     (settled then_layout now (Stands layout files sequence ∷ Stands Layout2 files 1 ∷ []))
 
+-- Each byte of the slots of layout 1, and so each of their gates, is as it was.
+pub record KeepsFirstLayout (old new : List ℕ) : Type 0 where
+  pub same_length : length new ≡ length old
+  pub each : (i : ℕ) → i < start Third → get_or new i 0 ≡ get_or old i 0
+
 -- What a migration does. Of the disk itself, and of what a crash may leave, it speaks where the disk is honest.
 pub record Migrates {D : Type 0} (bound : Ghosts D) (old : StoreView D) (result : Result (Unit {0}) StoreFault)
     (new : StoreView D) : Type 0 where
@@ -45,6 +51,8 @@ pub record Migrates {D : Type 0} (bound : Ghosts D) (old : StoreView D) (result 
   -- layout that the store has alone; after a fault of the disk either
   pub crash : bound.honest old.disk → LeavesItsFilesMoved old.layout old.state new.layout new.state
       (bound.state old.disk) (bound.state new.disk)
+  -- whatever it answers, no slot of layout 1 was written, and none closed
+  pub rest : bound.honest old.disk → KeepsFirstLayout (bound.state old.disk).reading (bound.state new.disk).reading
   -- the disk failed where its fault is answered
   pub device : bound.honest old.disk → IsErrOf result fault.Device
       → Rises (bound.state old.disk).failures (bound.state new.disk).failures

@@ -1,6 +1,7 @@
 -- What the bytes of a totals disk stand for, and what a crash of the disk may leave.
-use Rattle.std.specs.Prelude.{◌≡◌, ◌≢◌, ◌⊎◌, ◌<◌, ℕ, List, [], ◌∷◌, get_or, Ok}
+use Rattle.std.specs.Prelude.{◌≡◌, ◌≢◌, ◌⊎◌, ℕ, List, [], ◌∷◌, Ok}
 use Rattle.pos_disk.specs.State.{DiskState, LeavesOnly, MayLeave}
+pub use Rattle.pos_disk.specs.State.{IsBytes}
 use Rattle.pos_image.specs.Standing as image
 use Rattle.pos_log.specs.Records.{HoldsRecords}
 use Rattle.pos_dir.specs.Changes.{outcome_of_all, IsGroup}
@@ -49,10 +50,6 @@ StandsFor Damaged bytes =
     (image.image_on bytes ≢ image.NoImage)
     × ((layout : Layout) (files : List File) (sequence : ℕ) → ¬ (HoldsFiles layout files sequence bytes))
 StandsFor (Stands layout files sequence) bytes = HoldsFiles layout files sequence bytes
-
--- each is a byte
-abbrev pub IsBytes : List ℕ → Type 0
-IsBytes bytes = (i : ℕ) → get_or bytes i 0 < 256
 
 -- it is one of the candidates
 abbrev pub IsOneOf : List Standing → Standing → Type 0

@@ -11,6 +11,7 @@ mod layouts;
 mod migrating;
 mod mode;
 mod recovering;
+mod relay;
 mod store;
 
 pub use fault::StoreFault;

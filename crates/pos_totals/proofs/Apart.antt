@@ -2,7 +2,7 @@
 use Rattle.pos_totals.proofs.Common.{AllByRecursion, AreApart, FileChange, Holdings, IfSome, IfSome_then, IsSound, Layout, List, None, Option, PlainFile, Some}
 use Rattle.pos_totals.proofs.Common.{State, StoreOff, StoreReady, Tag, Whose, [], ap, arith, false, foreign_area, given_after, is_area_taken, is_foreign}
 use Rattle.pos_totals.proofs.Common.{is_foreign_claim, length, list_any, list_any-map, map, nat_tests, new_tag, reclaimed, refl, suc, sym, tag_of, tags_from}
-use Rattle.pos_totals.proofs.Common.{totals_of, with_tags, zero, ℕ, ◌+◌, ◌∙◌, ◌∷◌, ◌≡◌}
+use Rattle.pos_totals.proofs.Common.{totals_at, with_tags, zero, ℕ, ◌+◌, ◌∙◌, ◌∷◌, ◌≡◌}
 use Rattle.pos_totals.proofs.Handled.{all_with, all_without}
 use Rattle.pos_totals.proofs.Pairs.{tags_in}
 use Rattle.pos_dir.specs.declared.change.Change.TheVariants as file
@@ -60,10 +60,11 @@ no_other_left : (control : ℕ) (tags : List Tag) → list_any (λ tag. is_forei
 no_other_left control [] none = tt
 no_other_left control (tag ∷ tags) none = (grind (arith, nat_tests), no_other_left control tags (grind (arith, nat_tests)))
 
-pub sound_claimed : {layout : Layout} (state : State) (holdings : Holdings) (control : ℕ) → is_area_taken (totals_of state holdings) control ≡ false
+pub sound_claimed : {layout : Layout} (state : State) (tail : ℕ) (holdings : Holdings) (control : ℕ)
+    → is_area_taken (totals_at state tail holdings) control ≡ false
     → IsSound layout state holdings → IsSound layout state (record holdings { area = Some control })
-sound_claimed StoreOff holdings control free sound = record { found = tt; handles = tt; buffers = sound.buffers; apart = tt }
-sound_claimed (StoreReady files sequence) holdings control free sound = record {
+sound_claimed StoreOff tail holdings control free sound = record { found = tt; handles = tt; buffers = sound.buffers; apart = tt }
+sound_claimed (StoreReady files sequence) tail holdings control free sound = record {
   found = sound.found;
   handles = sound.handles;
   buffers = sound.buffers;

@@ -4,9 +4,9 @@ use Rattle.pos_totals.proofs.Common.{Edit, Err, File, FileChange, FileEdit, Ghos
 use Rattle.pos_totals.proofs.Common.{IsApplicable, IsBuffered, IsEdit, IsGiven, IsOneGroup, IsReady, IsSound, Layout, List, MayHold, Mode, NoMemory, None, Off}
 use Rattle.pos_totals.proofs.Common.{Ok, Option, PlainFile, Ready, Rename, Result, RunsOut, Some, State, StoreFault, StoreOff, StoreReady, StoreView, Totals}
 use Rattle.pos_totals.proofs.Common.{[], ap, arith, edit_in, eqb-false, false, file_change, files_after, files_of, find, first_refusal, following, given_after}
-use Rattle.pos_totals.proofs.Common.{given_by, group_by_change, handles_of, in_transaction, index_of, is_called, is_create, is_named, is_none, is_some, lacks}
+use Rattle.pos_totals.proofs.Common.{given_by, group_by_change, group_of, handles_of, in_transaction, index_of, is_called, is_create, is_named, is_none, is_some, lacks}
 use Rattle.pos_totals.proofs.Common.{last_number, length, length-map, limits_of, mode_of, nat_eq, nat_tests, next_after, not, number_rows, option_map, outcome}
-use Rattle.pos_totals.proofs.Common.{refl, refusals_of_change, slice_set, spent_by, sym, tag_of, tags_of, totals_limits, totals_of, transaction_at, true}
+use Rattle.pos_totals.proofs.Common.{refl, refusals_of_change, sequence_after, slice_set, spent_by, sym, tag_of, tags_of, totals_limits, totals_at, totals_of, transaction_at, true}
 use Rattle.pos_totals.proofs.Common.{value_after, view_of, with_buffered, with_tags, ℕ, ℤ, ◌&&◌, ◌++◌, ◌<◌, ◌^◌, ◌∙◌, ◌∷◌, ◌≡◌, ◌⊎◌}
 use Rattle.pos_totals.proofs.Edited.{is_edit, keeps_handles}
 use Rattle.pos_totals.proofs.Apart.{apart_after, files_apart}
@@ -27,27 +27,27 @@ use Rattle.pos_service.specs.declared.code.Code.TheVariants as code
 -- ---- a change that changes nothing
 
 -- the group of a change of files that are sound is one
-is_group : {layout : Layout} (state : State) (holdings : Holdings) (control : ℕ) (change : Change) → HasDirectory holdings.layout state
-    → IsSound layout state holdings → IsOneGroup (totals_of state holdings) (group_by_change (totals_of state holdings) control change)
-is_group StoreOff holdings control change directory sound = grind (arith, nat_tests)
-is_group (StoreReady files sequence) holdings control change directory sound =
-    let old = totals_of (StoreReady files sequence) holdings in
+is_group : {layout : Layout} (state : State) (tail : ℕ) (holdings : Holdings) (control : ℕ) (change : Change) → HasDirectory holdings.layout state
+    → IsSound layout state holdings → IsOneGroup (totals_at state tail holdings) (group_by_change (totals_at state tail holdings) control change)
+is_group StoreOff tail holdings control change directory sound = grind (arith, nat_tests)
+is_group (StoreReady files sequence) tail holdings control change directory sound =
+    let old = totals_at (StoreReady files sequence) tail holdings in
     where_let old (is_none (first_refusal (refusals_of_change old control change)) && not (in_transaction old control)) (change ∷ []) (λ is.
     let may : IsUnrefused holdings.layout (files_of old.mode) holdings.handles.next control (spent_by old control) change =
     record { theirs = sound_files holdings files directory sound.handles; rows = grind (arith, nat_tests) } in rw (makes change may) refl)
 
 pub stays : {D : Type 0} {bound : Ghosts D} {store : StoreView D} {holdings : Holdings} → Begins bound store holdings
     → (control : ℕ) (change : Change) (outcome : Result Answer NoMemory)
-    → Changed (HasFailed bound store.disk store.disk) (totals_of store.state holdings) control change outcome (totals_of store.state holdings)
+    → Changed (HasFailed bound store.disk store.disk) (totals_of store holdings) control change outcome (totals_of store holdings)
     → Changes bound (view_of store holdings) control change outcome (view_of store holdings)
 stays {store = store} {holdings = holdings} begins control change outcome changed = record {
   answer = changed;
-  disk = rests begins _ outcome (is_group store.state holdings control change begins.directory begins.sound);
+  disk = rests begins _ outcome (is_group store.state store.tail holdings control change begins.directory begins.sound);
 }
 
 -- a change that its table refuses
 pub refuses : {D : Type 0} {bound : Ghosts D} {store : StoreView D} {holdings : Holdings} → Begins bound store holdings
-    → (control : ℕ) (change : Change) (refusal : Answer) → ChecksAt (totals_of store.state holdings) control change (Err refusal)
+    → (control : ℕ) (change : Change) (refusal : Answer) → ChecksAt (totals_of store holdings) control change (Err refusal)
     → Changes bound (view_of store holdings) control change (Ok refusal) (view_of store holdings)
 refuses begins control change refusal checks = stays begins control change (Ok refusal) (record { outcome = rw checks (refl, refl) })
 
@@ -117,16 +117,16 @@ pub record Allowed {D : Type 0} (bound : Ghosts D) (store : StoreView D) (holdin
     : Type 0 where
   pub begins : Begins bound store holdings
   pub ready : IsReady (mode_of holdings.handles.given store.state)
-  pub unrefused : first_refusal (refusals_of_change (totals_of store.state holdings) control change) ≡ None
+  pub unrefused : first_refusal (refusals_of_change (totals_of store holdings) control change) ≡ None
   pub passes : Passes (totals_limits holdings.layout) (files_of (mode_of holdings.handles.given store.state)) control
-      (spent_by (totals_of store.state holdings) control) change made
+      (spent_by (totals_of store holdings) control) change made
   pub unrefused_here : IsUnrefused holdings.layout (files_of (mode_of holdings.handles.given store.state)) holdings.handles.next control
-      (spent_by (totals_of store.state holdings) control) change
+      (spent_by (totals_of store holdings) control) change
   pub tags : tags_of (files_of (mode_of holdings.handles.given store.state)) ≡ holdings.handles.given
 
 pub allowed : {D : Type 0} {bound : Ghosts D} (disk : D) (layout : Layout) (state : State) (tail : ℕ) (holdings : Holdings) (control : ℕ)
     (change : Change) (made : Checked) → Begins bound (record { disk = disk; layout = layout; state = state; tail = tail }) holdings
-    → ChecksAt (totals_of state holdings) control change (Ok made)
+    → ChecksAt (totals_at state tail holdings) control change (Ok made)
     → Allowed bound (record { disk = disk; layout = layout; state = state; tail = tail }) holdings control change made
 allowed disk layout StoreOff tail holdings control change made begins checks = absurd checks.1
 allowed disk layout (StoreReady files sequence) tail holdings control change made begins checks = record {
@@ -141,7 +141,7 @@ allowed disk layout (StoreReady files sequence) tail holdings control change mad
 module _ {D : Type 0} {bound : Ghosts D} {store : StoreView D} {holdings : Holdings} {control : ℕ} {change : Change} {made : Checked}
     (may : Allowed bound store holdings control change made) where
   abbrev old : Totals
-  old = totals_of store.state holdings
+  old = totals_of store holdings
 
   abbrev next : ℕ
   next = holdings.handles.next
@@ -150,7 +150,7 @@ module _ {D : Type 0} {bound : Ghosts D} {store : StoreView D} {holdings : Holdi
   one = rw (makes change may.unrefused_here) refl
 
   pub applicable : IsApplicable store.layout store.state (made.change ∷ [])
-  applicable = rw may.passes.made at (group_applies store.state holdings (change ∷ []) may.begins.sound one)
+  applicable = rw may.passes.made at (group_applies store.state store.tail holdings (change ∷ []) may.begins.sound one)
 
   lacks_so : (b : Bool) → lacks next made.change ≡ b → (is_create change && nat_eq next last_number) ≡ b
   lacks_so b lacking = sym (numbers_are (files_of old.mode) change next).0 ∙ ap (lacks next) may.passes.made ∙ lacking
@@ -195,7 +195,7 @@ module _ {D : Type 0} {bound : Ghosts D} {store : StoreView D} {holdings : Holdi
   module _ (free : is_some (transaction_at holdings.transactions control) ≡ false) where
     -- what a change does outside a transaction, by the row for its handle
     outside : (F : Type 0) (result : Answer) (new : Totals)
-        → Decided (number_rows old change) result (new ≡ old) (RunsOut old result new ⊎ Done F old (change ∷ []) (given_by next change) result new)
+        → Decided (number_rows old change) result (new ≡ old) (RunsOut old (change ∷ []) result new ⊎ Done F old (change ∷ []) (given_by next change) result new)
         → Changed F old control change (Ok result) new
     outside F result new does = record { outcome = rw (may.unrefused, none_of (transaction_at holdings.transactions control) free) does }
 
@@ -209,7 +209,7 @@ module _ {D : Type 0} {bound : Ghosts D} {store : StoreView D} {holdings : Holdi
     grouped = rw (may.unrefused, free) refl
 
     answered : (F : Type 0) → lacks next made.change ≡ false → (result : Answer) (new : Totals)
-        → RunsOut old result new ⊎ Done F old (change ∷ []) (given_by next change) result new → Changed F old control change (Ok result) new
+        → RunsOut old (change ∷ []) result new ⊎ Done F old (change ∷ []) (given_by next change) result new → Changed F old control change (Ok result) new
     answered F left result new does = outside F result new (record { outcome = rw (lacks_so false left) does })
 
 -- ---- a change that is put on the disk
@@ -223,18 +223,21 @@ module _ {D : Type 0} {bound : Ghosts D} {disk : D} {files : List PlainFile} {se
   abbrev after : List File
   after = files_after holdings.handles.next there change
 
+  abbrev later : ℕ
+  later = sequence_after holdings.layout tail (group_of there (change ∷ [])) sequence
+
   given : given_after holdings.handles.given holdings.handles.next (file_change there change) ≡ tags_of after
   given = rw may.tags at (given_is change may.unrefused_here)
 
   put : Puts bound disk files sequence tail holdings (kept_holdings holdings (file_change there change)) change [] (given_by holdings.handles.next change)
-      (λ F. Changed F (totals_of (StoreReady files sequence) holdings) control change)
+      (λ F. Changed F (totals_at (StoreReady files sequence) tail holdings) control change)
   put = record {
     begins = may.begins;
     group = one may;
     wants = λ F. (may.unrefused, refl);
     does = λ F. answered may free F left;
     ended = refl;
-    after = λ later. (
+    after = (
       rw (given, (numbers_are there change holdings.handles.next).1, called_again after) refl,
       record {
         found = refl;
@@ -260,10 +263,10 @@ put_down {holdings = holdings} {change = change} (Found disk files sequence tail
     (record { answer = did.0; disk = rw (grouped may free) did.1 }, did.2)
 
 -- the files of a store that is ready have handles of their own, what is buffered fits them, and claims are apart
-pub theirs : {layout : Layout} (state : State) (holdings : Holdings) → HasDirectory holdings.layout state → IsSound layout state holdings
-    → HasItsFiles (totals_of state holdings)
-theirs StoreOff holdings directory sound = record { files = tt; buffers = sound.buffers; apart = grind arith }
-theirs (StoreReady files sequence) holdings directory sound = record {
+pub theirs : {layout : Layout} (state : State) (tail : ℕ) (holdings : Holdings) → HasDirectory holdings.layout state → IsSound layout state holdings
+    → HasItsFiles (totals_at state tail holdings)
+theirs StoreOff tail holdings directory sound = record { files = tt; buffers = sound.buffers; apart = grind arith }
+theirs (StoreReady files sequence) tail holdings directory sound = record {
   files = sound_files holdings files directory sound.handles;
   buffers = sound.buffers;
   apart = files_apart holdings.area holdings.handles.given files sound.apart;

@@ -2,7 +2,7 @@
 use Rattle.pos_totals.proofs.Common.{Arranges, Claiming, File, Holdings, IfSome, IsSound, Layout, LetsThroughAt, List, None, Ok, Option, PlainFile, Ready}
 use Rattle.pos_totals.proofs.Common.{State, StoreOff, StoreReady, Tag, Whose, [], after_arrangement, ap, arith, arrangement_by, claim_after, claimed, false}
 use Rattle.pos_totals.proofs.Common.{foreign_area, is_foreign, is_meant, length-map, map, mode_of, nat_tests, numbers_of, reclaimed, refl, slice_set, sym}
-use Rattle.pos_totals.proofs.Common.{tag_of, totals_of, with_each, with_files, with_tags, without_control, ℕ, ℤ, ◌∙◌, ◌∷◌, ◌≡◌}
+use Rattle.pos_totals.proofs.Common.{tag_of, totals_at, with_each, with_files, with_tags, without_control, ℕ, ℤ, ◌∙◌, ◌∷◌, ◌≡◌}
 use Rattle.std.specs.Prelude.{Bool}
 use Rattle.pos_totals.proofs.Apart.{apart_reclaimed, apart_left}
 use Rattle.pos_totals.proofs.Buffered.{holds_so, held_with, none_held}
@@ -35,17 +35,17 @@ with_claims holdings whose claim = record holdings
     { handles = record { given = map (reclaimed whose claim) holdings.handles.given; next = holdings.handles.next } }
 
 -- they are as sound
-reclaims : {layout : Layout} (state : State) (holdings : Holdings) (whose : Whose) (claim : Option ℕ) → IsSound layout state holdings
-    → IfSome holdings.area (λ holder. is_foreign holder claim ≡ false) → (totals_of state (with_claims holdings whose claim)
-    ≡ record (totals_of state holdings) { mode = with_files (with_each (meets whose) (claimed claim)) (mode_of holdings.handles.given state) })
+reclaims : {layout : Layout} (state : State) (tail : ℕ) (holdings : Holdings) (whose : Whose) (claim : Option ℕ) → IsSound layout state holdings
+    → IfSome holdings.area (λ holder. is_foreign holder claim ≡ false) → (totals_at state tail (with_claims holdings whose claim)
+    ≡ record (totals_at state tail holdings) { mode = with_files (with_each (meets whose) (claimed claim)) (mode_of holdings.handles.given state) })
     × IsSound layout state (with_claims holdings whose claim)
-reclaims StoreOff holdings whose claim sound own = (refl, record { found = tt; handles = tt; buffers = sound.buffers; apart = tt })
-reclaims (StoreReady files sequence) holdings whose claim sound own =
+reclaims StoreOff tail holdings whose claim sound own = (refl, record { found = tt; handles = tt; buffers = sound.buffers; apart = tt })
+reclaims (StoreReady files sequence) tail holdings whose claim sound own =
     let tags = holdings.handles.given in
     let xs = with_tags tags files in
     let same = files_reclaimed whose claim tags files in
     let numbers = numbers_reclaimed whose claim tags in (
-      ap (λ (fs : List File). record (totals_of (StoreReady files sequence) holdings) { mode = Ready fs sequence }) same,
+      ap (λ (fs : List File). record (totals_at (StoreReady files sequence) tail holdings) { mode = Ready fs sequence }) same,
       record {
         found = sound.found;
         handles = record {
@@ -62,19 +62,19 @@ reclaims (StoreReady files sequence) holdings whose claim sound own =
 
 -- ---- the claim of a file
 
-pub claim_changes : {layout : Layout} (state : State) (holdings : Holdings) (control : ℕ) (handle : ℤ) (claiming : Claiming) (number : ℕ)
-    → LetsThroughAt (totals_of state holdings) control (arrangement_by handle claiming) handle (Ok number) → IsSound layout state holdings
+pub claim_changes : {layout : Layout} (state : State) (tail : ℕ) (holdings : Holdings) (control : ℕ) (handle : ℤ) (claiming : Claiming) (number : ℕ)
+    → LetsThroughAt (totals_at state tail holdings) control (arrangement_by handle claiming) handle (Ok number) → IsSound layout state holdings
     → let later = with_claims holdings (whose.File number) (claim_after control claiming) in
-    Arranges (totals_of state holdings) control (arrangement_by handle claiming) (answer.Done value.Empty) (totals_of state later)
+    Arranges (totals_at state tail holdings) control (arrangement_by handle claiming) (answer.Done value.Empty) (totals_at state tail later)
     × IsSound layout state later
-claim_changes state holdings control handle claiming number through sound =
+claim_changes state tail holdings control handle claiming number through sound =
     let passes = through.0 in
-    let both = reclaims state holdings (whose.File number) (claim_after control claiming) sound (grind (arith, nat_tests)) in
+    let both = reclaims state tail holdings (whose.File number) (claim_after control claiming) sound (grind (arith, nat_tests)) in
     (record { outcome = rw passes (refl, both.0 ∙ after claiming) }, both.1)
   where
-    after : (how : Claiming) → record (totals_of state holdings)
+    after : (how : Claiming) → record (totals_at state tail holdings)
         { mode = with_files (with_each (meets (whose.File number)) (claimed (claim_after control how))) (mode_of holdings.handles.given state) }
-        ≡ after_arrangement (totals_of state holdings) control (arrangement_by handle how)
+        ≡ after_arrangement (totals_at state tail holdings) control (arrangement_by handle how)
     after how = grind (arith, nat_tests)
 
 -- ---- the end of all that a control has
@@ -83,10 +83,10 @@ claim_changes state holdings control handle claiming number through sound =
 abbrev pub without : Holdings → ℕ → Holdings
 without holdings control = record holdings { area = foreign_area control holdings.area; transactions = slice_set holdings.transactions control None }
 
-pub control_dropped : {layout : Layout} (state : State) (holdings : Holdings) (control : ℕ) → IsSound layout state holdings
+pub control_dropped : {layout : Layout} (state : State) (tail : ℕ) (holdings : Holdings) (control : ℕ) → IsSound layout state holdings
     → let later = with_claims (without holdings control) (whose.Control control) None in
-    (totals_of state later ≡ without_control (totals_of state holdings) control) × IsSound layout state later
-control_dropped state holdings control sound = reclaims state (without holdings control) (whose.Control control) None (record {
+    (totals_at state tail later ≡ without_control (totals_at state tail holdings) control) × IsSound layout state later
+control_dropped state tail holdings control sound = reclaims state tail (without holdings control) (whose.Control control) None (record {
   found = sound.found;
   handles = sound.handles;
   buffers = held_with (mode_of holdings.handles.given state) holdings.handles.next holdings.transactions control None sound.buffers

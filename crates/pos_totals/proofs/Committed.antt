@@ -2,9 +2,9 @@
 use Rattle.pos_totals.proofs.Common.{AllByRecursion, Answer, Change, CommitsBuffer, Committed, EndsBuffer, Err, File, FileChange, Gathers, Ghosts, HasDirectory}
 use Rattle.pos_totals.proofs.Common.{HasFailed, Holdings, IsApplicable, IsBuffered, IsOneGroup, IsReady, IsSound, Layout, List, NoMemory, None, Ok, Option}
 use Rattle.pos_totals.proofs.Common.{PlainFile, PutsBuffer, Ready, Result, Some, State, StoreFault, StoreOff, StoreReady, StoreView, Tag, Totals, [], ap, arith}
-use Rattle.pos_totals.proofs.Common.{changes_in, false, files_after_all, files_of, first_refusal, group_by_commit, inl, inr, is_of_none, length, length-map}
-use Rattle.pos_totals.proofs.Common.{list_any, mode_of, nat_tests, outcome, plain, plain_file, refl, refusals_of_commit, slice_set, suc, sym, tag_of, tags_of}
-use Rattle.pos_totals.proofs.Common.{totals_of, transaction_at, view_of, with_tags, without_transactions, zero, ℕ, ◌∙◌, ◌∷◌, ◌≡◌}
+use Rattle.pos_totals.proofs.Common.{changes_in, false, files_after_all, files_of, first_refusal, group_by_commit, group_of, inl, inr, is_of_none, length, length-map}
+use Rattle.pos_totals.proofs.Common.{list_any, mode_of, nat_tests, outcome, plain, plain_file, refl, refusals_of_commit, sequence_after, slice_set, suc, sym, tag_of, tags_of}
+use Rattle.pos_totals.proofs.Common.{totals_at, totals_of, transaction_at, view_of, with_tags, without_transactions, zero, ℕ, ◌∙◌, ◌∷◌, ◌≡◌}
 use Rattle.pos_totals.proofs.Buffered.{makes_all, keeps_all, held_at, held_with, holds_so, none_held}
 use Rattle.pos_totals.proofs.Outlined.{same_buffered}
 use Rattle.pos_totals.proofs.Pairs.{tags_in, called_again}
@@ -17,47 +17,47 @@ use Rattle.pos_service.specs.declared.answer.Value.TheVariants as value
 -- ---- a commit that is let through
 
 -- the totals are ready
-ready_so : (state : State) (holdings : Holdings) (control : ℕ) → first_refusal (refusals_of_commit (totals_of state holdings) control) ≡ None
+ready_so : (state : State) (tail : ℕ) (holdings : Holdings) (control : ℕ) → first_refusal (refusals_of_commit (totals_at state tail holdings) control) ≡ None
     → IsReady (mode_of holdings.handles.given state)
-ready_so state holdings control passes = grind (arith, nat_tests)
+ready_so state tail holdings control passes = grind (arith, nat_tests)
 
 -- all that is buffered for files is one group
-one_group : {layout : Layout} (state : State) (holdings : Holdings) (control : ℕ) (buffer : List Change) → HasDirectory holdings.layout state
-    → IsSound layout state holdings → first_refusal (refusals_of_commit (totals_of state holdings) control) ≡ None
-    → transaction_at holdings.transactions control ≡ Some buffer → IsOneGroup (totals_of state holdings) buffer
-one_group StoreOff holdings control buffer directory sound passes some = absurd (grind (arith, nat_tests))
-one_group (StoreReady files sequence) holdings control buffer directory sound passes some =
+one_group : {layout : Layout} (state : State) (tail : ℕ) (holdings : Holdings) (control : ℕ) (buffer : List Change) → HasDirectory holdings.layout state
+    → IsSound layout state holdings → first_refusal (refusals_of_commit (totals_at state tail holdings) control) ≡ None
+    → transaction_at holdings.transactions control ≡ Some buffer → IsOneGroup (totals_at state tail holdings) buffer
+one_group StoreOff tail holdings control buffer directory sound passes some = absurd (grind (arith, nat_tests))
+one_group (StoreReady files sequence) tail holdings control buffer directory sound passes some =
     let xs = with_tags holdings.handles.given files in
     let there : list_any (is_of_none xs) buffer ≡ false = grind (arith, nat_tests) in
     makes_all holdings.layout xs holdings.handles.next buffer (sound_files holdings files directory sound.handles).distinct
     (held_at (Ready xs sequence) holdings.handles.next holdings.transactions control buffer sound.buffers some) there
 
 -- so is the group of any commit
-is_group : {layout : Layout} (state : State) (holdings : Holdings) (control : ℕ) → HasDirectory holdings.layout state → IsSound layout state holdings
-    → IsOneGroup (totals_of state holdings) (group_by_commit (totals_of state holdings) control)
-is_group state holdings control directory sound = where_let (totals_of state holdings) _ _ (λ is. by _ refl (grind (arith, nat_tests)))
+is_group : {layout : Layout} (state : State) (tail : ℕ) (holdings : Holdings) (control : ℕ) → HasDirectory holdings.layout state → IsSound layout state holdings
+    → IsOneGroup (totals_at state tail holdings) (group_by_commit (totals_at state tail holdings) control)
+is_group state tail holdings control directory sound = where_let (totals_at state tail holdings) _ _ (λ is. by _ refl (grind (arith, nat_tests)))
   where
     by : (t : Option (List Change)) → transaction_at holdings.transactions control ≡ t
-        → first_refusal (refusals_of_commit (totals_of state holdings) control) ≡ None → IsOneGroup (totals_of state holdings) (changes_in t)
+        → first_refusal (refusals_of_commit (totals_at state tail holdings) control) ≡ None → IsOneGroup (totals_at state tail holdings) (changes_in t)
     by None some passes = refl
-    by (Some buffer) some passes = one_group state holdings control buffer directory sound passes some
+    by (Some buffer) some passes = one_group state tail holdings control buffer directory sound passes some
 
 -- its group is applicable
-pub applicable : {layout : Layout} (state : State) (holdings : Holdings) (control : ℕ) (group : List FileChange) → HasDirectory holdings.layout state
-    → IsSound layout state holdings → first_refusal (refusals_of_commit (totals_of state holdings) control) ≡ None
-    → Gathers (files_of (totals_of state holdings).mode) (transaction_at holdings.transactions control) group → IsApplicable layout state group
-applicable state holdings control group directory sound passes gathered = rw gathered.made (group_applies state holdings
-    (gathered.first ∷ gathered.others) sound (one_group state holdings control _ directory sound passes gathered.buffered))
+pub applicable : {layout : Layout} (state : State) (tail : ℕ) (holdings : Holdings) (control : ℕ) (group : List FileChange) → HasDirectory holdings.layout state
+    → IsSound layout state holdings → first_refusal (refusals_of_commit (totals_at state tail holdings) control) ≡ None
+    → Gathers (files_of (totals_at state tail holdings).mode) (transaction_at holdings.transactions control) group → IsApplicable layout state group
+applicable state tail holdings control group directory sound passes gathered = rw gathered.made (group_applies state tail holdings
+    (gathered.first ∷ gathered.others) sound (one_group state tail holdings control _ directory sound passes gathered.buffered))
 
 -- ---- where the disk isn't used
 
 module _ {D : Type 0} {bound : Ghosts D} {store : StoreView D} {holdings : Holdings} (begins : Begins bound store holdings) (control : ℕ) where
   abbrev totals : Totals
-  totals = totals_of store.state holdings
+  totals = totals_of store holdings
 
   stays : (outcome : Result Answer NoMemory) → Committed (HasFailed bound store.disk store.disk) totals control outcome totals
       → CommitsBuffer bound (view_of store holdings) control outcome (view_of store holdings)
-  stays outcome answer = record { answer = answer; disk = rests begins _ outcome (is_group store.state holdings control begins.directory begins.sound) }
+  stays outcome answer = record { answer = answer; disk = rests begins _ outcome (is_group store.state store.tail holdings control begins.directory begins.sound) }
 
   -- a commit that is refused
   pub refuses : (refusal : Answer) → first_refusal (refusals_of_commit totals control) ≡ Some refusal
@@ -97,10 +97,10 @@ none_left (first ∷ others) (suc control) = ap (λ ts. None ∷ ts) (none_left 
 
 module _ {D : Type 0} {bound : Ghosts D} {disk : D} {files : List PlainFile} {sequence tail : ℕ} {holdings : Holdings}
     (begins : Begins bound (ready_store disk files sequence tail holdings) holdings) (control : ℕ)
-    (passes : first_refusal (refusals_of_commit (totals_of (StoreReady files sequence) holdings) control) ≡ None) (first : Change) (others : List Change)
+    (passes : first_refusal (refusals_of_commit (totals_at (StoreReady files sequence) tail holdings) control) ≡ None) (first : Change) (others : List Change)
     (some : transaction_at holdings.transactions control ≡ Some (first ∷ others)) where
   abbrev old : Totals
-  old = totals_of (StoreReady files sequence) holdings
+  old = totals_at (StoreReady files sequence) tail holdings
 
   abbrev next : ℕ
   next = holdings.handles.next
@@ -110,6 +110,9 @@ module _ {D : Type 0} {bound : Ghosts D} {disk : D} {files : List PlainFile} {se
 
   abbrev after : List File
   after = files_after_all next there (first ∷ others)
+
+  abbrev later : ℕ
+  later = sequence_after holdings.layout tail (group_of there (first ∷ others)) sequence
 
   grouped : group_by_commit old control ≡ first ∷ others
   grouped = rw (passes, some) refl
@@ -126,11 +129,11 @@ module _ {D : Type 0} {bound : Ghosts D} {disk : D} {files : List PlainFile} {se
   put : Puts bound disk files sequence tail holdings (ended begins control) first others value.Empty (λ F. Committed F old control)
   put = record {
     begins = begins;
-    group = one_group (StoreReady files sequence) holdings control (first ∷ others) begins.directory begins.sound passes some;
+    group = one_group (StoreReady files sequence) tail holdings control (first ∷ others) begins.directory begins.sound passes some;
     wants = λ F. (passes, refl);
     does = λ F result new does. record { outcome = rw (passes, some) does };
     ended = none_left holdings.transactions control;
-    after = λ later. (
+    after = (
       rw (mode, (keeps_all there next (first ∷ others) buffered).2) refl,
       record {
         found = refl;
@@ -149,7 +152,7 @@ module _ {D : Type 0} {bound : Ghosts D} {disk : D} {files : List PlainFile} {se
 
 -- a group that the store has answered: it is put down, or the store refused it
 pub put_down : {D : Type 0} {bound : Ghosts D} {store : StoreView D} {holdings : Holdings} → IsFound holdings store → (begins : Begins bound store holdings)
-    (control : ℕ) → first_refusal (refusals_of_commit (totals_of store.state holdings) control) ≡ None → (new : StoreView D)
+    (control : ℕ) → first_refusal (refusals_of_commit (totals_of store holdings) control) ≡ None → (new : StoreView D)
     (result : Result (Unit {0}) StoreFault)
     → PutsBuffer bound store (files_of (mode_of holdings.handles.given store.state)) (transaction_at holdings.transactions control) result new
     → let now = later_holdings holdings (ended begins control) result in
@@ -161,12 +164,12 @@ put_down (Found disk files sequence tail) begins control passes new result does 
 
 -- a store whose commit is let through
 pub found : {D : Type 0} {bound : Ghosts D} {store : StoreView D} {holdings : Holdings} → Begins bound store holdings → (control : ℕ)
-    → first_refusal (refusals_of_commit (totals_of store.state holdings) control) ≡ None → IsFound holdings store
-found {store = store} {holdings = holdings} begins control passes = as_found begins (ready_so store.state holdings control passes)
+    → first_refusal (refusals_of_commit (totals_of store holdings) control) ≡ None → IsFound holdings store
+found {store = store} {holdings = holdings} begins control passes = as_found begins (ready_so store.state store.tail holdings control passes)
 
 -- a commit that is done, with a group on the disk or with nothing to do
 pub done : {D : Type 0} {bound : Ghosts D} {store : StoreView D} {holdings : Holdings} (begins : Begins bound store holdings) (control : ℕ)
-    (new : StoreView D) → first_refusal (refusals_of_commit (totals_of store.state holdings) control) ≡ None
+    (new : StoreView D) → first_refusal (refusals_of_commit (totals_of store holdings) control) ≡ None
     → EndsBuffer bound store (files_of (mode_of holdings.handles.given store.state)) (transaction_at holdings.transactions control) new
     → CommitsBuffer bound (view_of store holdings) control (Ok (answer.Done value.Empty)) (view_of new (ended begins control))
     × IsSound new.layout new.state (ended begins control)

@@ -17,7 +17,7 @@ pub use Rattle.pos_service.specs.declared.answer.Value.{Value}
 pub use Rattle.pos_service.specs.declared.memory.NoMemory.{NoMemory}
 pub use Rattle.pos_store.proofs.Passing.{settles, stays, wider}
 pub use Rattle.pos_store.proofs.Recovered.{never_failed}
-pub use Rattle.pos_store.specs.Commits.{Commits, IsApplicable, IsExhausted, PutsDown, sequence_after}
+pub use Rattle.pos_store.specs.Commits.{Commits, IsApplicable, IsExhausted, PutsDown, fits_behind as store_fits_behind, sequence_after, tail_after}
 pub use Rattle.pos_store.specs.Layouts.{limits_of}
 pub use Rattle.pos_store.specs.Standing.{LeavesOneOf, Passes, Standing, Stands, StandsFor, StandsForOneOf}
 pub use Rattle.pos_store.specs.StoreViews.{LeavesItsFiles, Off as StoreOff, Ready as StoreReady, StoreState as State, StoreView, files_of as store_files_of}
@@ -35,13 +35,13 @@ pub use Rattle.pos_totals.specs.Recoveries.{FindsFiles, Recovers, numbered, told
 pub use Rattle.pos_dir.proofs.Outlined.{list_any-map, sum_by-map}
 pub use Rattle.pos_totals.specs.Tables.{HandleTable, is_meant, new_tag, reclaimed}
 pub use Rattle.pos_totals.specs.TotalsArrangements.{Arranges, after_arrangement, arrangement_by, claim_after, claimed}
-pub use Rattle.pos_totals.specs.TotalsChanges.{Changed, Done, RunsOut, after_changes, change_rows, files_after, files_after_all, fits_file, given_by}
+pub use Rattle.pos_totals.specs.TotalsChanges.{Changed, Done, RunsOut, after_changes, change_rows, files_after, files_after_all, fits_behind, fits_file, given_by}
 pub use Rattle.pos_totals.specs.TotalsChanges.{group_by_change, is_create, next_after, next_after_all, number_rows, refusals_of_change, spent_by}
 pub use Rattle.pos_totals.specs.TotalsClaims.{foreign_area, is_area_taken, is_foreign_claim, without_control}
 pub use Rattle.pos_totals.specs.TotalsCommits.{Committed, group_by_commit, is_of_foreign, is_of_none, refusals_of_commit}
 pub use Rattle.pos_totals.specs.TotalsFiles.{free_data, has_file, is_called, is_named, size_in_sum, with_each}
 pub use Rattle.pos_totals.specs.Views.{AreApart, AreDistinct, AreHandles, AreTheirFiles, HasDirectory, HasItsFiles, IsReady, IsSound, LeavesTheirFiles, WhenOff}
-pub use Rattle.pos_totals.specs.Views.{called, handles_of, mode_of, numbers_of, plain, plain_file, stored, tag_of, tags_of, totals_of, view_of, with_tags}
+pub use Rattle.pos_totals.specs.Views.{called, handles_of, mode_of, numbers_of, plain, plain_file, stored, tag_of, tags_of, tail_of, totals_at, totals_of, view_of, with_tags}
 pub use Rattle.pos_totals.specs.declared.fault.RecoveryFault.{RecoveryFault}
 pub use Rattle.pos_totals.specs.declared.files.Files.{Files}
 pub use Rattle.pos_totals.specs.declared.files.Found.{Found}

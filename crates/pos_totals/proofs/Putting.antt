@@ -5,13 +5,16 @@ use Rattle.pos_totals.proofs.Common.{KeepsDisk, Layout, LeavesItsFiles, LeavesOn
 use Rattle.pos_totals.proofs.Common.{PlainFile, PutsDown, PutsGroup, Ready, Result, RunsOut, Standing, Stands, StandsFor, StandsForOneOf, State, StoreFault}
 use Rattle.pos_totals.proofs.Common.{StoreOff, StoreReady, StoreView, Totals, Value, WhenOff, [], after_changes, answer_of, ap, arith, before_or_after, cond}
 use Rattle.pos_totals.proofs.Common.{eq-eqb, false, files_after_all, files_of, group_of, in_doubt, inl, inr, last_number, limits_of, map, mode_of, nat_eq}
-use Rattle.pos_totals.proofs.Common.{nat_tests, never_failed, next_sequences, outcome, outcome_of_all, plain, refl, sequence_after, settled, stays}
-use Rattle.pos_totals.proofs.Common.{store_settled, subst, totals_of, transactions_after, true, view_of, wider, with_tags, without_transactions, ℕ, ⊎_elim, ◌∷◌}
+use Rattle.pos_totals.proofs.Common.{nat_tests, never_failed, next_sequences, outcome, outcome_of_all, plain, refl, sequence_after, settled, stays, tail_after}
+use Rattle.pos_totals.proofs.Common.{store_settled, subst, totals_at, totals_of, transactions_after, true, view_of, wider, with_tags, without_transactions, ℕ, ⊎_elim, ◌∷◌}
 use Rattle.pos_totals.proofs.Common.{◌≡◌, ◌⊎◌}
 use Rattle.pos_totals.proofs.Pairs.{plain_of, numbers_in}
 use Rattle.pos_totals.proofs.Buffered.{none_hold}
 use Rattle.pos_service.specs.declared.answer.Answer.TheVariants as answer
 use Rattle.pos_store.specs.Commits as store
+use Rattle.pos_store.specs.Recoveries.{EndsAt}
+use Rattle.pos_store.specs.StoreViews.{WhenReady as StoreWhenReady}
+use Rattle.pos_totals.specs.Views.{WhenReady, tail_of}
 use Rattle.pos_store.specs.declared.fault.StoreFault.TheVariants as fault
 
 -- ---- groups
@@ -43,6 +46,13 @@ their_files StoreOff holdings disk sound leaves = tt
 their_files (StoreReady files sequence) holdings disk sound leaves =
     rw (plain_of holdings.handles.given files sound.handles.count, ← sound.found) leaves
 
+-- where the records of its disk end, in the totals' words
+pub their_end : {layout : Layout} (state : State) (tail : ℕ) (holdings : Holdings) (bytes : List ℕ) → IsSound layout state holdings
+    → StoreWhenReady state (EndsAt layout tail bytes)
+    → WhenReady (mode_of holdings.handles.given state) (EndsAt holdings.layout (tail_of state tail) bytes)
+their_end StoreOff tail holdings bytes sound ends = tt
+their_end (StoreReady files sequence) tail holdings bytes sound ends = rw (← sound.found) ends
+
 -- a store that is ready, of the layout that was found
 abbrev pub ready_store : {D : Type 0} → D → List PlainFile → ℕ → ℕ → Holdings → StoreView D
 ready_store disk files sequence tail holdings = record { disk = disk; layout = holdings.layout; state = StoreReady files sequence; tail = tail }
@@ -57,7 +67,7 @@ is_found disk layout (StoreReady files sequence) tail holdings sound ready = rw 
 
 -- a disk that no call has touched
 pub keeps : {D : Type 0} (bound : Ghosts D) (disk : D) → KeepsDisk bound disk disk
-keeps bound disk = record { size = refl; honest = (λ h. h, λ h. h); later = λ h. omega arith }
+keeps bound disk = record { size = refl; honest = (λ h. h, λ h. h); later = λ h. omega arith; fixed = refl }
 
 -- a group for which it isn't touched
 passes_here : (disk : DiskState) (layout : Layout) (next : ℕ) (mode : Mode) (changes : List Change) (left : List Standing)
@@ -99,7 +109,7 @@ module _ {D : Type 0} {bound : Ghosts D} {store : StoreView D} {holdings : Holdi
 
   -- a call that leaves all but the transactions as it is, whatever its group
   pub idles : (transactions : List (Option (List Change))) (changes : List Change) (outcome : Result Answer NoMemory)
-      → IsOneGroup (totals_of store.state holdings) changes → (¬ (IsDone outcome) → transactions ≡ holdings.transactions)
+      → IsOneGroup (totals_of store holdings) changes → (¬ (IsDone outcome) → transactions ≡ holdings.transactions)
       → PutsGroup bound (view_of store holdings) changes outcome (view_of store (record holdings { transactions = transactions }))
   idles transactions changes outcome group same = record {
     group = group;
@@ -112,7 +122,7 @@ module _ {D : Type 0} {bound : Ghosts D} {store : StoreView D} {holdings : Holdi
   }
 
   -- a call that leaves everything as it is
-  pub rests : (changes : List Change) (outcome : Result Answer NoMemory) → IsOneGroup (totals_of store.state holdings) changes
+  pub rests : (changes : List Change) (outcome : Result Answer NoMemory) → IsOneGroup (totals_of store holdings) changes
       → PutsGroup bound (view_of store holdings) changes outcome (view_of store holdings)
   rests changes outcome group = idles holdings.transactions changes outcome group (λ refused. refl)
 
@@ -134,11 +144,11 @@ stands_among layout files sequence (first ∷ others) among bytes stands =
 -- ---- a group that the store takes
 
 -- a group of the files without their handles is applicable to the files of the store
-pub group_applies : {layout : Layout} (state : State) (holdings : Holdings) (changes : List Change) → IsSound layout state holdings
-    → IsOneGroup (totals_of state holdings) changes
+pub group_applies : {layout : Layout} (state : State) (tail : ℕ) (holdings : Holdings) (changes : List Change) → IsSound layout state holdings
+    → IsOneGroup (totals_at state tail holdings) changes
     → IsApplicable layout state (group_of (files_of (mode_of holdings.handles.given state)) changes)
-group_applies StoreOff holdings changes sound group = tt
-group_applies (StoreReady files sequence) holdings changes sound group =
+group_applies StoreOff tail holdings changes sound group = tt
+group_applies (StoreReady files sequence) tail holdings changes sound group =
     rw (sound.found, (rw (plain_of holdings.handles.given files sound.handles.count) at group)) refl
 
 -- What a call is that puts a group on the disk of a store that is ready: its table answers it by what becomes of the group, and the files after the group are
@@ -146,15 +156,16 @@ group_applies (StoreReady files sequence) holdings changes sound group =
 pub record Puts {D : Type 0} (bound : Ghosts D) (disk : D) (files : List PlainFile) (sequence tail : ℕ) (holdings later : Holdings) (change : Change)
     (changes : List Change) (given : Value) (A : Type 0 → Result Answer NoMemory → Totals → Type 0) : Type 1 where
   pub begins : Begins bound (ready_store disk files sequence tail holdings) holdings
-  pub group : IsOneGroup (totals_of (StoreReady files sequence) holdings) (change ∷ changes)
-  pub wants : (F : Type 0) → A F (Err (record {})) (totals_of (StoreReady files sequence) holdings)
-  pub does : (F : Type 0) (result : Answer) (totals : Totals) → RunsOut (totals_of (StoreReady files sequence) holdings) result totals
-      ⊎ Done F (totals_of (StoreReady files sequence) (record holdings { transactions = later.transactions })) (change ∷ changes) given result totals
+  pub group : IsOneGroup (totals_at (StoreReady files sequence) tail holdings) (change ∷ changes)
+  pub wants : (F : Type 0) → A F (Err (record {})) (totals_at (StoreReady files sequence) tail holdings)
+  pub does : (F : Type 0) (result : Answer) (totals : Totals) → RunsOut (totals_at (StoreReady files sequence) tail holdings) (change ∷ changes) result totals
+      ⊎ Done F (totals_at (StoreReady files sequence) tail (record holdings { transactions = later.transactions })) (change ∷ changes) given result totals
       → A F (Ok result) totals
   pub ended : without_transactions later.transactions ≡ without_transactions holdings.transactions
-  pub after : (sequence_then : ℕ)
-      → let files_then = plain (files_after_all holdings.handles.next (with_tags holdings.handles.given files) (change ∷ changes)) in
-      (totals_of (StoreReady files_then sequence_then) later ≡ after_changes (totals_of (StoreReady files sequence)
+  pub after : let sequence_then = sequence_after holdings.layout tail (group_of (with_tags holdings.handles.given files) (change ∷ changes)) sequence in
+      let tail_then = tail_after holdings.layout tail (group_of (with_tags holdings.handles.given files) (change ∷ changes)) in
+      let files_then = plain (files_after_all holdings.handles.next (with_tags holdings.handles.given files) (change ∷ changes)) in
+      (totals_at (StoreReady files_then sequence_then) tail_then later ≡ after_changes (totals_at (StoreReady files sequence) tail
       (record holdings { transactions = later.transactions })) (change ∷ changes) sequence_then)
       × IsSound holdings.layout (StoreReady files_then sequence_then) later
 
@@ -187,6 +198,9 @@ module _ {D : Type 0} {bound : Ghosts D} {disk : D} {files : List PlainFile} {se
   abbrev then_sequence : ℕ
   then_sequence = sequence_after layout tail all sequence
 
+  abbrev then_tail : ℕ
+  then_tail = tail_after layout tail all
+
   -- what the store's commit may leave is among the candidates of the call
   among : ¬ (IsExhausted layout tail all sequence) → (bytes : List ℕ) → StandsForOneOf (store.left_by layout files sequence tail all) bytes
       → StandsForOneOf (before_or_after layout holdings.handles.next (Ready xs sequence) (change ∷ changes)) bytes
@@ -211,15 +225,15 @@ module _ {D : Type 0} {bound : Ghosts D} {disk : D} {files : List PlainFile} {se
   pub puts : (new : StoreView D) (result : Result (Unit {0}) StoreFault) → Commits bound old all result new
       → let outcome = answer_by given result in
       let now = later_holdings holdings later result in
-      A (HasFailed bound disk new.disk) outcome (totals_of new.state now)
+      A (HasFailed bound disk new.disk) outcome (totals_of new now)
       × PutsGroup bound (view_of old holdings) (change ∷ changes) outcome (view_of new now) × IsSound new.layout new.state now
   puts new (Ok _) commits =
       let down = put_down (Ok tt) new commits.answer in
-      let both = it.after then_sequence in
-      let now : A (HasFailed bound disk new.disk) (Ok (answer.Done given)) (totals_of (StoreReady (plain after) then_sequence) later)
+      let both = it.after in
+      let now : A (HasFailed bound disk new.disk) (Ok (answer.Done given)) (totals_at (StoreReady (plain after) then_sequence) then_tail later)
       × PutsGroup bound (view_of old holdings) (change ∷ changes) (Ok (answer.Done given))
-      (record { disk = new.disk; totals = totals_of (StoreReady (plain after) then_sequence) later }) = rw both.0 (
-        it.does _ _ _ (inr (inl (refl, record { sequence = then_sequence; follows = follows layout tail all sequence down.0; totals = refl }))),
+      (record { disk = new.disk; totals = totals_at (StoreReady (plain after) then_sequence) then_tail later }) = rw both.0 (
+        it.does _ _ _ (inr (inl (refl, record { sequence = then_sequence; follows = follows layout tail all sequence down.0; is = refl; totals = refl }))),
         record {
           group = it.group;
           untouched = λ none. absurd cc;
@@ -229,13 +243,13 @@ module _ {D : Type 0} {bound : Ghosts D} {disk : D} {files : List PlainFile} {se
           kept = commits.keeps;
         },
       ) in
-      rw (down.1, commits.layout) (now.0, now.1, both.1)
+      rw (down.1, down.2, commits.layout) (now.0, now.1, both.1)
   puts new (Err fault.NoMemory) commits =
       rw (put_down (Err fault.NoMemory) new commits.answer) (it.wants _, rests it.begins (change ∷ changes) _ it.group, it.begins.sound)
   puts new (Err fault.Exhausted) commits =
       let down = put_down (Err fault.Exhausted) new commits.answer in
       let last : nat_eq sequence last_number ≡ true = eq-eqb sequence last_number (let l = down.0.1 in omega (arith, l)) in
-      rw down.1 (it.does _ _ _ (inl (last, refl, refl)), rests it.begins (change ∷ changes) _ it.group, it.begins.sound)
+      rw down.1 (it.does _ _ _ (inl (last, down.0.0, refl, refl)), rests it.begins (change ∷ changes) _ it.group, it.begins.sound)
   puts new (Err fault.Device) commits =
       let down = put_down (Err fault.Device) new commits.answer in
       rw down.1 (

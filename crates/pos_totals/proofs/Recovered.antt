@@ -2,7 +2,7 @@
 use Rattle.pos_totals.proofs.Common.{Err, FindsFiles, Ghosts, HandleTable, Holdings, IsErrOf, IsSound, Layout, Layout1, LeavesItsFiles, LeavesTheirFiles, List}
 use Rattle.pos_totals.proofs.Common.{Numbers, Ok, PlainFile, Recovers, RecoveryFault, Result, Some, Standing, State, StoreFault, StoreOff, StoreReady}
 use Rattle.pos_totals.proofs.Common.{StoreView, arith, false, inl, inr, is_some, length, mode_of, nat_tests, refl, settles, store_files_of, store_mode_of}
-use Rattle.pos_totals.proofs.Common.{stored, tags_from, told_as, totals_of, true, view_of, with_tags, ℕ, ⊎_elim, ◌+◌, ◌↔◌, ◌≡◌}
+use Rattle.pos_totals.proofs.Common.{stored, tags_from, told_as, totals_at, true, view_of, with_tags, ℕ, ⊎_elim, ◌+◌, ◌↔◌, ◌≡◌}
 use Rattle.pos_totals.proofs.Apart.{apart_new}
 use Rattle.pos_totals.proofs.Buffered.{off_holds}
 use Rattle.pos_totals.proofs.Numbered.{with_numbers, are_numbers}
@@ -35,7 +35,7 @@ ready_recovers bound disk layout (StoreReady files sequence) tail holdings sound
 -- a fault of the store, which is off
 told_finds : (P : Standing → Type 0) (holdings : Holdings) (why : StoreFault) (result : RecoveryFault) (layout : Layout) (state : State)
     → store.FindsStanding P (Err why) layout state → told_as why ≡ Some result
-    → (state ≡ StoreOff) × FindsFiles P (totals_of StoreOff holdings) (Err result) (totals_of StoreOff holdings)
+    → (state ≡ StoreOff) × FindsFiles P (totals_at StoreOff 0 holdings) (Err result) (totals_at StoreOff 0 holdings)
 told_finds P holdings why result layout state finds tells = grind (arith, nat_tests)
 
 -- the holdings with other tags, and with another layout too
@@ -54,10 +54,10 @@ found_table next count = record { given = tags_from next count; next = next + co
 off_recovers : {D : Type 0} {bound : Ghosts D} {disk : D} {layout : Layout} {tail : ℕ} {result : Result (Unit {0}) StoreFault} {mid : StoreView D}
     (holdings : Holdings) → store.Recovers bound (record { disk = disk; layout = layout; state = StoreOff; tail = tail }) result mid
     → (told : Result (Unit {0}) RecoveryFault) (state : State) (later : Holdings)
-    → ((P : Standing → Type 0) → store.FindsStanding P result mid.layout mid.state → FindsFiles P (totals_of StoreOff holdings) told (totals_of state later))
+    → ((P : Standing → Type 0) → store.FindsStanding P result mid.layout mid.state → FindsFiles P (totals_at StoreOff 0 holdings) told (totals_at state mid.tail later))
     → (IsErrOf told fault.Device ↔ IsErrOf result cause.Device)
     → (bound.honest disk → LeavesTheirFiles later.layout (mode_of later.handles.given state) (bound.state mid.disk))
-    → Recovers bound (record { disk = disk; totals = totals_of StoreOff holdings }) told (record { disk = mid.disk; totals = totals_of state later })
+    → Recovers bound (record { disk = disk; totals = totals_at StoreOff 0 holdings }) told (record { disk = mid.disk; totals = totals_at state mid.tail later })
 off_recovers holdings recovers told state later finds device now = record {
   ready = tt;
   answer = finds _ recovers.answer;
@@ -138,6 +138,7 @@ module _ {D : Type 0} {bound : Ghosts D} where
               layout = found;
               files = files;
               sequence = sequence;
+              tail = end;
               found = finds;
               handles = numbers.0;
               totals = rw (with_numbers files next) refl;

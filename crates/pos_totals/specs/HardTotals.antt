@@ -58,12 +58,13 @@ pub data Change : Type 0 where
   Edit : (handle : ℤ) (edit : FileEdit) → Change
 
 -- The totals: the layout that the last recovery found which succeeded, that of a new disk before the first; what is
--- known of the files, the handle that the next new file gets, the control that has claimed the area (the whole
--- device), and, by the controls' numbers, the changes that each has buffered, in their order; a control that is in no
--- transaction has None.
+-- known of the files, the place in the disk's current slot behind its records, or 0 while the files aren't known, the
+-- handle that the next new file gets, the control that has claimed the area (the whole device), and, by the controls'
+-- numbers, the changes that each has buffered, in their order; a control that is in no transaction has None.
 pub record Totals : Type 0 where
   pub layout : Layout
   pub mode : Mode
+  pub tail : ℕ
   pub next : ℕ
   pub area : Option ℕ
   pub transactions : List (Option (List Change))
@@ -101,12 +102,18 @@ without_transactions transactions = map (λ transaction. None) transactions
 -- totals whose disk has failed: what the disk has is not known, nothing is claimed of it nor buffered for it; the
 -- layout and the next handle stay, and so does the claim of the area
 abbrev pub after_disk_fault : Totals → Totals
-after_disk_fault totals = record totals { mode = Off; transactions = without_transactions totals.transactions }
+after_disk_fault totals =
+    record totals { mode = Off; tail = 0; transactions = without_transactions totals.transactions }
 
 -- totals with another transaction of a control
 abbrev pub with_transaction : Totals → ℕ → Option (List Change) → Totals
 with_transaction totals control transaction =
     record totals { transactions = slice_set totals.transactions control transaction }
+
+-- the sequence of the image that the files stand on: 0 where they aren't known
+abbrev pub sequence_of : Mode → ℕ
+sequence_of Off = 0
+sequence_of (Ready files sequence) = sequence
 
 -- the sequence is the last one
 abbrev pub is_last : Mode → Bool

@@ -26,17 +26,19 @@ numbered next (file ∷ files) = called (new_tag next) file ∷ numbered (next +
 abbrev pub AreLeft : ℕ → ℕ → Type 0
 AreLeft next count = next + count ≤ last_number
 
--- The layout is the one that was found, and the files that were found have the handles from the next one on, which is
--- behind them.
+-- The layout is the one that was found, and so is the place behind the records; and the files that were found have the
+-- handles from the next one on, which is behind them.
 pub record HasFound (P : Standing → Type 0) (old new : Totals) : Type 0 where
   pub layout : Layout
   pub files : List PlainFile
   pub sequence : ℕ
+  pub tail : ℕ
   pub found : P (Stands layout files sequence)
   pub handles : AreLeft old.next (length files)
   pub totals : new ≡ record old {
     layout = layout;
     mode = Ready (numbered old.next files) sequence;
+    tail = tail;
     next = old.next + length files;
   }
 

@@ -15,6 +15,9 @@ use Rattle.pos_service.specs.Numbers.{is_natural}
 use Rattle.pos_service.specs.Refusals.{Row, when, first_refusal, Decided}
 use Rattle.pos_totals.specs.HardTotals.{TotalsLimits, totals_limits, last_number, IsAmong, File, Mode, Off, Ready, Change, Create, Delete, Rename}
 use Rattle.pos_totals.specs.HardTotals.{Edit, Totals, transaction_of, in_transaction, sequences_after, after_disk_fault, with_transaction, is_last}
+use Rattle.pos_totals.specs.HardTotals.{files_of, sequence_of}
+use Rattle.pos_totals.specs.Groups.{group_of}
+use Rattle.pos_store.specs.Commits as store
 use Rattle.pos_totals.specs.Edits.{FileEdit, edit_asked, fits, edit_cost, edited}
 use Rattle.pos_totals.specs.TotalsFiles.{is_name, is_named, is_called, has_file, is_foreign_file, has_room, with_each}
 use Rattle.pos_totals.specs.TotalsRows.{when_no_room, while_ready, when_foreign_area}
@@ -124,6 +127,19 @@ next_after_all next (change ∷ changes) = next_after_all (next_after next chang
 abbrev pub given_by : ℕ → Change → Value
 given_by next change = if is_create change then value.Number (pos next) else value.Empty
 
+-- the group of changes of these totals fits behind the records of the disk, by its layout; else it needs a new image
+abbrev pub fits_behind : Totals → List Change → Bool
+fits_behind totals changes = store.fits_behind totals.layout totals.tail (group_of (files_of totals.mode) changes)
+
+-- the sequence after changes: the same where their group fits behind the records, else the next one, of a new image
+abbrev pub sequence_then : Totals → List Change → ℕ
+sequence_then totals changes =
+    if fits_behind totals changes then sequence_of totals.mode else sequence_of totals.mode + 1
+
+-- where the records end then
+abbrev pub tail_then : Totals → List Change → ℕ
+tail_then totals changes = store.tail_after totals.layout totals.tail (group_of (files_of totals.mode) changes)
+
 -- the files after changes that were done together, with the sequence that they have then
 abbrev pub mode_after : ℕ → Mode → List Change → ℕ → Mode
 mode_after next Off changes sequence = Off
@@ -132,22 +148,25 @@ mode_after next (Ready files old) changes sequence = Ready (files_after_all next
 abbrev pub after_changes : Totals → List Change → ℕ → Totals
 after_changes totals changes sequence =
     let mode = mode_after totals.next totals.mode changes sequence in
-    record totals { mode = mode; next = next_after_all totals.next changes }
+    record totals { mode = mode; tail = tail_then totals changes; next = next_after_all totals.next changes }
 
--- Changes are done together, and lead to one of the next sequences.
+-- Changes are done together, and lead to one of the next sequences, by whether their group fits behind the records.
 pub record DoesTogether (old : Totals) (changes : List Change) (new : Totals) : Type 0 where
   pub sequence : ℕ
   pub follows : IsAmong sequence (sequences_after old.mode)
+  pub is : sequence ≡ sequence_then old changes
   pub totals : new ≡ after_changes old changes sequence
 
 -- E_FAILURE where the handle that a new file needs has run out
 abbrev pub number_rows : Totals → Change → List Row
 number_rows totals change = when (is_create change && nat_eq totals.next last_number) code.Failure ∷ []
 
--- A group of changes finds no sequence for a new image. That may come only at the last sequence, and needn't come
--- there: a group that goes behind the image is done.
-abbrev pub RunsOut : Totals → Answer → Totals → Type 0
-RunsOut old result new = (is_last old.mode ≡ true) × (result ≡ answer.Refused code.Failure 0) × (new ≡ old)
+-- A group of changes finds no sequence for a new image. That comes only at the last sequence, and only where the group
+-- needs a new image: one that fits behind the records is done.
+abbrev pub RunsOut : Totals → List Change → Answer → Totals → Type 0
+RunsOut old changes result new =
+    (is_last old.mode ≡ true) × (fits_behind old changes ≡ false) × (result ≡ answer.Refused code.Failure 0)
+    × (new ≡ old)
 
 -- A group of changes is done whole, or the disk fails in it, which comes only where DiskFailed holds: the disk's
 -- count of failures rose in the call.
@@ -161,7 +180,8 @@ Done DiskFailed old changes given result new =
 abbrev pub DoesChange : Type 0 → Totals → ℕ → Change → Answer → Totals → Type 0
 DoesChange DiskFailed old control change result new = MatchOption (transaction_of old control)
     (Decided (number_rows old change) result (new ≡ old)
-    (RunsOut old result new ⊎ Done DiskFailed old (change ∷ []) (given_by old.next change) result new))
+    (RunsOut old (change ∷ []) result new
+    ⊎ Done DiskFailed old (change ∷ []) (given_by old.next change) result new))
     (λ buffer. (result ≡ answer.Done value.Empty) × (new ≡ with_transaction old control (Some (buffer ++ change ∷ []))))
 
 -- A change is answered by its table, and then does what it does. Want of memory comes only behind the table, and

@@ -38,7 +38,7 @@ refusals_of_commit totals control =
 abbrev pub DoesCommit : Type 0 → Totals → Totals → List Change → Answer → Totals → Type 0
 DoesCommit DiskFailed old ended [] result new = (result ≡ answer.Done value.Empty) × (new ≡ ended)
 DoesCommit DiskFailed old ended (change ∷ changes) result new =
-    RunsOut old result new ⊎ Done DiskFailed ended (change ∷ changes) value.Empty result new
+    RunsOut old (change ∷ changes) result new ⊎ Done DiskFailed ended (change ∷ changes) value.Empty result new
 
 -- A commit is answered by its table, and then does what it does. Want of memory comes only behind the table, and
 -- changes nothing.

@@ -86,19 +86,28 @@ abbrev pub mode_of : List Tag → State → Mode
 mode_of tags StoreOff = Off
 mode_of tags (StoreReady files sequence) = Ready (with_tags tags files) sequence
 
--- what a store's state and the holdings mean
-abbrev pub totals_of : State → Holdings → Totals
-totals_of state holdings = record {
+-- the place behind the records of a store's disk, where it is ready, and else 0
+abbrev pub tail_of : State → ℕ → ℕ
+tail_of StoreOff tail = 0
+tail_of (StoreReady files sequence) tail = tail
+
+-- what a store's state, the place behind its records, and the holdings mean
+abbrev pub totals_at : State → ℕ → Holdings → Totals
+totals_at state tail holdings = record {
   layout = holdings.layout;
   mode = mode_of holdings.handles.given state;
+  tail = tail_of state tail;
   next = holdings.handles.next;
   area = holdings.area;
   transactions = holdings.transactions;
 }
 
 -- what a store and the holdings mean
+abbrev pub totals_of : {D : Type 0} → StoreView D → Holdings → Totals
+totals_of store holdings = totals_at store.state store.tail holdings
+
 abbrev pub view_of : {D : Type 0} → StoreView D → Holdings → TotalsView D
-view_of store holdings = record { disk = store.disk; totals = totals_of store.state holdings }
+view_of store holdings = record { disk = store.disk; totals = totals_of store holdings }
 
 -- no two handles are the same
 abbrev pub AreDistinct : List ℕ → Type 0

@@ -64,8 +64,8 @@ pub fn arrange<D: Disk>(
 ) -> Answer
     requires sound { IsSound store.now.layout store.now.state holdings.old }
     ensures sound { IsSound store.now.layout store.now.state holdings.new }
-    ensures arranges { Arranges (totals_of store.now.state holdings.old) control (arrangement_of arrangement) result
-        (totals_of store.now.state holdings.new) }
+    ensures arranges { Arranges (totals_of store.now holdings.old) control (arrangement_of arrangement) result
+        (totals_of store.now holdings.new) }
 {
     match arrangement {
         Arrangement::ClaimFile { handle, timeout } => {

@@ -73,7 +73,7 @@ pub fn ask<D: Disk>(
     question: Question<'_>,
 ) -> Result<Answer, NoMemory>
     requires sound { IsSound store.now.layout store.now.state holdings.now }
-    ensures { MayTell (totals_of store.now.state holdings.now) control (question_of question.entry) result }
+    ensures { MayTell (totals_of store.now holdings.now) control (question_of question.entry) result }
 {
     if is_foreign(control, holdings.area) {
         return Ok(Answer::Refused(Code::Claimed, 0));

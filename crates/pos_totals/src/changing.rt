@@ -125,7 +125,7 @@ fn check_request<'a, D: Disk>(
     request: &Request<'a>,
 ) -> Result<Checked<'a>, Answer>
     requires sound { IsSound store.now.layout store.now.state holdings.now }
-    ensures checks { ChecksAt (totals_of store.now.state holdings.now) control (change_of request.now) result }
+    ensures checks { ChecksAt (totals_of store.now holdings.now) control (change_of request.now) result }
     ensures directory { HasDirectory holdings.now.layout store.now.state }
 {
     let files = see_files(store, holdings);

@@ -47,8 +47,8 @@ pub fn claim_file<D: Disk>(
 ) -> Answer
     requires sound { IsSound store.now.layout store.now.state holdings.old }
     ensures sound { IsSound store.now.layout store.now.state holdings.new }
-    ensures arranges { Arranges (totals_of store.now.state holdings.old) control (arrangement_by handle claiming) result
-        (totals_of store.now.state holdings.new) }
+    ensures arranges { Arranges (totals_of store.now holdings.old) control (arrangement_by handle claiming) result
+        (totals_of store.now holdings.new) }
 {
     match check_claim(store, holdings, control, handle, claiming) {
         Ok(number) => {
@@ -69,7 +69,7 @@ fn check_claim<D: Disk>(
     claiming: Claiming,
 ) -> Result<u64, Answer>
     requires sound { IsSound store.now.layout store.now.state holdings.now }
-    ensures { LetsThroughAt (totals_of store.now.state holdings.now) control (arrangement_by handle claiming) handle
+    ensures { LetsThroughAt (totals_of store.now holdings.now) control (arrangement_by handle claiming) handle
         result }
 {
     match see_files(store, holdings) {
@@ -119,8 +119,8 @@ pub fn claim_area<D: Disk>(
 ) -> Result<(), Code>
     requires sound { IsSound store.now.layout store.now.state holdings.old }
     ensures sound { IsSound store.now.layout store.now.state holdings.new }
-    ensures claims { ClaimsArea (totals_of store.now.state holdings.old) control result
-        (totals_of store.now.state holdings.new) }
+    ensures claims { ClaimsArea (totals_of store.now holdings.old) control result
+        (totals_of store.now holdings.new) }
 {
     if is_area_taken(store, holdings, control) {
         return Err(Code::Timeout);
@@ -132,7 +132,7 @@ pub fn claim_area<D: Disk>(
 /// Whether another control has claimed the area, or a file.
 fn is_area_taken<D: Disk>(store: &Store<D>, holdings: &Holdings, control: usize) -> bool
     requires sound { IsSound store.now.layout store.now.state holdings.now }
-    ensures { result ≡ is_area_taken (totals_of store.now.state holdings.now) control }
+    ensures { result ≡ is_area_taken (totals_of store.now holdings.now) control }
 {
     if is_foreign(control, holdings.area) {
         return true;
@@ -158,8 +158,8 @@ pub fn release_area<D: Disk>(
 ) -> Result<(), Code>
     requires sound { IsSound store.now.layout store.now.state holdings.old }
     ensures sound { IsSound store.now.layout store.now.state holdings.new }
-    ensures releases { ReleasesArea (totals_of store.now.state holdings.old) control result
-        (totals_of store.now.state holdings.new) }
+    ensures releases { ReleasesArea (totals_of store.now holdings.old) control result
+        (totals_of store.now holdings.new) }
 {
     if !is_own(control, holdings.area) {
         return Err(Code::Illegal);

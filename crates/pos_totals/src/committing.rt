@@ -74,7 +74,7 @@ fn commit_buffer<D: Disk>(
     control: usize,
 ) -> Result<Commitment, NoMemory>
     requires sound { IsSound store.old.layout store.old.state holdings.now }
-    ensures commits { CommitsAt D.Disk store.old (totals_of store.old.state holdings.now) control result store.new }
+    ensures commits { CommitsAt D.Disk store.old (totals_of store.old holdings.now) control result store.new }
     ensures directory { HasDirectory holdings.now.layout store.old.state }
 {
     match make_plan(alloc, store, holdings, control) {
@@ -96,7 +96,7 @@ fn make_plan<'a, D: Disk>(
     control: usize,
 ) -> Result<Plan<'a>, NoMemory>
     requires sound { IsSound store.now.layout store.now.state holdings.now }
-    ensures plans { PlansAt (totals_of store.now.state holdings.now) control result }
+    ensures plans { PlansAt (totals_of store.now holdings.now) control result }
     ensures directory { HasDirectory holdings.now.layout store.now.state }
 {
     let files = see_files(store, holdings);

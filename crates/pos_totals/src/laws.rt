@@ -1,10 +1,11 @@
 //! What is true of all totals.
-ghost use Rattle.pos_totals.specs.Views.{HasItsFiles, LeavesTheirFiles};
+ghost use Rattle.pos_store.specs.Recoveries.{EndsAt};
+ghost use Rattle.pos_totals.specs.Views.{HasItsFiles, LeavesTheirFiles, WhenReady};
 
 use crate::files::see_files;
 use crate::totals::Totals;
 use pos_disk::Disk;
-use pos_store::laws::leaves_its_files;
+use pos_store::laws::{ends_behind_its_records, leaves_its_files};
 
 /// A crash at this moment leaves the files of totals that are ready alone.
 pub fn leaves_their_files<D: Disk>(totals: &Totals<D>)
@@ -12,6 +13,15 @@ pub fn leaves_their_files<D: Disk>(totals: &Totals<D>)
         (D.state totals.now.disk) }
 {
     leaves_its_files(&totals.store);
+}
+
+/// The tail of totals that are ready lies behind the records of their disk: a change needs a new image where its group
+/// doesn't fit behind these.
+pub fn ends_behind_their_records<D: Disk>(totals: &Totals<D>)
+    ensures { D.honest totals.now.disk → WhenReady totals.now.totals.mode
+        (EndsAt totals.now.totals.layout totals.now.totals.tail (D.state totals.now.disk).reading) }
+{
+    ends_behind_its_records(&totals.store);
 }
 
 /// The files of totals that are ready are a directory, and each has a handle of its own, below the next one.

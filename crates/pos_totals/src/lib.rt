@@ -15,6 +15,7 @@ mod holdings;
 pub mod laws;
 mod numbers;
 mod recovering;
+mod relay;
 mod request;
 mod totals;
 mod transacting;

@@ -77,6 +77,7 @@ impl<D: Disk> Totals<D> {
           totals = record {
             layout = Layout.Layout1;
             mode = Off;
+            tail = 0;
             next = first_handle;
             area = None;
             transactions = [];

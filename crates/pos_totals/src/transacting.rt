@@ -22,8 +22,8 @@ pub fn begin_trans<D: Disk>(
 ) -> Answer
     requires sound { IsSound store.now.layout store.now.state holdings.old }
     ensures sound { IsSound store.now.layout store.now.state holdings.new }
-    ensures arranges { Arranges (totals_of store.now.state holdings.old) control BeginTrans result
-        (totals_of store.now.state holdings.new) }
+    ensures arranges { Arranges (totals_of store.now holdings.old) control BeginTrans result
+        (totals_of store.now holdings.new) }
 {
     if store.mode() == Mode::Off {
         return Answer::Refused(Code::Failure, 0);
@@ -39,8 +39,8 @@ pub fn begin_trans<D: Disk>(
 pub fn rollback<D: Disk>(store: &Store<D>, holdings: &mut Holdings, control: usize) -> Answer
     requires sound { IsSound store.now.layout store.now.state holdings.old }
     ensures sound { IsSound store.now.layout store.now.state holdings.new }
-    ensures arranges { Arranges (totals_of store.now.state holdings.old) control Rollback result
-        (totals_of store.now.state holdings.new) }
+    ensures arranges { Arranges (totals_of store.now holdings.old) control Rollback result
+        (totals_of store.now holdings.new) }
 {
     if store.mode() == Mode::Off {
         return Answer::Refused(Code::Failure, 0);
@@ -56,8 +56,8 @@ pub fn rollback<D: Disk>(store: &Store<D>, holdings: &mut Holdings, control: usi
 pub fn drop_control<D: Disk>(store: &Store<D>, holdings: &mut Holdings, control: usize)
     requires sound { IsSound store.now.layout store.now.state holdings.old }
     ensures sound { IsSound store.now.layout store.now.state holdings.new }
-    ensures totals { totals_of store.now.state holdings.new
-        ≡ without_control (totals_of store.now.state holdings.old) control }
+    ensures totals { totals_of store.now holdings.new
+        ≡ without_control (totals_of store.now holdings.old) control }
 {
     holdings.handles.reclaim(Whose::Control(control), None);
     holdings.area = keep_foreign(holdings.area, control);

@@ -6,6 +6,8 @@ mod changes;
 #[cfg(test)]
 mod growths;
 #[cfg(test)]
+mod long;
+#[cfg(test)]
 mod stops;
 #[cfg(test)]
 mod two_files;

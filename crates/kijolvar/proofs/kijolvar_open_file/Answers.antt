@@ -4,7 +4,7 @@ pub returns-clause-opened : goal.returns-clause-opened
 returns-clause-opened c = λ fine. rw c.leave.ensures (record {
   contents = c.in-Ok.profile;
   gives = c.in-Ok.ensures.0;
-  disk = c.in-Ok-disk_in_file.disk;
-  over = c.in-Ok-disk_in_file.ensures;
+  disk = c.in-Ok-in_file.disk;
+  over = c.in-Ok-in_file.ensures;
   begins = c.in-Ok-begin.ensures;
 })

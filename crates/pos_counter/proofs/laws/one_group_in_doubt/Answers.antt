@@ -15,7 +15,7 @@ with_one control mode next left failures = record {
   devices = new_machine.devices;
   claims = new_machine.claims;
   totals = record {
-    totals = record { layout = Layout1; mode = mode; next = next; area = None; transactions = None ∷ [] };
+    totals = record { layout = Layout1; mode = mode; tail = 0; next = next; area = None; transactions = None ∷ [] };
     left = left;
     failures = failures;
   };

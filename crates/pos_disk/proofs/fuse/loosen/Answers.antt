@@ -11,6 +11,7 @@ loop-place-preserved g c =
     record {
       from = omega (arith, inv.from);
       size = c.write.ensures.size ∙ c.read.ensures.size ∙ inv.size;
+      fixed = c.write.ensures.fixed ∙ c.read.ensures.fixed ∙ inv.fixed;
       honest = (
         λ h. c.write.ensures.honest.0 (c.read.ensures.honest.0 (inv.honest.0 h)),
         λ h. inv.honest.1 (c.read.ensures.honest.1 (c.write.ensures.honest.1 h)),

@@ -10,6 +10,7 @@ gates_low k inside = All-get_or (λ at. at ≤ 196608) GATES k 0 inside (search 
 pub loop-at-preserved : goal.loop-at-preserved
 loop-at-preserved g c = record {
   size = search rules;
+  fixed = search rules;
   honest = search rules;
   closed = λ honest k less.
       let s1 = g.D.Disk.state c.loop-at.disk in

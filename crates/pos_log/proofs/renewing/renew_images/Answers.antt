@@ -1,4 +1,5 @@
-use Rattle.pos_log.proofs.Common.{rules}
+use Rattle.pos_log.proofs.Common.{ap, next_of, rules}
+use Rattle.pos_log.proofs.Emptied.{beside_on}
 use Rattle.pos_log.proofs.renewing.renew_images.Goals as goal
 
 pub returns-clause-replaces : goal.returns-clause-replaces
@@ -15,3 +16,8 @@ returns-clause-replaces g c = record {
   counts = search rules;
   keeps = search rules;
 }
+
+pub returns-clause-rest : goal.returns-clause-rest
+returns-clause-rest g c honest =
+    let prepares = c.in_ok-prepare_owned.ensures.prepares in
+    beside_on _ _ _ _ _ _ (ap (λ v. (next_of v).slot) prepares.prepared) (prepares.rest honest) (c.publish.ensures.rest (prepares.keeps.honest.0 honest))

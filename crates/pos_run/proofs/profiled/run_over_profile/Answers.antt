@@ -9,8 +9,19 @@ wrapped = record { state = λ w. wrapped_state w }
 pub returns : goal.returns
 returns g c =
     let made = c.in-Ok.ensures.made in
-    let carried = c.run-result.ensures.script.1 in
-    rw c.end_counter-disk.ensures (inr (
-      (λ left honest leaves. runs_honestly g.D.Disk wrapped made carried left honest leaves),
-      (λ left failures. runs_over_any g.D.Disk wrapped made carried left failures),
-    ))
+    let carried = c.run-result.ensures.script.1 in record {
+      leaves = rw c.end_counter-disk.ensures.disk (inr (
+        (λ left honest leaves. runs_honestly g.D.Disk wrapped made carried left honest leaves),
+        (λ left failures. runs_over_any g.D.Disk wrapped made carried left failures),
+      ));
+      keys = inr (record {
+        counter = _;
+        spares = _;
+        simulated = made;
+        mounted = c.in-Ok.ensures.mounted;
+        left = _;
+        end = _;
+        run = carried;
+        disk_left = c.end_counter-disk.ensures.disk;
+      });
+    }

@@ -1,5 +1,5 @@
 use Rattle.pos_store.proofs.Common.{Layout1, Layout2, ap, layout_of, limits_of, refl, rules, sym, ⊎_elim, ◌∙◌, ◌≡◌}
-use Rattle.pos_store.proofs.Migrated.{Moves, refused_migrates, moved_holds, moved_migrates, failed_migrates}
+use Rattle.pos_store.proofs.Migrated.{Moves, refused_migrates, moved_holds, moved_migrates, failed_migrates, keeps_first}
 use Rattle.pos_store.proofs.migrating.migrate_files.Given.{Over}
 use Rattle.pos_store.proofs.migrating.migrate_files.Goals.{After-migrate}
 use Rattle.pos_store.specs.declared.fault.StoreFault.TheVariants as fault
@@ -39,7 +39,7 @@ returns-in-Ok-migrate g c =
     let renews = c.in-Ok-migrate.ensures.migrates in
     rw (c.in-Ready.is, c.widen.ensures) (record {
       sound = (renews.ready, moved_holds it c.migrate.new.self renews, c.limits_of.ensures ∙ ap limits_of (sym renews.layout_is));
-      migrates = moved_migrates it c.migrate.new.self renews;
+      migrates = moved_migrates it c.migrate.new.self renews (λ h. keeps_first _ _ _ (c.in-Ok-migrate.ensures.rest h));
     })
 
 pub returns-in-Device-clause-migrates : goal.returns-in-Device-clause-migrates
@@ -48,7 +48,8 @@ returns-in-Device-clause-migrates g c =
     let renews = rw c.in-Device.is at c.in-Err.ensures.migrates in
     rw (c.in-Ready.is, c.turn_off.ensures)
     (failed_migrates (moves g here) c.migrate.new.self renews
-    (λ h bytes. g.met.D.Disk.counts_now c.migrate.new.self.images.disk (g.D.Disk.state c.in-Ready.log.images.disk).moment bytes (renews.keeps.honest.0 h)))
+    (λ h bytes. g.met.D.Disk.counts_now c.migrate.new.self.images.disk (g.D.Disk.state c.in-Ready.log.images.disk).moment bytes (renews.keeps.honest.0 h))
+    (λ h. keeps_first _ _ _ (c.in-Err.ensures.rest h)))
 
 pub returns-in-NoMemory : goal.returns-in-NoMemory
 returns-in-NoMemory g c =

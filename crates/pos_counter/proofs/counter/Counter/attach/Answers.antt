@@ -10,4 +10,4 @@ returns g c =
     (λ part. attach_step old.controls.items (registered g.P.Peripheral old.devices.registry) (registered g.P.Peripheral c.attach.new.self)
     old.devices.totals c.args.name.now old.claims part g.P.Peripheral.state c.args.peripheral c.attach.result c.attach.ensures.handed_back
     c.attach.ensures.attaches) in
-    record { step = both.step; handed_back = c.attach.ensures.handed_back; sound = both.sound }
+    record { step = both.step; puts = c.attach.ensures.puts; handed_back = c.attach.ensures.handed_back; sound = both.sound }

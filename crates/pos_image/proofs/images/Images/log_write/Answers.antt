@@ -1,5 +1,5 @@
-use Rattle.pos_image.proofs.Common.{IsWritable, KeepsImage, LeavesOnly, View, arith, images_of, prepared_image, rules, span_of}
-use Rattle.pos_image.proofs.Spanned.{WritesLog, writable, write_held, write_moments, writes_span}
+use Rattle.pos_image.proofs.Common.{IsWritable, KeepsImage, LeavesOnly, View, WritesOnly, arith, images_of, length, prepared_image, rules, span_of, start, ◌+◌}
+use Rattle.pos_image.proofs.Spanned.{WritesLog, writable, write_held, write_moments, writes_only, writes_span}
 use Rattle.pos_image.proofs.images.Images.log_write.Given.{Over}
 use Rattle.pos_image.proofs.images.Images.log_write.Goals.{After-write}
 use Rattle.pos_image.proofs.images.Images.log_write.Goals as goal
@@ -28,6 +28,17 @@ module _ (g : Over) (c : After-write g) where
       → LeavesOnly (g.D.Disk.state c.args.self.now.disk) (g.D.Disk.state c.write.new.self)
       (KeepsImage c.args.self.now (span_of c.args.self.now (g.D.Disk.state c.write.new.self)))
   moments = rw (← c.self.view_is) (λ honest. write_moments (wrote honest))
+
+  -- all else is as it was
+  rest : g.D.Disk.honest c.args.self.now.disk
+      → WritesOnly (start c.args.self.now.slot + c.args.at) (length c.args.bytes.now) (g.D.Disk.state c.args.self.now.disk) (g.D.Disk.state c.write.new.self)
+  rest = rw (← c.self.view_is) (λ honest. writes_only (wrote honest).writes)
+
+pub returns-in_err-write-clause-rest : goal.returns-in_err-write-clause-rest
+returns-in_err-write-clause-rest g c = rest g (goal.at.returns-in_err-write-clause-rest g c).After-write
+
+pub returns-clause-rest : goal.returns-clause-rest
+returns-clause-rest g c = rest g (goal.at.returns-clause-rest g c).After-write
 
 pub returns-in_err-write-clause-any_moment : goal.returns-in_err-write-clause-any_moment
 returns-in_err-write-clause-any_moment g c = moments g (goal.at.returns-in_err-write-clause-any_moment g c).After-write

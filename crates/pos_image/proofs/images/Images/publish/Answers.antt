@@ -1,15 +1,16 @@
-use Rattle.pos_image.proofs.Common.{HasEither, IsReady, LeavesOnly, Prepared, SameBut, Some, [], ap, arith, image_of, images_of, is_open, log_of, next_of}
-use Rattle.pos_image.proofs.Common.{prepared_image, splice, start, sym, true, ◌∙◌, ◌∷◌, ◌≡◌}
-use Rattle.pos_image.proofs.Changes.{opened_current, opened_gate, opened_new, publish_leaves, ready}
+use Rattle.pos_image.proofs.Common.{HasEither, IsWritable, LeavesOnly, Prepared, SameBut, Some, [], ap, arith, image_of, images_of, is_open, next_of}
+use Rattle.pos_image.proofs.Common.{prepared_image, span_of, splice, start, sym, true, ◌∙◌, ◌∷◌, ◌≡◌}
+use Rattle.pos_image.proofs.Aside.{publish_leaves}
+use Rattle.pos_image.proofs.Changes.{opened_current, opened_gate, opened_new, ready}
 use Rattle.pos_image.proofs.Places.{places}
 use Rattle.pos_image.proofs.images.Images.publish.Given.{Over}
 use Rattle.pos_image.proofs.images.Images.publish.Goals.{After-write_through}
 use Rattle.pos_image.proofs.images.Images.publish.Goals as goal
 
 module _ (g : Over) (c : After-write_through g) where
-  is_ready : IsReady g.D.Disk (images_of c.self.inside.disk c.self.inside.current.slot c.self.inside.current.body.items c.self.inside.current.sequence
+  is_writable : IsWritable g.D.Disk (images_of c.self.inside.disk c.self.inside.current.slot c.self.inside.current.body.items c.self.inside.current.sequence
       (prepared_image c.self.inside.prepared))
-  is_ready = rw c.self.view_is c.requires.ready
+  is_writable = rw c.self.view_is c.requires.ready
 
   abbrev it : Prepared
   it = image_of c.in-Some.next.slot c.in-Some.next.body.items c.in-Some.next.sequence
@@ -19,10 +20,9 @@ module _ (g : Over) (c : After-write_through g) where
 
   -- a crash at any moment, whatever the write answers
   moments : g.D.Disk.honest c.args.self.now.disk → LeavesOnly (g.D.Disk.state c.args.self.now.disk) (g.D.Disk.state c.write_through.new.disk)
-      (HasEither c.args.self.now (log_of (g.D.Disk.state c.args.self.now.disk).reading) (next_of c.args.self.now))
+      (HasEither c.args.self.now (span_of c.args.self.now (g.D.Disk.state c.args.self.now.disk)) (next_of c.args.self.now))
   moments = rw (← c.self.view_is) (λ honest.
-      publish_leaves g.D.Disk _ it next_is honest is_ready c.write_through.new.disk c.start.result c.start.ensures
-      (c.write_through.ensures.any_moment honest))
+      publish_leaves _ _ _ it next_is (is_writable.held honest) c.start.result c.start.ensures (c.write_through.ensures.any_moment honest))
 
   -- a write that succeeded opened the gate alone
   opened : g.D.Disk.honest c.self.inside.disk
@@ -31,7 +31,7 @@ module _ (g : Over) (c : After-write_through g) where
       × (is_open (g.D.Disk.state c.write_through.new.disk).reading (start it.slot) ≡ true)
   opened honest written =
       let here = places c.in-Some.next.slot in
-      opened_gate _ _ (start c.in-Some.next.slot) (omega (arith, g.met.D.Disk.whole c.self.inside.disk honest, is_ready.large)) (rw c.start.ensures at written)
+      opened_gate _ _ (start c.in-Some.next.slot) (omega (arith, g.met.D.Disk.whole c.self.inside.disk honest, is_writable.large)) (rw c.start.ensures at written)
 
 pub returns-in_err-write_through-clause-any_moment : goal.returns-in_err-write_through-clause-any_moment
 returns-in_err-write_through-clause-any_moment g c = moments g (goal.at.returns-in_err-write_through-clause-any_moment g c).After-write_through
@@ -42,12 +42,12 @@ returns-clause-any_moment g c = moments g (goal.at.returns-clause-any_moment g c
 pub returns-clause-ready : goal.returns-clause-ready
 returns-clause-ready g c =
     let here = (goal.at.returns-clause-ready g c).After-write_through in
-    ready g.D.Disk _ (omega (arith, (is_ready g here).large, c.write_through.ensures.keeps.size)) (omega arith) (λ honest.
+    ready g.D.Disk _ (omega (arith, (is_writable g here).large, c.write_through.ensures.keeps.size)) (omega arith) (λ honest.
     let was = c.write_through.ensures.keeps.honest.1 honest in
     let gate = opened g here was (c.in_ok-write_through.ensures.written was) in
     record {
       at_rest = c.in_ok-write_through.ensures.at_rest was;
-      current = opened_current g.D.Disk _ (it g here) (next_is g here) was (is_ready g here) _ gate.0 gate.1;
+      current = opened_current g.D.Disk _ (it g here) (next_is g here) was (is_writable g here) _ gate.0 gate.1;
       prepared = rw c.take.ensures.after tt;
     })
 
@@ -55,4 +55,4 @@ pub returns-clause-log : goal.returns-clause-log
 returns-clause-log g c = rw (← c.self.view_is) (λ was.
     let here = (goal.at.returns-clause-log g c).After-write_through in
     let gate = opened g here was (c.in_ok-write_through.ensures.written was) in
-    opened_new g.D.Disk _ (it g here) (next_is g here) was (is_ready g here) _ gate.0 gate.1)
+    opened_new g.D.Disk _ (it g here) (next_is g here) was (is_writable g here) _ gate.0 gate.1)

@@ -9,7 +9,7 @@ pub returns : goal.returns
 returns g c = λ calls honest.
     let D = g.D.Disk in
     let old = c.args.earlier.now in
-    let is : IsMirror D old = rw c.earlier.view_is at c.earlier.invariant.is_mirror in
+    let is : IsMirror D old = rw c.earlier.view_is at c.earlier.invariant in
     let fits : length old.memory.present.reading ≤ length (D.state old.below).reading = omega (arith, is.fits, g.met.D.Disk.whole old.below honest) in
     (calls_follow D old (D.state old.below).moment (mirror_state old).moment c.args.self.now calls (
       honest,

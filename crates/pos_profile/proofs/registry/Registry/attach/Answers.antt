@@ -1,5 +1,5 @@
-use Rattle.pos_profile.proofs.Common.{arith, refl}
-use Rattle.pos_profile.proofs.RegistryLemmas.{in_use}
+use Rattle.pos_profile.proofs.Common.{arith, refl, sym}
+use Rattle.pos_profile.proofs.RegistryLemmas.{in_use, put_named}
 use Rattle.pos_profile.proofs.registry.Registry.attach.Goals as goal
 
 pub returns-then-is_some-clause-attaches : goal.returns-then-is_some-clause-attaches
@@ -8,3 +8,11 @@ returns-then-is_some-clause-attaches g c = (in_use _ _ _ c.in-Some.ensures.named
 pub returns-then-not-is_same-clause-attaches : goal.returns-then-not-is_same-clause-attaches
 returns-then-not-is_same-clause-attaches g c =
     (record { device = _; named = c.in-Some.ensures.named; vacant = grind arith; kind = λ same. grind arith }, refl)
+
+pub returns-clause-puts : goal.returns-clause-puts
+returns-clause-puts g c = (
+  c.in-Some.place,
+  c.put.ensures.put,
+  put_named g.P.Peripheral c.args.self.now.slots.items c.put.new.self.slots.items c.args.name.now c.in-Some.place c.args.peripheral
+      (sym c.in-Some.ensures.place) c.put.ensures.put,
+)

@@ -1,0 +1,425 @@
+/**
+ * @file kij.h
+ * A till's devices for C99 and C++: typed calls over the library's text interface (kijolvar.h).
+ *
+ * A till (kij_till) has the devices of a profile. An application uses a device through a control (kij_control), as
+ * UnifiedPOS has it: open, claim, enable, and then the device's methods and properties, which kij_controls.h declares.
+ *
+ * @code
+ *   kij_till *till;
+ *   kij_control *drawer;
+ *   kij_result r = kij_open(NULL, "sales.disk", KIJ_CREATE, &till);
+ *   if (r.code == KIJ_OK) r = kij_start(till, KIJ_CASH_DRAWER, "d1", KIJ_UNCLAIMED, &drawer);
+ *   if (r.code == KIJ_OK) r = kij_drawer_open(drawer);
+ *   if (r.code != KIJ_OK) fprintf(stderr, "%s\n", kij_strerror(r));
+ * @endcode
+ *
+ * **Results.** Each call returns a kij_result. Its code is KIJ_OK (0), a result code of the standard (KIJ_E_CLOSED and
+ * so on, from 101 on), or a code of enum kij_code. If it isn't KIJ_OK, the call changed nothing, unless the code's
+ * comment says otherwise, and wrote nothing through its pointers.
+ *
+ * **Memory.** The till owns its controls and all that it lends. A text or bytes that a call returns by a pointer are
+ * lent: they stay until the next call with the same till. Nothing is yours to free but the till, by kij_close. Each
+ * allocation is checked.
+ *
+ * **Threads.** One call at a time for each till; two tills are independent. You may use a till from several threads in
+ * turn, if a lock or a join orders the calls. A call that begins while another one of the same till is under way does
+ * nothing and returns KIJ_IN_CALL. This finds mistakes; it is no lock: what one thread was lent, a call of another
+ * thread overwrites.
+ *
+ * **Listeners** are called between calls, so a listener may use the till, but it must not close it.
+ */
+#ifndef KIJ_H
+#define KIJ_H
+
+#include <stdbool.h>
+#include <stddef.h>
+#include <stdint.h>
+
+/** The version of this interface: it changes if a program that was compiled with an older header might not work. */
+#define KIJ_VERSION 1
+
+/** The release of the header. kij_release() returns that of the archive. */
+#define KIJ_RELEASE "1.0.0"
+
+/** In place of a size: the bytes are a text that ends in a 0 byte, which isn't one of them. */
+#define KIJ_ZERO_ENDED ((size_t)-1)
+
+#ifdef __cplusplus
+extern "C" {
+#endif
+
+/** A till: the devices of a profile, and their controls. */
+typedef struct kij_till kij_till;
+
+/** A control: an application's handle on a device. It belongs to its till, which ends it. */
+typedef struct kij_control kij_control;
+
+/** The categories of devices. */
+typedef enum kij_category {
+    KIJ_NO_CATEGORY = 0,
+    KIJ_CASH_DRAWER = 1,
+    KIJ_SCANNER = 2,
+    KIJ_LINE_DISPLAY = 3,
+    KIJ_POS_PRINTER = 4,
+    KIJ_HARD_TOTALS = 5
+} kij_category;
+
+/** What came of a call. */
+typedef struct kij_result {
+    /** KIJ_OK, a result code of the standard (KIJ_E_...), or a code of enum kij_code. */
+    int code;
+    /** The extended code if the code is KIJ_E_EXTENDED; errno if it is KIJ_SYSTEM; else 0. */
+    int extended;
+    /** The category of the control that was asked, or KIJ_NO_CATEGORY. Extended codes depend on it. */
+    kij_category category;
+} kij_result;
+
+/** The codes that aren't the standard's. */
+enum kij_code {
+    /** The call succeeded. */
+    KIJ_OK = 0,
+    /** There was no memory, and nothing was done. */
+    KIJ_NO_MEMORY = 1,
+    /** The profile is refused (docs/PROFILE.md). */
+    KIJ_BAD_PROFILE = 2,
+    /** The call was carried out, but there was no memory for its answer. */
+    KIJ_NO_ANSWER = 4,
+    /** The file of the totals couldn't be written. The last call may be in it or not, and the till can only be closed.
+     */
+    KIJ_DISK_FAILED = 7,
+    /** The file is shorter than a disk of totals. */
+    KIJ_TOO_SMALL = 9,
+    /** The profile has no device of the name that has orders. */
+    KIJ_NO_DEVICE = 13,
+    /** The header, the typed layer and the library aren't of the same version. */
+    KIJ_WRONG_VERSION = 32,
+    /** The system refused a call on the file of the totals. The extended code is errno: ENOENT if the file is missing,
+     * EEXIST if it is there already, EWOULDBLOCK if another till has it. */
+    KIJ_SYSTEM = 33,
+    /** An argument can't be passed on: a null pointer, a name that isn't 1 to 16 letters, digits or hyphens, a number
+     * of more than 18 digits, or bytes that are too many for a line (69,000 always fit). */
+    KIJ_BAD_ARGUMENT = 34,
+    /** The property has another type, or can't be set to this one. */
+    KIJ_WRONG_TYPE = 35,
+    /** Another call of the same till is under way. */
+    KIJ_IN_CALL = 36,
+    /** The library answered something that this version doesn't know. The call was carried out. */
+    KIJ_BAD_ANSWER = 37,
+    /** A control of the till has the name already. */
+    KIJ_NAME_IN_USE = 40,
+    /** The till has as many controls as it may have (4,096). */
+    KIJ_FULL = 41,
+    /** The profile has no device of the name, or no peripheral is attached to it. */
+    KIJ_BAD_DEVICE = 42,
+    /** The device has no such input. */
+    KIJ_BAD_INPUT = 43,
+    /** There is no spare of the number, or it serves a device. */
+    KIJ_BAD_SPARE = 44,
+    /** The profile has no device of the name that may have a peripheral. */
+    KIJ_UNKNOWN = 45,
+    /** The device has its peripheral, or a control has the device open. */
+    KIJ_IN_USE = 46,
+    /** The spare is of another kind than the device. */
+    KIJ_KIND_DIFFERS = 47,
+    /** No peripheral is attached to the device. */
+    KIJ_VACANT = 48
+};
+
+/** Returns what a result means, in English. The text is static. */
+const char *kij_strerror(kij_result result);
+
+/** Returns the name of a result's code, as "E_ILLEGAL" or "KIJ_BAD_PROFILE". The text is static. */
+const char *kij_code_name(int code);
+
+/** Returns the name of a result's extended code, as "EPTR_REC_EMPTY"; or "" if it has none. The text is static. */
+const char *kij_extended_name(kij_result result);
+
+/** Returns the KIJ_VERSION with which the archive was compiled. */
+int kij_version(void);
+
+/** Returns the KIJ_RELEASE with which the archive was compiled. */
+const char *kij_release(void);
+
+/* ---- Tills ---- */
+
+/** How kij_open finds the file of the totals. */
+enum kij_flags {
+    /** The file has to be there. */
+    KIJ_EXISTING = 0,
+    /** The file is created if it is missing. */
+    KIJ_CREATE = 1,
+    /** The file is created, and mustn't be there: otherwise KIJ_SYSTEM with EEXIST. */
+    KIJ_CREATE_NEW = 2
+};
+
+/**
+ * Opens a till.
+ *
+ * Creating a file is all or nothing: it gets its name once it is whole and synced. The file is locked (flock) until
+ * kij_close. A call that changes the totals returns once the change is synced.
+ *
+ * @param profile the profile's text (TOML, docs/PROFILE.md), which ends in a 0 byte; null or empty is the built profile
+ * @param totals  the path of the file of the totals, or null: then the totals are in memory
+ * @param flags   one of enum kij_flags
+ * @param till    where the till is written
+ * @return KIJ_BAD_PROFILE, KIJ_NO_MEMORY, KIJ_WRONG_VERSION, KIJ_SYSTEM, KIJ_TOO_SMALL or KIJ_DISK_FAILED on failure. A
+ * file that isn't formatted opens; enabling its totals is KIJ_E_NOHARDWARE.
+ */
+kij_result kij_open(const char *profile, const char *totals, int flags, kij_till **till);
+
+/** Closes a till and its controls, and the file of its totals. Null is fine. No other call of the till may be under
+ * way. */
+void kij_close(kij_till *till);
+
+/**
+ * Carries out lines of the text interface (docs/CONSOLE.md) one after the other, and returns their answers.
+ *
+ * @param lines  the lines, each but the last ended by a line feed
+ * @param size   how many bytes, or KIJ_ZERO_ENDED
+ * @param answer lent: the answers, a line each, with a 0 byte at the end
+ * @return KIJ_NO_ANSWER if memory ran out within the answers: lines up to one were carried out, and a front is in
+ * answer
+ */
+kij_result kij_carry_out(kij_till *till, const char *lines, size_t size, const char **answer);
+
+/* ---- Controls ---- */
+
+/** Whether kij_start claims the device. */
+enum kij_claiming { KIJ_UNCLAIMED = 0, KIJ_CLAIMED = 1 };
+
+/**
+ * Makes a control, which is closed.
+ *
+ * @param name    the control's name in lines of the text interface, 1 to 16 letters, digits or hyphens; null makes one
+ * up
+ * @param control where the control is written; it stays until the till is closed
+ * @return KIJ_NAME_IN_USE, KIJ_FULL, KIJ_NO_MEMORY or KIJ_BAD_ARGUMENT on failure
+ */
+kij_result kij_new(kij_till *till, kij_category category, const char *name, kij_control **control);
+
+/**
+ * Makes a control, opens it on a device, claims the device if claiming is KIJ_CLAIMED, and enables it.
+ * Scanners, line displays and printers have to be claimed. If a step fails, its result is returned, and there is no
+ * control.
+ */
+kij_result kij_start(kij_till *till, kij_category category, const char *device, int claiming, kij_control **control);
+
+/** Closes a control if it is open, and gives it back to its till, which may hand it out again. Don't use it afterwards.
+ */
+void kij_discard(kij_control *control);
+
+/** Returns the control's name in lines of the text interface. It stays as long as the control. */
+const char *kij_name(const kij_control *control);
+
+/** Returns the control's category. */
+kij_category kij_category_of(const kij_control *control);
+
+/** Returns the control's till. */
+kij_till *kij_till_of(const kij_control *control);
+
+/* ---- Events ---- */
+
+/** The kinds of events. */
+typedef enum kij_event_kind {
+    /** There is no event to deliver. */
+    KIJ_NO_EVENT = 0,
+    /** The device has another status now: see status. */
+    KIJ_STATUS_UPDATE_EVENT = 1,
+    /** A bar code was read: ScanData, ScanDataLabel and ScanDataType have it. DataEventEnabled is false now. */
+    KIJ_DATA_EVENT = 2,
+    /** Input or output failed: see error and locus. kij_reply_to says what happens next. */
+    KIJ_ERROR_EVENT = 3,
+    /** A request that was queued is printed: see output_id. */
+    KIJ_OUTPUT_COMPLETE_EVENT = 4
+} kij_event_kind;
+
+/** An event. Each field but kind and control is 0 unless the kind has it. */
+typedef struct kij_event {
+    /** Which fields are set. */
+    kij_event_kind kind;
+    /** The control to which the event was delivered. */
+    kij_control *control;
+    /** KIJ_STATUS_UPDATE_EVENT: KIJ_CASH_SUE_..., KIJ_PTR_SUE_... or KIJ_SUE_POWER_... */
+    int status;
+    /** KIJ_ERROR_EVENT: why it failed. */
+    kij_result error;
+    /** KIJ_ERROR_EVENT: KIJ_EL_OUTPUT, KIJ_EL_INPUT or KIJ_EL_INPUT_DATA. */
+    int locus;
+    /** KIJ_OUTPUT_COMPLETE_EVENT: the OutputID of the request. */
+    int64_t output_id;
+} kij_event;
+
+/** The replies to an ErrorEvent (ErrorResponse of the standard). */
+typedef enum kij_reply {
+    /** What the standard has as the default: ER_RETRY at EL_OUTPUT, ER_CONTINUEINPUT at EL_INPUT_DATA, ER_CLEAR at
+       EL_INPUT. */
+    KIJ_ER_DEFAULT = 0,
+    /** Tries the output again. */
+    KIJ_ER_RETRY = 11,
+    /** Deletes the output that waits, or the input that is held. */
+    KIJ_ER_CLEAR = 12,
+    /** Goes on with the input that is held. */
+    KIJ_ER_CONTINUEINPUT = 13
+} kij_reply;
+
+/** Listens to events. Its reply counts for a KIJ_ERROR_EVENT alone. */
+typedef kij_reply (*kij_listener)(const kij_event *event, void *with);
+
+/**
+ * Delivers the control's next event, or writes KIJ_NO_EVENT. An ErrorEvent has the default reply; kij_reply_to gives
+ * another. None is delivered while the control is closed or FreezeEvents is true, and no DataEvent while
+ * DataEventEnabled is false.
+ */
+kij_result kij_next_event(kij_control *control, kij_event *event);
+
+/** Delivers the control's next event, and replies to it beforehand if it is an ErrorEvent. */
+kij_result kij_next_event_replied(kij_control *control, kij_reply reply, kij_event *event);
+
+/**
+ * Replies to an ErrorEvent that was delivered, in place of the default reply. Reply before you ask the control anything
+ * else. Other events are left alone.
+ */
+kij_result kij_reply_to(const kij_event *event, kij_reply reply);
+
+/** Passes each event of a control to a listener, in order, until none is left, and replies to ErrorEvents as it
+ * returns. */
+kij_result kij_pump(kij_control *control, kij_listener listen, void *with);
+
+/** Passes each event of each control of the till to a listener, until none is left, and replies as kij_pump does. */
+kij_result kij_pump_all(kij_till *till, kij_listener listen, void *with);
+
+/* ---- The devices' side: inputs, work, exchange. Devices are simulated; a host with hardware says what happens there.
+ * ---- */
+
+/** A cash drawer is opened or closed by hand. */
+kij_result kij_input_drawer(kij_till *till, const char *device, bool is_open);
+
+/** A scanner reads a code: its type, which isn't negative (ScanDataType), all that was read, and its label. */
+kij_result kij_input_scan(kij_till *till, const char *device, int64_t type, const void *data, size_t data_size,
+                          const void *label, size_t label_size);
+
+/** A scanner fails to read. */
+kij_result kij_input_scan_fault(kij_till *till, const char *device);
+
+/** A printer's cover is opened or closed by hand. */
+kij_result kij_input_cover(kij_till *till, const char *device, bool is_open);
+
+/** A printer is loaded with paper: 0 to 100,000 lines are left. */
+kij_result kij_input_paper(kij_till *till, const char *device, int64_t lines);
+
+/** A device is switched on or off. */
+kij_result kij_input_power(kij_till *till, const char *device, bool is_on);
+
+/** What kij_work did. */
+typedef enum kij_work_kind { KIJ_IDLE = 0, KIJ_WORK_DONE = 1, KIJ_WORK_FAILED = 2 } kij_work_kind;
+
+/** What kij_work did: nothing; or the request with output_id; or the first request failed for this error. */
+typedef struct kij_work_report {
+    kij_work_kind kind;
+    int64_t output_id;
+    kij_result error;
+} kij_work_report;
+
+/** Works on the output that waits for a printer (AsyncMode): its first request is done, or fails. */
+kij_result kij_work(kij_till *till, const char *device, kij_work_report *report);
+
+/** Returns what a simulated device is physically, as docs/CONSOLE.md says under "Answers". The text is lent. */
+kij_result kij_show(kij_till *till, const char *device, const char **text);
+
+/** Returns whether a simulated drawer is open. KIJ_WRONG_TYPE if the device is no drawer. */
+kij_result kij_show_drawer(kij_till *till, const char *device, bool *is_open);
+
+/** What a line display shows: its characters row by row, and for each its attribute as a digit (KIJ_DISP_DT_...). Lent.
+ */
+typedef struct kij_display_view {
+    const uint8_t *characters;
+    size_t size;
+    const char *attributes;
+} kij_display_view;
+
+/** Returns what a simulated line display shows. KIJ_WRONG_TYPE if the device is none. */
+kij_result kij_show_display(kij_till *till, const char *device, kij_display_view *view);
+
+/** The kinds of what a printer has printed. */
+typedef enum kij_printed_kind { KIJ_PRINTED_LINE = 0, KIJ_PRINTED_CUT = 1 } kij_printed_kind;
+
+/** What a printer has printed: a line, or a cut. */
+typedef struct kij_printed {
+    kij_printed_kind kind;
+    /** Of a line: 'l', 'c' or 'r' (left, centre, right); 0 of the line buffer. */
+    char alignment;
+    /** Of a line: its characters, and for each '1' if it is bold, and else '0'. Lent. */
+    const uint8_t *characters;
+    size_t size;
+    const char *bold;
+    /** Of a cut: how much is cut, 1 to 100. */
+    int percentage;
+} kij_printed;
+
+/** What a receipt printer is physically: its cover, how many lines of paper are left, and its line buffer. */
+typedef struct kij_printer_view {
+    bool is_cover_open;
+    int64_t lines;
+    kij_printed buffer;
+    /** What kij_next_printed reads next. Lent. */
+    char *rest;
+} kij_printer_view;
+
+/** Returns what a simulated receipt printer is. KIJ_WRONG_TYPE if the device is none. */
+kij_result kij_show_printer(kij_till *till, const char *device, kij_printer_view *view);
+
+/** Takes the next line or cut out of a view, the oldest first, and returns whether there was one. */
+bool kij_next_printed(kij_printer_view *view, kij_printed *printed);
+
+/** A spare of the profile, by its number from 1 on, serves the device from now on. */
+kij_result kij_attach(kij_till *till, const char *device, int64_t spare);
+
+/** The device has no peripheral from now on. */
+kij_result kij_detach(kij_till *till, const char *device);
+
+/* ---- Devices of your own ---- */
+
+/** The kinds of orders. */
+typedef enum kij_order_kind {
+    KIJ_NO_ORDER = 0,
+    KIJ_ORDER_OPEN_DRAWER = 1,
+    KIJ_ORDER_DISPLAY_TEXT_AT = 2,
+    KIJ_ORDER_CLEAR_TEXT = 3,
+    KIJ_ORDER_SCROLL_TEXT = 4,
+    KIJ_ORDER_PRINT = 5,
+    KIJ_ORDER_CUT_PAPER = 6
+} kij_order_kind;
+
+/** An order for hardware of yours. Fields that the kind doesn't have are 0. */
+typedef struct kij_order {
+    kij_order_kind kind;
+    /** The device's name in the profile. Lent. */
+    const char *device;
+    /** KIJ_ORDER_DISPLAY_TEXT_AT, KIJ_ORDER_PRINT: the bytes. Lent. */
+    const uint8_t *data;
+    size_t size;
+    /** KIJ_ORDER_DISPLAY_TEXT_AT: where the text begins, and its attribute (KIJ_DISP_DT_...). */
+    int row;
+    int column;
+    int attribute;
+    /** KIJ_ORDER_SCROLL_TEXT: the direction (KIJ_DISP_ST_...), and by how many rows or columns. */
+    int direction;
+    int units;
+    /** KIJ_ORDER_CUT_PAPER: how much is cut, 0 to 100. */
+    int percentage;
+} kij_order;
+
+/** Says that you have this device as hardware: its orders come by kij_next_order from now on (abi/README.md). */
+kij_result kij_host(kij_till *till, const char *device);
+
+/** Takes out the oldest order of the devices that you have, or writes KIJ_NO_ORDER. Take them out after each call. */
+kij_result kij_next_order(kij_till *till, kij_order *order);
+
+#ifdef __cplusplus
+}
+#endif
+
+#include "kij_controls.h"
+
+#endif

@@ -1,0 +1,124 @@
+/* Events, and the replies to ErrorEvents. */
+#include "kij_internal.h"
+#include <string.h>
+
+/* The word of a reply in a line, or null for the default one. */
+static const kij_word *word_of(kij_reply reply) {
+    static const kij_word retry = KIJ_WORD(" retry"), clear = KIJ_WORD(" clear"), go_on = KIJ_WORD(" continue");
+    switch (reply) {
+    case KIJ_ER_RETRY: return &retry;
+    case KIJ_ER_CLEAR: return &clear;
+    case KIJ_ER_CONTINUEINPUT: return &go_on;
+    default: return NULL;
+    }
+}
+
+/* Reads the numbers of an event. */
+static bool has_numbers(char *text, int64_t *numbers, size_t count) {
+    for (size_t place = 0; place < count; place++)
+        if (!kij_internal_read_number(&text, &numbers[place])) return false;
+    return *text == 0;
+}
+
+/* Reads `NAME NUMBER ..`: whether it is an event of these. */
+static bool is_read(char *text, kij_event *event) {
+    int64_t numbers[3];
+    char *space = strchr(text, ' ');
+    if (space == NULL) return false;
+    *space = 0;
+    if (strcmp(text, "StatusUpdateEvent") == 0 && has_numbers(space + 1, numbers, 1)) {
+        event->kind = KIJ_STATUS_UPDATE_EVENT;
+        event->status = (int)numbers[0];
+    } else if (strcmp(text, "DataEvent") == 0 && has_numbers(space + 1, numbers, 1)) {
+        event->kind = KIJ_DATA_EVENT;
+    } else if (strcmp(text, "ErrorEvent") == 0 && has_numbers(space + 1, numbers, 3)) {
+        event->kind = KIJ_ERROR_EVENT;
+        event->error = kij_internal_result((int)numbers[0], (int)numbers[1], event->control->category);
+        event->locus = (int)numbers[2];
+    } else if (strcmp(text, "OutputCompleteEvent") == 0 && has_numbers(space + 1, numbers, 1)) {
+        event->kind = KIJ_OUTPUT_COMPLETE_EVENT;
+        event->output_id = numbers[0];
+    }
+    return event->kind != KIJ_NO_EVENT;
+}
+
+/* Makes an event none. */
+static inline void clear(kij_event *event, kij_control *control) {
+    memset(event, 0, sizeof *event);
+    event->control = control;
+}
+
+/* Delivers the control's next event, with the reply of a word, or the default one. */
+static inline kij_result deliver(kij_control *control, const kij_word *reply, kij_event *event) {
+    if (control == NULL || event == NULL) return kij_internal_result(KIJ_BAD_ARGUMENT, 0, KIJ_NO_CATEGORY);
+    kij_till *till = control->till;
+    kij_result result = kij_internal_result(kij_internal_enter(till), 0, control->category);
+    if (result.code != KIJ_OK) return result;
+    result.code = kij_internal_run(till, KIJ_VERB_DELIVER, &control->name, reply, NULL, 0);
+    if (result.code == KIJ_OK) {
+        char *text = till->text;
+        if (memcmp(text, "none", 5) == 0) {
+            clear(event, control);
+        } else if (memcmp(text, "event ", 6) == 0) {
+            kij_event found;
+            clear(&found, control);
+            if (is_read(text + 6, &found)) *event = found;
+            else result.code = KIJ_BAD_ANSWER;
+        } else {
+            result = kij_internal_answer(till, control->category, &text);
+            if (result.code == KIJ_OK) result.code = KIJ_BAD_ANSWER;
+        }
+    }
+    kij_internal_leave(till);
+    return result;
+}
+
+kij_result kij_next_event(kij_control *control, kij_event *event) { return deliver(control, NULL, event); }
+
+kij_result kij_next_event_replied(kij_control *control, kij_reply reply, kij_event *event) {
+    return deliver(control, word_of(reply), event);
+}
+
+/* The default reply leaves what is held or waits where it is, at EL_OUTPUT and EL_INPUT_DATA. So ER_CLEAR is
+   clearOutput or clearInput after it. A control that was closed or released meanwhile has nothing left to clear. */
+kij_result kij_reply_to(const kij_event *event, kij_reply reply) {
+    kij_result done = kij_internal_result(KIJ_OK, 0, KIJ_NO_CATEGORY);
+    if (event == NULL) return kij_internal_result(KIJ_BAD_ARGUMENT, 0, KIJ_NO_CATEGORY);
+    if (event->kind != KIJ_ERROR_EVENT || reply != KIJ_ER_CLEAR || event->locus == KIJ_EL_INPUT) return done;
+    kij_result result = event->locus == KIJ_EL_OUTPUT ? kij_printer_clear_output(event->control)
+                                                      : kij_scanner_clear_input(event->control);
+    bool is_gone = result.code == KIJ_E_CLOSED || result.code == KIJ_E_CLAIMED || result.code == KIJ_E_NOTCLAIMED;
+    return is_gone ? done : result;
+}
+
+/* Delivers one event to a listener: whether there was one. */
+static kij_result pass(kij_control *control, kij_listener listen, void *with, bool *is_passed) {
+    kij_event event;
+    kij_result result = kij_next_event(control, &event);
+    if (result.code != KIJ_OK || event.kind == KIJ_NO_EVENT) return result;
+    *is_passed = true;
+    return kij_reply_to(&event, listen(&event, with));
+}
+
+kij_result kij_pump(kij_control *control, kij_listener listen, void *with) {
+    kij_result result;
+    bool is_passed;
+    if (control == NULL || listen == NULL) return kij_internal_result(KIJ_BAD_ARGUMENT, 0, KIJ_NO_CATEGORY);
+    do {
+        is_passed = false;
+        result = pass(control, listen, with, &is_passed);
+    } while (result.code == KIJ_OK && is_passed);
+    return result;
+}
+
+kij_result kij_pump_all(kij_till *till, kij_listener listen, void *with) {
+    kij_result result = kij_internal_result(KIJ_OK, 0, KIJ_NO_CATEGORY);
+    bool is_passed;
+    if (till == NULL || listen == NULL) return kij_internal_result(KIJ_BAD_ARGUMENT, 0, KIJ_NO_CATEGORY);
+    do {
+        is_passed = false;
+        for (kij_control *control = till->first; control != NULL && result.code == KIJ_OK; control = control->next)
+            if (!control->is_free) result = pass(control, listen, with, &is_passed);
+    } while (result.code == KIJ_OK && is_passed);
+    return result;
+}

@@ -1,0 +1,136 @@
+/* Properties, and what results mean. */
+#include "kij_internal.h"
+#include <string.h>
+
+/* The row of a property if it has this shape, or null. */
+static inline const kij_property_row *row_of(kij_property property, kij_shape shape, int *code) {
+    *code = KIJ_BAD_ARGUMENT;
+    if (property < 1 || (size_t)property > kij_internal_property_count) return NULL;
+    const kij_property_row *row = &kij_internal_properties[property - 1];
+    *code = KIJ_WRONG_TYPE;
+    return row->shape == shape ? row : NULL;
+}
+
+/* Reads a property of this shape. */
+static inline kij_result get(kij_control *control, kij_property property, kij_shape shape, kij_value *value) {
+    int code;
+    const kij_property_row *row = row_of(property, shape, &code);
+    if (row == NULL) return kij_internal_result(code, 0, control == NULL ? KIJ_NO_CATEGORY : control->category);
+    value->shape = shape;
+    return kij_internal_call(control, KIJ_VERB_GET, &row->word, NULL, 0, value);
+}
+
+kij_result kij_get_int(kij_control *control, kij_property property, int64_t *number) {
+    kij_value value;
+    if (number == NULL) return kij_internal_result(KIJ_BAD_ARGUMENT, 0, KIJ_NO_CATEGORY);
+    kij_result result = get(control, property, KIJ_SHAPE_NUMBER, &value);
+    if (result.code == KIJ_OK) *number = value.number;
+    return result;
+}
+
+kij_result kij_get_bool(kij_control *control, kij_property property, bool *is_true) {
+    kij_value value;
+    if (is_true == NULL) return kij_internal_result(KIJ_BAD_ARGUMENT, 0, KIJ_NO_CATEGORY);
+    kij_result result = get(control, property, KIJ_SHAPE_TRUTH, &value);
+    if (result.code == KIJ_OK) *is_true = value.number != 0;
+    return result;
+}
+
+kij_result kij_get_bytes(kij_control *control, kij_property property, const uint8_t **data, size_t *size) {
+    kij_value value;
+    if (data == NULL || size == NULL) return kij_internal_result(KIJ_BAD_ARGUMENT, 0, KIJ_NO_CATEGORY);
+    kij_result result = get(control, property, KIJ_SHAPE_BYTES, &value);
+    if (result.code == KIJ_OK) {
+        *data = value.data;
+        *size = value.size;
+    }
+    return result;
+}
+
+/* Sets a property to a value of any shape: whether it takes it is the control's to say. */
+static inline kij_result set(kij_control *control, kij_property property, const kij_argument *value) {
+    if (property < 1 || (size_t)property > kij_internal_property_count)
+        return kij_internal_result(KIJ_BAD_ARGUMENT, 0, KIJ_NO_CATEGORY);
+    return kij_internal_call(control, KIJ_VERB_SET, &kij_internal_properties[property - 1].word, value, 1, NULL);
+}
+
+kij_result kij_set_int(kij_control *control, kij_property property, int64_t number) {
+    kij_argument value = kij_internal_number(number);
+    return set(control, property, &value);
+}
+
+kij_result kij_set_bool(kij_control *control, kij_property property, bool is_true) {
+    kij_argument value = kij_internal_truth(is_true);
+    return set(control, property, &value);
+}
+
+const char *kij_property_name(kij_property property) {
+    return property < 1 || (size_t)property > kij_internal_property_count
+               ? ""
+               : kij_internal_properties[property - 1].word.text + 1;
+}
+
+/* The codes that aren't the standard's. */
+static const kij_number_row own_codes[] = {
+    {KIJ_NO_CATEGORY, KIJ_NO_MEMORY, "KIJ_NO_MEMORY", "There was no memory, and nothing was done."},
+    {KIJ_NO_CATEGORY, KIJ_BAD_PROFILE, "KIJ_BAD_PROFILE", "The profile is refused."},
+    {KIJ_NO_CATEGORY, KIJ_NO_ANSWER, "KIJ_NO_ANSWER",
+     "The call was carried out, but there was no memory for its answer."},
+    {KIJ_NO_CATEGORY, KIJ_DISK_FAILED, "KIJ_DISK_FAILED",
+     "The file of the totals couldn't be written; the till can only be closed."},
+    {KIJ_NO_CATEGORY, KIJ_TOO_SMALL, "KIJ_TOO_SMALL", "The file is shorter than a disk of totals."},
+    {KIJ_NO_CATEGORY, KIJ_NO_DEVICE, "KIJ_NO_DEVICE", "The profile has no device of the name that has orders."},
+    {KIJ_NO_CATEGORY, KIJ_WRONG_VERSION, "KIJ_WRONG_VERSION",
+     "The library is of another version than the typed layer."},
+    {KIJ_NO_CATEGORY, KIJ_SYSTEM, "KIJ_SYSTEM",
+     "The system refused the file of the totals; the extended code is errno."},
+    {KIJ_NO_CATEGORY, KIJ_BAD_ARGUMENT, "KIJ_BAD_ARGUMENT", "An argument can't be passed on to the library."},
+    {KIJ_NO_CATEGORY, KIJ_WRONG_TYPE, "KIJ_WRONG_TYPE", "The property has another type."},
+    {KIJ_NO_CATEGORY, KIJ_IN_CALL, "KIJ_IN_CALL", "Another call of the same till is under way."},
+    {KIJ_NO_CATEGORY, KIJ_BAD_ANSWER, "KIJ_BAD_ANSWER",
+     "The library answered something that this version doesn't know."},
+    {KIJ_NO_CATEGORY, KIJ_NAME_IN_USE, "KIJ_NAME_IN_USE", "A control of the till has the name already."},
+    {KIJ_NO_CATEGORY, KIJ_FULL, "KIJ_FULL", "The till has as many controls as it may have."},
+    {KIJ_NO_CATEGORY, KIJ_BAD_DEVICE, "KIJ_BAD_DEVICE", "There is no device of the name, or it has no peripheral."},
+    {KIJ_NO_CATEGORY, KIJ_BAD_INPUT, "KIJ_BAD_INPUT", "The device has no such input."},
+    {KIJ_NO_CATEGORY, KIJ_BAD_SPARE, "KIJ_BAD_SPARE", "There is no spare of the number, or it serves a device."},
+    {KIJ_NO_CATEGORY, KIJ_UNKNOWN, "KIJ_UNKNOWN", "There is no device of the name that may have a peripheral."},
+    {KIJ_NO_CATEGORY, KIJ_IN_USE, "KIJ_IN_USE", "The device has its peripheral, or a control has it open."},
+    {KIJ_NO_CATEGORY, KIJ_KIND_DIFFERS, "KIJ_KIND_DIFFERS", "The spare is of another kind than the device."},
+    {KIJ_NO_CATEGORY, KIJ_VACANT, "KIJ_VACANT", "The device has no peripheral to detach."},
+};
+
+/* The row of a number in a table, of a category if it isn't KIJ_NO_CATEGORY there; or null. */
+static const kij_number_row *found(const kij_number_row *rows, size_t count, int number, kij_category category) {
+    for (size_t place = 0; place < count; place++)
+        if (rows[place].number == number &&
+            (rows[place].category == KIJ_NO_CATEGORY || rows[place].category == category))
+            return &rows[place];
+    return NULL;
+}
+
+static const kij_number_row *code_row(int code) {
+    const kij_number_row *row = found(kij_internal_codes, kij_internal_code_count, code, KIJ_NO_CATEGORY);
+    return row != NULL ? row : found(own_codes, sizeof own_codes / sizeof own_codes[0], code, KIJ_NO_CATEGORY);
+}
+
+static const kij_number_row *extended_row(kij_result result) {
+    if (result.code != KIJ_E_EXTENDED) return NULL;
+    return found(kij_internal_extended, kij_internal_extended_count, result.extended, result.category);
+}
+
+const char *kij_strerror(kij_result result) {
+    const kij_number_row *row = extended_row(result);
+    if (row == NULL) row = code_row(result.code);
+    return row == NULL ? "The code is unknown." : row->text;
+}
+
+const char *kij_code_name(int code) {
+    const kij_number_row *row = code_row(code);
+    return row == NULL ? "" : row->name;
+}
+
+const char *kij_extended_name(kij_result result) {
+    const kij_number_row *row = extended_row(result);
+    return row == NULL ? "" : row->name;
+}

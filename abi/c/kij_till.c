@@ -1,0 +1,164 @@
+/* Tills and their controls. */
+#include "kij_internal.h"
+#include <stdio.h>
+#include <stdlib.h>
+#include <string.h>
+#include <unistd.h>
+
+int kij_version(void) { return KIJ_VERSION; }
+
+const char *kij_release(void) { return KIJ_RELEASE; }
+
+/* Frees what a till has, whose library's till isn't there or is closed. */
+static void free_till(kij_till *till) {
+    while (till->first != NULL) {
+        kij_control *next = till->first->next;
+        free(till->first);
+        till->first = next;
+    }
+    free(till->errand);
+    free(till->line);
+    free(till->text);
+    free(till);
+}
+
+static kij_result plain(int code) { return kij_internal_result(code, 0, KIJ_NO_CATEGORY); }
+
+/* Closing the file unlocks it. */
+static void close_file(int file) {
+    if (file >= 0) close(file);
+}
+
+kij_result kij_open(const char *profile, const char *totals, int flags, kij_till **till) {
+    if (till == NULL || flags < KIJ_EXISTING || flags > KIJ_CREATE_NEW) return plain(KIJ_BAD_ARGUMENT);
+    if (kijolvar_version() != KIJOLVAR_VERSION) return plain(KIJ_WRONG_VERSION);
+    kij_till *made = (kij_till *)calloc(1, sizeof *made);
+    if (made == NULL) return plain(KIJ_NO_MEMORY);
+    made->file = -1;
+    if (!kij_internal_rooms(made)) {
+        free_till(made);
+        return plain(KIJ_NO_MEMORY);
+    }
+    int why = totals == NULL ? 0 : kij_internal_open_file(totals, flags, profile, &made->file);
+    if (why == 0) {
+        int code = kij_internal_open_till(made, profile);
+        if (code == KIJ_OK) {
+            *till = made;
+            return plain(KIJ_OK);
+        }
+        close_file(made->file);
+        why = -code;
+    }
+    free_till(made);
+    return why < 0 ? plain(-why) : kij_internal_result(KIJ_SYSTEM, why, KIJ_NO_CATEGORY);
+}
+
+void kij_close(kij_till *till) {
+    if (till == NULL) return;
+    kijolvar_close(till->inner);
+    close_file(till->file);
+    free_till(till);
+}
+
+kij_result kij_carry_out(kij_till *till, const char *lines, size_t size, const char **answer) {
+    if (answer == NULL || (lines == NULL && size != 0)) return plain(KIJ_BAD_ARGUMENT);
+    int code = kij_internal_enter(till);
+    if (code != KIJ_OK) return plain(code);
+    if (size == KIJ_ZERO_ENDED) size = strlen(lines);
+    code = kij_internal_carry_out(till, lines, size);
+    if (code == KIJ_OK || code == KIJ_NO_ANSWER) *answer = till->text;
+    kij_internal_leave(till);
+    return plain(code);
+}
+
+/* The word of a category in lines, or null. */
+static const kij_word *word_of(kij_category category) {
+    static const kij_word words[] = {KIJ_WORD(" CashDrawer"), KIJ_WORD(" Scanner"), KIJ_WORD(" LineDisplay"),
+                                     KIJ_WORD(" POSPrinter"), KIJ_WORD(" HardTotals")};
+    return category >= KIJ_CASH_DRAWER && category <= KIJ_HARD_TOTALS ? &words[category - 1] : NULL;
+}
+
+/* A control of the category that was given back, or null. */
+static kij_control *free_control(kij_till *till, kij_category category) {
+    for (kij_control *control = till->first; control != NULL; control = control->next)
+        if (control->is_free && control->category == category) return control;
+    return NULL;
+}
+
+/* Asks the library for a control of this name. */
+static kij_result ask_new(kij_till *till, kij_category category, const kij_word *name) {
+    char *value;
+    int code = kij_internal_run(till, KIJ_VERB_NEW, name, word_of(category), NULL, 0);
+    return code == KIJ_OK ? kij_internal_answer(till, category, &value) : kij_internal_result(code, 0, category);
+}
+
+/* Makes a name up. */
+static void make_name(kij_word *name, unsigned long number) {
+    snprintf(name->text, sizeof name->text, " k%lu", number % 1000000000000000UL);
+    name->size = strlen(name->text);
+}
+
+/* Makes a control; its room is there before the library is asked. */
+static kij_result made_control(kij_till *till, kij_category category, const kij_word *name, kij_control **control) {
+    kij_control *made = (kij_control *)calloc(1, sizeof *made);
+    kij_result result = kij_internal_result(KIJ_NO_MEMORY, 0, category);
+    if (made == NULL) return result;
+    made->till = till;
+    made->category = category;
+    do {
+        if (name != NULL) made->name = *name;
+        else make_name(&made->name, ++till->names);
+        result = ask_new(till, category, &made->name);
+    } while (name == NULL && result.code == KIJ_NAME_IN_USE);
+    if (result.code != KIJ_OK) {
+        free(made);
+        return result;
+    }
+    if (till->last != NULL) till->last->next = made;
+    else till->first = made;
+    till->last = made;
+    *control = made;
+    return result;
+}
+
+kij_result kij_new(kij_till *till, kij_category category, const char *name, kij_control **control) {
+    kij_word word;
+    if (control == NULL || word_of(category) == NULL || (name != NULL && !kij_internal_is_name(name, &word)))
+        return kij_internal_result(KIJ_BAD_ARGUMENT, 0, category);
+    int code = kij_internal_enter(till);
+    if (code != KIJ_OK) return kij_internal_result(code, 0, category);
+    kij_result result = kij_internal_result(KIJ_OK, 0, category);
+    kij_control *found = name == NULL ? free_control(till, category) : NULL;
+    if (found == NULL) result = made_control(till, category, name == NULL ? NULL : &word, &found);
+    if (result.code == KIJ_OK) {
+        found->is_free = false;
+        *control = found;
+    }
+    kij_internal_leave(till);
+    return result;
+}
+
+kij_result kij_start(kij_till *till, kij_category category, const char *device, int claiming, kij_control **control) {
+    kij_control *made;
+    if (control == NULL) return kij_internal_result(KIJ_BAD_ARGUMENT, 0, category);
+    kij_result result = kij_new(till, category, NULL, &made);
+    if (result.code != KIJ_OK) return result;
+    result = kij_control_open(made, device);
+    if (result.code == KIJ_OK && claiming == KIJ_CLAIMED) result = kij_control_claim(made, 0);
+    if (result.code == KIJ_OK) result = kij_set_bool(made, KIJ_PROP_DEVICE_ENABLED, true);
+    if (result.code == KIJ_OK) *control = made;
+    else kij_discard(made);
+    return result;
+}
+
+void kij_discard(kij_control *control) {
+    if (control == NULL) return;
+    kij_control_close(control);
+    control->is_free = true;
+}
+
+const char *kij_name(const kij_control *control) { return control->name.text + 1; }
+
+kij_category kij_category_of(const kij_control *control) { return control->category; }
+
+kij_till *kij_till_of(const kij_control *control) { return control->till; }

@@ -1,0 +1,148 @@
+/* The file of a till's totals: it is opened or created and locked, and what the till's disk does is done in it. */
+#ifndef _GNU_SOURCE
+#define _GNU_SOURCE
+#endif
+#include "kij_internal.h"
+#include <errno.h>
+#include <fcntl.h>
+#include <stdio.h>
+#include <stdlib.h>
+#include <string.h>
+#include <sys/file.h>
+#include <unistd.h>
+
+uint32_t kij_internal_settle(kij_till *till) {
+    for (;;) {
+        uint64_t at = 0;
+        size_t count = 0;
+        uint32_t code =
+            kijolvar_next_errand(till->inner, &till->inner.at, &at, till->errand, KIJOLVAR_DISK_LENGTH, &count);
+        if (code == KIJOLVAR_WRITE && pwrite(till->file, till->errand, count, (off_t)at) == (ssize_t)count) continue;
+        if (code == KIJOLVAR_SYNC && fsync(till->file) == 0) continue;
+        if (code == KIJOLVAR_OK) return code;
+        kijolvar_errand_failed(till->inner, &till->inner.at);
+        return KIJOLVAR_DISK_FAILED;
+    }
+}
+
+/* Opens the till over the file's bytes. */
+static uint32_t open_over_file(kij_till *till, const uint8_t *profile, size_t size) {
+    till->errand = (uint8_t *)malloc(KIJOLVAR_DISK_LENGTH);
+    if (till->errand == NULL) return KIJOLVAR_NO_MEMORY;
+    ssize_t found = pread(till->file, till->errand, KIJOLVAR_DISK_LENGTH, 0);
+    if (found < 0) return KIJOLVAR_DISK_FAILED;
+    uint32_t code = kijolvar_open_file(profile, size, till->errand, (size_t)found, &till->inner.at);
+    if (code == KIJOLVAR_OK && (code = kij_internal_settle(till)) != KIJOLVAR_OK) {
+        kijolvar_close(till->inner);
+        till->inner.at = NULL;
+    }
+    return code;
+}
+
+/* What the library's code means to who opens a till. */
+static int code_of(uint32_t code) {
+    switch (code) {
+    case KIJOLVAR_OK: return KIJ_OK;
+    case KIJOLVAR_NO_MEMORY: return KIJ_NO_MEMORY;
+    case KIJOLVAR_BAD_PROFILE: return KIJ_BAD_PROFILE;
+    case KIJOLVAR_TOO_SMALL: return KIJ_TOO_SMALL;
+    default: return KIJ_DISK_FAILED;
+    }
+}
+
+int kij_internal_open_till(kij_till *till, const char *profile) {
+    const uint8_t *text = (const uint8_t *)profile;
+    size_t size = profile == NULL ? 0 : strlen(profile);
+    return code_of(till->file < 0 ? kijolvar_open(text, size, &till->inner.at) : open_over_file(till, text, size));
+}
+
+/* Closes a file after an error, which it returns. */
+static int dropped(int file, int why) {
+    close(file);
+    return why;
+}
+
+/* Opens the folder that a path is in, and says by which name it has the path's file.
+
+   This and each function below returns 0, or errno, or a code of the layer below 0. */
+static int open_folder(const char *path, const char **name, int *folder) {
+    const char *slash = strrchr(path, '/');
+    size_t size = slash == NULL ? 1 : (size_t)(slash + 1 - path);
+    char *text = (char *)malloc(size + 1);
+    *name = slash == NULL ? path : slash + 1;
+    if (text == NULL) return -KIJ_NO_MEMORY;
+    memcpy(text, slash == NULL ? "." : path, size);
+    text[size] = 0;
+    *folder = open(text, O_RDONLY | O_DIRECTORY | O_CLOEXEC);
+    int why = *folder < 0 ? errno : 0;
+    free(text);
+    return why;
+}
+
+/* Opens a file that is there, and locks it. Its folder is synced too, since a creation that was killed may have named
+   the file and not synced its name. */
+static int open_existing(const char *path, int *file) {
+    const char *name;
+    int folder;
+    *file = open(path, O_RDWR | O_CLOEXEC);
+    if (*file < 0) return errno;
+    if (flock(*file, LOCK_EX | LOCK_NB) != 0) return dropped(*file, errno);
+    int why = open_folder(path, &name, &folder);
+    if (why != 0) return dropped(*file, why);
+    if (fsync(folder) != 0) why = errno;
+    close(folder);
+    return why == 0 ? 0 : dropped(*file, why);
+}
+
+/* Makes a file of no bytes one of totals without files. The profile is that of the till which is to be opened over it,
+   so that a refused one creates nothing. */
+static int format(int file, const char *profile) {
+    kij_till till;
+    memset(&till, 0, sizeof till);
+    till.file = file;
+    till.errand = (uint8_t *)calloc(1, KIJOLVAR_DISK_LENGTH);
+    if (till.errand == NULL) return -KIJ_NO_MEMORY;
+    uint32_t code = kijolvar_format_file((const uint8_t *)profile, profile == NULL ? 0 : strlen(profile), till.errand,
+                                         KIJOLVAR_DISK_LENGTH, &till.inner.at);
+    int why = code == KIJOLVAR_OK ? 0 : -code_of(code);
+    if (code == KIJOLVAR_OK) {
+        if (ftruncate(file, KIJOLVAR_DISK_LENGTH) != 0) why = errno;
+        else if (kij_internal_settle(&till) != KIJOLVAR_OK) why = EIO;
+        kijolvar_close(till.inner);
+    }
+    free(till.errand);
+    return why;
+}
+
+/* Gives the file without a name, which is whole and synced, its name. */
+static int name_file(int file, int folder, const char *name) {
+    char unnamed[32];
+    snprintf(unnamed, sizeof unnamed, "/proc/self/fd/%d", file);
+    if (linkat(AT_FDCWD, unnamed, folder, name, AT_SYMLINK_FOLLOW) != 0) return errno;
+    return fsync(folder) == 0 ? 0 : errno;
+}
+
+/* Creates a file of totals without files, and locks it. It gets its name when it is whole, so a crash leaves nothing or
+ * all. */
+static int create_new(const char *path, const char *profile, int *file) {
+    const char *name;
+    int folder;
+    int why = open_folder(path, &name, &folder);
+    if (why != 0) return why;
+    *file = openat(folder, ".", O_RDWR | O_TMPFILE | O_CLOEXEC, 0600);
+    if (*file < 0) return dropped(folder, errno);
+    if (flock(*file, LOCK_EX | LOCK_NB) != 0) why = errno;
+    if (why == 0) why = format(*file, profile);
+    if (why == 0) why = name_file(*file, folder, name);
+    close(folder);
+    return why == 0 ? 0 : dropped(*file, why);
+}
+
+int kij_internal_open_file(const char *path, int flags, const char *profile, int *file) {
+    if (flags == KIJ_CREATE_NEW) return create_new(path, profile, file);
+    int why = open_existing(path, file);
+    if (why == ENOENT && flags == KIJ_CREATE) why = create_new(path, profile, file);
+    /* Another till created it in between. */
+    if (why == EEXIST && flags == KIJ_CREATE) why = open_existing(path, file);
+    return why;
+}

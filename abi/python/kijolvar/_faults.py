@@ -1,0 +1,164 @@
+"""What goes wrong, but for the classes of the standard's codes."""
+from __future__ import annotations
+
+from typing import ClassVar
+
+from ._constants import (KIJOLVAR_BAD_PROFILE, KIJOLVAR_CUT, KIJOLVAR_DISK_FAILED, KIJOLVAR_FORMATTED,
+                         KIJOLVAR_NO_DEVICE, KIJOLVAR_NO_MEMORY, KIJOLVAR_TOO_SMALL)
+
+
+class Error(Exception):
+    """Anything that this package raises of its own."""
+
+
+class UposError(Error):
+    """A call was refused with a result code of the standard. There is a subclass for each code.
+
+    Attributes:
+        code: The result code, such as E_ILLEGAL.
+        extended: The extended code, or 0 if the code isn't E_EXTENDED.
+        call: The call that was refused, and the control.
+        name: The name of the code, such as "E_ILLEGAL".
+        summary: What the code means, in one sentence.
+        reason: What it means of this call; the summary if nothing more is known.
+    """
+
+    name: ClassVar[str] = ""
+    summary: ClassVar[str] = "The call was refused."
+
+    def __init__(self, code: int, extended: int = 0, call: str = "", reason: str = "") -> None:
+        super().__init__(code, extended, call, reason)
+        self.code, self.extended, self.call = int(code), int(extended), call
+        self.reason = reason or self.summary
+
+    def __str__(self) -> str:
+        numbers = f"{self.code} {self.extended}" if self.extended else f"{self.code}"
+        named = f"{self.name} ({numbers})" if self.name else numbers
+        return f"{self.call}: {named}: {self.reason}" if self.call else f"{named}: {self.reason}"
+
+
+class LibraryError(Error):
+    """The library can't be loaded, or it is of another version."""
+
+
+class LibraryFault(Error):
+    """The library answered a call with a code of its own (KIJOLVAR_..).
+
+    Attributes:
+        library_code: The code.
+        text: What it means.
+    """
+
+    def __init__(self, library_code: int, text: str = "") -> None:
+        super().__init__(library_code, text)
+        self.library_code, self.text = library_code, text
+
+    def __str__(self) -> str:
+        return self.text or f"the library answered {self.library_code}"
+
+
+class ProfileError(LibraryFault):
+    """The profile is refused (docs/PROFILE.md says what a profile may have).
+
+    Attributes:
+        reason: What is wrong with it.
+        line, column: Where, counted from 1, if that is known; else None.
+    """
+
+    def __init__(self, reason: str = "the profile is refused", line: int | None = None,
+                 column: int | None = None) -> None:
+        where = f"line {line}, column {column}: " if line is not None else ""
+        super().__init__(KIJOLVAR_BAD_PROFILE, f"{where}{reason}")
+        self.args = self.reason, self.line, self.column = reason, line, column
+
+
+class NoMemoryError(LibraryFault, MemoryError):
+    """The library had no memory for a call. Nothing has changed."""
+
+
+class DiskError(LibraryFault):
+    """The file of the totals failed. What the last call changed may not be in the file; the till can only be closed."""
+
+
+class FormattedError(LibraryFault):
+    """The file has totals already, which stay as they are."""
+
+
+class TooSmallError(LibraryFault):
+    """The file of totals is shorter than KIJOLVAR_DISK_LENGTH bytes."""
+
+
+class NoDeviceError(LibraryFault):
+    """The profile has no such device, or no peripheral is attached to it."""
+
+
+class TillClosedError(Error):
+    """The till is closed."""
+
+
+class ThreadError(Error):
+    """The till was used in another thread than the one that opened it."""
+
+    def __init__(self, owner: int, caller: int) -> None:
+        super().__init__(owner, caller)
+        self.owner, self.caller = owner, caller
+
+    def __str__(self) -> str:
+        return (f"a till can be used only in the thread that opened it: it was opened in thread {self.owner}, "
+                f"and this is thread {self.caller}")
+
+
+class ExchangeError(Error):
+    """A peripheral can't be attached or detached.
+
+    Attributes:
+        reason: "Unknown", "KindDiffers", "InUse", "Vacant", or "NoSpare" if no spare has the number.
+    """
+
+    def __init__(self, reason: str) -> None:
+        super().__init__(reason)
+        self.reason = reason
+
+    def __str__(self) -> str:
+        return f"the peripheral can't be exchanged: {self.reason}"
+
+
+class InputError(Error):
+    """What is said to have happened can't happen at a device of this kind."""
+
+
+class LineError(Error):
+    """The text layer refused a line: its shape is wrong, or it names no control.
+
+    Attributes:
+        answer: What the line was answered.
+    """
+
+    def __init__(self, answer: str) -> None:
+        super().__init__(answer)
+        self.answer = answer
+
+    def __str__(self) -> str:
+        return f"the line was answered: {self.answer}"
+
+
+class TooManyControlsError(Error):
+    """The till has as many controls as there may be, closed ones among them."""
+
+
+_FAULTS: dict[int, tuple[type[LibraryFault], str]] = {
+    KIJOLVAR_NO_MEMORY: (NoMemoryError, "there was no memory, and nothing was done"),
+    KIJOLVAR_CUT: (NoMemoryError, "there was no memory for the whole answer"),
+    KIJOLVAR_DISK_FAILED: (DiskError, "the file of the totals failed: the till can only be closed"),
+    KIJOLVAR_FORMATTED: (FormattedError, "the file has totals already"),
+    KIJOLVAR_TOO_SMALL: (TooSmallError, "the file is too short for totals"),
+    KIJOLVAR_NO_DEVICE: (NoDeviceError, "the profile has no device of the name that has orders"),
+}
+
+
+def library_fault(code: int) -> LibraryFault:
+    """The exception for a code of the library that isn't KIJOLVAR_OK."""
+    if code == KIJOLVAR_BAD_PROFILE:
+        return ProfileError()
+    kind, text = _FAULTS.get(code, (LibraryFault, ""))
+    return kind(code, text)

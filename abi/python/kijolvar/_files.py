@@ -1,0 +1,67 @@
+"""Files of totals: opening and creating them, with a lock against every other till."""
+from __future__ import annotations
+
+import contextlib
+import ctypes
+import fcntl
+import os
+from collections.abc import Iterator
+from typing import BinaryIO
+
+from ._constants import KIJOLVAR_DISK_LENGTH
+from ._library import Path
+from ._session import Session
+
+
+@contextlib.contextmanager
+def _folder(path: str) -> Iterator[int]:
+    """The folder that a path is in, as a descriptor."""
+    folder = os.open(os.path.dirname(path) or ".", os.O_RDONLY | os.O_DIRECTORY)
+    try:
+        yield folder
+    finally:
+        os.close(folder)
+
+
+def _lock(totals: BinaryIO) -> None:
+    fcntl.flock(totals, fcntl.LOCK_EX | fcntl.LOCK_NB)
+
+
+def open_totals(path: Path) -> BinaryIO:
+    """Opens a file of totals, and locks it against every other till.
+
+    It syncs the folder too, since a creation that was killed may have named the file and not synced its name.
+
+    Raises:
+        FileNotFoundError: The file is missing.
+        BlockingIOError: Another till or program has the file open.
+    """
+    name = os.fspath(path)
+    with contextlib.ExitStack() as undo, _folder(name) as folder:
+        totals = undo.enter_context(open(name, "r+b", buffering=0))
+        _lock(totals)
+        os.fsync(folder)
+        undo.pop_all()
+        return totals
+
+
+def create_totals(library: ctypes.CDLL, path: Path) -> BinaryIO:
+    """Creates a file of totals without files, and locks it against every other till.
+
+    The file gets its name only when it is whole and synced, so a crash leaves nothing or all of it.
+
+    Raises:
+        FileExistsError: Anything has the name already.
+    """
+    name = os.fspath(path)
+    with contextlib.ExitStack() as undo, _folder(name) as folder:
+        unnamed = os.open(".", os.O_RDWR | os.O_TMPFILE, 0o600, dir_fd=folder)
+        totals = undo.enter_context(open(unnamed, "r+b", buffering=0))
+        _lock(totals)
+        totals.truncate(KIJOLVAR_DISK_LENGTH)
+        Session(library, b"", totals, is_new=True).close()
+        # Given a folder, os.link follows the first path to the file that it stands for.
+        os.link(f"/proc/self/fd/{totals.fileno()}", os.path.basename(name), dst_dir_fd=folder)
+        os.fsync(folder)
+        undo.pop_all()
+        return totals

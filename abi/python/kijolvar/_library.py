@@ -1,0 +1,89 @@
+"""Finds and loads the library, a shared object."""
+from __future__ import annotations
+
+import ctypes
+import os
+import pathlib
+from typing import Any, Union
+
+from ._constants import KIJOLVAR_VERSION
+from .errors import LibraryError
+
+Path = Union[str, "os.PathLike[str]"]
+
+NAME = "libkijolvar.so"
+VARIABLE = "KIJOLVAR_LIBRARY"
+
+
+class Raw(ctypes.Structure):
+    """A till as C sees it: a pointer that each call may change."""
+
+    _fields_ = [("at", ctypes.c_void_p)]
+
+
+def declare(library: ctypes.CDLL) -> ctypes.CDLL:
+    """Declares the exports of the library to ctypes."""
+    pointer, size, number = ctypes.c_void_p, ctypes.c_size_t, ctypes.c_uint32
+    out, text, needed = ctypes.POINTER(pointer), ctypes.c_char_p, ctypes.POINTER(size)
+    place = ctypes.POINTER(ctypes.c_uint64)
+    exports: dict[str, tuple[list[Any], Any]] = {
+        "kijolvar_version": ([], number),
+        "kijolvar_open": ([text, size, out], number),
+        "kijolvar_open_file": ([text, size, text, size, out], number),
+        "kijolvar_format_file": ([text, size, text, size, out], number),
+        "kijolvar_carry_out": ([Raw, out, text, size, text, size, needed], number),
+        "kijolvar_answer": ([Raw, out, text, size, needed], number),
+        "kijolvar_next_errand": ([Raw, out, place, text, size, needed], number),
+        "kijolvar_errand_failed": ([Raw, out], None),
+        "kijolvar_host": ([Raw, out, text, size], number),
+        "kijolvar_next_order": ([Raw, out, text, size, needed], number),
+        "kijolvar_close": ([Raw], None),
+    }
+    for name, (taken, given) in exports.items():
+        call = getattr(library, name)
+        call.argtypes, call.restype = taken, given
+    return library
+
+
+def carrier(library: ctypes.CDLL) -> Any:
+    """The export that carries out lines, with addresses in place of pointers, which ctypes passes on faster."""
+    call = library["kijolvar_carry_out"]
+    place, size = ctypes.c_void_p, ctypes.c_size_t
+    call.argtypes, call.restype = [Raw, place, ctypes.c_char_p, size, place, size, place], ctypes.c_uint32
+    return call
+
+
+def load(path: Path) -> ctypes.CDLL:
+    """Loads the library at a path. Raises OSError if there is none, and AttributeError if it is another one."""
+    return declare(ctypes.CDLL(os.fspath(path)))
+
+
+def places() -> list[pathlib.Path]:
+    """Where the library is looked for beside the package."""
+    package = pathlib.Path(__file__).resolve().parent
+    return [package / NAME, package.parent / NAME]
+
+
+def find(path: Path | None = None) -> ctypes.CDLL:
+    """Loads the library: from the path, or from the path in KIJOLVAR_LIBRARY, or from beside the package.
+
+    Raises:
+        LibraryError: No library is there, it can't be loaded, or it is of another version.
+    """
+    where = path or os.environ.get(VARIABLE) or next((place for place in places() if place.exists()), None)
+    if where is None:
+        looked = ", ".join(map(str, places()))
+        raise LibraryError(f"{NAME} not found: pass library=.., set {VARIABLE}, or put it at one of: {looked}")
+    try:
+        library = load(where)
+    except (OSError, AttributeError) as fault:
+        raise LibraryError(f"{os.fspath(where)} can't be loaded: {fault}") from fault
+    check(library)
+    return library
+
+
+def check(library: ctypes.CDLL) -> None:
+    """Refuses a library of another version than this package is for."""
+    version = library.kijolvar_version()
+    if version != KIJOLVAR_VERSION:
+        raise LibraryError(f"the library has interface version {version}, and this package needs {KIJOLVAR_VERSION}")

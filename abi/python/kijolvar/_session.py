@@ -1,0 +1,189 @@
+"""The text layer: a till that is given lines, and gives the text of their answers. It does the errands of the disk."""
+from __future__ import annotations
+
+import ctypes
+import os
+import threading
+from collections import deque
+from collections.abc import Callable, Iterator
+from typing import Any, BinaryIO, NoReturn
+
+from ._constants import (KIJOLVAR_DISK_FAILED, KIJOLVAR_DISK_LENGTH, KIJOLVAR_ERRANDS, KIJOLVAR_OK, KIJOLVAR_ORDER,
+                         KIJOLVAR_SHORT, KIJOLVAR_SYNC, KIJOLVAR_UNDONE, KIJOLVAR_WRITE)
+from ._library import Raw, carrier, check
+from .errors import ThreadError, TillClosedError, library_fault
+
+_identity = threading.get_ident
+_ROOM = 1024
+
+
+class Session:
+    """A till over a profile's text and an open file of totals, or totals in memory if there is none.
+
+    Only the thread that made it may use it. A file that isn't formatted opens too: enabling its totals is E_NOHARDWARE.
+    With `is_new`, the file is formatted first, which is for a file that nobody else has.
+    """
+
+    def __init__(self, library: ctypes.CDLL, profile: bytes, totals: BinaryIO | None = None, *,
+                 is_new: bool = False) -> None:
+        self._thread = _identity()
+        self._library, self._totals = library, totals
+        self._raw = Raw()
+        # The library writes what the till is from then on into the same place, so no call has to copy it.
+        self._out = ctypes.cast(ctypes.pointer(self._raw), ctypes.POINTER(ctypes.c_void_p))
+        self._room = ctypes.create_string_buffer(_ROOM)
+        self._needed = ctypes.c_size_t()
+        self._needed_at = ctypes.pointer(self._needed)
+        self._later: deque[Callable[[], None]] = deque()
+        self._is_settling = False
+        check(library)
+        #: Carries out lines, and returns the text of their answers, once what they changed is in the file.
+        self.carry_out = self._carrier()
+        if totals is None:
+            code = library.kijolvar_open(profile, len(profile), self._out)
+        else:
+            kept = os.pread(totals.fileno(), KIJOLVAR_DISK_LENGTH, 0)
+            self._errand: Any = ctypes.create_string_buffer(KIJOLVAR_DISK_LENGTH)
+            begin = library.kijolvar_format_file if is_new else library.kijolvar_open_file
+            code = begin(profile, len(profile), kept, len(kept), self._out)
+        if code != KIJOLVAR_OK:
+            self._raw.at = None
+            raise library_fault(code)
+        try:
+            self._settle()
+        except BaseException:
+            self.close()
+            raise
+
+    @property
+    def is_closed(self) -> bool:
+        return self._raw.at is None
+
+    @property
+    def is_owner(self) -> bool:
+        """Whether this is the thread that may use the till."""
+        return _identity() == self._thread
+
+    def close(self) -> None:
+        """Ends the till, once. The file stays open."""
+        if self._raw.at is None:
+            return
+        self._check_thread()
+        self._library.kijolvar_close(self._raw)
+        self._raw.at = None
+        self._refuse_calls()
+
+    def _check_thread(self) -> None:
+        if _identity() != self._thread:
+            raise ThreadError(self._thread, _identity())
+
+    def _refuse_closed(self, *_: object) -> NoReturn:
+        raise TillClosedError("the till is closed")
+
+    def check(self) -> None:
+        """Refuses another thread, and a till that is closed."""
+        self._check_thread()
+        if self._raw.at is None:
+            self._refuse_closed()
+
+    def later(self, deed: Callable[[], None]) -> None:
+        """Does something before the next line is carried out. Any thread may ask for it."""
+        self._later.append(deed)
+
+    def settle_later(self) -> None:
+        """Does what was to be done later."""
+        if self._is_settling:
+            return
+        self._is_settling = True
+        try:
+            while self._later:
+                self._later.popleft()()
+        finally:
+            self._is_settling = False
+
+    def _settle(self) -> None:
+        """Does what the till's disk has done in the file, errand by errand."""
+        if self._totals is None:
+            return
+        next_errand, failed = self._library.kijolvar_next_errand, self._library.kijolvar_errand_failed
+        at, count, file = ctypes.c_uint64(), ctypes.c_size_t(), self._totals.fileno()
+        while True:
+            code = next_errand(self._raw, self._out, ctypes.byref(at), self._errand, KIJOLVAR_DISK_LENGTH,
+                               ctypes.byref(count))
+            try:
+                if code == KIJOLVAR_OK:
+                    return
+                if code == KIJOLVAR_SYNC:
+                    os.fsync(file)
+                elif code != KIJOLVAR_WRITE or os.pwrite(file, self._errand[:count.value], at.value) != count.value:
+                    raise library_fault(KIJOLVAR_DISK_FAILED)
+            except BaseException:
+                failed(self._raw, self._out)
+                raise
+
+    def _carrier(self) -> Callable[[bytes], bytes]:
+        """The function that carries out lines. What it uses is at hand without a look at the session."""
+        owner, later, raw, needed = self._thread, self._later, self._raw, self._needed
+        room: Any = self._room
+        raw_at, room_at, needed_at = map(ctypes.addressof, (raw, room, needed))
+        call: Callable[..., Any] = carrier(self._library)
+
+        def carry_out(lines: bytes) -> bytes:
+            if _identity() != owner:
+                self._check_thread()
+            if later:
+                self.settle_later()
+            code = call(raw, raw_at, lines, len(lines), room_at, _ROOM, needed_at)
+            if code:
+                return self._carry_on(code, lines)
+            answer: bytes = room[:needed.value]
+            return answer
+
+        def refuse() -> None:
+            nonlocal call
+            call = self._refuse_closed
+
+        self._refuse_calls = refuse
+        return carry_out
+
+    def _carry_on(self, code: int, lines: bytes) -> bytes:
+        """What is left to do where a call with lines isn't done: the errands, and a longer room. Errands of earlier lines
+        are left where an interrupt came before they were done; then the call is made again."""
+        if code == KIJOLVAR_UNDONE:
+            self._settle()
+            return self.carry_out(lines)
+        answer = self._library.kijolvar_answer
+        room: Any = self._room
+        if code == KIJOLVAR_ERRANDS:
+            self._settle()
+            code = answer(self._raw, self._out, room, _ROOM, self._needed_at)
+        if code == KIJOLVAR_SHORT:
+            length = self._needed.value
+            room = ctypes.create_string_buffer(length)
+            code = answer(self._raw, self._out, room, length, self._needed_at)
+        if code != KIJOLVAR_OK:
+            raise library_fault(code)
+        return bytes(room[:self._needed.value])
+
+    def host(self, device: bytes) -> None:
+        """Says that the host has the device of this name: its orders come by `orders` from then on."""
+        self.check()
+        code = self._library.kijolvar_host(self._raw, self._out, device, len(device))
+        if code != KIJOLVAR_OK:
+            raise library_fault(code)
+
+    def orders(self) -> Iterator[bytes]:
+        """The orders of the devices that the host has, oldest first. Each is taken out as it is given."""
+        room: Any = ctypes.create_string_buffer(_ROOM)
+        needed = ctypes.c_size_t()
+        while True:
+            self.check()
+            code = self._library.kijolvar_next_order(self._raw, self._out, room, len(room), ctypes.byref(needed))
+            if code == KIJOLVAR_OK:
+                return
+            if code == KIJOLVAR_SHORT:
+                room = ctypes.create_string_buffer(needed.value)
+            elif code == KIJOLVAR_ORDER:
+                yield room[:needed.value]
+            else:
+                raise library_fault(code)

@@ -1,0 +1,312 @@
+"""A till: the devices of a shop counter, and the controls on them."""
+from __future__ import annotations
+
+import contextlib
+import ctypes
+import functools
+import os
+import pathlib
+import warnings
+import weakref
+from collections import deque
+from collections.abc import Iterator
+from types import TracebackType
+from typing import BinaryIO, TypeVar, Union
+
+from . import _files, _library
+from ._constants import PTR_S_RECEIPT, KIJOLVAR_NO_MEMORY
+from ._control import Control, Text, device_word
+from ._controls import CashDrawer, LineDisplay, POSPrinter, Scanner
+from ._devices import Device, Order, read_order
+from ._events import Event
+from ._faults import Error, LineError, NoMemoryError, ProfileError, TooManyControlsError
+from ._library import Path
+from ._profile import explain
+from ._session import Session
+from .totals import Totals
+
+C = TypeVar("C", bound=Control)
+Profile = Union[str, "os.PathLike[str]"]
+
+
+class Printer(POSPrinter):
+    """A receipt printer, with `print` for the receipt."""
+
+    __slots__ = ()
+
+    def print(self, data: Text) -> None:
+        """Prints data on the receipt, as `print_normal` does."""
+        self.print_normal(PTR_S_RECEIPT, data)
+
+
+class Till:
+    """The devices of a shop counter, simulated or the host's, and the controls on them. `kijolvar.open` makes one.
+
+    `till.drawer("d1")`, `till.scanner("s1")`, `till.display("p1")`, `till.printer("r1")` and `till.totals("t1")` are
+    controls; `till.device("s1")` says what happens at a device. A till can be used only in the thread that opened it,
+    and it closes at the end of a `with` block.
+    """
+
+    def __init__(self, session: Session, totals: BinaryIO | None = None, *, where: str = "in memory",
+                 owns_totals: bool = False) -> None:
+        self._session, self._where = session, where
+        self._carry_out = session.carry_out
+        self._file, self._owns_file = totals, owns_totals
+        self._controls: weakref.WeakValueDictionary[str, Control] = weakref.WeakValueDictionary()
+        self._free: dict[str, deque[str]] = {}
+        self._count = 0
+
+    def __repr__(self) -> str:
+        state = "closed" if self.is_closed else f"totals {self._where}, {len(self._controls)} controls"
+        return f"<kijolvar.Till: {state}>"
+
+    def __enter__(self) -> Till:
+        return self
+
+    def __exit__(self, kind: type[BaseException] | None, value: BaseException | None,
+                 trace: TracebackType | None) -> None:
+        self.close()
+
+    def __del__(self) -> None:
+        session = getattr(self, "_session", None)
+        if session is not None and not session.is_closed:
+            warnings.warn(f"unclosed till {self!r}", ResourceWarning, source=self, stacklevel=2)
+            if session.is_owner:
+                self.close()
+
+    @property
+    def is_closed(self) -> bool:
+        """Whether the till is closed."""
+        return self._session.is_closed
+
+    def close(self) -> None:
+        """Ends the till, and closes the file of totals if the till has opened it. Closing it again does nothing."""
+        self._session.close()
+        if self._owns_file and self._file is not None:
+            self._file.close()
+
+    # Controls.
+
+    def new_control(self, kind: type[C], name: str | None = None) -> C:
+        """Makes a control that isn't open yet.
+
+        Args:
+            kind: CashDrawer, Scanner, LineDisplay, Printer or Totals.
+            name: The control's name in the lines of the text layer, 1 to 16 letters, digits or hyphens.
+
+        Raises:
+            TooManyControlsError: There are 4,096 controls.
+        """
+        self._session.check()
+        free = self._free.setdefault(kind.category, deque())
+        self._session.settle_later()
+        if name is None and free:
+            return self._adopt(kind(self, free.popleft()))
+        word = name
+        while True:
+            if name is None:
+                self._count += 1
+                word = f"control-{self._count}"
+            assert word is not None
+            answer = self._carry_out(b"new %b %b" % (device_word(word), kind.category.encode()))
+            if answer == b"ok\n":
+                return self._adopt(kind(self, word))
+            if answer == b"refused Full\n":
+                raise TooManyControlsError("there are as many controls as there may be")
+            if answer == b"memory\n":
+                raise NoMemoryError(KIJOLVAR_NO_MEMORY, "there was no memory for a control")
+            if name is not None or answer != b"bad control\n":
+                raise LineError(answer.decode().strip())
+
+    def _adopt(self, control: C) -> C:
+        """Keeps the control's name, so that another control takes its place once nothing refers to it."""
+        self._controls[control.name] = control
+        end = functools.partial(_end_control, weakref.ref(self), control.category, control.name)
+        weakref.finalize(control, self._session.later, end).atexit = False
+        return control
+
+    def _opened(self, kind: type[C], device: str, enable: bool) -> C:
+        control = self.new_control(kind)
+        control._open(device)
+        if enable:
+            control._do(control._set + b"DeviceEnabled true", "device_enabled")
+        return control
+
+    def drawer(self, device: str, *, enable: bool = True) -> CashDrawer:
+        """Opens a control on a cash drawer, and enables it.
+
+        Raises:
+            NoExistError: The profile has no cash drawer of the name.
+        """
+        return self._opened(CashDrawer, device, enable)
+
+    def scanner(self, device: str) -> Scanner:
+        """Opens a control on a scanner. Claim it and enable it, or use `with scanner.in_use():`.
+
+        Raises:
+            NoExistError: The profile has no scanner of the name.
+        """
+        return self._opened(Scanner, device, False)
+
+    def display(self, device: str) -> LineDisplay:
+        """Opens a control on a line display. Claim it and enable it, or use `with display.in_use():`.
+
+        Raises:
+            NoExistError: The profile has no line display of the name.
+        """
+        return self._opened(LineDisplay, device, False)
+
+    def printer(self, device: str) -> Printer:
+        """Opens a control on a receipt printer. Claim it and enable it, or use `with printer.in_use():`.
+
+        Raises:
+            NoExistError: The profile has no receipt printer of the name.
+        """
+        return self._opened(Printer, device, False)
+
+    def totals(self, device: str, *, enable: bool = True) -> Totals:
+        """Opens a control on Hard Totals, and enables it; the first one recovers the files.
+
+        Raises:
+            NoExistError: The profile has no Hard Totals of the name.
+            NoHardwareError: The disk isn't formatted.
+            FailureError: The files can't be recovered.
+        """
+        return self._opened(Totals, device, enable)
+
+    def controls(self) -> list[Control]:
+        """The controls that are open, in the order in which they were made."""
+        return [control for control in list(self._controls.values()) if control.device is not None]
+
+    # Events.
+
+    def events(self) -> Iterator[Event]:
+        """Delivers the events of all controls, until none can be delivered. The events of each control are in order.
+
+        To reply to an ErrorEvent, call its `reply`.
+        """
+        self._session.check()
+        was_any = True
+        while was_any:
+            was_any = False
+            for control in self.controls():
+                event = control.next_event() if control.device is not None else None
+                if event is not None:
+                    was_any = True
+                    yield event
+
+    def deliver(self) -> int:
+        """Passes each event that can be delivered to its control's listener. Returns how many there were.
+
+        Events of controls without a listener stay where they are.
+        """
+        self._session.check()
+        total, count = 0, -1
+        while count:
+            count = sum(control.deliver() for control in self.controls())
+            total += count
+        return total
+
+    # Devices.
+
+    def device(self, name: str) -> Device:
+        """The device of this name, as the host sees it: its hardware, and its output that waits."""
+        return Device(self, name)
+
+    def host(self, device: str) -> None:
+        """Says that the host has this device as hardware: its orders come by `orders` from then on.
+
+        Raises:
+            NoDeviceError: The profile has no device of the name, or it has no orders.
+        """
+        self._session.host(device_word(device))
+
+    def orders(self) -> Iterator[Order]:
+        """The orders for the devices that the host has, oldest first. Each is taken out as it is given."""
+        for order in self._session.orders():
+            yield read_order(order.decode())
+
+    # The text layer.
+
+    def carry_out(self, lines: str) -> str:
+        """Carries out lines of the text layer (docs/CONSOLE.md), and returns what they print."""
+        return self._carry_out(lines.encode()).decode()
+
+
+def _end_control(till: weakref.ref[Till], category: str, name: str) -> None:
+    """Closes a control that nothing refers to any more, so that its name can be used again."""
+    found = till()
+    if found is not None and not found.is_closed:
+        with contextlib.suppress(Error):
+            found._carry_out(b"close %b" % name.encode())
+            found._free.setdefault(category, deque()).append(name)
+
+
+def _text_of(profile: Profile | None) -> str:
+    """The text of a profile. To the library an empty one is the built profile; here that is None."""
+    if profile is None:
+        return ""
+    text = profile if isinstance(profile, str) else pathlib.Path(profile).read_text(encoding="utf-8")
+    return text or "\n"
+
+
+def open(profile: Profile | None = None, totals: Path | BinaryIO | None = None, *, create: bool = False,
+         library: Path | ctypes.CDLL | None = None) -> Till:
+    """Opens a till.
+
+    Args:
+        profile: The text of a profile (docs/PROFILE.md), or the path of a file with it (a pathlib.Path). Without one,
+            it is the built profile: drawer d1, scanner s1, display p1, receipt printer r1 and Hard Totals t1. An empty
+            text is a profile without devices.
+        totals: The path of a file of totals, which is locked until the till is closed; or a file that open_totals or
+            create_totals returned, which stays yours. Without one, the totals are in memory.
+        create: Whether the file of totals is created if it is missing.
+        library: The path of the library, or the library that `kijolvar.load` returned. Without one, it is the path in
+            the environment variable KIJOLVAR_LIBRARY, or libkijolvar.so beside the package.
+
+    Raises:
+        ProfileError: The profile is refused.
+        FileNotFoundError: The file of totals is missing.
+        BlockingIOError: Another till has the file of totals open.
+        TooSmallError: The file is too short for totals.
+        LibraryError: The library isn't found, or is of another version.
+    """
+    found = library if isinstance(library, ctypes.CDLL) else _library.find(library)
+    text = _text_of(profile)
+    file, owns, where = _file_of(found, totals, create)
+    try:
+        session = Session(found, text.encode(), file)
+    except BaseException as fault:
+        if owns and file is not None:
+            file.close()
+        if isinstance(fault, ProfileError):
+            raise explain(text) from None
+        raise
+    return Till(session, file, where=where, owns_totals=owns)
+
+
+def _file_of(library: ctypes.CDLL, totals: Path | BinaryIO | None, create: bool) -> tuple[BinaryIO | None, bool, str]:
+    """The file of totals, whether the till is to close it, and where the totals are, in words."""
+    if totals is None:
+        return None, False, "in memory"
+    if not isinstance(totals, (str, os.PathLike)):
+        return totals, False, f"in {totals.name!r}"
+    where = f"in {os.fspath(totals)!r}"
+    try:
+        return _files.open_totals(totals), True, where
+    except FileNotFoundError:
+        if not create:
+            raise
+        return _files.create_totals(library, totals), True, where
+
+
+def create_totals(path: Path, library: Path | ctypes.CDLL | None = None) -> BinaryIO:
+    """Creates a file of totals without files, and returns it open and locked. Pass it to `kijolvar.open`.
+
+    Creating is all or nothing: a crash leaves no file, or a whole one.
+
+    Raises:
+        FileExistsError: Anything has the name already.
+    """
+    found = library if isinstance(library, ctypes.CDLL) else _library.find(library)
+    return _files.create_totals(found, path)

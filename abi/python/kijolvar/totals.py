@@ -1,0 +1,177 @@
+"""Hard Totals as a mapping of files, and transactions as a context manager."""
+from __future__ import annotations
+
+import contextlib
+from collections.abc import Iterator
+from types import TracebackType
+from typing import SupportsIndex
+
+from ._control import Text
+from ._controls import HardTotals
+from .errors import NoExistError
+
+
+class Totals(HardTotals):
+    """Hard Totals: small files that survive a loss of power, as a mapping of names to files.
+
+    `totals["SALES"]` is a file, `"SALES" in totals` says whether there is one, `len(totals)` counts them, a loop gives
+    their names in the order of creation, and `del totals["SALES"]` deletes one. `create` makes one. The standard's
+    methods are there too.
+
+    A change is on the disk before its call returns. Changes in `with totals.transaction():` are made all together.
+    """
+
+    __slots__ = ()
+
+    def __getitem__(self, name: Text) -> TotalsFile:
+        """The file of a name. Raises NoExistError, which is a LookupError, if there is none."""
+        handle, size = self.find(name)
+        return TotalsFile(self, handle, size, _name(name))
+
+    def __contains__(self, name: object) -> bool:
+        if not isinstance(name, (str, bytes, bytearray, memoryview)):
+            return False
+        try:
+            self.find(name)
+        except NoExistError:
+            return False
+        return True
+
+    def __delitem__(self, name: Text) -> None:
+        self.delete(name)
+
+    def __len__(self) -> int:
+        return self.number_of_files
+
+    def __bool__(self) -> bool:
+        return True
+
+    def __iter__(self) -> Iterator[bytes]:
+        for index in range(self.number_of_files):
+            yield self.find_by_index(index)
+
+    def files(self) -> Iterator[TotalsFile]:
+        """The files, in the order of creation."""
+        for name in self:
+            yield self[name]
+
+    @contextlib.contextmanager
+    def transaction(self) -> Iterator[Totals]:
+        """Begins a transaction, and commits it at the end of the `with` block; an exception rolls it back.
+
+        A loss of power leaves all of its changes or none. Inside it you can write and set files, but not create, delete
+        or rename them, and reading gives what was there before it.
+
+        Raises:
+            IllegalError: The control is in a transaction already.
+            NoRoomError: Its changes are more than the totals have room for.
+            FailureError: The totals are off, or the disk failed.
+        """
+        self.begin_trans()
+        try:
+            yield self
+        except BaseException:
+            if self._is_in_transaction():
+                self.rollback()
+            raise
+        self._commit()
+
+    def _is_in_transaction(self) -> bool:
+        return self._device is not None and not self._till.is_closed and self.transaction_in_progress
+
+    def _commit(self) -> None:
+        """Commits the transaction. One that is refused is rolled back."""
+        try:
+            self.commit_trans()
+        except BaseException:
+            with contextlib.suppress(Exception):
+                self.rollback()
+            raise
+
+
+class TotalsFile:
+    """A file of Hard Totals. Wherever a handle is asked for, you can pass the file.
+
+    Attributes:
+        handle: The file's handle.
+        size: How many bytes it has; that never changes.
+        name: Its name.
+    """
+
+    def __init__(self, totals: Totals, handle: int, size: int, name: bytes) -> None:
+        self._totals, self.handle, self.size, self.name = totals, handle, size, name
+
+    def __repr__(self) -> str:
+        return f"<kijolvar.TotalsFile {self.name!r}: {self.size} bytes, handle {self.handle}>"
+
+    def __index__(self) -> int:
+        return self.handle
+
+    def __len__(self) -> int:
+        return self.size
+
+    def __bool__(self) -> bool:
+        return True
+
+    def __eq__(self, other: object) -> bool:
+        if not isinstance(other, TotalsFile):
+            return NotImplemented
+        return self._totals.till is other._totals.till and self.handle == other.handle
+
+    def __hash__(self) -> int:
+        return hash(self.handle)
+
+    def read(self, offset: SupportsIndex = 0, count: SupportsIndex | None = None) -> bytes:
+        """Reads so many bytes from an offset on, or all up to the end."""
+        return self._totals.read(self.handle, offset, self.size - int(offset) if count is None else count)
+
+    def write(self, offset: SupportsIndex, data: Text) -> None:
+        """Writes bytes at an offset. In a transaction they are buffered until it is committed."""
+        self._totals.write(self.handle, offset, data)
+
+    def set_all(self, value: SupportsIndex) -> None:
+        """Sets all bytes to one value, 0 to 255. In a transaction this is buffered until it is committed."""
+        self._totals.set_all(self.handle, value)
+
+    def rename(self, name: Text) -> None:
+        """Gives the file another name."""
+        self._totals.rename(self.handle, name)
+        self.name = _name(name)
+
+    def delete(self) -> None:
+        """Deletes the file."""
+        self._totals.delete(self.name)
+
+    def claim(self, timeout: SupportsIndex = 0) -> FileClaim:
+        """Claims the file, which keeps other controls from reading and changing it.
+
+        The claim that it returns releases the file at the end of a `with` block; you needn't use it.
+        """
+        self._totals.claim_file(self.handle, timeout)
+        return FileClaim(self)
+
+    def release(self) -> None:
+        """Releases the file."""
+        self._totals.release_file(self.handle)
+
+
+class FileClaim:
+    """A claim of a file. At the end of a `with` block the file is released."""
+
+    def __init__(self, file: TotalsFile) -> None:
+        self._file = file
+
+    def __repr__(self) -> str:
+        return f"<kijolvar.FileClaim of {self._file!r}>"
+
+    def __enter__(self) -> FileClaim:
+        return self
+
+    def __exit__(self, kind: type[BaseException] | None, value: BaseException | None,
+                 trace: TracebackType | None) -> None:
+        if self._file._totals.device is not None and not self._file._totals.till.is_closed:
+            self._file.release()
+
+
+def _name(name: Text) -> bytes:
+    return name.encode("ascii") if isinstance(name, str) else bytes(name)

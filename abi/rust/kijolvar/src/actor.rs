@@ -1,0 +1,64 @@
+//! A till for several threads.
+use crate::error::{Cause, Error};
+use crate::till::Till;
+use std::sync::mpsc::{channel, Sender};
+use std::thread::{spawn, JoinHandle};
+
+/// What the till's thread does next.
+type Job = Box<dyn FnOnce(&Till) + Send>;
+
+/// A till on a thread of its own. Each thread has a clone of the actor, and gives it work, which is done in the order
+/// in which it comes. The till is dropped, and its thread ends, once all clones are dropped.
+///
+/// A control is closed at the end of the work that opened it, unless the work keeps its key:
+///
+/// ```
+/// use kijolvar::{Actor, CashDrawer, Till, Totals, BUILT_PROFILE};
+///
+/// let (actor, thread) = Actor::start(Till::open(BUILT_PROFILE, Totals::Memory)?);
+/// let drawer = actor.run(|till| Ok(till.cash_drawer("d1")?.enabled()?.into_key()))?;
+/// std::thread::scope(|scope| {
+///     for _ in 0..4 {
+///         let (actor, drawer) = (actor.clone(), drawer.clone());
+///         scope.spawn(move || actor.run(move |till| CashDrawer::of(till, &drawer)?.open_drawer()));
+///     }
+/// });
+/// drop(actor);
+/// thread.join().unwrap();
+/// # Ok::<(), kijolvar::Error>(())
+/// ```
+#[derive(Clone)]
+pub struct Actor {
+    jobs: Sender<Job>,
+}
+
+impl Actor {
+    /// Moves a till to a thread of its own. Join the thread to wait until the till is dropped.
+    pub fn start(till: Till) -> (Actor, JoinHandle<()>) {
+        let (jobs, work) = channel::<Job>();
+        let thread = spawn(move || {
+            for job in work {
+                job(&till);
+            }
+        });
+        (Actor { jobs }, thread)
+    }
+
+    /// Does work on the till, waits for it, and returns what it returns.
+    ///
+    /// # Errors
+    ///
+    /// The error that the work returns, or [`Cause::ActorEnded`] if work panicked, this one or an earlier one.
+    pub fn run<R, F>(&self, work: F) -> Result<R, Error>
+    where
+        R: Send + 'static,
+        F: FnOnce(&Till) -> Result<R, Error> + Send + 'static,
+    {
+        let ended = || Error::new("Actor::run", Cause::ActorEnded);
+        let (give, answer) = channel();
+        // Who waits no more has no use for the answer.
+        let job: Job = Box::new(move |till| drop(give.send(work(till))));
+        self.jobs.send(job).map_err(|_| ended())?;
+        answer.recv().map_err(|_| ended())?
+    }
+}

@@ -1,0 +1,220 @@
+//! What every control has: its name, its events, and how its lines are asked.
+use crate::error::{Cause, Error};
+use crate::event::{ErrorEvent, Event, Events};
+use crate::line::{Answer, Line};
+use crate::property::{Property, PropertyType, Value};
+use crate::standard::{Category, ErrorLocus, ErrorReply, ResultCode};
+use crate::till::Till;
+use std::fmt;
+use std::marker::PhantomData;
+
+/// A control: an application's handle on a device of a till.
+///
+/// The controls of the categories ([`CashDrawer`](crate::CashDrawer) and so on) are controls with the methods and
+/// properties of their category. Dropping one closes it.
+pub struct Control<'till> {
+    till: &'till Till,
+    category: Category,
+    name: String,
+    place: usize,
+    is_kept: bool,
+}
+
+/// A control of type `T` that is kept open, by which its till finds it again ([`Control`]). It may go to another
+/// thread.
+pub struct Key<T> {
+    till: u64,
+    name: String,
+    place: usize,
+    of: PhantomData<fn() -> T>,
+}
+
+impl<'till> Control<'till> {
+    /// Makes a control, which is closed. If it has a name, no other control of the till may have it.
+    pub(crate) fn new(till: &'till Till, category: Category, name: Option<&str>) -> Result<Control<'till>, Error> {
+        let (name, place) = till.new_control(category, name)?;
+        Ok(Control { till, category, name, place, is_kept: false })
+    }
+
+    /// Keeps the control open, and returns its key.
+    pub(crate) fn into_key<T>(mut self) -> Key<T> {
+        self.is_kept = true;
+        Key { till: self.till.number(), name: std::mem::take(&mut self.name), place: self.place, of: PhantomData }
+    }
+
+    /// Finds a control by its key. It stays open when it is dropped.
+    pub(crate) fn of<T>(till: &'till Till, category: Category, key: &Key<T>) -> Result<Control<'till>, Error> {
+        if key.till != till.number() {
+            return Err(Error::new("of", Cause::OtherTill));
+        }
+        Ok(Control { till, category, name: key.name.clone(), place: key.place, is_kept: true })
+    }
+
+    /// Returns the control's name in lines of the text interface.
+    pub fn name(&self) -> &str {
+        &self.name
+    }
+
+    /// Returns the control's category.
+    pub fn category(&self) -> Category {
+        self.category
+    }
+
+    /// Returns the control's till.
+    pub fn till(&self) -> &'till Till {
+        self.till
+    }
+
+    /// Begins a line on the control by its verb.
+    pub(crate) fn line(&self, verb: &str) -> Line {
+        Line::new(verb).name(&self.name)
+    }
+
+    /// Carries out a line on the control: what is behind `ok`.
+    pub(crate) fn ask(&self, call: &'static str, line: &Line) -> Result<Answer, Error> {
+        self.till.ask(call, Some(self.category), line)
+    }
+
+    /// Reads a property.
+    pub(crate) fn property(&self, property: Property) -> Result<Answer, Error> {
+        self.ask(property.name(), &self.line("get").word(property.name()))
+    }
+
+    /// Reads a property of any category by its name; the control refuses those that it doesn't have with E_ILLEGAL.
+    ///
+    /// # Errors
+    ///
+    /// An error of the property, as the method of the property's name says.
+    pub fn get(&self, property: Property) -> Result<Value, Error> {
+        let answer = self.property(property)?;
+        match property.type_of() {
+            PropertyType::Number => answer.number().map(Value::Number),
+            PropertyType::Truth => answer.truth().map(Value::Truth),
+            PropertyType::Bytes => answer.bytes().map(Value::Bytes),
+        }
+    }
+
+    /// Sets a property of any category by its name; the control refuses those that can't be set with E_ILLEGAL, and
+    /// also values of another type.
+    ///
+    /// # Errors
+    ///
+    /// An error of the property, as the method that sets it says.
+    pub fn set(&self, property: Property, value: Value) -> Result<(), Error> {
+        let line = self.line("set").word(property.name());
+        let line = match value {
+            Value::Number(number) => line.number(number),
+            Value::Truth(is_true) => line.truth(is_true),
+            Value::Bytes(_) => return Err(Error::new(property.name(), Cause::BadArgument)),
+        };
+        self.ask(property.name(), &line)?.nothing()
+    }
+
+    /// Delivers the control's next event, if there is one. An ErrorEvent has the default reply; [`Control::reply_to`]
+    /// gives another.
+    ///
+    /// None is delivered while the control is closed or FreezeEvents is true, and no DataEvent while DataEventEnabled
+    /// is false.
+    ///
+    /// # Errors
+    ///
+    /// [`Cause::DiskFailed`], [`Cause::NoAnswer`], [`Cause::BadAnswer`].
+    pub fn next_event(&self) -> Result<Option<Event>, Error> {
+        Event::deliver(self.till, &self.name, self.category, None)
+    }
+
+    /// Delivers the control's next event, and replies to it beforehand if it is an ErrorEvent.
+    ///
+    /// # Errors
+    ///
+    /// As [`Control::next_event`].
+    pub fn next_event_replied(&self, reply: ErrorReply) -> Result<Option<Event>, Error> {
+        Event::deliver(self.till, &self.name, self.category, Some(reply))
+    }
+
+    /// Returns an iterator that delivers the control's events until none is left. You may use the till meanwhile.
+    ///
+    /// ```
+    /// # use kijolvar::{standard::{ErrorReply, PrinterStation}, Event, Till, Totals, BUILT_PROFILE};
+    /// # let till = Till::open(BUILT_PROFILE, Totals::Memory)?;
+    /// let printer = till.pos_printer("r1")?.enabled()?;
+    /// printer.set_async_mode(true)?;
+    /// printer.print_normal(PrinterStation::Receipt, "Bread\n")?;
+    /// till.input_cover("r1", true)?;
+    /// till.work("r1")?;
+    /// for event in printer.events() {
+    ///     if let Event::Error(error) = event? {
+    ///         printer.reply_to(error, ErrorReply::Clear)?;
+    ///     }
+    /// }
+    /// # Ok::<(), kijolvar::Error>(())
+    /// ```
+    pub fn events(&self) -> Events<'_, Event> {
+        Events::new(Box::new(|| self.next_event()))
+    }
+
+    /// Replies to an ErrorEvent of the control that was delivered, in place of the default reply. Reply before you ask
+    /// the control anything else.
+    ///
+    /// # Errors
+    ///
+    /// [`Cause::DiskFailed`], [`Cause::NoAnswer`].
+    pub fn reply_to(&self, error: ErrorEvent, reply: ErrorReply) -> Result<(), Error> {
+        // The default reply leaves what is held or waits where it is, at EL_OUTPUT and EL_INPUT_DATA. So ER_CLEAR is
+        // clearOutput or clearInput after it.
+        let method = match (reply, error.locus) {
+            (ErrorReply::Clear, ErrorLocus::Output) => "clearOutput",
+            (ErrorReply::Clear, ErrorLocus::InputData) => "clearInput",
+            _ => return Ok(()),
+        };
+        match self.ask("reply_to", &self.line("call").word(method)) {
+            Ok(_) => Ok(()),
+            // A control that was closed or released meanwhile has nothing left to clear.
+            Err(error) => match error.code() {
+                Some(ResultCode::Closed | ResultCode::Claimed | ResultCode::NotClaimed) => Ok(()),
+                _ => Err(error),
+            },
+        }
+    }
+
+    /// Passes each event of the control to a listener, in order, until none is left. The listener's reply counts for an
+    /// ErrorEvent.
+    ///
+    /// # Errors
+    ///
+    /// As [`Control::next_event`].
+    pub fn pump(&self, mut listen: impl FnMut(&Event) -> Option<ErrorReply>) -> Result<(), Error> {
+        while let Some(event) = self.next_event()? {
+            if let (Event::Error(error), Some(reply)) = (&event, listen(&event)) {
+                self.reply_to(*error, reply)?;
+            }
+        }
+        Ok(())
+    }
+}
+
+impl Drop for Control<'_> {
+    fn drop(&mut self) {
+        if !self.is_kept {
+            self.till.give_back(self.place);
+        }
+    }
+}
+
+impl fmt::Debug for Control<'_> {
+    fn fmt(&self, out: &mut fmt::Formatter<'_>) -> fmt::Result {
+        write!(out, "{}({:?})", self.category.word(), self.name)
+    }
+}
+
+impl<T> Clone for Key<T> {
+    fn clone(&self) -> Key<T> {
+        Key { till: self.till, name: self.name.clone(), place: self.place, of: PhantomData }
+    }
+}
+
+impl<T> fmt::Debug for Key<T> {
+    fn fmt(&self, out: &mut fmt::Formatter<'_>) -> fmt::Result {
+        write!(out, "Key({:?})", self.name)
+    }
+}

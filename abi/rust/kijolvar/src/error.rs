@@ -1,0 +1,148 @@
+//! Why a call failed.
+use crate::standard::{ExtendedCode, ResultCode};
+use std::fmt;
+use std::io;
+
+/// Why a call failed, and which call it was. If a call fails, it changed nothing, unless the [`Cause`] says otherwise.
+#[derive(Debug)]
+pub struct Error {
+    call: &'static str,
+    cause: Cause,
+}
+
+/// Why a call failed.
+#[derive(Debug)]
+#[non_exhaustive]
+pub enum Cause {
+    /// The control refused the call, with this result code of the standard.
+    Code(ResultCode),
+    /// The control refused the call with E_EXTENDED and this extended code.
+    Extended(ExtendedCode),
+    /// There was no memory, and nothing was done.
+    NoMemory,
+    /// The call was carried out, but there was no memory for its answer.
+    NoAnswer,
+    /// The profile is refused (docs/PROFILE.md).
+    BadProfile,
+    /// The file is shorter than a disk of totals.
+    TooSmall,
+    /// The file of the totals couldn't be written. The last call may be in it or not, and the till can only be dropped.
+    DiskFailed,
+    /// The system refused the file of the totals: `NotFound` if it is missing, `AlreadyExists` if it is there already,
+    /// `WouldBlock` if another till has it.
+    System(io::Error),
+    /// The library is of another version than this crate.
+    WrongVersion,
+    /// An argument can't be passed on: a name that isn't 1 to 16 letters, digits or hyphens, a number of more than 18
+    /// digits, or bytes that are too many for a line (69,000 always fit).
+    BadArgument,
+    /// The library answered something that this version doesn't know. The call was carried out.
+    BadAnswer(String),
+    /// A control of the till has the name already.
+    NameInUse,
+    /// The till has as many controls as it may have (4,096).
+    Full,
+    /// The control or the key is of another till.
+    OtherTill,
+    /// The profile has no device of the name, or no peripheral is attached to it.
+    BadDevice,
+    /// The device has no such input.
+    BadInput,
+    /// The device is of another kind than the call is for.
+    WrongKind,
+    /// There is no spare of the number, or it serves a device.
+    BadSpare,
+    /// The profile has no device of the name that has orders.
+    NoDevice,
+    /// The profile has no device of the name that may have a peripheral.
+    Unknown,
+    /// The device has its peripheral, or a control has the device open.
+    InUse,
+    /// The spare is of another kind than the device.
+    KindDiffers,
+    /// No peripheral is attached to the device.
+    Vacant,
+    /// The thread of the actor has ended.
+    ActorEnded,
+}
+
+impl Error {
+    pub(crate) fn new(call: &'static str, cause: Cause) -> Error {
+        Error { call, cause }
+    }
+
+    /// Returns the call that failed, by the standard's name (`"openDrawer"`, `"DeviceEnabled"`) or this crate's
+    /// (`"Till::open"`).
+    pub fn call(&self) -> &'static str {
+        self.call
+    }
+
+    /// Returns why it failed.
+    pub fn cause(&self) -> &Cause {
+        &self.cause
+    }
+
+    /// Returns the result code of the standard, if the control refused the call.
+    pub fn code(&self) -> Option<ResultCode> {
+        match self.cause {
+            Cause::Code(code) => Some(code),
+            Cause::Extended(_) => Some(ResultCode::Extended),
+            _ => None,
+        }
+    }
+
+    /// Returns the extended code of the standard, if the result code is E_EXTENDED.
+    pub fn extended(&self) -> Option<ExtendedCode> {
+        match self.cause {
+            Cause::Extended(code) => Some(code),
+            _ => None,
+        }
+    }
+}
+
+impl fmt::Display for Cause {
+    fn fmt(&self, out: &mut fmt::Formatter<'_>) -> fmt::Result {
+        let text = match self {
+            Cause::Code(code) => return write!(out, "{code}"),
+            Cause::Extended(code) => return write!(out, "E_EXTENDED, {code}"),
+            Cause::System(cause) => return write!(out, "{cause}"),
+            Cause::BadAnswer(text) => return write!(out, "the library answered something unknown: {text}"),
+            Cause::NoMemory => "there was no memory",
+            Cause::NoAnswer => "there was no memory for the answer",
+            Cause::BadProfile => "the profile is refused",
+            Cause::TooSmall => "the file is shorter than a disk of totals",
+            Cause::DiskFailed => "the file of the totals couldn't be written",
+            Cause::WrongVersion => "the library is of another version",
+            Cause::BadArgument => "an argument can't be passed on",
+            Cause::NameInUse => "a control has the name already",
+            Cause::Full => "the till has as many controls as it may have",
+            Cause::OtherTill => "the control is of another till",
+            Cause::BadDevice => "there is no device of the name, or it has no peripheral",
+            Cause::BadInput => "the device has no such input",
+            Cause::WrongKind => "the device is of another kind",
+            Cause::BadSpare => "there is no spare of the number, or it serves a device",
+            Cause::NoDevice => "there is no device of the name that has orders",
+            Cause::Unknown => "there is no device of the name that may have a peripheral",
+            Cause::InUse => "the device has its peripheral, or a control has it open",
+            Cause::KindDiffers => "the spare is of another kind than the device",
+            Cause::Vacant => "no peripheral is attached to the device",
+            Cause::ActorEnded => "the thread of the actor has ended",
+        };
+        out.write_str(text)
+    }
+}
+
+impl fmt::Display for Error {
+    fn fmt(&self, out: &mut fmt::Formatter<'_>) -> fmt::Result {
+        write!(out, "{}: {}", self.call, self.cause)
+    }
+}
+
+impl std::error::Error for Error {
+    fn source(&self) -> Option<&(dyn std::error::Error + 'static)> {
+        match &self.cause {
+            Cause::System(cause) => Some(cause),
+            _ => None,
+        }
+    }
+}

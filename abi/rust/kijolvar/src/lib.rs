@@ -1,0 +1,76 @@
+//! A till's devices, as UnifiedPOS has them: cash drawer, scanner, line display, receipt printer and Hard Totals.
+//!
+//! A [`Till`] has the devices of a profile. An application uses a device through a control: it is opened on the device,
+//! claimed if the device is an exclusive-use one (scanners, displays and printers), and enabled.
+//! [`CashDrawer::enabled`] and its like do what is needed.
+//!
+//! ```
+//! use kijolvar::standard::{DisplayAttribute, PrinterStation};
+//! use kijolvar::{Event, Till, Totals, BUILT_PROFILE};
+//!
+//! let till = Till::open(BUILT_PROFILE, Totals::Memory)?;
+//! let scanner = till.scanner("s1")?.enabled()?;
+//! let display = till.line_display("p1")?.enabled()?;
+//! let printer = till.pos_printer("r1")?.enabled()?;
+//!
+//! scanner.set_data_event_enabled(true)?;
+//! till.input_scan("s1", 104, "4006381", "4006381")?;
+//! for event in scanner.events() {
+//!     assert_eq!(event?, Event::Data);
+//!     assert_eq!(scanner.scan_data()?, b"4006381");
+//! }
+//! display.display_text("4.50", DisplayAttribute::Normal)?;
+//! printer.print_normal(PrinterStation::Receipt, "Bread 4.50\n")?;
+//! # Ok::<(), kijolvar::Error>(())
+//! ```
+//!
+//! # Errors
+//!
+//! Each call returns a [`Result`] with an [`Error`], which names the call, and has the result code and the extended
+//! code of the standard if the control refused it. A call that fails changed nothing, unless its [`Cause`] says
+//! otherwise.
+//!
+//! ```
+//! use kijolvar::standard::{ExtendedCode, PrinterStation, ResultCode};
+//! # use kijolvar::{Till, Totals, BUILT_PROFILE};
+//! # let till = Till::open(BUILT_PROFILE, Totals::Memory)?;
+//! let printer = till.pos_printer("r1")?.enabled()?;
+//! till.input_cover("r1", true)?;
+//! let error = printer.print_normal(PrinterStation::Receipt, "Bread\n").unwrap_err();
+//! assert_eq!((error.call(), error.code()), ("printNormal", Some(ResultCode::Extended)));
+//! assert_eq!(error.extended(), Some(ExtendedCode::PrinterCoverOpen));
+//! # Ok::<(), kijolvar::Error>(())
+//! ```
+//!
+//! # Threads
+//!
+//! A till may be moved to another thread, and is used by one thread at a time. An [`Actor`] has a till for several
+//! threads.
+
+mod actor;
+mod control;
+#[rustfmt::skip]
+mod controls;
+mod devices;
+mod error;
+mod event;
+mod line;
+#[rustfmt::skip]
+mod property;
+mod raw;
+#[rustfmt::skip]
+pub mod standard;
+mod till;
+mod totals_file;
+mod views;
+
+pub use actor::Actor;
+pub use control::{Control, Key};
+pub use controls::{CashDrawer, HardTotals, LineDisplay, PosPrinter, Scanner};
+pub use devices::{Order, Work};
+pub use error::{Cause, Error};
+pub use event::{ErrorEvent, Event, Events, StatusUpdate};
+pub use property::{Property, PropertyType, Value};
+pub use till::{Till, BUILT_PROFILE};
+pub use totals_file::Totals;
+pub use views::{Alignment, DisplayView, Printed, PrintedText, PrinterView};

@@ -1,0 +1,546 @@
+//! A till: the library's, its totals, and its controls.
+use crate::devices::{Order, Work};
+use crate::error::{Cause, Error};
+use crate::event::{Event, Events};
+use crate::line::{is_name, value_of, Answer, Line};
+use crate::raw::*;
+use crate::standard::{library, Category};
+use crate::totals_file::Totals;
+use crate::views::{self, DisplayView, PrinterView};
+use std::cell::RefCell;
+use std::ffi::c_void;
+use std::fmt;
+use std::fs::File;
+use std::os::unix::fs::FileExt;
+use std::sync::atomic::{AtomicU64, Ordering};
+
+/// The text of the built profile: the drawer `d1`, the scanner `s1`, the display `p1` of 2 rows of 4 columns, the
+/// printer `r1` of 8 characters a line with 5 lines of paper, the totals `t1`, and a spare drawer.
+pub const BUILT_PROFILE: &str = "";
+
+/// A call of the library that makes a till over a file's bytes.
+type Begin = unsafe extern "C" fn(*const u8, usize, *const u8, usize, *mut *mut c_void) -> u32;
+
+/// A control that the library has: its name and category, and whether it may be handed out again.
+struct Entry {
+    name: String,
+    category: Category,
+    is_free: bool,
+}
+
+/// What a till has.
+pub(crate) struct Inner {
+    at: Raw,
+    totals: Option<File>,
+    errand: Vec<u8>,
+    text: Vec<u8>,
+    controls: Vec<Entry>,
+    names: u64,
+}
+
+/// What the library's code means to who opens a till.
+fn opening_cause(code: u32) -> Cause {
+    match code {
+        library::NO_MEMORY => Cause::NoMemory,
+        library::BAD_PROFILE => Cause::BadProfile,
+        library::TOO_SMALL => Cause::TooSmall,
+        _ => Cause::DiskFailed,
+    }
+}
+
+impl Inner {
+    fn new(at: *mut c_void, totals: Option<File>, errand: Vec<u8>) -> Inner {
+        Inner { at: Raw(at), totals, errand, text: vec![0; 256], controls: Vec::new(), names: 0 }
+    }
+
+    /// A till with totals in memory.
+    fn in_memory(profile: &str) -> Result<Inner, Cause> {
+        let mut at = std::ptr::null_mut();
+        // SAFETY: a slice and a place, lent for the call.
+        match unsafe { kijolvar_open(profile.as_ptr(), profile.len(), &mut at) } {
+            library::OK => Ok(Inner::new(at, None, Vec::new())),
+            code => Err(opening_cause(code)),
+        }
+    }
+
+    /// A till over a file's bytes, which are the room for its errands from then on.
+    pub(crate) fn over_file(profile: &str, file: File, bytes: Vec<u8>, begin: Begin) -> Result<Inner, Cause> {
+        let mut at = std::ptr::null_mut();
+        // SAFETY: slices and a place, lent for the call.
+        match unsafe { begin(profile.as_ptr(), profile.len(), bytes.as_ptr(), bytes.len(), &mut at) } {
+            library::OK => Ok(Inner::new(at, Some(file), bytes)),
+            code => Err(opening_cause(code)),
+        }
+    }
+
+    /// Ends the till, and returns the file of its totals.
+    pub(crate) fn into_file(mut self) -> Option<File> {
+        self.totals.take()
+    }
+
+    /// Does in the file what the till's disk did, errand by errand.
+    pub(crate) fn settle(&mut self) -> Result<(), Cause> {
+        let Some(file) = &self.totals else { return Ok(()) };
+        loop {
+            let (mut at, mut count) = (0, 0);
+            // SAFETY: the pointer is the one that was written last, and the buffers are apart.
+            let code = unsafe {
+                let (till, out) = (self.at, &mut self.at.0);
+                kijolvar_next_errand(till, out, &mut at, self.errand.as_mut_ptr(), self.errand.len(), &mut count)
+            };
+            let is_done = match code {
+                library::OK => return Ok(()),
+                library::WRITE => file.write_all_at(&self.errand[..count], at).is_ok(),
+                library::SYNC => file.sync_all().is_ok(),
+                _ => false,
+            };
+            if !is_done {
+                // SAFETY: as above.
+                unsafe { kijolvar_errand_failed(self.at, &mut self.at.0) };
+                return Err(Cause::DiskFailed);
+            }
+        }
+    }
+
+    /// The answer to the lines that were given last, and its code.
+    fn answer(&mut self, needed: &mut usize) -> u32 {
+        let (till, out) = (self.at, &mut self.at.0);
+        // SAFETY: the pointer is the one that was written last, and the buffers are apart.
+        unsafe { kijolvar_answer(till, out, self.text.as_mut_ptr(), self.text.len(), needed) }
+    }
+
+    /// Carries out lines: the text of their answers, once what they changed is in the file.
+    fn carry_out(&mut self, lines: &[u8]) -> Result<String, Cause> {
+        let mut needed = 0;
+        let (till, out) = (self.at, &mut self.at.0);
+        // SAFETY: the pointer is the one that was written last, and the buffers are apart.
+        let mut code = unsafe {
+            let (text, room) = (self.text.as_mut_ptr(), self.text.len());
+            kijolvar_carry_out(till, out, lines.as_ptr(), lines.len(), text, room, &mut needed)
+        };
+        if code == library::ERRANDS {
+            self.settle()?;
+            code = self.answer(&mut needed);
+        }
+        if code == library::SHORT {
+            self.text.resize(needed, 0);
+            code = self.answer(&mut needed);
+        }
+        match code {
+            library::OK => {
+                let text = &self.text[..needed];
+                String::from_utf8(text.to_vec()).map_err(|_| Cause::BadAnswer(format!("{text:?}")))
+            }
+            library::CUT => Err(Cause::NoAnswer),
+            _ => Err(Cause::DiskFailed),
+        }
+    }
+
+    /// Carries out one line: its answer.
+    fn ask(&mut self, line: &Line) -> Result<String, Cause> {
+        let mut text = self.carry_out(line.text()?.as_bytes())?;
+        text.truncate(text.trim_end_matches('\n').len());
+        Ok(text)
+    }
+
+    /// Makes a control, or takes one that was given back: its place.
+    fn control(&mut self, category: Category, name: Option<&str>) -> Result<usize, Cause> {
+        let fits =
+            |entry: &Entry| entry.is_free && entry.category == category && name.is_none_or(|name| name == entry.name);
+        if let Some(place) = self.controls.iter().position(fits) {
+            self.controls[place].is_free = false;
+            return Ok(place);
+        }
+        loop {
+            self.names += 1;
+            let made = name.map_or_else(|| format!("k{}", self.names), str::to_string);
+            let answer = self.ask(&Line::new("new").name(&made).word(category.word()))?;
+            match value_of(&answer, None) {
+                Ok(_) => self.controls.push(Entry { name: made, category, is_free: false }),
+                Err(Cause::NameInUse) if name.is_none() => continue,
+                Err(cause) => return Err(cause),
+            }
+            return Ok(self.controls.len() - 1);
+        }
+    }
+
+    /// Takes out the oldest order of the host's devices: its line.
+    fn next_order(&mut self) -> Result<Option<String>, Cause> {
+        let mut needed = 0;
+        loop {
+            let (till, out) = (self.at, &mut self.at.0);
+            // SAFETY: the pointer is the one that was written last, and the buffers are apart.
+            let code = unsafe { kijolvar_next_order(till, out, self.text.as_mut_ptr(), self.text.len(), &mut needed) };
+            match code {
+                library::SHORT => self.text.resize(needed, 0),
+                library::ORDER => return Ok(Some(String::from_utf8_lossy(&self.text[..needed]).into_owned())),
+                library::OK => return Ok(None),
+                _ => return Err(Cause::DiskFailed),
+            }
+        }
+    }
+}
+
+impl Drop for Inner {
+    fn drop(&mut self) {
+        // SAFETY: the pointer is the one that was written last, and nobody has it from now on.
+        unsafe { kijolvar_close(self.at) }
+    }
+}
+
+/// A till: the devices of a profile, which its controls use.
+///
+/// A till may be moved to another thread (it is `Send`), and is used by one thread at a time (it isn't `Sync`). An
+/// [`Actor`] has one for several threads. Dropping a till closes its controls and the file of its totals.
+///
+/// [`Actor`]: crate::Actor
+///
+/// ```
+/// use kijolvar::{Till, Totals, BUILT_PROFILE};
+///
+/// let till = Till::open(BUILT_PROFILE, Totals::Memory)?;
+/// let drawer = till.cash_drawer("d1")?.enabled()?;
+/// drawer.open_drawer()?;
+/// assert!(drawer.drawer_opened()?);
+/// let moved = std::thread::spawn({
+///     drop(drawer);
+///     move || till.cash_drawer("d1").map(|_| ())
+/// });
+/// moved.join().unwrap()?;
+/// # Ok::<(), kijolvar::Error>(())
+/// ```
+///
+/// A till isn't shared by threads:
+///
+/// ```compile_fail
+/// fn is_sync<T: Sync>() {}
+/// is_sync::<kijolvar::Till>();
+/// ```
+pub struct Till {
+    inner: RefCell<Inner>,
+    number: u64,
+}
+
+impl Till {
+    /// Opens a till over a profile's text (TOML, docs/PROFILE.md; [`BUILT_PROFILE`] is the built one), with its totals
+    /// in memory or in a file.
+    ///
+    /// The file is locked until the till is dropped, and a call that changes the totals returns once the change is
+    /// synced. A file that isn't formatted opens; enabling its totals is E_NOHARDWARE.
+    ///
+    /// # Errors
+    ///
+    /// [`Cause::BadProfile`], [`Cause::System`], [`Cause::TooSmall`], [`Cause::DiskFailed`], [`Cause::NoMemory`],
+    /// [`Cause::WrongVersion`].
+    ///
+    /// ```
+    /// use kijolvar::{Cause, Till, Totals};
+    ///
+    /// let refused = Till::open("[[device]]\nname = \"d1\"\n", Totals::Memory).err().unwrap();
+    /// assert!(matches!(refused.cause(), Cause::BadProfile));
+    /// assert_eq!(refused.to_string(), "Till::open: the profile is refused");
+    /// ```
+    pub fn open(profile: &str, totals: Totals) -> Result<Till, Error> {
+        static NUMBERS: AtomicU64 = AtomicU64::new(1);
+        let inner = Till::begin(profile, &totals).map_err(|cause| Error::new("Till::open", cause))?;
+        Ok(Till { inner: RefCell::new(inner), number: NUMBERS.fetch_add(1, Ordering::Relaxed) })
+    }
+
+    fn begin(profile: &str, totals: &Totals) -> Result<Inner, Cause> {
+        // SAFETY: it takes nothing.
+        if unsafe { kijolvar_version() } != library::VERSION {
+            return Err(Cause::WrongVersion);
+        }
+        let Some(file) = totals.open(profile)? else { return Inner::in_memory(profile) };
+        let length = file.metadata().map_err(Cause::System)?.len().min(library::DISK_LENGTH);
+        let mut bytes = vec![0; length as usize];
+        file.read_exact_at(&mut bytes, 0).map_err(Cause::System)?;
+        let mut inner = Inner::over_file(profile, file, bytes, kijolvar_open_file)?;
+        inner.settle()?;
+        Ok(inner)
+    }
+
+    /// A number that no other till of the process has.
+    pub(crate) fn number(&self) -> u64 {
+        self.number
+    }
+
+    /// Carries out lines of the text interface (docs/CONSOLE.md) one after the other, and returns their answers, a line
+    /// each.
+    ///
+    /// # Errors
+    ///
+    /// [`Cause::NoAnswer`] if memory ran out within the answers: lines up to one were carried out.
+    /// [`Cause::DiskFailed`].
+    ///
+    /// ```
+    /// # use kijolvar::{Till, Totals, BUILT_PROFILE};
+    /// # let till = Till::open(BUILT_PROFILE, Totals::Memory)?;
+    /// assert_eq!(till.carry_out("show d1\nshow s1\nnonsense\n")?, "ok closed\nok\nbad line\n");
+    /// # Ok::<(), kijolvar::Error>(())
+    /// ```
+    pub fn carry_out(&self, lines: impl AsRef<[u8]>) -> Result<String, Error> {
+        self.inner.borrow_mut().carry_out(lines.as_ref()).map_err(|cause| Error::new("Till::carry_out", cause))
+    }
+
+    /// Carries out one line: its whole answer.
+    pub(crate) fn answer(&self, call: &'static str, line: &Line) -> Result<String, Error> {
+        self.inner.borrow_mut().ask(line).map_err(|cause| Error::new(call, cause))
+    }
+
+    /// Carries out one line of a control of this category, or of a device: what is behind `ok`.
+    pub(crate) fn ask(&self, call: &'static str, category: Option<Category>, line: &Line) -> Result<Answer, Error> {
+        let mut text = self.answer(call, line)?;
+        let value = value_of(&text, category).map_err(|cause| Error::new(call, cause))?.len();
+        Ok(Answer::new(call, text.split_off(text.len() - value)))
+    }
+
+    /// Makes a control: its name, and its place.
+    pub(crate) fn new_control(&self, category: Category, name: Option<&str>) -> Result<(String, usize), Error> {
+        let failed = |cause| Error::new("new control", cause);
+        if name.is_some_and(|name| !is_name(name)) {
+            return Err(failed(Cause::BadArgument));
+        }
+        let mut inner = self.inner.borrow_mut();
+        let place = inner.control(category, name).map_err(failed)?;
+        Ok((inner.controls[place].name.clone(), place))
+    }
+
+    /// Closes a control, and hands it out again from now on.
+    pub(crate) fn give_back(&self, place: usize) {
+        let mut inner = self.inner.borrow_mut();
+        let line = Line::new("close").name(&inner.controls[place].name);
+        // A control that is closed already answers E_CLOSED; a till whose disk failed answers nothing more.
+        let _ = inner.ask(&line);
+        inner.controls[place].is_free = true;
+    }
+
+    /// Delivers the next event of any control, in the order in which the controls were made: the control's name, and
+    /// the event.
+    ///
+    /// # Errors
+    ///
+    /// [`Cause::DiskFailed`], [`Cause::NoAnswer`], [`Cause::BadAnswer`].
+    pub fn next_event(&self) -> Result<Option<(String, Event)>, Error> {
+        let count = self.inner.borrow().controls.len();
+        for place in 0..count {
+            let (name, category) = {
+                let inner = self.inner.borrow();
+                (inner.controls[place].name.clone(), inner.controls[place].category)
+            };
+            if let Some(event) = Event::deliver(self, &name, category, None)? {
+                return Ok(Some((name, event)));
+            }
+        }
+        Ok(None)
+    }
+
+    /// Returns an iterator that delivers the events of all controls, until none is left.
+    ///
+    /// ```
+    /// # use kijolvar::{standard::DrawerStatus, Event, StatusUpdate, Till, Totals, BUILT_PROFILE};
+    /// # let till = Till::open(BUILT_PROFILE, Totals::Memory)?;
+    /// let drawer = till.cash_drawer("d1")?.enabled()?;
+    /// drawer.open_drawer()?;
+    /// let events = till.events().collect::<Result<Vec<_>, _>>()?;
+    /// let opened = Event::StatusUpdate(StatusUpdate::Drawer(DrawerStatus::Open));
+    /// assert_eq!(events, [(drawer.name().to_string(), opened)]);
+    /// # Ok::<(), kijolvar::Error>(())
+    /// ```
+    pub fn events(&self) -> Events<'_, (String, Event)> {
+        Events::new(Box::new(|| self.next_event()))
+    }
+
+    fn ask_device(&self, call: &'static str, line: Line) -> Result<(), Error> {
+        self.ask(call, None, &line)?.nothing()
+    }
+
+    /// Says that a cash drawer is opened or closed by hand.
+    ///
+    /// # Errors
+    ///
+    /// [`Cause::BadDevice`], [`Cause::BadInput`] if the device is no drawer, [`Cause::NoMemory`].
+    pub fn input_drawer(&self, device: &str, is_open: bool) -> Result<(), Error> {
+        self.ask_device("input_drawer", Line::new("input").name(device).word(if is_open { "open" } else { "closed" }))
+    }
+
+    /// Says that a scanner reads a code: its type (ScanDataType), all that was read, and its label.
+    ///
+    /// # Errors
+    ///
+    /// [`Cause::BadDevice`], [`Cause::BadInput`] if the device is no scanner or takes no such type,
+    /// [`Cause::NoMemory`].
+    pub fn input_scan(
+        &self,
+        device: &str,
+        of: u64,
+        data: impl AsRef<[u8]>,
+        label: impl AsRef<[u8]>,
+    ) -> Result<(), Error> {
+        let line = Line::new("input").name(device).word("scan").number(of).bytes(data.as_ref()).bytes(label.as_ref());
+        self.ask_device("input_scan", line)
+    }
+
+    /// Says that a scanner fails to read.
+    ///
+    /// # Errors
+    ///
+    /// [`Cause::BadDevice`], [`Cause::BadInput`] if the device is no scanner, [`Cause::NoMemory`].
+    pub fn input_scan_fault(&self, device: &str) -> Result<(), Error> {
+        self.ask_device("input_scan_fault", Line::new("input").name(device).word("fault"))
+    }
+
+    /// Says that a printer's cover is opened or closed by hand.
+    ///
+    /// # Errors
+    ///
+    /// [`Cause::BadDevice`], [`Cause::BadInput`] if the device is no printer, [`Cause::NoMemory`].
+    pub fn input_cover(&self, device: &str, is_open: bool) -> Result<(), Error> {
+        let word = if is_open { "open" } else { "closed" };
+        self.ask_device("input_cover", Line::new("input").name(device).word("cover").word(word))
+    }
+
+    /// Says that a printer is loaded with paper: 0 to 100,000 lines are left.
+    ///
+    /// # Errors
+    ///
+    /// [`Cause::BadDevice`], [`Cause::BadInput`] if the device is no printer or takes less paper, [`Cause::NoMemory`].
+    pub fn input_paper(&self, device: &str, lines: u64) -> Result<(), Error> {
+        self.ask_device("input_paper", Line::new("input").name(device).word("paper").number(lines))
+    }
+
+    /// Says that a device is switched on or off.
+    ///
+    /// # Errors
+    ///
+    /// [`Cause::BadDevice`], [`Cause::NoMemory`].
+    pub fn input_power(&self, device: &str, is_on: bool) -> Result<(), Error> {
+        self.ask_device(
+            "input_power",
+            Line::new("input").name(device).word("power").word(if is_on { "on" } else { "off" }),
+        )
+    }
+
+    /// Works on the output that waits for a printer (AsyncMode): its first request is done, or fails.
+    ///
+    /// # Errors
+    ///
+    /// [`Cause::BadDevice`], [`Cause::NoMemory`].
+    pub fn work(&self, device: &str) -> Result<Work, Error> {
+        let text = self.answer("work", &Line::new("work").name(device))?;
+        Work::read(&text).map_err(|cause| Error::new("work", cause))
+    }
+
+    /// Returns what a simulated device is physically, as docs/CONSOLE.md says under "Answers".
+    ///
+    /// # Errors
+    ///
+    /// [`Cause::BadDevice`].
+    pub fn show(&self, device: &str) -> Result<String, Error> {
+        Ok(self.ask("show", None, &Line::new("show").name(device))?.text())
+    }
+
+    /// What a simulated device is, if it is of the right kind.
+    fn view<T>(&self, call: &'static str, device: &str, read: impl Fn(&str) -> Option<T>) -> Result<T, Error> {
+        let text = self.ask(call, None, &Line::new("show").name(device))?.text();
+        read(&text).ok_or_else(|| Error::new(call, Cause::WrongKind))
+    }
+
+    /// Returns whether a simulated drawer is open.
+    ///
+    /// # Errors
+    ///
+    /// [`Cause::BadDevice`], [`Cause::WrongKind`].
+    pub fn show_drawer(&self, device: &str) -> Result<bool, Error> {
+        self.view("show_drawer", device, views::is_open)
+    }
+
+    /// Returns what a simulated line display shows.
+    ///
+    /// # Errors
+    ///
+    /// [`Cause::BadDevice`], [`Cause::WrongKind`].
+    pub fn show_display(&self, device: &str) -> Result<DisplayView, Error> {
+        self.view("show_display", device, DisplayView::read)
+    }
+
+    /// Returns what a simulated receipt printer is, and what it has printed.
+    ///
+    /// # Errors
+    ///
+    /// [`Cause::BadDevice`], [`Cause::WrongKind`].
+    ///
+    /// ```
+    /// # use kijolvar::{standard::PrinterStation, Alignment, Printed, Till, Totals, BUILT_PROFILE};
+    /// # let till = Till::open(BUILT_PROFILE, Totals::Memory)?;
+    /// till.pos_printer("r1")?.enabled()?.print_normal(PrinterStation::Receipt, "\x1b|rAMilk\n")?;
+    /// let printer = till.show_printer("r1")?;
+    /// assert_eq!(printer.lines, 4);
+    /// assert!(matches!(&printer.items[0], Printed::Line(Alignment::Right, text) if text.characters == b"Milk"));
+    /// # Ok::<(), kijolvar::Error>(())
+    /// ```
+    pub fn show_printer(&self, device: &str) -> Result<PrinterView, Error> {
+        self.view("show_printer", device, PrinterView::read)
+    }
+
+    /// Attaches a spare of the profile, by its number from 1 on: it serves the device from now on.
+    ///
+    /// # Errors
+    ///
+    /// [`Cause::BadSpare`], [`Cause::Unknown`], [`Cause::InUse`], [`Cause::KindDiffers`], [`Cause::NoMemory`].
+    pub fn attach(&self, device: &str, spare: u64) -> Result<(), Error> {
+        self.ask_device("attach", Line::new("attach").name(device).number(spare))
+    }
+
+    /// Detaches a device's peripheral, which ends.
+    ///
+    /// # Errors
+    ///
+    /// [`Cause::Unknown`], [`Cause::Vacant`], [`Cause::InUse`], [`Cause::NoMemory`].
+    pub fn detach(&self, device: &str) -> Result<(), Error> {
+        self.ask_device("detach", Line::new("detach").name(device))
+    }
+
+    /// Says that you have this device as hardware: its orders come by [`Till::next_order`] from now on (abi/README.md).
+    ///
+    /// # Errors
+    ///
+    /// [`Cause::NoDevice`], [`Cause::NoMemory`].
+    pub fn host(&self, device: &str) -> Result<(), Error> {
+        let mut inner = self.inner.borrow_mut();
+        let till = inner.at;
+        // SAFETY: the pointer is the one that was written last, and the name is lent for the call.
+        match unsafe { kijolvar_host(till, &mut inner.at.0, device.as_ptr(), device.len()) } {
+            library::OK => Ok(()),
+            library::NO_MEMORY => Err(Error::new("host", Cause::NoMemory)),
+            _ => Err(Error::new("host", Cause::NoDevice)),
+        }
+    }
+
+    /// Takes out the oldest order of the devices that you have. Take them out after each call.
+    ///
+    /// # Errors
+    ///
+    /// [`Cause::DiskFailed`], [`Cause::BadAnswer`].
+    ///
+    /// ```
+    /// # use kijolvar::{Order, Till, Totals, BUILT_PROFILE};
+    /// # let till = Till::open(BUILT_PROFILE, Totals::Memory)?;
+    /// till.host("d1")?;
+    /// till.cash_drawer("d1")?.enabled()?.open_drawer()?;
+    /// assert_eq!(till.next_order()?, Some(Order::OpenDrawer { device: "d1".to_string() }));
+    /// assert_eq!(till.next_order()?, None);
+    /// # Ok::<(), kijolvar::Error>(())
+    /// ```
+    pub fn next_order(&self) -> Result<Option<Order>, Error> {
+        let failed = |cause| Error::new("next_order", cause);
+        let Some(line) = self.inner.borrow_mut().next_order().map_err(failed)? else { return Ok(None) };
+        Order::read(&line).map(Some).ok_or_else(|| failed(Cause::BadAnswer(line)))
+    }
+}
+
+impl fmt::Debug for Till {
+    fn fmt(&self, out: &mut fmt::Formatter<'_>) -> fmt::Result {
+        out.debug_struct("Till").field("number", &self.number).finish_non_exhaustive()
+    }
+}

@@ -1,0 +1,110 @@
+//! The file of a till's totals: opened or created, and locked.
+use crate::error::Cause;
+use crate::raw::{kijolvar_format_file, linkat, AT_FDCWD, AT_SYMLINK_FOLLOW, O_TMPFILE};
+use crate::standard::library::DISK_LENGTH;
+use crate::till::Inner;
+use std::ffi::CString;
+use std::fs::{File, OpenOptions};
+use std::io;
+use std::os::fd::AsRawFd;
+use std::os::unix::ffi::OsStrExt;
+use std::os::unix::fs::OpenOptionsExt;
+use std::path::{Path, PathBuf};
+
+/// Where a till has its totals.
+#[derive(Debug, Clone, PartialEq, Eq)]
+#[non_exhaustive]
+pub enum Totals {
+    /// In memory: they end with the till.
+    Memory,
+    /// In the file of this path, which has to be there.
+    Existing(PathBuf),
+    /// In the file of this path, which is created if it is missing.
+    Create(PathBuf),
+    /// In a new file of this path, which must not be there.
+    CreateNew(PathBuf),
+}
+
+impl Totals {
+    /// Returns the totals in the file of a path, which has to be there.
+    pub fn existing(path: impl Into<PathBuf>) -> Totals {
+        Totals::Existing(path.into())
+    }
+
+    /// Returns the totals in the file of a path, which is created if it is missing.
+    pub fn create(path: impl Into<PathBuf>) -> Totals {
+        Totals::Create(path.into())
+    }
+
+    /// Returns the totals in a new file of a path.
+    pub fn create_new(path: impl Into<PathBuf>) -> Totals {
+        Totals::CreateNew(path.into())
+    }
+
+    /// Opens or creates the file for a till over the profile, and locks it against every other till.
+    pub(crate) fn open(&self, profile: &str) -> Result<Option<File>, Cause> {
+        match self {
+            Totals::Memory => Ok(None),
+            Totals::Existing(path) => open_existing(path).map(Some).map_err(Cause::System),
+            Totals::CreateNew(path) => create_new(path, profile).map(Some),
+            Totals::Create(path) => match open_existing(path) {
+                Err(cause) if cause.kind() == io::ErrorKind::NotFound => match create_new(path, profile) {
+                    // Another till created it in between.
+                    Err(Cause::System(cause)) if cause.kind() == io::ErrorKind::AlreadyExists => {
+                        open_existing(path).map(Some).map_err(Cause::System)
+                    }
+                    created => created.map(Some),
+                },
+                opened => opened.map(Some).map_err(Cause::System),
+            },
+        }
+    }
+}
+
+/// The folder that a path is in, and the name that the path's file has there.
+fn folder_of(path: &Path) -> io::Result<(&Path, CString)> {
+    let name = path.file_name().ok_or(io::ErrorKind::InvalidInput)?;
+    let folder = path.parent().filter(|folder| !folder.as_os_str().is_empty());
+    Ok((folder.unwrap_or(Path::new(".")), CString::new(name.as_bytes())?))
+}
+
+/// Opens a file that is there, and locks it. Its folder is synced too, since a creation that was killed may have named
+/// the file and not synced its name.
+fn open_existing(path: &Path) -> io::Result<File> {
+    let file = OpenOptions::new().read(true).write(true).open(path)?;
+    file.try_lock()?;
+    File::open(folder_of(path)?.0)?.sync_all()?;
+    Ok(file)
+}
+
+/// Creates a file of totals without files, and locks it. It gets its name when it is whole and synced, which never
+/// replaces anything, so a crash leaves nothing or all of it. A profile that is refused creates nothing.
+fn create_new(path: &Path, profile: &str) -> Result<File, Cause> {
+    let (folder, name) = folder_of(path).map_err(Cause::System)?;
+    let file = unnamed(folder).map_err(Cause::System)?;
+    let mut till = Inner::over_file(profile, file, vec![0; DISK_LENGTH as usize], kijolvar_format_file)?;
+    till.settle()?;
+    let file = till.into_file().ok_or(Cause::DiskFailed)?;
+    give_name(&file, folder, &name).map_err(Cause::System)?;
+    Ok(file)
+}
+
+/// A locked file without a name, of zero bytes, as long as a disk.
+fn unnamed(folder: &Path) -> io::Result<File> {
+    let file = OpenOptions::new().read(true).write(true).custom_flags(O_TMPFILE).mode(0o600).open(folder)?;
+    file.try_lock()?;
+    file.set_len(DISK_LENGTH)?;
+    Ok(file)
+}
+
+/// Gives the file its name, and syncs the folder.
+fn give_name(file: &File, folder: &Path, name: &CString) -> io::Result<()> {
+    let unnamed = CString::new(format!("/proc/self/fd/{}", file.as_raw_fd()))?;
+    let folder = File::open(folder)?;
+    // SAFETY: both are texts that end in a 0 byte, lent for the call.
+    let linked = unsafe { linkat(AT_FDCWD, unnamed.as_ptr(), folder.as_raw_fd(), name.as_ptr(), AT_SYMLINK_FOLLOW) };
+    if linked != 0 {
+        return Err(io::Error::last_os_error());
+    }
+    folder.sync_all()
+}

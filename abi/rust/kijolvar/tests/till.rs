@@ -1,0 +1,250 @@
+//! What a till does: files of totals, errors, replies, keys, controls that are handed out again, and threads.
+use kijolvar::standard::{DisplayAttribute, ErrorLocus, ErrorReply, ExtendedCode, PrinterStation, ResultCode};
+use kijolvar::standard::{ScrollDirection, State, PTR_CP_FULLCUT};
+use kijolvar::{Actor, CashDrawer, Cause, Error, Event, HardTotals, Order, PosPrinter, Property, Scanner};
+use kijolvar::{StatusUpdate, Till, Totals, Value, Work, BUILT_PROFILE};
+use std::io::ErrorKind;
+use std::path::PathBuf;
+
+fn till() -> Till {
+    Till::open(BUILT_PROFILE, Totals::Memory).unwrap()
+}
+
+/// A path in a folder of its own, which is removed at the end.
+struct Place(PathBuf);
+
+impl Place {
+    fn new(name: &str) -> Place {
+        let folder = std::env::temp_dir().join(format!("kijolvar-{}-{name}", std::process::id()));
+        std::fs::create_dir_all(&folder).unwrap();
+        Place(folder)
+    }
+
+    fn file(&self) -> PathBuf {
+        self.0.join("totals")
+    }
+}
+
+impl Drop for Place {
+    fn drop(&mut self) {
+        let _ = std::fs::remove_dir_all(&self.0);
+    }
+}
+
+fn system_kind(error: &Error) -> Option<ErrorKind> {
+    match error.cause() {
+        Cause::System(cause) => Some(cause.kind()),
+        _ => None,
+    }
+}
+
+#[test]
+fn errors_go_anywhere() {
+    fn goes<T: std::error::Error + Send + Sync + 'static>() {}
+    fn moves<T: Send>() {}
+    goes::<Error>();
+    moves::<Till>();
+    moves::<Actor>();
+    moves::<kijolvar::Key<CashDrawer<'static>>>();
+}
+
+#[test]
+fn totals_stay_in_their_file() {
+    let place = Place::new("stay");
+    let missing = Till::open(BUILT_PROFILE, Totals::existing(place.file())).unwrap_err();
+    assert_eq!(system_kind(&missing), Some(ErrorKind::NotFound));
+    let refused = Till::open("nonsense", Totals::create(place.file())).unwrap_err();
+    assert!(matches!(refused.cause(), Cause::BadProfile) && !place.file().exists());
+    for round in 1..=3u8 {
+        let till = Till::open(BUILT_PROFILE, Totals::create(place.file())).unwrap();
+        let in_use = Till::open(BUILT_PROFILE, Totals::existing(place.file())).unwrap_err();
+        assert_eq!(system_kind(&in_use), Some(ErrorKind::WouldBlock));
+        let taken = Till::open(BUILT_PROFILE, Totals::create_new(place.file())).unwrap_err();
+        assert_eq!(system_kind(&taken), Some(ErrorKind::AlreadyExists));
+        let totals = till.hard_totals("t1").unwrap().enabled().unwrap();
+        let handle = if round == 1 { totals.create("DAY", 1, false).unwrap() } else { totals.find("DAY").unwrap().0 };
+        assert_eq!(totals.read(handle, 0, 1).unwrap(), [round - 1]);
+        totals.begin_trans().unwrap();
+        totals.write(handle, 0, [99]).unwrap();
+        totals.rollback().unwrap();
+        totals.write(handle, 0, [round]).unwrap();
+    }
+    std::fs::write(place.file(), "short").unwrap();
+    let short = Till::open(BUILT_PROFILE, Totals::existing(place.file())).unwrap_err();
+    assert!(matches!(short.cause(), Cause::TooSmall));
+}
+
+#[test]
+fn errors_say_what_and_why() {
+    let till = till();
+    let printer = PosPrinter::new(&till).unwrap();
+    let closed = printer.print_normal(PrinterStation::Receipt, "a").unwrap_err();
+    assert_eq!((closed.call(), closed.code(), closed.extended()), ("printNormal", Some(ResultCode::Closed), None));
+    assert_eq!(closed.to_string(), "printNormal: E_CLOSED: The control is closed.");
+    printer.open("r1").unwrap();
+    assert_eq!(printer.set_device_enabled(true).unwrap_err().code(), Some(ResultCode::NotClaimed));
+    assert_eq!(printer.rec_line_chars().unwrap_err().call(), "RecLineChars");
+    let printer = printer.enabled().unwrap();
+    till.input_cover("r1", true).unwrap();
+    let open = printer.cut_paper(100).unwrap_err();
+    assert_eq!((open.code(), open.extended()), (Some(ResultCode::Extended), Some(ExtendedCode::PrinterCoverOpen)));
+    let totals = till.hard_totals("t1").unwrap().enabled().unwrap();
+    let full = totals.create("BIG", 9000, false).unwrap_err();
+    assert_eq!(full.extended(), Some(ExtendedCode::TotalsNoRoom));
+    assert_eq!(till.cash_drawer("t1").unwrap_err().code(), Some(ResultCode::NoExist));
+    assert!(matches!(till.show("d\n1").unwrap_err().cause(), Cause::BadArgument));
+    assert!(matches!(till.show_drawer("r1").unwrap_err().cause(), Cause::WrongKind));
+    assert!(matches!(till.attach("d1", 9).unwrap_err().cause(), Cause::BadSpare));
+    let long = vec![b'a'; 80_000];
+    assert!(matches!(printer.print_normal(PrinterStation::Receipt, &long).unwrap_err().cause(), Cause::BadArgument));
+    till.input_cover("r1", false).unwrap();
+    let long = printer.print_normal(PrinterStation::Receipt, &long[..69_000]).unwrap_err();
+    assert_eq!(long.code(), Some(ResultCode::Illegal));
+}
+
+#[test]
+fn properties_by_name() {
+    let till = till();
+    let display = till.line_display("p1").unwrap().enabled().unwrap();
+    for property in Property::ALL {
+        assert_eq!(Property::from_name(property.name()), Some(property));
+    }
+    assert_eq!(display.get(Property::Columns).unwrap(), Value::Number(4));
+    assert_eq!(display.get(Property::CursorUpdate).unwrap(), Value::Truth(true));
+    assert_eq!(display.get(Property::ScanData).unwrap_err().code(), Some(ResultCode::Illegal));
+    display.set(Property::CursorColumn, Value::Number(2)).unwrap();
+    display.display_text("ab", DisplayAttribute::Blink).unwrap();
+    let view = till.show_display("p1").unwrap();
+    assert_eq!(
+        (view.characters.as_slice(), view.attributes.as_slice()),
+        (&b"  ab    "[..], &[0, 0, 1, 1, 0, 0, 0, 0][..])
+    );
+    let scanner = till.scanner("s1").unwrap();
+    assert_eq!(scanner.get(Property::ScanData).unwrap(), Value::Bytes(Vec::new()));
+}
+
+#[test]
+fn a_reply_decides() {
+    let till = till();
+    let printer = till.pos_printer("r1").unwrap().enabled().unwrap();
+    printer.set_async_mode(true).unwrap();
+    let fails = || {
+        printer.print_normal(PrinterStation::Receipt, "a\n").unwrap();
+        till.input_cover("r1", true).unwrap();
+        assert!(matches!(
+            till.work("r1").unwrap(),
+            Work::Failed { extended: Some(ExtendedCode::PrinterCoverOpen), .. }
+        ));
+        assert_eq!(printer.state().unwrap(), State::Error);
+    };
+    fails();
+    printer.pump(|_| Some(ErrorReply::Clear)).unwrap();
+    assert_eq!(printer.state().unwrap(), State::Idle);
+    fails();
+    let mut errors = 0;
+    for event in printer.events() {
+        if let Event::Error(error) = event.unwrap() {
+            assert_eq!((error.code, error.locus), (ResultCode::Extended, ErrorLocus::Output));
+            printer.reply_to(error, ErrorReply::Retry).unwrap();
+            errors += 1;
+        }
+    }
+    till.input_cover("r1", false).unwrap();
+    assert!(matches!(till.work("r1").unwrap(), Work::Done { .. }));
+    assert_eq!((errors, till.work("r1").unwrap()), (1, Work::Idle));
+    assert!(printer.events().any(|event| matches!(event, Ok(Event::OutputComplete { output_id: 2 }))));
+    let scanner = till.scanner("s1").unwrap().enabled().unwrap();
+    till.input_scan("s1", 104, "a", "a").unwrap();
+    till.input_scan_fault("s1").unwrap();
+    scanner.set_data_event_enabled(true).unwrap();
+    scanner.pump(|_| Some(ErrorReply::Clear)).unwrap();
+    assert_eq!((scanner.data_count().unwrap(), scanner.state().unwrap()), (0, State::Idle));
+}
+
+#[test]
+fn orders_come_once_and_in_order() {
+    let till = till();
+    for device in ["d1", "p1", "r1"] {
+        till.host(device).unwrap();
+    }
+    assert!(matches!(till.host("t1").unwrap_err().cause(), Cause::NoDevice));
+    till.cash_drawer("d1").unwrap().enabled().unwrap().open_drawer().unwrap();
+    let display = till.line_display("p1").unwrap().enabled().unwrap();
+    display.display_text_at(1, 4, "", DisplayAttribute::Reverse).unwrap();
+    display.scroll_text(ScrollDirection::Left, 1).unwrap();
+    display.clear_text().unwrap();
+    let printer = till.pos_printer("r1").unwrap().enabled().unwrap();
+    printer.print_normal(PrinterStation::Receipt, [0x1b, b'|', b'b', b'C', b'a', b'\n']).unwrap();
+    printer.cut_paper(PTR_CP_FULLCUT).unwrap();
+    let device = |name: &str| name.to_string();
+    let wanted = [
+        Order::OpenDrawer { device: device("d1") },
+        Order::DisplayTextAt { device: device("p1"), row: 1, column: 4, text: Vec::new(), attribute: 2 },
+        Order::ScrollText { device: device("p1"), direction: 3, units: 1 },
+        Order::ClearText { device: device("p1") },
+        Order::Print { device: device("r1"), data: b"\x1b|bCa\n".to_vec() },
+        Order::CutPaper { device: device("r1"), percentage: 100 },
+    ];
+    for order in wanted {
+        assert_eq!(till.next_order().unwrap(), Some(order));
+    }
+    assert_eq!(till.next_order().unwrap(), None);
+}
+
+#[test]
+fn controls_are_handed_out_again() {
+    let till = till();
+    for _ in 0..5000 {
+        till.cash_drawer("d1").unwrap().enabled().unwrap().open_drawer().unwrap();
+        assert!(till.scanner("d1").is_err());
+    }
+    let named = Scanner::named(&till, "gun").unwrap();
+    assert!(matches!(HardTotals::named(&till, "gun").unwrap_err().cause(), Cause::NameInUse));
+    drop(named);
+    assert_eq!(Scanner::named(&till, "gun").unwrap().name(), "gun");
+}
+
+#[test]
+fn keys_are_of_one_till() {
+    let (till, other) = (till(), till());
+    let key = till.cash_drawer("d1").unwrap().enabled().unwrap().into_key();
+    CashDrawer::of(&till, &key).unwrap().open_drawer().unwrap();
+    assert!(CashDrawer::of(&till, &key).unwrap().drawer_opened().unwrap());
+    assert!(matches!(CashDrawer::of(&other, &key).unwrap_err().cause(), Cause::OtherTill));
+    let events: Vec<_> = till.events().collect::<Result<_, _>>().unwrap();
+    assert!(matches!(events[..], [(_, Event::StatusUpdate(StatusUpdate::Drawer(_)))]));
+}
+
+#[test]
+fn an_actor_serves_several_threads() {
+    let (actor, thread) = Actor::start(till());
+    let totals = actor
+        .run(|till| {
+            let totals = till.hard_totals("t1")?.enabled()?;
+            totals.create("SUM", 8, false)?;
+            Ok(totals.into_key())
+        })
+        .unwrap();
+    std::thread::scope(|scope| {
+        for _ in 0..4 {
+            let (actor, totals) = (actor.clone(), totals.clone());
+            scope.spawn(move || {
+                for _ in 0..50 {
+                    let totals = totals.clone();
+                    let add = move |till: &Till| {
+                        let totals = HardTotals::of(till, &totals)?;
+                        let sum = totals.read(1, 0, 8)?.iter().fold(0u64, |sum, byte| sum << 8 | u64::from(*byte));
+                        totals.write(1, 0, (sum + 1).to_be_bytes())
+                    };
+                    actor.run(add).unwrap();
+                }
+            });
+        }
+    });
+    let sum = actor.run(move |till| HardTotals::of(till, &totals)?.read(1, 0, 8)).unwrap();
+    assert_eq!(sum, 200u64.to_be_bytes());
+    let ended = actor.run(|_| -> Result<(), Error> { panic!("on purpose") }).unwrap_err();
+    assert!(matches!(ended.cause(), Cause::ActorEnded));
+    assert!(thread.join().is_err());
+    assert!(matches!(actor.run(|_| Ok(())).unwrap_err().cause(), Cause::ActorEnded));
+}

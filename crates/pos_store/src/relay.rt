@@ -1,0 +1,33 @@
+// The disk of a store, and what it keeps for its owner.
+ghost use Rattle.std.specs.Prelude.{◌≡◌};
+ghost use Rattle.pos_disk.specs.Keeps.{KeepsState};
+
+use crate::disk_or_log::DiskOrLog;
+use crate::store::Store;
+use pos_disk::{Disk, Relay};
+
+impl<D: Disk> Store<D> {
+    /// The disk, to be looked at.
+    pub fn disk(&self) -> &D
+        ensures { result.now ≡ self.now.disk }
+    {
+        match &self.disk_or_log {
+            DiskOrLog::Off(disk, _) => disk,
+            DiskOrLog::Ready(log, _) => log.disk(),
+        }
+    }
+}
+
+impl<D: Relay> Store<D> {
+    /// Takes out the oldest thing that the disk keeps for its owner. All else is as it was.
+    pub fn next(&mut self) -> Option<D::Errand>
+        ensures same { self.new ≡ record self.old { disk = self.new.disk } }
+        ensures state { KeepsState D.Disk self.old.disk self.new.disk }
+        ensures takes { D.takes self.old.disk self.new.disk result }
+    {
+        match &mut self.disk_or_log {
+            DiskOrLog::Off(disk, _) => disk.next(),
+            DiskOrLog::Ready(log, _) => log.next(),
+        }
+    }
+}

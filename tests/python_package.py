@@ -1,0 +1,752 @@
+"""Tries the Python package over the library: the console's scripts by typed calls, and what no script says.
+
+Usage: python_package.py LIBRARY PROGRAM. PROGRAM is pos_console, which moves a disk to layout 2. The last line is
+'N passed, M failed'.
+"""
+import collections
+import contextlib
+import dataclasses
+import fcntl
+import gc
+import importlib
+import inspect
+import os
+import pathlib
+import pickle
+import re
+import shutil
+import subprocess
+import sys
+import tempfile
+import threading
+import warnings
+
+import typed
+from typed import PARTS, TOP
+
+import kijolvar
+from kijolvar import (E_EXTENDED, EL_INPUT, EL_INPUT_DATA, EL_OUTPUT, ER_CLEAR, ER_CONTINUEINPUT, ER_RETRY,
+                      KIJOLVAR_DISK_LENGTH, KIJOLVAR_ERRANDS, PN_ENABLED, PTR_S_RECEIPT, S_BUSY, S_CLOSED, S_ERROR, S_IDLE)
+
+SCRIPTS = TOP / "crates/pos_console/scripts"
+LIBRARY, PROGRAM = (os.path.abspath(word) for word in sys.argv[1:3])
+WORK = pathlib.Path(tempfile.mkdtemp())
+REASONS = {"a line of a wrong shape", "an unknown control", "a property of another category",
+           "a method of another category", "a property that can't be set", "a value of another type"}
+passed = failed = 0
+
+
+def told(name, wanted, found):
+    """Whether two values are the same."""
+    global passed, failed
+    if wanted == found:
+        passed += 1
+    else:
+        failed += 1
+        print(f"failed: {name}\n  wanted: {wanted!r}\n  found:  {found!r}")
+
+
+def raised(call, *words, **named):
+    """The exception that a call raises, or None."""
+    try:
+        call(*words, **named)
+    except Exception as fault:
+        return fault
+    return None
+
+
+def name_of(call, *words, **named):
+    """The name of the class of what a call raises, or what it returns."""
+    fault = raised(call, *words, **named)
+    return None if fault is None else type(fault).__name__
+
+
+def opened(profile=None, totals=None, **named):
+    return kijolvar.open(profile, totals, library=LIBRARY, **named)
+
+
+# ---- scripts
+
+def places(text):
+    """Places and the bytes from there on, of a file of disks; HEX*N stands for HEX N times."""
+    for line in text.splitlines():
+        if line.strip() and not line.startswith("#"):
+            place, *words = line.split()
+            parts = (word.partition("*") for word in words)
+            yield int(place), b"".join(bytes.fromhex(digits) * int(times or 1) for digits, _, times in parts)
+
+
+def paragraphs(text):
+    return [part for part in re.split(r"\n\s*\n", text) if any(True for _ in places(part))]
+
+
+def lay_disk(path, text):
+    """A file with these bytes at their places among zero bytes."""
+    disk = bytearray(KIJOLVAR_DISK_LENGTH)
+    for place, found in places(text):
+        disk[place:place + len(found)] = found
+    path.write_bytes(disk)
+
+
+def beside(script, ending):
+    path = script.with_name(f"{script.name}.{ending}")
+    return path if path.exists() else None
+
+
+def left_wrong(path, text):
+    """The places where a file has other bytes than it has to have."""
+    disk = path.read_bytes()
+    return [place for place, found in places(text) if disk[place:place + len(found)] != found]
+
+
+def run_before(script, profile, disk):
+    """Runs the script that is run before, and moves its disk to layout 2."""
+    before = beside(script, "before")
+    if before is not None:
+        with opened(profile, disk) as till:
+            typed.run_script(till, before.read_bytes())
+        subprocess.run([PROGRAM, "migrate", "--disk", disk], check=True)
+
+
+def run_over(name, script, profile, disk, counted):
+    """Runs a script over a profile and a file of totals, or totals in memory."""
+    if disk is not None:
+        run_before(script, profile, disk)
+    with opened(profile, disk) as till:
+        runner, text = typed.run_script(till, script.read_bytes())
+    counted["typed"] += runner.typed
+    counted.update(runner.untyped)
+    wanted = beside(script, "stdout").read_bytes().split(b"\n")
+    wrong = [(a, b) for a, b in zip(wanted, text.split(b"\n")) if a != b][:3]
+    told(f"{name} by typed calls", ([], len(wanted)), (wrong, text.count(b"\n") + 1))
+    left = beside(script, "left")
+    if left is not None:
+        told(f"what {name} leaves", [], left_wrong(disk, left.read_text()))
+
+
+def try_scripts():
+    counted = collections.Counter()
+    scripts = sorted(path.with_suffix("") for path in SCRIPTS.glob("*.stdout"))
+    told("there are scripts", True, len(scripts) >= 70)
+    for script in scripts:
+        profile, disks = beside(script, "profile"), beside(script, "disk")
+        disk = WORK / "disk"
+        disk.unlink(missing_ok=True)
+        if profile is None:
+            run_over(script.name, script, None, None, counted)
+        elif disks is None:
+            kijolvar.create_totals(disk, LIBRARY).close()
+            run_over(script.name, script, profile, disk, counted)
+        else:
+            for number, text in enumerate(paragraphs(disks.read_text()), 1):
+                lay_disk(disk, text)
+                run_over(f"{script.name} over its paragraph {number}", script, profile, disk, counted)
+    lines = counted.pop("typed")
+    print(f"lines by typed calls: {lines}; by the text layer: {sum(counted.values())}")
+    for reason, count in sorted(counted.items()):
+        print(f"  {count} for {reason}")
+    told("why a line goes through the text layer", REASONS, set(counted))
+    told("most lines are typed", True, lines > 3 * sum(counted.values()))
+
+
+# ---- threads, and tills that are closed
+
+def in_thread(call, *words):
+    """What a call raises in another thread."""
+    found = []
+    thread = threading.Thread(target=lambda: found.append(raised(call, *words)))
+    thread.start()
+    thread.join()
+    return found[0]
+
+
+def try_threads():
+    with opened() as till:
+        drawer, device = till.drawer("d1"), till.device("d1")
+        calls = {"a call": drawer.open_drawer, "a property": lambda: drawer.state,
+                 "a line": lambda: till.carry_out("show d1"), "a device": device.show,
+                 "events": lambda: list(till.events()), "listeners": till.deliver,
+                 "a control": lambda: till.drawer("d1"), "hosting": lambda: till.host("d1"),
+                 "orders": lambda: list(till.orders()), "closing": till.close}
+        for name, call in calls.items():
+            fault = in_thread(call)
+            told(f"{name} in a second thread", "ThreadError", type(fault).__name__)
+            told(f"{name} in a second thread says why", True, "only in the thread that opened it" in str(fault))
+        told("repr in a second thread", None, in_thread(repr, drawer))
+        drawer.open_drawer()
+        told("the till goes on in its own thread", True, drawer.drawer_opened)
+    found = []
+
+    def whole():
+        with opened() as till:
+            till.drawer("d1").open_drawer()
+            found.append(till.device("d1").show().is_open)
+    threads = [threading.Thread(target=whole) for _ in range(4)]
+    for thread in threads:
+        thread.start()
+    for thread in threads:
+        thread.join()
+    told("tills in threads of their own", [True] * 4, found)
+
+
+ARGUMENTS = {"number": 0, "bytes": b"", "truth": False, "device": "d1"}
+KINDS = {"d1": kijolvar.CashDrawer, "s1": kijolvar.Scanner, "p1": kijolvar.LineDisplay, "r1": kijolvar.Printer,
+         "t1": kijolvar.Totals}
+
+
+def uses(control):
+    """Each typed use of a control: its methods and its properties, with the description's names."""
+    category = next(part for part in PARTS if part.get("name") == control.category)
+    for part in (PARTS[0], category):
+        for method in part["methods"]:
+            words = [ARGUMENTS[argument["type"]] for argument in method["arguments"]]
+            yield method["snake"], lambda method=method, words=words: getattr(control, method["snake"])(*words)
+        for about in part["properties"]:
+            yield about["snake"], lambda about=about: getattr(control, about["snake"])
+            if about["writable"]:
+                value = ARGUMENTS[about["type"]]
+                yield f"{about['snake']} =", lambda about=about, value=value: setattr(control, about["snake"], value)
+
+
+def try_closed():
+    till = opened()
+    controls = [till.new_control(kind) for kind in KINDS.values()]
+    count = 0
+    for control in controls:
+        told(f"a control that isn't open: {control!r}", S_CLOSED, control.state)
+        for name, use in uses(control):
+            if name not in ("state", "open"):
+                count += 1
+                told(f"{name} of a closed {control.category}", "ClosedError", name_of(use))
+    for control, device in zip(controls, KINDS):
+        control.open(device)
+    totals, device = controls[-1], till.device("d1")
+    totals.device_enabled = True
+    totals.create("A", 4)
+    file = totals["A"]
+    till.close()
+    told("the till is closed", True, till.is_closed)
+    for control in controls:
+        for name, use in uses(control):
+            count += 1
+            told(f"{name} of a {control.category} of a closed till", "TillClosedError", name_of(use))
+    others = {"a file": file.read, "a file's claim": file.claim, "a device": device.show,
+              "a line": lambda: till.carry_out("show d1"), "events": lambda: list(till.events()),
+              "a control's events": lambda: list(controls[0].events()),
+              "listeners": till.deliver, "a control": lambda: till.drawer("d1"), "hosting": lambda: till.host("d1"),
+              "orders": lambda: list(till.orders()), "a transaction": lambda: totals.transaction().__enter__(),
+              "a file by name": lambda: totals["A"], "files": lambda: list(totals),
+              "use": lambda: controls[1].in_use().__enter__()}
+    for name, use in others.items():
+        told(f"{name} of a closed till", "TillClosedError", name_of(use))
+    told("a closed till says so", "the till is closed", str(raised(controls[0].open_drawer)))
+    told("closing it again", None, raised(till.close))
+    told("its repr", "<kijolvar.Till: closed>", repr(till))
+    told("each use was tried", True, count > 150)
+
+
+# ---- events
+
+def scanner_in_error(till):
+    """A scanner in the input error state, with two scans before the error: EL_INPUT_DATA is to be delivered."""
+    scanner = till.scanner("s1")
+    scanner.claim()
+    scanner.device_enabled = scanner.data_event_enabled = scanner.decode_data = True
+    for code in ("111", "222"):
+        till.device("s1").scan(104, code, code)
+    till.device("s1").scan_fault()
+    return scanner
+
+
+def printer_in_error(till):
+    """A printer whose first request of two failed."""
+    printer = till.printer("r1")
+    printer.claim()
+    printer.device_enabled = printer.async_mode = True
+    printer.print("one\n")
+    printer.print("two\n")
+    till.device("r1").cover(is_open=True)
+    till.device("r1").work()
+    till.device("r1").cover(is_open=False)
+    return printer
+
+
+def plain(event):
+    return None if event is None else dataclasses.astuple(dataclasses.replace(event, control=None))
+
+
+def seen_of_input(till, scanner):
+    """What is to be seen of a scanner: its state, its events, and what they show."""
+    found = [scanner.state, scanner.data_count]
+    while (event := scanner.next_event()) is not None:
+        found += [type(event).__name__, plain(event), scanner.scan_data, scanner.data_count]
+        scanner.data_event_enabled = True
+    return [*found, scanner.state]
+
+
+def seen_of_output(till, printer):
+    """What is to be seen of a printer: its state, its events, and what it prints."""
+    found = [printer.state]
+    while (work := till.device("r1").work()) is not None:
+        found.append(work)
+    return [*found, [plain(event) for event in printer.events()], till.device("r1").show(), printer.state]
+
+
+def by_word(control, reply):
+    """Delivers events up to the first ErrorEvent, with the reply handed in."""
+    return next(event for event in iter(lambda: control.next_event(reply), None)
+                if isinstance(event, kijolvar.ErrorEvent))
+
+
+def by_listener(control, reply):
+    """Likewise, with the reply as what the listener returns."""
+    heard = []
+
+    @control.listen
+    def listener(event):
+        if isinstance(event, kijolvar.ErrorEvent):
+            heard.append(event)
+            control.listen(None)
+            return reply
+        return None
+    control.till.deliver()
+    return heard[0]
+
+
+def by_call(control, reply):
+    """Likewise, with the reply to the event that an iterator has given."""
+    for event in control.till.events():
+        if isinstance(event, kijolvar.ErrorEvent):
+            if reply is not None:
+                event.reply(reply)
+            return event
+
+
+def at_last_input(till):
+    """A scanner in the input error state, which holds no scan any more: EL_INPUT is to be delivered."""
+    scanner = scanner_in_error(till)
+    for _ in range(3):
+        scanner.next_event()
+        scanner.data_event_enabled = True
+    return scanner
+
+
+def try_replies():
+    cases = {EL_INPUT_DATA: (scanner_in_error, seen_of_input), EL_INPUT: (at_last_input, seen_of_input),
+             EL_OUTPUT: (printer_in_error, seen_of_output)}
+    for locus, (begin, see) in cases.items():
+        seen = {}
+        for reply in (None, ER_RETRY, ER_CONTINUEINPUT, ER_CLEAR):
+            found = []
+            for way in (by_word, by_listener, by_call):
+                with opened() as till:
+                    control = begin(till)
+                    told(f"{locus!r}: an error stands", S_ERROR, control.state)
+                    event = way(control, reply)
+                    told(f"{locus!r}: the event", (control, locus), (event.control, event.locus))
+                    found.append(see(till, control))
+            told(f"{locus!r}, {reply}: the listener's reply is the reply", found[0], found[1])
+            told(f"{locus!r}, {reply}: the event's reply is the reply", found[0], found[2])
+            seen[reply] = found[0]
+        told(f"{locus!r}: ER_RETRY and ER_CONTINUEINPUT are the default", [seen[None]] * 2,
+             [seen[ER_RETRY], seen[ER_CONTINUEINPUT]])
+        told(f"{locus!r}: whether ER_CLEAR is another reply", locus != EL_INPUT, seen[ER_CLEAR] != seen[None])
+    with opened() as till:
+        scanner = scanner_in_error(till)
+
+        @scanner.listen
+        def release(event):
+            scanner.release()
+            return ER_CLEAR
+        told("a listener that releases the device, and clears", 1, till.deliver())
+        told("it is idle then", S_IDLE, scanner.state)
+
+
+def try_events():
+    with opened() as till:
+        drawer = till.drawer("d1")
+        drawer.open_drawer()
+        till.device("d1").drawer(is_open=False)
+        told("events by iterator", [kijolvar.StatusUpdateEvent(drawer, 1), kijolvar.StatusUpdateEvent(drawer, 0)],
+             list(till.events()))
+        told("none is left", [], list(till.events()))
+        event = kijolvar.StatusUpdateEvent(drawer, 1)
+        told("an event is frozen", "FrozenInstanceError", name_of(setattr, event, "status", 2))
+        told("an event's repr", "StatusUpdateEvent(control=<kijolvar.CashDrawer on 'd1'>, status=1)", repr(event))
+        heard = []
+        told("listen is a decorator", heard.append, drawer.listen(heard.append))
+        other = till.drawer("d1")
+        till.device("d1").drawer(is_open=True)
+        told("one event by listener", (1, [kijolvar.StatusUpdateEvent(drawer, 1)]), (till.deliver(), heard))
+        told("a control without a listener keeps its events", [kijolvar.StatusUpdateEvent(other, 1)],
+             list(other.events()))
+        drawer.freeze_events = True
+        till.device("d1").drawer(is_open=False)
+        told("events are held back", (0, []), (till.deliver(), list(drawer.events())))
+        drawer.freeze_events = False
+        told("and come then", 1, till.deliver())
+        for is_open in (True, False):
+            till.device("d1").drawer(is_open=is_open)
+        told("a control delivers all of its events", 2, drawer.deliver())
+        scanner = till.scanner("s1")
+        with scanner.in_use():
+            scanner.data_event_enabled = scanner.decode_data = True
+            till.device("s1").scan(104, b"\x00ab", "ab")
+            told("a scan", [kijolvar.DataEvent(scanner)], list(scanner.events()))
+            told("what it shows", (b"\x00ab", b"ab", 104, False),
+                 (scanner.scan_data, scanner.scan_data_label, scanner.scan_data_type, scanner.data_event_enabled))
+        told("a scanner is released at the end", (False, False), (scanner.claimed, scanner.device_enabled))
+        printer = till.printer("r1")
+        printer.power_notify = PN_ENABLED
+        with printer.in_use():
+            printer.async_mode = True
+            printer.print("hello\n")
+            told("output waits", (S_BUSY, 1), (printer.state, printer.output_id))
+            told("work", kijolvar.WorkDone(1), till.device("r1").work())
+            told("its event", kijolvar.OutputCompleteEvent(printer, 1), list(printer.events())[-1])
+            told("no work", None, till.device("r1").work())
+
+
+# ---- claims, names, misuse
+
+def try_listeners():
+    """A listener makes an event for a control that was asked before."""
+    with opened() as till:
+        drawer, scanner = till.drawer("d1"), till.scanner("s1")
+        heard = []
+        drawer.listen(heard.append)
+        scanner.listen(lambda event: drawer.open_drawer())
+        with scanner.in_use():
+            scanner.data_event_enabled = True
+            till.device("s1").scan(104, "1", "1")
+            told("an event that a listener makes is delivered too", (2, [kijolvar.StatusUpdateEvent(drawer, 1)]),
+                 (till.deliver(), heard))
+
+
+def try_claims():
+    with opened() as till:
+        first, second = till.display("p1"), till.display("p1")
+        told("it isn't claimed", "NotClaimedError", name_of(setattr, first, "device_enabled", True))
+        with first.claim() as claim:
+            told("a claim's repr", "<kijolvar.Claim of <kijolvar.LineDisplay on 'p1'>>", repr(claim))
+            told("another control's claim", "TimeoutError", name_of(second.claim, kijolvar.UPOS_FOREVER))
+            told("another control's use", "ClaimedError", name_of(second.display_text, "A"))
+            told("a disabled control", "DisabledError", name_of(first.display_text, "A"))
+            first.device_enabled = True
+            first.display_text("A", kijolvar.DISP_DT_BLINK)
+            view = till.device("p1").show()
+            told("what it shows", (65, 1), (view.characters[0], view.attributes[0]))
+        told("released at the end of the block", False, first.claimed)
+        with second.claim():
+            second.release()
+        told("a claim that was released before the end", False, second.claimed)
+        with second.in_use():
+            second.close()
+        told("a control that was closed before the end", "ClosedError", name_of(lambda: second.claimed))
+        with till.drawer("d1").in_use() as drawer:
+            drawer.open_drawer()
+        told("a drawer is disabled at the end of its use", (False, False), (drawer.claimed, drawer.device_enabled))
+        with first:
+            pass
+        told("a control is closed at the end of its block", (S_CLOSED, None), (first.state, first.device))
+        first.open("p1")
+        told("and can be opened again", "IllegalError", name_of(first.open, "p1"))
+        told("no such device", "NoExistError", name_of(till.printer, "zz"))
+        told("a device of another category", "NoExistError", name_of(till.printer, "d1"))
+        told("a name that no device can have", "ValueError", name_of(till.printer, "a b"))
+        with first.in_use():
+            told("an attribute out of range", "IllegalError", name_of(first.display_text, "A", 4))
+
+
+def try_misuse():
+    with opened() as till:
+        drawer, display, totals = till.drawer("d1"), till.display("p1"), till.totals("t1")
+        told("a property that isn't there", "AttributeError", name_of(setattr, drawer, "device_enabld", True))
+        told("a property of another category", "AttributeError", name_of(setattr, drawer, "cursor_row", 1))
+        told("a property that can't be set", "AttributeError", name_of(setattr, drawer, "drawer_opened", True))
+        told("text for a number", "TypeError", name_of(display.scroll_text, "1", 1))
+        told("a float for a number", "TypeError", name_of(display.scroll_text, 1.0, 1))
+        told("a number for text", "TypeError", name_of(display.display_text, 5))
+        told("a number that is too long", "OverflowError", name_of(display.scroll_text, 10 ** 18, 1))
+        told("text that isn't ASCII", "UnicodeEncodeError", name_of(display.display_text, "é"))
+        told("a line feed in a name", "ValueError", name_of(till.device, "d1\nshow"))
+        told("bytes of any kind", [None] * 3, [raised(totals.create, name, 1) for name in
+                                               (bytearray(b"A"), memoryview(b"B"), "C")])
+        fault = raised(totals.create, "A", 1)
+        told("what a fault has", (110, 0, "E_EXISTS"), (fault.code, fault.extended, fault.name))
+        told("what it says", "create of HardTotals t1: E_EXISTS (110): A file has the name.", str(fault))
+        fault = raised(totals.create, "D", 10 ** 9)
+        told("an extended code", (E_EXTENDED, 201, "NoRoomError"), (fault.code, fault.extended, type(fault).__name__))
+        told("it is E_EXTENDED and a UposError", True, isinstance(fault, kijolvar.ExtendedError)
+             and isinstance(fault, kijolvar.UposError) and isinstance(fault, kijolvar.Error))
+        told("what it says too", True, str(fault).startswith("create of HardTotals t1: ETOT_NOROOM (114 201): "))
+        again = pickle.loads(pickle.dumps(fault))
+        told("a fault can be pickled", (type(fault), str(fault)), (type(again), str(again)))
+        others = [kijolvar.ThreadError(1, 2), kijolvar.ProfileError("a reason", 3, 4), kijolvar.DiskError(7, "a text"),
+                  kijolvar.ExchangeError("InUse"), kijolvar.LineError("bad line")]
+        again = [pickle.loads(pickle.dumps(other)) for other in others]
+        told("the other faults too", [(type(other), str(other), vars(other)) for other in others],
+             [(type(other), str(other), vars(other)) for other in again])
+        printer = till.printer("r1")
+        with printer.in_use():
+            till.device("r1").cover(is_open=True)
+            told("an open cover", "CoverOpenError", name_of(printer.print, "A\n"))
+            till.device("r1").cover(is_open=False)
+            till.device("r1").paper(0)
+            told("no paper", "ReceiptEmptyError", name_of(printer.print, "A\n"))
+        told("reprs", ["<kijolvar.CashDrawer on 'd1'>", "<kijolvar.Device 'd1'>", "<kijolvar.CashDrawer closed>",
+                       "<kijolvar.TotalsFile b'A': 1 bytes, handle 1>"],
+             [repr(it) for it in (drawer, till.device("d1"), till.new_control(kijolvar.CashDrawer), totals["A"])])
+    codes = typed.DESCRIPTION["result_codes"][1:] + typed.DESCRIPTION["extended_codes"]
+    told("a class for each code", [True] * len(codes),
+         [issubclass(getattr(kijolvar, code["upper"] + "Error"), kijolvar.UposError) for code in codes])
+    told("each with its name", [code["name"] for code in codes],
+         [getattr(kijolvar, code["upper"] + "Error").name for code in codes])
+
+
+def try_many_controls():
+    with opened() as till:
+        for _ in range(5000):
+            till.drawer("d1").open_drawer()
+        told("controls that nothing refers to make room for others", True, till.drawer("d1").drawer_opened)
+        kept = [till.new_control(kijolvar.CashDrawer) for _ in range(4000)]
+        told("as many as there may be", "TooManyControlsError",
+             name_of(lambda: kept.extend(till.new_control(kijolvar.CashDrawer) for _ in range(200))))
+    with warnings.catch_warnings(record=True) as caught:
+        warnings.simplefilter("always")
+        opened()
+        gc.collect()
+    told("a till that isn't closed is told", ["ResourceWarning"], [warning.category.__name__ for warning in caught])
+
+
+# ---- totals
+
+def try_totals():
+    path = WORK / "totals"
+    told("a file that is missing", "FileNotFoundError", name_of(opened, totals=path))
+    with opened(totals=path, create=True) as till:
+        totals = till.totals("t1")
+        told("no files", (0, [], False), (len(totals), list(totals), "SALES" in totals))
+        handle = totals.create("SALES", 4)
+        totals.create(b"COUNT", 2)
+        sales = totals["SALES"]
+        told("a file", (handle, 4, b"SALES", bytes(4)), (sales.handle, sales.size, sales.name, sales.read()))
+        told("files", [b"SALES", b"COUNT"], list(totals))
+        told("one is there", (True, True, False), ("SALES" in totals, b"COUNT" in totals, 5 in totals))
+        told("one that isn't", "NoExistError", name_of(lambda: totals["NONE"]))
+        told("which is a LookupError", True, isinstance(raised(lambda: totals["NONE"]), LookupError))
+        totals["SALES"].write(0, b"\x00\x00\x01\xc2")
+        totals.write(totals["COUNT"], 0, b"\x00\x01")
+        told("what is written", (b"\x01\xc2", b"\x01", b"\x00\x01"),
+             (sales.read(2), sales.read(2, 1), totals["COUNT"].read()))
+        told("out of the file", "IllegalError", name_of(sales.write, 3, b"ab"))
+        with totals.transaction():
+            told("in a transaction", True, totals.transaction_in_progress)
+            sales.set_all(7)
+            totals["COUNT"].write(0, b"\x00\x02")
+            told("it is read as it was", b"\x00\x01", totals["COUNT"].read())
+            told("no file is made in it", "IllegalError", name_of(totals.create, "X", 1))
+            told("nor a second one begun", "IllegalError", name_of(totals.transaction().__enter__))
+        told("committed", (False, b"\x07" * 4, b"\x00\x02"),
+             (totals.transaction_in_progress, sales.read(), totals["COUNT"].read()))
+
+        def fails():
+            with totals.transaction():
+                sales.set_all(9)
+                raise KeyError("an exception")
+        told("an exception passes through", "KeyError", name_of(fails))
+        told("and rolls back", (False, b"\x07" * 4), (totals.transaction_in_progress, sales.read()))
+        other = till.totals("t1")
+
+        def refused():
+            with other.transaction():
+                other["SALES"].set_all(9)
+                sales.claim()
+        told("a commit that is refused", "ClaimedError", name_of(refused))
+        told("is rolled back", False, other.transaction_in_progress)
+        told("a file that another control has", "ClaimedError", name_of(other["SALES"].read))
+        sales.release()
+        with sales.claim() as claim:
+            told("a claim of a file", f"<kijolvar.FileClaim of {sales!r}>", repr(claim))
+            told("keeps others away", "TimeoutError", name_of(other["SALES"].claim))
+        told("and ends", b"\x07" * 4, other["SALES"].read())
+        sales.rename("TOTAL")
+        told("another name", ([b"TOTAL", b"COUNT"], b"TOTAL"), ([file.name for file in totals.files()], sales.name))
+        del totals["COUNT"]
+        told("deleted", [b"TOTAL"], list(other))
+        told("another till", "BlockingIOError", name_of(opened, totals=path))
+        told("the till's repr", f"<kijolvar.Till: totals in {str(path)!r}, 2 controls>", repr(till))
+    with opened(totals=str(path)) as till:
+        totals = till.totals("t1")
+        told("the next till finds them", [(b"TOTAL", b"\x07" * 4)],
+             [(file.name, file.read()) for file in totals.files()])
+        totals["TOTAL"].delete()
+    told("creating it again", "FileExistsError", name_of(kijolvar.create_totals, path, LIBRARY))
+    with kijolvar.open_totals(path) as file:
+        with opened(totals=file) as till:
+            told("a file of one's own", 0, len(till.totals("t1")))
+        told("stays open", False, file.closed)
+    (WORK / "short").write_bytes(bytes(100))
+    told("a file that is too short", "TooSmallError", name_of(opened, totals=WORK / "short"))
+    with open(WORK / "short", "rb") as short:
+        told("and isn't locked then", None, raised(fcntl.flock, short, fcntl.LOCK_EX | fcntl.LOCK_NB))
+    (WORK / "zeros").write_bytes(bytes(KIJOLVAR_DISK_LENGTH))
+    with opened(totals=WORK / "zeros") as till:
+        told("a file that isn't formatted", "NoHardwareError", name_of(till.totals, "t1"))
+    with opened(totals=path) as till:
+        totals, session = till.totals("t1"), till._session
+        totals.create("A", 2)
+        line = f"call {totals.name} setAll {totals['A'].handle} 7".encode()
+        told("errands are left", KIJOLVAR_ERRANDS, session._library.kijolvar_carry_out(
+            session._raw, session._out, line, len(line), session._room, 1024, session._needed_at))
+        told("the next call does them first", b"\x07\x07", totals["A"].read())
+        totals["A"].delete()
+    with open(path, "rb") as unwritable, opened(totals=unwritable) as till:
+        totals = till.totals("t1")
+        told("a file that can't be written", "OSError", name_of(totals.create, "A", 1))
+        told("and no call after it", "DiskError", name_of(lambda: totals.state))
+
+
+# ---- profiles, the library, help
+
+def try_profiles():
+    display = '[[device]]\nname = "p"\ncategory = "LineDisplay"\nrows = {}\ncolumns = 20\n'
+    drawer = '[[device]]\nname = "{}"\ncategory = "CashDrawer"\n'
+    refused = {
+        "x = ": ("line 1, column 5: no TOML document: invalid value", 1, 5),
+        "[[device]]\nname = 'p": ("line 2, column 10: no TOML document: expected \"'\"", 2, 10),
+        "foo = 1": ("profile: unknown key: foo", None, None),
+        "device = 1": ("profile: device must be an array of tables", None, None),
+        "device = [1]": ("device 1: must be a table", None, None),
+        display.format(9): ("device 1: rows must be 1 to 8", None, None),
+        display.format(2) + "lines = 5": ("device 1: unknown key: lines", None, None),
+        drawer.format("a_b"): ("device 1: name must be 1 to 16 letters, digits or hyphens", None, None),
+        drawer.format("d") * 2: ("device 2: another device has the name d", None, None),
+        '[[spare]]\ncategory = "HardTotals"': (
+            "spare 1: category must be CashDrawer, Scanner, LineDisplay or POSPrinter", None, None),
+        '[[device]]\nname = "d"': (
+            "device 1: category must be CashDrawer, Scanner, LineDisplay, POSPrinter or HardTotals", None, None),
+        drawer.format("d") + "flaky = [1]": (
+            "device 1: flaky must be an array of two numbers, each 0 to 1000000", None, None),
+        drawer.format("d") + "record = 1": ("device 1: record must be true or false", None, None),
+        '[[device]]\nname = "t"\ncategory = "HardTotals"\n[[device]]\nname = "u"\ncategory = "HardTotals"': (
+            "device 2: a second device of category HardTotals", None, None),
+    }
+    for text, (reason, line, column) in refused.items():
+        fault = raised(opened, text)
+        told(f"a profile that is refused: {text!r}", ("ProfileError", reason, line, column),
+             (type(fault).__name__, str(fault), getattr(fault, "line", 0), getattr(fault, "column", 0)))
+    path = WORK / "profile.toml"
+    path.write_text(display.format(8) + drawer.format("d"))
+    with opened(path) as till:
+        told("a profile in a file", 8, till.display("p").rows)
+    with opened("") as till:
+        told("a profile without devices", "NoExistError", name_of(till.drawer, "d1"))
+    told("a profile that is missing", "FileNotFoundError", name_of(opened, WORK / "none.toml"))
+
+
+def in_python(code, library=None, folder=None):
+    """What a program in Python prints, with the package of a folder."""
+    environment = {name: value for name, value in os.environ.items() if name != "KIJOLVAR_LIBRARY"}
+    environment |= {"PYTHONPATH": str(folder or TOP / "abi/python"), "PYTHONDONTWRITEBYTECODE": "1"}
+    if library is not None:
+        environment["KIJOLVAR_LIBRARY"] = str(library)
+    done = subprocess.run([sys.executable, "-c", code], capture_output=True, text=True, env=environment, cwd=WORK)
+    return (done.stdout + done.stderr).strip()
+
+
+def try_library():
+    shows = "import kijolvar\nwith kijolvar.open() as till: print(till.drawer('d1').drawer_opened)"
+    tells = "import kijolvar\ntry: kijolvar.open()\nexcept kijolvar.LibraryError as fault: print(fault)"
+    told("the library by the environment", "False", in_python(shows, LIBRARY))
+    found = in_python(tells)
+    told("no library", True, found.startswith("libkijolvar.so not found: pass library=.., set KIJOLVAR_LIBRARY"))
+    told("a library that isn't one", True, "can't be loaded" in in_python(tells, WORK / "totals"))
+    folder = WORK / "package"
+    shutil.copytree(TOP / "abi/python/kijolvar", folder / "kijolvar", ignore=shutil.ignore_patterns("__pycache__"))
+    for place in (folder / "kijolvar", folder):
+        shutil.copy(LIBRARY, place / "libkijolvar.so")
+        told(f"the library in {place.name}", "False", in_python(shows, folder=folder))
+        (place / "libkijolvar.so").unlink()
+    library = kijolvar.load(LIBRARY)
+    with kijolvar.open(library=library) as till:
+        told("a library that was loaded", False, till.drawer("d1").drawer_opened)
+
+
+def members(kind):
+    for name, member in inspect.getmembers(kind):
+        if not name.startswith("_") and (inspect.isfunction(member) or isinstance(member, property)):
+            yield name, member
+
+
+def try_help():
+    classes = [value for name in kijolvar.__all__ if inspect.isclass(value := getattr(kijolvar, name))]
+    told("each class says what it is", [], [kind.__name__ for kind in classes if not kind.__doc__])
+    own = [kind for kind in classes
+           if kind.__module__.startswith("kijolvar") and not issubclass(kind, (int, Exception))]
+    told("each method and property says what it does", [],
+         [f"{kind.__name__}.{name}" for kind in own for name, member in members(kind) if not inspect.getdoc(member)])
+    functions = [kijolvar.open, kijolvar.load, kijolvar.create_totals, kijolvar.open_totals]
+    told("each function too", [], [call.__name__ for call in functions if not call.__doc__])
+    missing = []
+    for part in PARTS[1:]:
+        kind = getattr(kijolvar, part["name"])
+        for about in part["methods"] + part["properties"]:
+            text = inspect.getdoc(getattr(kind, about["snake"])) or ""
+            missing += [] if f"chapter {about['chapter']}" in re.sub(r"\s+", " ", text) else [about["name"]]
+    told("each of the standard's names its chapter", [], missing)
+    told("a function's help", True, "attribute: How the characters are shown. One of DISP_DT_NORMAL, DISP_DT_BLINK"
+         in re.sub(r"\s+", " ", kijolvar.LineDisplay.display_text.__doc__))
+    package = (TOP / "abi/python/kijolvar")
+    told("the package says that it is typed", True, (package / "py.typed").exists())
+    untyped = []
+    for path in package.glob("*.py"):
+        module = importlib.import_module(f"kijolvar.{path.stem}") if path.stem != "__init__" else kijolvar
+        for _, call in inspect.getmembers(module, inspect.isfunction):
+            given = inspect.signature(call)
+            if call.__module__ == module.__name__ and (given.return_annotation is inspect.Signature.empty or any(
+                    word.annotation is inspect.Parameter.empty for word in given.parameters.values())):
+                untyped.append(call.__qualname__)
+    told("each function has types", [], untyped)
+
+
+def try_devices():
+    with opened() as till:
+        told("a drawer and a scanner", [kijolvar.DrawerView(False), kijolvar.ScannerView()],
+             [till.device(name).show() for name in ("d1", "s1")])
+        told("an unknown device", "NoDeviceError", name_of(till.device("zz").show))
+        told("an input of another kind", "InputError", name_of(till.device("d1").paper, 5))
+        told("a spare", ("ExchangeError", "NoSpare"), (name_of(till.device("d1").attach, 9),
+                                                       raised(till.device("d1").attach, 9).reason))
+        till.device("d1").detach()
+        told("a device without a peripheral", "NoServiceError", name_of(till.drawer, "d1"))
+        till.device("d1").attach(1)
+        till.drawer("d1").open_drawer()
+        told("a spare serves", kijolvar.DrawerView(True), till.device("d1").show())
+    with opened() as till:
+        till.host("r1")
+        till.host("p1")
+        with till.printer("r1").in_use() as printer, till.display("p1").in_use() as display:
+            printer.print(b"\x1b|bCBold\n")
+            display.display_text("Hi")
+            printer.cut_paper()
+        orders = [("r1", "print", (b"\x1b|bCBold\n",)), ("p1", "displayTextAt", (0, 0, b"Hi", 0)),
+                  ("r1", "cutPaper", (100,))]
+        told("orders for the host", orders, [dataclasses.astuple(order) for order in till.orders()])
+        told("hosting an unknown device", "NoDeviceError", name_of(till.host, "zz"))
+        line = till.device("r1").show().items[0]
+        told("a bold line", kijolvar.PrintedLine("left", b"Bold", (True,) * 4), line)
+
+
+def main():
+    try:
+        for try_it in (try_scripts, try_threads, try_closed, try_replies, try_events, try_listeners, try_claims,
+                       try_misuse, try_many_controls, try_totals, try_profiles, try_library, try_help, try_devices):
+            try_it()
+    finally:
+        shutil.rmtree(WORK)
+    print(f"{passed} passed, {failed} failed")
+    sys.exit(failed > 0)
+
+
+main()
