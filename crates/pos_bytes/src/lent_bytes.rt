@@ -1,9 +1,10 @@
+//! Bytes that are lent.
 ghost use Rattle.std.specs.Prelude.{◌≡◌};
 
 use std::marker::Model;
 
-/// Bytes that are lent, as they stand elsewhere: the name of a device or a control, the name or the bytes of a change.
-/// Contracts see the list.
+/// A list of bytes that are lent: the name of a device or a control, the name or the bytes of a change. Contracts see
+/// the list.
 #[derive(Drop)]
 pub struct LentBytes<'a> {
     items: &'a [u8],
@@ -18,14 +19,14 @@ impl<'a> Model for LentBytes<'a> {
 }
 
 impl<'a> LentBytes<'a> {
-    /// These bytes.
+    /// Returns these bytes. It takes no memory.
     pub fn from_slice(items: &'a [u8]) -> Self
         ensures { result ≡ items.now }
     {
         LentBytes { items }
     }
 
-    /// The bytes in order.
+    /// Returns the bytes in order.
     pub fn as_slice(&self) -> &[u8]
         ensures { result.now ≡ self.now }
     {
