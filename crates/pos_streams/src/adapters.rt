@@ -2,7 +2,7 @@
 //!
 //! This file is read by eye; no other of this crate has to be. No contract can see what a reader or a writer does
 //! outside memory. So no proof says that `read`, `write` and `flush` ask it exactly once and add its answer to the
-//! trace. See that each of these three bodies does. All else about them is proved, and so is all that stands on them.
+//! trace. See that each of these three bodies does. All else about them is proved, and so is all that is built on them.
 //! Over memory the clauses `known` say it too.
 ghost use Rattle.std.specs.Prelude.{◌≡◌, [], OnOk, None};
 ghost use Rattle.std.specs.Io.KnownBytes.{Keeps, ReadConsumes, WriteAppends};
@@ -14,7 +14,7 @@ use crate::source::{ReadFault, Source};
 use crate::transfers::{GivenTrace, TakenTrace};
 use std::io::{Read, Write};
 
-/// A source that is a reader of the standard library. An interrupted read is a fault.
+/// A source over a reader of the standard library. An interrupted read is a fault.
 #[derive(Drop)]
 pub struct ReaderSource<R> {
     reader: R,
@@ -47,7 +47,7 @@ impl<R: Read> Source for ReaderSource<R> {
     }
 }
 
-/// A sink that is a writer of the standard library. An interrupted write is a fault, and so is one that takes nothing.
+/// A sink over a writer of the standard library. An interrupted write is a fault, and so is one that takes nothing.
 #[derive(Drop)]
 pub struct WriterSink<W> {
     writer: W,

@@ -8,7 +8,7 @@ use crate::source::{ReadFault, Source};
 use crate::trace::Count;
 use std::alloc::Global;
 
-/// A source that is bytes in memory. It never fails.
+/// A source of bytes in memory. It never fails.
 #[derive(Drop)]
 pub struct MemorySource<'a> {
     bytes: &'a [u8],
@@ -45,7 +45,7 @@ impl<'a> Source for MemorySource<'a> {
     }
 }
 
-/// A sink that keeps what it is given in memory. Want of memory is a fault.
+/// A sink that keeps what it is given in memory. If memory runs out, the write is a fault.
 #[derive(Drop)]
 pub struct MemorySink {
     bytes: Vec<u8>,

@@ -1,8 +1,8 @@
-//! Where bytes are given to.
+//! A stream to which bytes are given.
 ghost use Rattle.std.specs.Prelude.{◌≡◌, ◌<◌, [], List, ℕ, OnOk, length};
 ghost use Rattle.pos_streams.specs.Streams.{Flushes, Given, GivesBytes};
 
-/// A write or a flush failed or was interrupted, or a write took nothing.
+/// A write or a flush that failed or was interrupted, or a write that took nothing.
 #[derive(Clone, Copy, PartialEq, Eq)]
 pub struct WriteFault;
 
@@ -14,9 +14,10 @@ pub trait Sink {
     // What it was given since it was last flushed.
     ghost unflushed: { Self → List ℕ };
 
-    /// Gives the front of some bytes that are not empty, one byte at least, and returns how many.
+    /// Gives the front of some bytes that are not empty, at least one byte, and returns how many.
     ///
     /// # Errors
+    ///
     /// [`WriteFault`] if the write failed, was interrupted or took nothing. Then no byte was given.
     fn write(&mut self, bytes: &[u8]) -> Result<usize, WriteFault>
         requires { 0 < length bytes.now }
@@ -25,6 +26,7 @@ pub trait Sink {
     /// Passes on all that it was given.
     ///
     /// # Errors
+    ///
     /// [`WriteFault`] if that failed or was interrupted.
     fn flush(&mut self) -> Result<(), WriteFault>
         ensures given { Flushes (given self.old) result (given self.new) }

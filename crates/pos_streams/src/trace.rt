@@ -1,4 +1,4 @@
-// What went through a stream. Only contracts and proofs read it; it takes no memory.
+//! What went through a stream. Only contracts and proofs read it; it takes no memory.
 ghost use Rattle.std.specs.Prelude.{◌≡◌, ◌++◌, ◌+◌, [], List, ℕ};
 ghost use Rattle.std.specs.Borrow.{ftrue};
 

@@ -28,7 +28,11 @@ impl TakenTrace {
         }
     }
 
-    /// Adds what a read into a buffer answered, and returns that answer.
+    /// Adds what a read into a buffer returned, and returns it again.
+    ///
+    /// # Errors
+    ///
+    /// [`ReadFault`] if the read failed.
     #[inline(always)]
     pub(crate) fn add(
         &mut self,
@@ -77,7 +81,11 @@ impl GivenTrace {
         }
     }
 
-    /// Adds what a write of some bytes answered, and returns that answer; a write that took nothing failed.
+    /// Adds what a write of some bytes returned, and returns it again. A write that took nothing failed.
+    ///
+    /// # Errors
+    ///
+    /// [`WriteFault`] if the write failed or took nothing.
     #[inline(always)]
     pub(crate) fn add(
         &mut self,
@@ -102,7 +110,11 @@ impl GivenTrace {
         }
     }
 
-    /// Adds what a flush answered, and returns that answer.
+    /// Adds what a flush returned, and returns it again.
+    ///
+    /// # Errors
+    ///
+    /// [`WriteFault`] if the flush failed.
     #[inline(always)]
     pub(crate) fn add_flush(&mut self, answer: io::Result<()>) -> Result<(), WriteFault>
         ensures given { Flushes (given_by self.old) result (given_by self.new) }
