@@ -1,4 +1,4 @@
-// A disk as the layers above see it, honest or not.
+//! A disk as the layers above see it, honest or not.
 ghost use Rattle.std.specs.Prelude.{◌↔◌, ◌≡◌, ◌≤◌, ◌+◌, List, Option, ℕ, length};
 ghost use Rattle.pos_disk.specs.State.{DiskState, Answer, IsBytes, MayLeave, Reads, Writes, Syncs};
 
@@ -9,10 +9,11 @@ use thiserror::Error;
 #[error("the disk failed")]
 pub struct DiskFault;
 
-/// Bytes under places numbered from 0. What is said of reads, writes, syncs and crashes is said of an honest disk
-/// alone; its size any disk keeps. An honest disk counts its failures: the count rises, up to its last value, where a
-/// call answers a fault, and only there. The caller keeps each range within the size. docs/DISK.md, "The model of a
-/// disk".
+/// A disk: bytes at places numbered from 0. The caller keeps each range within the size.
+///
+/// The contracts on reads, writes, syncs and crashes hold for an honest disk alone. The size stays on any disk. An
+/// honest disk counts its failures: the count rises if a call returns a fault, up to its last value, and only then.
+/// docs/DISK.md, "The model of a disk".
 pub trait Disk {
     /// How many bytes it has, whether it is honest or not.
     ghost size: { Self → ℕ };
@@ -21,27 +22,31 @@ pub trait Disk {
     /// if there is one.
     ghost fixed: { Self → Option (List ℕ) };
 
-    /// It keeps the model. A call makes no disk honest that wasn't, and none dishonest that was.
+    /// Whether it keeps the model. A call makes no disk honest that wasn't, and none dishonest that was.
     ghost honest: { Self → Type 0 };
 
     /// What an honest disk is at this moment.
     ghost state: { Self → DiskState };
 
     /// What one read of this very disk does, honest or not: the disk before and after, the place, what `out` held
-    /// before and holds after, and the answer. By it a disk that hands a call on says that it made this one call.
+    /// before and holds after, and the result. With it a disk that passes a call on says that it made this one call.
     ghost own_read: { Self → Self → ℕ → List ℕ → List ℕ → Answer → Type 0 };
 
-    /// What one write of this very disk does: the disk before and after, the place, the bytes and the answer.
+    /// What one write of this very disk does: the disk before and after, the place, the bytes and the result.
     ghost own_write: { Self → Self → ℕ → List ℕ → Answer → Type 0 };
 
-    /// What one sync of this very disk does: the disk before and after, and the answer.
+    /// What one sync of this very disk does: the disk before and after, and the result.
     ghost own_sync: { Self → Self → Answer → Type 0 };
 
-    /// How many bytes it has.
+    /// Returns how many bytes it has.
     fn len(&self) -> u64
         ensures { result ≡ size self.now };
 
-    /// Reads the bytes from place `at` on, as many as `out` holds. After a fault `out` holds any bytes.
+    /// Reads the bytes from place `at` on, as many as `out` holds.
+    ///
+    /// # Errors
+    ///
+    /// [`DiskFault`] if the read failed. Then `out` holds any bytes.
     fn read(&mut self, at: u64, out: &mut [u8]) -> Result<(), DiskFault>
         requires { at + length out.old ≤ size self.old }
         ensures size { size self.new ≡ size self.old }
@@ -50,8 +55,12 @@ pub trait Disk {
         ensures reads { honest self.old → Reads (state self.old) (state self.new) at out.new result }
         ensures own { own_read self.old self.new at out.old out.new result };
 
-    /// Writes the bytes from place `at` on. After a fault any bytes stand there. From the beginning of a write on its
-    /// range is loose, whatever its answer.
+    /// Writes the bytes from place `at` on. From the beginning of a write its range is loose, whatever the result:
+    /// until the next sync a crash may leave any bytes there.
+    ///
+    /// # Errors
+    ///
+    /// [`DiskFault`] if the write failed. Then any bytes are in its range.
     fn write(&mut self, at: u64, bytes: &[u8]) -> Result<(), DiskFault>
         requires { at + length bytes.now ≤ size self.old }
         ensures size { size self.new ≡ size self.old }
@@ -60,8 +69,11 @@ pub trait Disk {
         ensures writes { honest self.old → Writes (state self.old) (state self.new) at bytes.now result }
         ensures own { own_write self.old self.new at bytes.now result };
 
-    /// Makes what was written stay: after a success a crash leaves what a read gives. After a fault nothing is promised
-    /// to have settled.
+    /// Makes what was written stay: after a success a crash leaves what a read gives.
+    ///
+    /// # Errors
+    ///
+    /// [`DiskFault`] if the sync failed. Then nothing is promised to have settled.
     fn sync(&mut self) -> Result<(), DiskFault>
         ensures size { size self.new ≡ size self.old }
         ensures fixed { fixed self.new ≡ fixed self.old }
@@ -69,7 +81,7 @@ pub trait Disk {
         ensures syncs { honest self.old → Syncs (state self.old) (state self.new) result }
         ensures own { own_sync self.old self.new result };
 
-    /// What is true of every honest disk: a read of it gives bytes. It asks nothing of the disk.
+    /// Says what is true of every honest disk: a read of it gives bytes. It asks nothing of the disk.
     fn reads_bytes(&self)
         ensures { honest self.now → IsBytes (state self.now).reading };
 

@@ -1,14 +1,16 @@
-// A disk that fails on demand.
+//! A disk that fails on demand.
 ghost use Rattle.std.specs.Prelude.{◌≡◌, ◌≤◌, ◌+◌, ◌-◌, ◌↔◌, ℕ, length, Result, Ok, Err};
 ghost use Rattle.pos_disk.specs.Fuse.{counted, fuse_of, is_blown, Loosens, PutsHalf};
 
 use crate::{Disk, DiskFault};
 use std::marker::Model;
 
-/// A disk that passes the first `pass` reads, writes and syncs to the disk within, fails the next `fail`, and then
-/// goes on. A call that fails asks nothing of the disk within, but for a write: it puts down the first half of its
-/// bytes and makes its whole range loose. It is honest where the disk within is. Its failures are its own: one for each
-/// call that it answers with a fault, its own or the disk's.
+/// A disk over another one that fails on demand. It passes on the first `pass` reads, writes and syncs, fails the next
+/// `fail`, and then passes on all.
+///
+/// A call that it fails asks nothing of the inner disk, except a write: that writes the first half of its bytes and
+/// makes its whole range loose. It is honest if the inner disk is. It counts its own failures: one for each call that
+/// returns a fault, its own or the inner disk's.
 #[derive(Drop)]
 pub struct FuseDisk<D: Disk> {
     inner: D,
@@ -30,7 +32,7 @@ impl<D: Disk> Model for FuseDisk<D> {
 }
 
 impl<D: Disk> FuseDisk<D> {
-    /// A disk over this one, with no call so far.
+    /// Returns a disk over this one, with no call so far. `pass` and `fail` are numbers of calls.
     pub fn new(inner: D, pass: u64, fail: u64) -> FuseDisk<D>
         ensures { result ≡ fuse_of inner pass fail 0 0 }
     {
@@ -43,14 +45,14 @@ impl<D: Disk> FuseDisk<D> {
         }
     }
 
-    /// How many reads, writes and syncs it was asked for; at 18,446,744,073,709,551,615 it stays.
+    /// Returns how many reads, writes and syncs it was asked for. At 18,446,744,073,709,551,615 the count stays.
     pub fn calls(&self) -> u64
         ensures { result ≡ self.now.calls }
     {
         self.calls
     }
 
-    /// The disk within, as it is.
+    /// Returns the inner disk as it is.
     pub fn into_inner(self) -> D
         ensures { result ≡ self.inner }
     {
@@ -58,15 +60,15 @@ impl<D: Disk> FuseDisk<D> {
     }
 }
 
-// One more; the last value stays.
+// Adds one. The last value stays.
 fn count(calls: &mut u64)
     ensures { calls.new ≡ counted calls.old }
 {
     *calls = calls.saturating_add(1);
 }
 
-// Writes to each place from `from` to before `end` the byte that stands there, so that it is loose. Where a read fails,
-// any byte.
+// Writes to each place from `from` to before `end` the byte that is there, so that it is loose. If a read fails, it
+// writes any byte.
 fn loosen<D: Disk>(disk: &mut D, from: u64, end: u64)
     requires range { from ≤ end }
     requires size { end ≤ D.size disk.old }
@@ -82,7 +84,7 @@ fn loosen<D: Disk>(disk: &mut D, from: u64, end: u64)
     }
 }
 
-// Puts down the first half of the bytes, and makes the places of the other half loose too.
+// Writes the first half of the bytes, and makes the places of the other half loose too.
 fn put_half<D: Disk>(disk: &mut D, at: u64, bytes: &[u8])
     requires { at + length bytes.now ≤ D.size disk.old }
     ensures size { D.size disk.new ≡ D.size disk.old }
@@ -98,7 +100,7 @@ fn put_half<D: Disk>(disk: &mut D, at: u64, bytes: &[u8])
 }
 
 impl<D: Disk> FuseDisk<D> {
-    // Is the next call one that fails?
+    // Returns whether the next call is one that fails.
     fn is_blown(&self) -> bool
         ensures { result ≡ is_blown self.now }
     {

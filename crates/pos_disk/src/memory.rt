@@ -1,4 +1,4 @@
-// A disk in memory.
+//! A disk in memory.
 ghost use Rattle.std.specs.Prelude.{◌≡◌, ◌≤◌, ◌<◌, ◌+◌, ◌==◌, ℕ, List, length, get_or, replicate, IfOk, None, Ok, ⊤};
 ghost use Rattle.std.specs.List.{list_any};
 ghost use Rattle.std.proofs.Common.{refl};
@@ -10,16 +10,18 @@ use crate::{Disk, DiskFault, Fill};
 use std::alloc::{AllocError, Global};
 use std::marker::Model;
 
-/// A disk in memory, which is honest and never fails. It takes memory when it is made, five bytes for each place beside
-/// the bytes that it is handed, and none after. A read or a write takes as long as its range is, and a sync takes the
-/// same time on any disk (after each 4,294,967,294 of them it clears the stamps of all places).
+/// A disk in memory, which is honest and never fails.
+///
+/// It takes memory only when it is made: five bytes for each place, beside the bytes that it is given. A read or a
+/// write takes as long as its range is. A sync takes the same time on any disk, but after each 4,294,967,294 of them it
+/// clears the stamps of all places.
 #[derive(Drop)]
 pub struct MemDisk {
     alloc: Global,
     bytes: Vec<u8>,
-    // What stood in each loose place at the last sync.
+    // What was in each loose place at the last sync.
     saved: Vec<u8>,
-    // The places that bear the present stamp are loose.
+    // The places that have the present stamp are loose.
     stamps: Vec<u32>,
     stamp: u32,
     past: Past,
@@ -40,7 +42,11 @@ impl MemDisk {
     ghost use Rattle.pos_disk.specs.State.{MayLeave};
     ghost use Rattle.pos_disk.specs.Memory.{fresh, filled, state_of};
 
-    /// A disk with these bytes, at rest. Answers want of memory.
+    /// Returns a disk with these bytes, at rest.
+    ///
+    /// # Errors
+    ///
+    /// [`AllocError`] if memory ran out.
     pub fn new(alloc: Global, bytes: Vec<u8>) -> Result<MemDisk, AllocError>
         ensures { IfOk result (λ disk. disk ≡ fresh bytes.items) }
     {
@@ -56,8 +62,12 @@ impl MemDisk {
         })
     }
 
-    /// The disk that a crash at this moment leaves, at rest: each loose place has what `fill` says, and each other what
-    /// a read gives. Answers want of memory. docs/DISK.md, "What a crash leaves".
+    /// Returns the disk that a crash at this moment leaves, at rest. Each loose place has what `fill` says, and each
+    /// other one what a read gives. docs/DISK.md, "What a crash leaves".
+    ///
+    /// # Errors
+    ///
+    /// [`AllocError`] if memory ran out.
     pub fn crash(&self, fill: Fill) -> Result<MemDisk, AllocError>
         ensures filled { IfOk result (λ disk. disk ≡ fresh (filled fill self.now)) }
         ensures allowed { IfOk result (λ disk. MayLeave (state_of self.now) disk.present.reading) }
@@ -79,7 +89,7 @@ impl MemDisk {
     }
 }
 
-// Saves the byte of each of `len` places that isn't loose yet: all of them at once, where none is.
+// Saves the byte of each of `len` places that isn't loose yet: all of them at once if none is loose.
 fn save(saved: &mut Vec<u8>, bytes: &[u8], stamps: &[u32], stamp: u32, at: usize, len: usize)
     requires saved { at + len ≤ length saved.old.items }
     requires bytes { at + len ≤ length bytes.now }
@@ -93,7 +103,8 @@ fn save(saved: &mut Vec<u8>, bytes: &[u8], stamps: &[u32], stamp: u32, at: usize
     }
 }
 
-// Whether one of these stamps is the present one. It goes through all of them, and so compares several at a time.
+// Returns whether one of these stamps is the present one. It goes through all of them, and so compares several at a
+// time.
 fn is_any_loose(stamps: &[u32], stamp: u32) -> bool
     ensures { result ≡ list_any (λ s. s == stamp) stamps.now }
 {
@@ -134,7 +145,7 @@ fn mark(stamps: &mut Vec<u32>, at: usize, len: usize, stamp: u32)
     stamps[at..at + len].fill(stamp);
 }
 
-// A stamp that no place bears. After the last one all places are cleared.
+// Returns a stamp that no place has. After the last one all places are cleared.
 fn next_stamp(stamps: &mut Vec<u32>, stamp: u32) -> u32
     requires { (i : ℕ) → get_or stamps.old.items i 0 ≤ stamp }
     ensures length { length stamps.new.items ≡ length stamps.old.items }

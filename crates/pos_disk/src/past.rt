@@ -1,4 +1,4 @@
-// The moments that a disk in memory has been through. Only contracts and proofs read them; they take no memory.
+//! The moments that a disk in memory has been through. Only contracts and proofs read them; they take no memory.
 ghost use Rattle.std.specs.Prelude.{◌≡◌, ◌++◌, [], ◌∷◌, List};
 ghost use Rattle.std.specs.Borrow.{ftrue};
 ghost use Rattle.pos_disk.specs.Memory.{Moment};

@@ -1,18 +1,18 @@
-// A disk that keeps something for its owner.
+//! A disk that keeps errands for its owner.
 ghost use Rattle.std.specs.Prelude.{◌≡◌, ◌↔◌, Option};
 ghost use Rattle.pos_disk.specs.State.{IsSame};
 
 use crate::device::Disk;
 
-/// A disk that keeps something for its owner, the oldest first: what somebody outside is to do, for example.
+/// A disk that keeps errands for its owner, oldest first: for example what a host outside is still to do.
 pub trait Relay: Disk {
-    /// One thing that is kept.
+    /// One errand.
     type Errand;
 
-    /// What taking out the oldest thing of this very disk does: the disk before and after, and what was taken.
+    /// What taking out the oldest errand of this very disk does: the disk before and after, and what was taken.
     ghost takes: { Self → Self → Option Self.Errand → Type 0 };
 
-    /// Takes out the oldest thing that is kept. The disk is otherwise as it was.
+    /// Takes out the oldest errand, and returns it, or `None` if there is none. The disk is otherwise as it was.
     fn next(&mut self) -> Option<Self::Errand>
         ensures size { Self.size self.new ≡ Self.size self.old }
         ensures honest { Self.honest self.old ↔ Self.honest self.new }
