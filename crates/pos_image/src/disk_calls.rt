@@ -1,4 +1,4 @@
-// The few disk calls of which each change of the images is made.
+//! The few disk calls of which each change of the images is made.
 ghost use Rattle.std.specs.Prelude.{◌≡◌, ◌≤◌, ◌<◌, ◌+◌, ◌^◌, ◌++◌, ℕ, length, OnOk, false};
 ghost use Rattle.byteorder.specs.Endian.{big_bytes};
 ghost use Rattle.pos_disk.specs.State.{IsAtRest, HasCause};
@@ -14,7 +14,11 @@ use crate::reading::read_gate;
 use byteorder::{BigEndian, ByteOrder};
 use pos_disk::{Disk, DiskFault};
 
-/// Writes and syncs.
+/// Writes bytes at a place, and then syncs.
+///
+/// # Errors
+///
+/// [`DiskFault`] if the write or the sync failed.
 pub fn write_through<D: Disk>(disk: &mut D, at: u64, bytes: &[u8]) -> Result<(), DiskFault>
     requires fits { at + length bytes.now ≤ D.size disk.old }
     ensures keeps { KeepsDisk D.Disk disk.old disk.new }
@@ -28,7 +32,11 @@ pub fn write_through<D: Disk>(disk: &mut D, at: u64, bytes: &[u8]) -> Result<(),
     disk.sync()
 }
 
-/// Closes a gate. One that reads closed isn't written.
+/// Closes a gate and syncs. A gate that reads closed isn't written.
+///
+/// # Errors
+///
+/// [`DiskFault`] if a call of the disk failed.
 pub fn close_gate<D: Disk>(disk: &mut D, at: u64) -> Result<(), DiskFault>
     requires fits { at + 1 ≤ D.size disk.old }
     ensures keeps { KeepsDisk D.Disk disk.old disk.new }
@@ -57,7 +65,11 @@ fn head_of(sequence: u64, length: u32) -> [u8; 12]
     head
 }
 
-/// Writes an image behind the gate of its slot, and an empty log, and syncs.
+/// Writes an image after the gate of its slot, and an empty log, and then syncs.
+///
+/// # Errors
+///
+/// [`DiskFault`] if a write or the sync failed.
 pub fn write_image<D: Disk>(disk: &mut D, image: &Image) -> Result<(), DiskFault>
     requires large { disk_size ≤ D.size disk.old }
     requires short { length image.now.body.items ≤ longest (layout_of image.now.slot) }
@@ -83,7 +95,11 @@ pub fn write_image<D: Disk>(disk: &mut D, image: &Image) -> Result<(), DiskFault
     disk.sync()
 }
 
-/// Puts an image into its slot, behind a closed gate.
+/// Closes the gate of an image's slot, and writes the image after it.
+///
+/// # Errors
+///
+/// [`DiskFault`] if a call of the disk failed.
 pub fn place_image<D: Disk>(disk: &mut D, image: &Image) -> Result<(), DiskFault>
     requires large { disk_size ≤ D.size disk.old }
     requires short { length image.now.body.items ≤ longest (layout_of image.now.slot) }

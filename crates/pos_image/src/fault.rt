@@ -1,4 +1,4 @@
-// Why images refuse a call.
+//! Why images refuse a call.
 ghost use Rattle.std.specs.Prelude.{◌≡◌};
 ghost use Rattle.pos_image.specs.declared.fault.ImageFault.TheVariants.{NoMemory, Device};
 
@@ -21,7 +21,7 @@ pub enum ImageFault {
     #[error("the disk is damaged")]
     Damaged,
 
-    /// A body has more than 16,371 bytes, by layout 2 more than 81,907.
+    /// A body has more than 16,371 bytes, in layout 2 more than 81,907.
     #[error("the body is too large")]
     TooLarge,
 

@@ -1,4 +1,4 @@
-// Which image of a disk is the current one.
+//! Which image of a disk is the current one.
 ghost use Rattle.std.specs.Prelude.{◌≡◌, ◌≤◌, ◌⊎◌, ℕ, List, IfOk, IfErr, OnOk};
 ghost use Rattle.pos_disk.specs.State.{IsAtRest, Watches};
 ghost use Rattle.pos_disk.specs.Keeps.{KeepsDisk};
@@ -42,7 +42,13 @@ fn choose(heads: Heads) -> Result<(Slot, Head), ImageFault>
     Ok((slot, head))
 }
 
-/// Finds the current image. It begins with a sync, so that what it found is what every crash from then on leaves.
+/// Finds the current image, and returns it. It begins with a sync, so every later crash leaves what it found.
+///
+/// # Errors
+///
+/// - `Unformatted` if the gates of all four slots are closed.
+/// - `Damaged` if both slots of the layout are open with the same sequence, or the current length is too large.
+/// - `Device` if the disk failed, and `NoMemory` if memory ran out.
 pub fn find<D: Disk>(alloc: Global, disk: &mut D) -> Result<Image, ImageFault>
     requires large { disk_size ≤ D.size disk.old }
     ensures keeps { KeepsDisk D.Disk disk.old disk.new }

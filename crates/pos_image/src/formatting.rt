@@ -1,4 +1,4 @@
-// A new disk.
+//! A new disk.
 ghost use Rattle.std.specs.Prelude.{◌≡◌, ◌≤◌, IfOk, OnOk};
 ghost use Rattle.pos_disk.specs.State.{IsAtRest, HasCause, Watches};
 ghost use Rattle.pos_disk.specs.Keeps.{KeepsDisk};
@@ -17,7 +17,11 @@ const GATES: [u64; 6] = [0, LOG, SECOND, SECOND + LOG, THIRD, FOURTH];
 // Sequence 1, length 2, and the body of no files.
 const FIRST_IMAGE: [u8; 14] = [0, 0, 0, 0, 0, 0, 0, 1, 0, 0, 0, 2, 0, 0];
 
-/// Whether a gate of a slot, of either layout, reads as open.
+/// Returns whether the gate of a slot, of either layout, reads as open.
+///
+/// # Errors
+///
+/// [`DiskFault`] if a read failed.
 pub fn is_marked<D: Disk>(disk: &mut D) -> Result<bool, DiskFault>
     requires large { disk_size ≤ D.size disk.old }
     ensures keeps { KeepsDisk D.Disk disk.old disk.new }
@@ -47,8 +51,12 @@ fn close_gates<D: Disk>(disk: &mut D) -> Result<(), DiskFault>
     disk.sync()
 }
 
-/// Lays out a disk of layout 1 whose first slot has the body of no files and sequence 1. The other slots and both logs
+/// Writes a disk of layout 1 whose first slot has the body of no files and sequence 1. The other slots and both logs
 /// are closed.
+///
+/// # Errors
+///
+/// [`DiskFault`] if a write or a sync failed.
 pub fn lay_out<D: Disk>(disk: &mut D) -> Result<(), DiskFault>
     requires large { disk_size ≤ D.size disk.old }
     ensures keeps { KeepsDisk D.Disk disk.old disk.new }

@@ -1,4 +1,4 @@
-// The current image of a disk, and the next one.
+//! The current image of a disk, and the next one.
 ghost use Rattle.std.specs.Prelude.{◌≡◌, ◌↔◌, ◌<◌, ◌≤◌, ◌+◌, ◌^◌, ◌⊎◌, length, IfOk, IfErr, OnOk, IsErr, IsErrOf, IsSome, Some, None, false};
 ghost use Rattle.pos_disk.specs.State.{IsAtRest, LeavesOnly, Watches};
 ghost use Rattle.pos_disk.specs.Keeps.{KeepsDisk};
@@ -18,9 +18,10 @@ use pos_disk::Disk;
 use std::alloc::Global;
 use std::marker::Model;
 
-/// The images of a disk: the current one, and the one that is prepared, if there is one. A body has 0 to 16,371 bytes,
-/// by layout 2 to 81,907; a sequence is a u64. After a fault of the disk every call but `into_disk` has the condition
-/// that the disk was opened again. docs/DISK.md, "The layouts".
+/// The images of a disk: the current one, and the prepared one if there is one.
+///
+/// A body has 0 to 16,371 bytes, in layout 2 up to 81,907. A sequence is a `u64`. After a fault of the disk, open the
+/// disk again before any call but `into_disk`. docs/DISK.md, "The layouts".
 #[derive(Drop)]
 pub struct Images<D: Disk> {
     alloc: Global,
@@ -47,15 +48,17 @@ impl<D: Disk> Images<D> {
     ghost use Rattle.pos_image.specs.Spans.{IsWritable, span_of};
     ghost use Rattle.pos_image.specs.declared.layout.Layout.TheVariants.{Layout1};
 
-    /// Makes the current image of the disk that of no files, body `0000` and sequence 1 by layout 1, and gives it
-    /// back at rest. It takes no memory. Nothing is promised of a disk whose formatting was interrupted.
-    /// docs/DISK.md, "Formatting".
+    /// Formats a disk, and returns it at rest: the current image is that of no files, body `0000` and sequence 1 in
+    /// layout 1. It takes no memory. Nothing is promised of a disk whose formatting was interrupted. docs/DISK.md,
+    /// "Formatting".
     ///
     /// # Errors
     ///
-    /// `TooSmall` where the disk has fewer than 327,680 bytes, else `AlreadyFormatted` where one of the bytes at 0,
-    /// 32,768, 65,536 and 196,608 is 0xA5: nothing was written. `Device` where the disk failed. A refusal hands the
-    /// disk back.
+    /// - `TooSmall` if the disk has fewer than 327,680 bytes; otherwise `AlreadyFormatted` if one of the bytes at 0,
+    ///   32,768, 65,536 and 196,608 is 0xA5. Then nothing was written.
+    /// - `Device` if the disk failed.
+    ///
+    /// A refusal returns the disk.
     pub fn format(mut disk: D) -> Result<D, (ImageFault, D)>
         ensures at_rest { D.honest disk → IfOk result (λ formatted. IsAtRest (D.state formatted)) }
         ensures image { D.honest disk
@@ -90,15 +93,18 @@ impl<D: Disk> Images<D> {
         }
     }
 
-    /// Opens a disk that a crash may have left: finds the current image. It writes nothing. docs/DISK.md, "Opening and
-    /// recovery".
+    /// Opens a disk that a crash may have left, and finds its current image. It writes nothing. docs/DISK.md, "Opening
+    /// and recovery".
     ///
     /// # Errors
     ///
-    /// `TooSmall` where the disk has fewer than 327,680 bytes; `Unformatted` where the gates of all four slots are
-    /// closed; `Damaged` where both of the disk's layout are open with the same sequence, or the current length is
-    /// above 16,371, by layout 2 above 81,907; `Device` where the disk failed; `NoMemory`. A refusal hands the disk
-    /// back.
+    /// - `TooSmall` if the disk has fewer than 327,680 bytes.
+    /// - `Unformatted` if the gates of all four slots are closed.
+    /// - `Damaged` if both slots of the disk's layout are open with the same sequence, or the current length is above
+    ///   16,371, in layout 2 above 81,907.
+    /// - `Device` if the disk failed, and `NoMemory` if memory ran out.
+    ///
+    /// A refusal returns the disk.
     pub fn open(alloc: Global, mut disk: D) -> Result<Images<D>, (ImageFault, D)>
         ensures ready { IfOk result (λ images. IsReady D.Disk images × (images.prepared ≡ None)) }
         ensures found { D.honest disk → IfOk result
@@ -130,7 +136,7 @@ impl<D: Disk> Images<D> {
         }
     }
 
-    /// The body of the current image.
+    /// Returns the body of the current image.
     pub fn body(&self) -> &[u8]
         requires { IsWritable D.Disk self.now }
         ensures { result.now ≡ self.now.body }
@@ -138,7 +144,7 @@ impl<D: Disk> Images<D> {
         &self.current.body
     }
 
-    /// The layout of the current image: 1 after formatting, and 2 from the first image of layout 2 on that is
+    /// Returns the layout of the current image: 1 after formatting, and 2 once the first image of layout 2 is
     /// published.
     pub fn layout(&self) -> Layout
         ensures { result ≡ layout_of self.now.slot }
@@ -146,15 +152,15 @@ impl<D: Disk> Images<D> {
         self.current.slot.layout()
     }
 
-    /// The slot of the current image.
+    /// Returns the slot of the current image.
     pub fn slot(&self) -> Slot
         ensures { result ≡ self.now.slot }
     {
         self.current.slot
     }
 
-    /// The number of the current image: 1 after formatting, and one more with each image that is published; that of the
-    /// first image of layout 2 is 1 again.
+    /// Returns the number of the current image: 1 after formatting, and one more with each image that is published.
+    /// That of the first image of layout 2 is 1 again.
     pub fn sequence(&self) -> u64
         requires { IsWritable D.Disk self.now }
         ensures { result ≡ self.now.sequence }
@@ -162,21 +168,21 @@ impl<D: Disk> Images<D> {
         self.current.sequence
     }
 
-    /// Gives the disk as it is. It takes no memory.
+    /// Returns the disk as it is. It takes no memory.
     pub fn into_disk(self) -> D
         ensures { result ≡ self.disk }
     {
         self.disk
     }
 
-    /// Puts a new image beside the current one, which stays the current one: the body is copied once. docs/DISK.md, "A
-    /// new image".
+    /// Writes a new image beside the current one, which stays the current one. The body is copied once. docs/DISK.md,
+    /// "A new image".
     ///
     /// # Errors
     ///
-    /// `TooLarge` where the body has more bytes than the layout lets it, else `Exhausted` where the current sequence
-    /// is the last one, else `NoMemory`: nothing has changed. `Device` where the disk failed: the images have to be
-    /// opened again.
+    /// - `TooLarge` if the body has more bytes than the layout allows; otherwise `Exhausted` if the current sequence is
+    ///   the last one; otherwise `NoMemory` if memory ran out. Then nothing has changed.
+    /// - `Device` if the disk failed: the images have to be opened again.
     pub fn prepare(&mut self, body: &[u8]) -> Result<(), ImageFault>
         requires { IsWritable D.Disk self.old }
         ensures prepares { Prepares D.Disk self.old (next_image self.old body.now) result self.new }
@@ -187,12 +193,14 @@ impl<D: Disk> Images<D> {
         self.put_beside(self.successor(body))
     }
 
-    /// As `prepare`, but it takes the body over: it copies nothing and takes no memory.
+    /// Writes a new image beside the current one, as `prepare` does, but takes the body over: it copies nothing and
+    /// takes no memory.
     ///
     /// # Errors
     ///
-    /// `TooLarge` where the body has more bytes than the layout lets it, else `Exhausted` where the current sequence
-    /// is the last one: nothing has changed. `Device` where the disk failed: the images have to be opened again.
+    /// - `TooLarge` if the body has more bytes than the layout allows; otherwise `Exhausted` if the current sequence is
+    ///   the last one. Then nothing has changed.
+    /// - `Device` if the disk failed: the images have to be opened again.
     pub fn prepare_owned(&mut self, body: Vec<u8>) -> Result<(), ImageFault>
         requires { IsWritable D.Disk self.old }
         ensures prepares { Prepares D.Disk self.old (next_image self.old body.items) result self.new }
@@ -202,14 +210,14 @@ impl<D: Disk> Images<D> {
         self.put_beside(self.successor(body))
     }
 
-    /// Puts the first image of layout 2 beside the current one of layout 1, which stays the current one: it has
-    /// sequence 1, in the slot at 65,536. No slot of layout 1 is written. It takes the body over, and no memory.
-    /// docs/DISK.md, "The move to layout 2".
+    /// Writes the first image of layout 2, with sequence 1, into the slot at 65,536. The current image of layout 1
+    /// stays the current one, and no slot of layout 1 is written. It takes the body over, and no memory. docs/DISK.md,
+    /// "The move to layout 2".
     ///
     /// # Errors
     ///
-    /// `TooLarge` where the body has more than 81,907 bytes: nothing has changed. `Device` where the disk failed: the
-    /// images have to be opened again.
+    /// - `TooLarge` if the body has more than 81,907 bytes. Then nothing has changed.
+    /// - `Device` if the disk failed: the images have to be opened again.
     pub fn prepare_layout2(&mut self, body: Vec<u8>) -> Result<(), ImageFault>
         requires ready { IsWritable D.Disk self.old }
         requires layout { layout_of self.old.slot ≡ Layout1 }
@@ -226,12 +234,12 @@ impl<D: Disk> Images<D> {
         })
     }
 
-    /// Makes the prepared image the current one: from then on the disk is of its layout. It takes no memory.
+    /// Makes the prepared image the current one. From then on the disk has its layout. It takes no memory.
     /// docs/DISK.md, "A new image" and "The move to layout 2".
     ///
     /// # Errors
     ///
-    /// `Device` where the disk failed: the images have to be opened again.
+    /// `Device` if the disk failed: the images have to be opened again.
     pub fn publish(&mut self) -> Result<(), ImageFault>
         requires ready { IsWritable D.Disk self.old }
         requires prepared { IsSome self.old.prepared }
@@ -283,7 +291,7 @@ impl<D: Disk> Images<D> {
         Ok(())
     }
 
-    // The next image, with this body.
+    // Returns the next image, with this body.
     fn successor(&self, body: Vec<u8>) -> Image
         requires { self.now.sequence + 1 < 2 ^ 64 }
         ensures { image_of result.slot result.body.items result.sequence ≡ next_image self.now body.items }
@@ -295,7 +303,7 @@ impl<D: Disk> Images<D> {
         }
     }
 
-    // Puts an image beside the current one.
+    // Writes an image beside the current one.
     fn put_beside(&mut self, image: Image) -> Result<(), ImageFault>
         requires ready { IsWritable D.Disk self.old }
         requires short { length image.body.items ≤ longest (layout_of image.slot) }

@@ -1,4 +1,4 @@
-// The layouts of a disk. docs/DISK.md, "The layouts".
+//! The layouts of a disk. docs/DISK.md, "The layouts".
 ghost use Rattle.std.specs.Prelude.{◌≡◌};
 ghost use Rattle.pos_image.specs.Layout.{slot_size, longest, log_place, log_size, first_of};
 
@@ -7,40 +7,44 @@ use crate::slot::Slot;
 /// How many bytes a disk has at least.
 pub const SIZE: u64 = 327_680;
 
-/// Where the slots of layout 1 begin but the first, and those of layout 2.
+/// Where the second slot of layout 1 begins, in bytes. The first begins at 0.
 pub const SECOND: u64 = 32_768;
 
+/// Where the first slot of layout 2 begins, in bytes.
 pub const THIRD: u64 = 65_536;
 
+/// Where the second slot of layout 2 begins, in bytes.
 pub const FOURTH: u64 = 196_608;
 
-/// Where the sequence of a slot stands, counted from its gate.
+/// Where the sequence of a slot is, counted from its gate.
 pub const SEQUENCE: u64 = 1;
 
-/// Where the length of its body stands, counted from its gate.
+/// Where the length of a slot's body is, counted from its gate.
 pub const LENGTH: u64 = 9;
 
-/// Where its body begins, counted from its gate.
+/// Where the body of a slot begins, counted from its gate.
 pub const BODY: u64 = 13;
 
 /// Where the log of a slot of layout 1 begins, with its gate.
 pub const LOG: u64 = 16_384;
 
-/// An open gate; every other byte is a closed one.
+/// The byte of an open gate; every other byte is a closed one.
 pub const OPEN: u8 = 0xA5;
 
-/// How a gate is written closed.
+/// The byte that is written to close a gate.
 pub const CLOSED: u8 = 0;
 
-/// How slots lie on a disk: layout 1, as it is formatted, or layout 2, whose bodies and logs are longer.
+/// How the slots are laid out on a disk.
 #[derive(Clone, Copy, PartialEq, Eq)]
 pub enum Layout {
+    /// Layout 1, as a disk is formatted.
     Layout1,
+    /// Layout 2, whose bodies and logs are longer.
     Layout2,
 }
 
 impl Layout {
-    /// How many bytes a slot has, its body and its log included.
+    /// Returns how many bytes a slot has, its body and its log included.
     pub(crate) fn slot_size(self) -> u64
         ensures { result ≡ slot_size self }
     {
@@ -50,7 +54,7 @@ impl Layout {
         }
     }
 
-    /// Where the log of a slot begins, counted from its gate: 16,384 or 81,920.
+    /// Returns where the log of a slot begins, counted from its gate: 16,384, in layout 2 81,920.
     pub fn log(self) -> u64
         ensures { result ≡ log_place self }
     {
@@ -60,7 +64,7 @@ impl Layout {
         }
     }
 
-    /// How many bytes the log of a slot has: 16,384 or 49,152.
+    /// Returns how many bytes the log of a slot has: 16,384, in layout 2 49,152.
     pub fn log_size(self) -> usize
         ensures { result ≡ log_size self }
     {
@@ -70,7 +74,7 @@ impl Layout {
         }
     }
 
-    /// How many bytes the longest body has: 16,371 or 81,907.
+    /// Returns how many bytes the longest body has: 16,371, in layout 2 81,907.
     pub fn longest(self) -> u32
         ensures { result ≡ longest self }
     {
@@ -80,7 +84,7 @@ impl Layout {
         }
     }
 
-    /// Its first slot.
+    /// Returns its first slot.
     pub fn first(self) -> Slot
         ensures { result ≡ first_of self }
     {

@@ -1,4 +1,12 @@
-//! Images on a disk, by one of two layouts, of which one is the current one at every moment.
+//! Images on a disk, in one of two layouts: whole copies of the totals, of which one is the current one at every
+//! moment.
+//!
+//! [`Images`] formats and opens a disk, writes the next image beside the current one, and then publishes it. It also
+//! reads and writes the log span of the current slot. [`Layout`] and [`Slot`] say where the parts are, and
+//! [`ImageFault`] why a call is refused.
+//!
+//! The layer above relies on this: a crash at any moment leaves the current image or the one that is being published,
+//! never a mixture. `Device` is reported only if the disk failed, and any other refusal writes nothing.
 #![tactic(auto)]
 
 mod disk_calls;

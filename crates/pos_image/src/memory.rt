@@ -1,3 +1,4 @@
+//! A formatted disk in memory.
 ghost use Rattle.std.specs.Prelude.{IfOk};
 ghost use Rattle.pos_disk.specs.Memory.{state_of};
 ghost use Rattle.pos_image.specs.Standing.{HasNoFiles};
@@ -7,7 +8,11 @@ use crate::layout::SIZE;
 use pos_disk::MemDisk;
 use std::alloc::{AllocError, Global};
 
-/// A disk in memory that was formatted. Such a disk never fails, so want of memory is the only refusal.
+/// Returns a disk in memory that was formatted.
+///
+/// # Errors
+///
+/// [`AllocError`] if memory ran out. There is no other refusal, since such a disk never fails.
 pub fn new_disk(alloc: Global) -> Result<MemDisk, AllocError>
     ensures { IfOk result (λ disk. HasNoFiles (state_of disk)) }
 {

@@ -1,4 +1,4 @@
-// The fields of a slot, as they stand on a disk.
+//! The fields of a slot, as they are on a disk.
 ghost use Rattle.std.specs.Prelude.{◌≡◌, ◌≤◌, ◌+◌, ◌⊎◌, length, IfOk, IfErr};
 ghost use Rattle.pos_disk.specs.State.{HasCause, Watches, part};
 ghost use Rattle.pos_disk.specs.Keeps.{KeepsDisk};
@@ -13,19 +13,25 @@ use crate::slot::Slot;
 use pos_disk::{Disk, DiskFault};
 use std::alloc::Global;
 
-/// What stands before a body: whether the gate is open, the sequence, and the length.
+/// What is before a body in a slot.
 #[derive(Clone, Copy)]
 pub struct Head {
+    /// Whether the gate is open.
     pub gate: bool,
+    /// The sequence of the image.
     pub sequence: u64,
+    /// How many bytes the body has.
     pub length: u32,
 }
 
 /// The layout of a disk, and the heads of its two slots.
 #[derive(Clone, Copy)]
 pub struct Heads {
+    /// The layout: 2 if a gate of layout 2 is open, otherwise 1.
     pub layout: Layout,
+    /// The head of the layout's first slot.
     pub first: Head,
+    /// The head of the layout's second slot.
     pub second: Head,
 }
 
@@ -42,7 +48,11 @@ fn read_bytes<D: Disk, const N: usize>(disk: &mut D, at: u64) -> Result<[u8; N],
     Ok(bytes)
 }
 
-/// Whether the gate at this place is open.
+/// Returns whether the gate at this place is open.
+///
+/// # Errors
+///
+/// [`DiskFault`] if the read failed.
 pub fn read_gate<D: Disk>(disk: &mut D, at: u64) -> Result<bool, DiskFault>
     requires { at + 1 ≤ D.size disk.old }
     ensures keeps { KeepsDisk D.Disk disk.old disk.new }
@@ -54,7 +64,7 @@ pub fn read_gate<D: Disk>(disk: &mut D, at: u64) -> Result<bool, DiskFault>
     Ok(gate[0] == OPEN)
 }
 
-// Bytes of others, as many as the array has.
+// Returns as many bytes from a place on as the array has.
 fn cut<const N: usize>(bytes: &[u8], at: usize) -> [u8; N]
     requires { at + N ≤ length bytes.now }
     ensures { result ≡ part at N bytes.now }
@@ -64,7 +74,7 @@ fn cut<const N: usize>(bytes: &[u8], at: usize) -> [u8; N]
     piece
 }
 
-// The head in the first bytes of a slot.
+// Returns the head in the first bytes of a slot.
 #[tactic(auto, unfolding(crate::specs::Layout::sequence_at, crate::specs::Layout::length_at))]
 fn head_in(bytes: &[u8]) -> Head
     requires { 13 ≤ length bytes.now }
@@ -89,7 +99,12 @@ fn read_head<D: Disk>(disk: &mut D, at: u64) -> Result<Head, DiskFault>
     Ok(head_in(&bytes))
 }
 
-/// Reads what tells the current slot. Where a gate of layout 2 is open, the slots of layout 1 aren't read.
+/// Reads the heads by which the current slot is found. If a gate of layout 2 is open, the slots of layout 1 aren't
+/// read.
+///
+/// # Errors
+///
+/// [`DiskFault`] if a read failed.
 pub fn read_heads<D: Disk>(disk: &mut D) -> Result<Heads, DiskFault>
     requires large { disk_size ≤ D.size disk.old }
     ensures keeps { KeepsDisk D.Disk disk.old disk.new }
@@ -116,6 +131,10 @@ pub fn read_heads<D: Disk>(disk: &mut D) -> Result<Heads, DiskFault>
 }
 
 /// Reads the body in a slot.
+///
+/// # Errors
+///
+/// `NoMemory` if memory ran out, and `Device` if the read failed.
 pub fn read_body<D: Disk>(
     alloc: Global,
     disk: &mut D,

@@ -1,19 +1,24 @@
-// The places of an image: two in each layout.
+//! The places of an image: two in each layout.
 ghost use Rattle.std.specs.Prelude.{◌≡◌};
 ghost use Rattle.pos_image.specs.Layout.{start, other, layout_of};
 
 use crate::layout::{FOURTH, Layout, SECOND, THIRD};
 
-/// The first two are of layout 1, the others of layout 2.
+/// A place of an image on the disk. The first two are of layout 1, the others of layout 2.
 #[derive(Clone, Copy, PartialEq, Eq)]
 pub enum Slot {
+    /// The slot at 0.
     First,
+    /// The slot at 32,768.
     Second,
+    /// The slot at 65,536.
     Third,
+    /// The slot at 196,608.
     Fourth,
 }
 
 impl Slot {
+    /// Returns where it begins on the disk, in bytes.
     pub fn start(self) -> u64
         ensures { result ≡ start self }
     {
@@ -25,6 +30,7 @@ impl Slot {
         }
     }
 
+    /// Returns its layout.
     pub fn layout(self) -> Layout
         ensures { result ≡ layout_of self }
     {
@@ -34,6 +40,7 @@ impl Slot {
         }
     }
 
+    /// Returns the other slot of its layout.
     pub fn other(self) -> Slot
         ensures { result ≡ other self }
     {

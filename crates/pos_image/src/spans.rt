@@ -1,4 +1,4 @@
-// The calls of a log on the span behind the current image.
+//! The calls of a log on the span after the current image.
 ghost use Rattle.std.specs.Prelude.{◌≡◌, ◌+◌, ◌-◌, length, IfErr, OnOk, IsErr, IsErrOf};
 ghost use Rattle.pos_disk.specs.State.{Watches, part};
 ghost use Rattle.pos_disk.specs.Keeps.{KeepsDisk};
@@ -11,15 +11,14 @@ use crate::fault::ImageFault;
 use crate::images::Images;
 use pos_disk::Disk;
 
-/// The log of the current slot. Places are counted from the gate of the slot, each range lies within `log_span`, and
-/// what a call doesn't write of the slot's log it leaves as it is, with all else of the disk. docs/DISK.md, "The log
-/// span".
+/// The log of the current slot. Places are counted from the gate of the slot, and each range is within `log_span`. A
+/// call leaves the rest of the slot's log, and all else of the disk, as it is. docs/DISK.md, "The log span".
 impl<D: Disk> Images<D> {
     ghost use Rattle.pos_image.specs.Images.{IsReady, FailsFor, CountsFaults};
     ghost use Rattle.pos_image.specs.Spans.{IsWritable, WritesSpan, WritesOnly, CrashKeepsImage, span_of};
 
-    /// Where the log lies in a slot: its first place, and the one behind its last: 16,384 and 32,768, by layout 2
-    /// 81,920 and 131,072.
+    /// Returns where the log is in a slot, as its first place and the place after its last: 16,384 and 32,768, in
+    /// layout 2 81,920 and 131,072.
     pub fn log_span(&self) -> (u64, u64)
         ensures { result ≡ (log_place (layout_of self.now.slot), slot_size (layout_of self.now.slot)) }
     {
@@ -31,7 +30,7 @@ impl<D: Disk> Images<D> {
     ///
     /// # Errors
     ///
-    /// `Device` where the disk failed: the images have to be opened again.
+    /// `Device` if the disk failed: the images have to be opened again.
     pub fn log_read(&mut self, at: u64, out: &mut [u8]) -> Result<(), ImageFault>
         requires writable { IsWritable D.Disk self.old }
         requires inside { IsInSpan (layout_of self.old.slot) at (length out.old) }
@@ -55,7 +54,7 @@ impl<D: Disk> Images<D> {
     ///
     /// # Errors
     ///
-    /// `Device` where the disk failed: the images have to be opened again.
+    /// `Device` if the disk failed: the images have to be opened again.
     pub fn log_write(&mut self, at: u64, bytes: &[u8]) -> Result<(), ImageFault>
         requires writable { IsWritable D.Disk self.old }
         requires inside { IsInSpan (layout_of self.old.slot) at (length bytes.now) }
@@ -86,7 +85,7 @@ impl<D: Disk> Images<D> {
     ///
     /// # Errors
     ///
-    /// `Device` where the disk failed: the images have to be opened again.
+    /// `Device` if the disk failed: the images have to be opened again.
     pub fn log_sync(&mut self) -> Result<(), ImageFault>
         requires { IsWritable D.Disk self.old }
         ensures ready { OnOk result (IsReady D.Disk self.new) }
