@@ -1,3 +1,4 @@
+//! Groups of changes, applied to a directory.
 ghost use Rattle.std.specs.Prelude.{◌≡◌, ◌≤◌, length, vec_capacity, Ok, MatchResult, IsOk, IfOk};
 ghost use Rattle.std.specs.List.{flat_map};
 ghost use Rattle.pos_dir.specs.Files.{IsDirectory};
@@ -18,9 +19,14 @@ use crate::supplying::{Supply, make_supplies, take_supply};
 use crate::writing::{limit_body, put_directory};
 use std::alloc::Global;
 
-/// Applies all changes of a group in order. A change that isn't applicable refuses the group with
-/// the fault of the first such change: NoFile, Exists, Range or NoRoom. Want of memory is answered
-/// for a group that is applicable alone (NoMemory). The directory is unchanged then.
+/// Applies all changes of a group in order (chapter Hard Totals).
+///
+/// # Errors
+///
+/// - `NoFile`, `Exists`, `Range` or `NoRoom`: the fault of the first change that isn't applicable.
+/// - `NoMemory` if the group is applicable and memory ran out.
+///
+/// The directory is unchanged then.
 pub fn apply_group(
     alloc: Global,
     directory: &mut Directory,
@@ -33,8 +39,11 @@ pub fn apply_group(
     apply_checked(alloc, directory.limits, &mut directory.files, group)
 }
 
-/// Applies a group that is applicable, and gives the one spelling of the files after it, as `encode` does.
-/// It is refused for want of memory alone (NoMemory); the directory is unchanged then.
+/// Applies a group that is applicable, and returns the one spelling of the files after it, as `encode` does.
+///
+/// # Errors
+///
+/// `NoMemory` if memory ran out. The directory is unchanged then.
 pub fn apply_and_encode(
     alloc: Global,
     directory: &mut Directory,
@@ -56,8 +65,11 @@ pub fn apply_and_encode(
     Ok(body)
 }
 
-/// Applies a group that is applicable, in place: bytes of files that it doesn't change are neither read nor
-/// copied. It is refused for want of memory alone (NoMemory); the directory is unchanged then.
+/// Applies a group that is applicable, in place. The bytes of files that it doesn't change are neither read nor copied.
+///
+/// # Errors
+///
+/// `NoMemory` if memory ran out. The directory is unchanged then.
 pub fn apply_applicable(
     alloc: Global,
     directory: &mut Directory,
@@ -73,8 +85,8 @@ pub fn apply_applicable(
     apply_checked(alloc, directory.limits, &mut directory.files, group)
 }
 
-/// Applies a group that is applicable, in place. It is refused for want of memory alone, before
-/// anything is changed.
+/// Applies a group that is applicable, in place. Want of memory is the only refusal, and comes before anything is
+/// changed.
 fn apply_checked(
     alloc: Global,
     limits: Limits,
@@ -94,7 +106,7 @@ fn apply_checked(
     Ok(())
 }
 
-/// Carries out changes that are applicable, with what they take, where there is room for all files.
+/// Carries out changes that are applicable, with the memory that they take, if there is room for all files.
 fn carry_out(limits: Limits, files: &mut Vec<File>, group: &Group<'_>, supplies: Vec<Supply>)
     requires applicable { IsOk (outcome_of_all limits files.old.items group.now) }
     requires supplied { supplies.items ≡ flat_map supplies_of group.now }

@@ -15,48 +15,49 @@ use pos_bytes::LentBytes;
 /// The most bytes that one Write may have.
 pub(crate) const WRITE_LIMIT: usize = 65_536;
 
-/// A change of the files of Hard Totals (UnifiedPOS 1.16, Hard Totals: create, delete, rename,
-/// write, setAll). A file is named by its index at the moment of the change; names and bytes are lent.
+/// A change of the files of Hard Totals (UnifiedPOS 1.16, Hard Totals: create, delete, rename, write, setAll).
+///
+/// A file is named by its index at the moment of the change. Names and bytes are lent.
 #[derive(Drop)]
 pub enum Change<'a> {
-    /// Adds a file of zero bytes behind the others.
+    /// Adds a file of zero bytes after the others.
     Create {
-        /// Its name, which no file has.
+        /// Its name, which no file has: 1 to 10 bytes of 0x20 to 0x7F.
         name: LentBytes<'a>,
-        /// The number of its bytes.
+        /// How many bytes it has.
         size: u32,
     },
-    /// Removes a file; those behind it close up.
+    /// Removes a file. The indexes of the files after it fall by one.
     Delete {
-        /// The file.
+        /// The index of the file, from 0.
         index: u16,
     },
     /// Gives a file another name.
     Rename {
-        /// The file.
+        /// The index of the file, from 0.
         index: u16,
-        /// The name, which no file has, this one neither.
+        /// The new name, which no file has, not even this one: 1 to 10 bytes of 0x20 to 0x7F.
         name: LentBytes<'a>,
     },
     /// Puts bytes in the place of those of a file from an offset on.
     Write {
-        /// The file.
+        /// The index of the file, from 0.
         index: u16,
-        /// The place of the first byte.
+        /// The offset of the first byte, from 0.
         offset: u32,
         /// The bytes, at most 65,536.
         bytes: LentBytes<'a>,
     },
     /// Makes each byte of a file the same.
     SetAll {
-        /// The file.
+        /// The index of the file, from 0.
         index: u16,
         /// The byte.
         value: u8,
     },
 }
 
-/// Why a group doesn't take a change, whatever its room.
+/// Returns why a group doesn't take a change, whatever its room, or `None` if it does.
 pub(crate) fn find_flaw(change: &Change<'_>) -> Option<DirectoryFault>
     ensures flaw { result ≡ flaw_of change.now }
     ensures widths { HasWidths change.now }
@@ -104,7 +105,7 @@ fn find_name_flaw(name: &LentBytes<'_>) -> Option<DirectoryFault>
     }
 }
 
-/// The file of a change of its bytes alone, and the least size that it has to have; None for another change.
+/// Returns the file of a change of its bytes alone, and the least size that it must have, or `None` for another change.
 pub(crate) fn find_least_size(change: &Change<'_>) -> Option<(u16, usize)>
     ensures { result ≡ least_size_of change.now }
 {
@@ -119,7 +120,7 @@ pub(crate) fn find_least_size(change: &Change<'_>) -> Option<(u16, usize)>
     }
 }
 
-/// Carries out a change that is applicable, with what it takes, where there is room for all files.
+/// Carries out a change that is applicable, with the memory that it takes, if there is room for all files.
 pub(crate) fn carry_out_change(
     limits: Limits,
     files: &mut Vec<File>,

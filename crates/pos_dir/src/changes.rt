@@ -15,7 +15,7 @@ use crate::writing::{put, put_name, put_text, put_u16, put_u32};
 use pos_bytes::LentBytes;
 use std::alloc::Global;
 
-/// A change.
+/// Reads a change.
 #[tactic(auto, unfolding(crate::specs::ChangeTexts::change_at))]
 fn read_change(bytes: &[u8]) -> Option<(Change<'_>, &[u8])>
     ensures { option_map (λ x. (x.0, x.1.now)) result ≡ change_at bytes.now }
@@ -24,7 +24,7 @@ fn read_change(bytes: &[u8]) -> Option<(Change<'_>, &[u8])>
     read_fields(tag, rest)
 }
 
-/// The fields behind a tag.
+/// Reads the fields after a tag.
 #[tactic(auto, unfolding(crate::specs::ChangeTexts::fields_at))]
 fn read_fields(tag: u8, bytes: &[u8]) -> Option<(Change<'_>, &[u8])>
     ensures { option_map (λ x. (x.0, x.1.now)) result ≡ fields_at tag bytes.now }
@@ -39,7 +39,7 @@ fn read_fields(tag: u8, bytes: &[u8]) -> Option<(Change<'_>, &[u8])>
     }
 }
 
-/// The fields of a Create.
+/// Reads the fields of a Create.
 #[tactic(auto, unfolding(crate::specs::ChangeTexts::create_at))]
 fn read_create(bytes: &[u8]) -> Option<(Change<'_>, &[u8])>
     ensures { option_map (λ x. (x.0, x.1.now)) result ≡ create_at bytes.now }
@@ -55,7 +55,7 @@ fn read_create(bytes: &[u8]) -> Option<(Change<'_>, &[u8])>
     ))
 }
 
-/// The fields of a Delete.
+/// Reads the fields of a Delete.
 #[tactic(auto, unfolding(crate::specs::ChangeTexts::delete_at))]
 fn read_delete(bytes: &[u8]) -> Option<(Change<'_>, &[u8])>
     ensures { option_map (λ x. (x.0, x.1.now)) result ≡ delete_at bytes.now }
@@ -64,7 +64,7 @@ fn read_delete(bytes: &[u8]) -> Option<(Change<'_>, &[u8])>
     Some((Change::Delete { index }, rest))
 }
 
-/// The fields of a Rename.
+/// Reads the fields of a Rename.
 #[tactic(auto, unfolding(crate::specs::ChangeTexts::rename_at))]
 fn read_rename(bytes: &[u8]) -> Option<(Change<'_>, &[u8])>
     ensures { option_map (λ x. (x.0, x.1.now)) result ≡ rename_at bytes.now }
@@ -80,7 +80,7 @@ fn read_rename(bytes: &[u8]) -> Option<(Change<'_>, &[u8])>
     ))
 }
 
-/// The fields of a Write.
+/// Reads the fields of a Write.
 #[tactic(auto, unfolding(crate::specs::ChangeTexts::write_at))]
 fn read_write(bytes: &[u8]) -> Option<(Change<'_>, &[u8])>
     ensures { option_map (λ x. (x.0, x.1.now)) result ≡ write_at bytes.now }
@@ -101,7 +101,7 @@ fn read_write(bytes: &[u8]) -> Option<(Change<'_>, &[u8])>
     ))
 }
 
-/// The fields of a SetAll.
+/// Reads the fields of a SetAll.
 #[tactic(auto, unfolding(crate::specs::ChangeTexts::set_all_at))]
 fn read_set_all(bytes: &[u8]) -> Option<(Change<'_>, &[u8])>
     ensures { option_map (λ x. (x.0, x.1.now)) result ≡ set_all_at bytes.now }
@@ -111,7 +111,7 @@ fn read_set_all(bytes: &[u8]) -> Option<(Change<'_>, &[u8])>
     Some((Change::SetAll { index, value }, rest))
 }
 
-/// The bytes of a change's spelling.
+/// Returns how many bytes a change's spelling has.
 pub(crate) fn measure_change(change: &Change<'_>) -> usize
     requires { IsChange change.now }
     ensures size { result ≡ length (change_spelling change.now) }
@@ -180,7 +180,7 @@ impl<'a> Item<'a> for Change<'a> {
     }
 }
 
-/// The bytes behind so many changes.
+/// Returns the bytes after so many changes.
 #[tactic(auto, using(crate::proofs::Items::counting))]
 fn skip_changes(count: u16, bytes: &[u8]) -> Option<&[u8]>
     ensures { option_map (λ x. x.now) result ≡ option_map (λ x. x.1) (items_at change_at count bytes.now) }
@@ -193,7 +193,7 @@ fn skip_changes(count: u16, bytes: &[u8]) -> Option<&[u8]>
     Some(rest)
 }
 
-/// The number of changes and the bytes that spell them, where the bytes spell a group.
+/// Returns the number of changes and the bytes that spell them, if the bytes spell a group.
 #[tactic(auto, unfolding(crate::specs::Reading::group_at))]
 pub(crate) fn locate_changes(bytes: &[u8]) -> Option<(u16, &[u8])>
     ensures { MatchOption result (group_at bytes.now ≡ None)

@@ -1,23 +1,27 @@
-//! Items read from the bytes that spell them, one behind the other.
+//! Items read from the bytes that spell them, one after the other.
 ghost use Rattle.std.specs.Prelude.{◌≡◌, List, ℕ, Option, Some, IsSome, IfSome, MatchResult};
 ghost use Rattle.pos_dir.specs.Reading.{items_at};
 
 use crate::fault::DirectoryFault;
 use std::alloc::Global;
 
-/// What bytes spell one behind the other: files, or changes.
+/// What bytes spell one after the other: files, or changes.
 pub(crate) trait Item<'a>: Drop + Sized {
-    /// The item at the front of bytes, and the bytes behind it.
+    /// The item at the front of bytes, and the bytes after it.
     ghost item_at: { List ℕ → Option (Self × List ℕ) };
 
-    /// That item, and the bytes behind it.
+    /// Returns that item, and the bytes after it.
+    ///
+    /// # Errors
+    ///
+    /// `NoMemory` if memory ran out.
     fn read_first(alloc: Global, bytes: &'a [u8]) -> Result<(Self, &'a [u8]), DirectoryFault>
         requires { IsSome (item_at bytes.now) }
         ensures { MatchResult result (λ x. item_at bytes.now ≡ Some (x.0, x.1.now))
             (λ fault. fault ≡ DirectoryFault.NoMemory) };
 }
 
-/// So many items.
+/// Reads so many items.
 #[tactic(auto, using(crate::proofs::Items::collecting))]
 pub(crate) fn collect_items<'a, T: Item<'a>>(
     alloc: Global,

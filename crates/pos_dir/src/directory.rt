@@ -1,3 +1,4 @@
+//! The files of Hard Totals, in memory.
 ghost use Rattle.std.specs.Prelude.{◌≡◌, ◌≤◌, [], length, slice_get};
 ghost use Rattle.std.specs.Option.{option_copied, option_map};
 ghost use Rattle.pos_dir.specs.declared.limits.TheConstants.{LAYOUT_2};
@@ -8,9 +9,10 @@ use crate::limits::Limits;
 use std::alloc::Global;
 use std::marker::Model;
 
-/// The files of Hard Totals in index order, which is the order of their creation: names of 1 to 10
-/// bytes of 0x20 to 0x7F, no two the same, no more files and bytes in sum than its limits allow
-/// (UnifiedPOS 1.16, Hard Totals). Contracts see the limits and the list of the files.
+/// The files of Hard Totals in index order, which is the order of their creation (UnifiedPOS 1.16, Hard Totals).
+///
+/// A name has 1 to 10 bytes of 0x20 to 0x7F, and no two names are the same. There are no more files, and no more bytes
+/// in total, than the limits allow. Contracts see the limits and the list of the files.
 #[derive(Drop)]
 pub struct Directory {
     pub(crate) limits: Limits,
@@ -28,7 +30,7 @@ impl Model for Directory {
 }
 
 impl Directory {
-    /// No files, within limits of at most 250 files.
+    /// Returns a directory without files, within limits of at most 250 files.
     pub fn new(alloc: Global, limits: Limits) -> Self
         requires { limits.files ≤ LAYOUT_2.files }
         ensures { result ≡ directory_of limits [] }
@@ -48,21 +50,21 @@ impl Directory {
         self.limits = limits;
     }
 
-    /// The number of files.
+    /// Returns how many files there are (property NumberOfFiles).
     pub fn len(&self) -> usize
         ensures { result ≡ length self.now.files }
     {
         self.files.len()
     }
 
-    /// The bytes of all files in sum.
+    /// Returns how many bytes all files have in total.
     pub fn size(&self) -> usize
         ensures { result ≡ total_size self.now.files }
     {
         sum_sizes(self.limits, &self.files)
     }
 
-    /// The name of the file at an index, or None where no file has the index.
+    /// Returns the name of the file at an index, or `None` if no file has the index.
     pub fn name(&self, index: usize) -> Option<&[u8]>
         ensures { option_copied result ≡ option_map (λ file. file.name) (slice_get self.now.files index) }
     {
@@ -70,7 +72,7 @@ impl Directory {
         Some(file.name.as_slice())
     }
 
-    /// The bytes of the file at an index, or None where no file has the index.
+    /// Returns the bytes of the file at an index, or `None` if no file has the index.
     pub fn bytes(&self, index: usize) -> Option<&[u8]>
         ensures { option_copied result ≡ option_map (λ file. file.bytes) (slice_get self.now.files index) }
     {
@@ -78,7 +80,7 @@ impl Directory {
         Some(file.bytes.as_slice())
     }
 
-    /// The index of the file with a name, or None where no file has the name.
+    /// Returns the index of the file with a name, or `None` if no file has the name.
     pub fn index_of(&self, name: &[u8]) -> Option<usize>
         ensures { result ≡ index_of self.now.files name.now }
     {

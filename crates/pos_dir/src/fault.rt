@@ -1,10 +1,11 @@
+//! Why a directory or a group refuses a call.
 ghost use Rattle.std.specs.Prelude.{◌≡◌};
 ghost use Rattle.pos_dir.specs.declared.fault.DirectoryFault.TheVariants.{NoMemory};
 
 use std::alloc::{AllocError, AllocFailed};
 use thiserror::Error;
 
-/// Why a call on a directory or a group was refused. Nothing has changed then.
+/// Why a directory or a group refuses a call. Nothing has changed then.
 #[derive(Clone, Copy, Debug, PartialEq, Eq, Error)]
 pub enum DirectoryFault {
     /// No file has the index.

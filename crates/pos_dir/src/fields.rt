@@ -1,4 +1,4 @@
-//! Fields read from the front of bytes: each with the bytes behind it.
+//! Fields read from the front of bytes: each with the bytes after it.
 ghost use Rattle.std.specs.Prelude.{◌≡◌};
 ghost use Rattle.std.specs.Option.{option_map};
 ghost use Rattle.std.specs.Int.{w16, w32};
@@ -6,7 +6,7 @@ ghost use Rattle.pos_dir.specs.Fields.{byte_at, part_at, number_at, name_at, tex
 
 use crate::names::is_name;
 
-/// One byte.
+/// Reads one byte.
 pub(crate) fn read_byte(bytes: &[u8]) -> Option<(u8, &[u8])>
     ensures { option_map (λ x. (x.0, x.1.now)) result ≡ byte_at bytes.now }
 {
@@ -16,7 +16,7 @@ pub(crate) fn read_byte(bytes: &[u8]) -> Option<(u8, &[u8])>
     }
 }
 
-/// So many bytes.
+/// Reads so many bytes.
 pub(crate) fn read_part(bytes: &[u8], size: usize) -> Option<(&[u8], &[u8])>
     ensures { option_map (λ x. (x.0.now, x.1.now)) result ≡ part_at size bytes.now }
 {
@@ -26,7 +26,7 @@ pub(crate) fn read_part(bytes: &[u8], size: usize) -> Option<(&[u8], &[u8])>
     Some(bytes.split_at(size))
 }
 
-/// A big-endian number of two bytes.
+/// Reads a big-endian number of two bytes.
 pub(crate) fn read_u16(bytes: &[u8]) -> Option<(u16, &[u8])>
     ensures { option_map (λ x. (x.0, x.1.now)) result ≡ number_at w16 bytes.now }
 {
@@ -38,7 +38,7 @@ pub(crate) fn read_u16(bytes: &[u8]) -> Option<(u16, &[u8])>
     Some((number, rest))
 }
 
-/// A big-endian number of four bytes.
+/// Reads a big-endian number of four bytes.
 pub(crate) fn read_u32(bytes: &[u8]) -> Option<(u32, &[u8])>
     ensures { option_map (λ x. (x.0, x.1.now)) result ≡ number_at w32 bytes.now }
 {
@@ -50,7 +50,7 @@ pub(crate) fn read_u32(bytes: &[u8]) -> Option<(u32, &[u8])>
     Some((number, rest))
 }
 
-/// A good name behind its length.
+/// Reads a good name after its length.
 #[tactic(auto, unfolding(crate::specs::Fields::name_at))]
 pub(crate) fn read_name(bytes: &[u8]) -> Option<(&[u8], &[u8])>
     ensures { option_map (λ x. (x.0.now, x.1.now)) result ≡ name_at bytes.now }
@@ -63,7 +63,7 @@ pub(crate) fn read_name(bytes: &[u8]) -> Option<(&[u8], &[u8])>
     Some((name, rest))
 }
 
-/// Bytes behind their number.
+/// Reads bytes after their number.
 #[tactic(auto, unfolding(crate::specs::Fields::text_at))]
 pub(crate) fn read_text(bytes: &[u8]) -> Option<(&[u8], &[u8])>
     ensures { option_map (λ x. (x.0.now, x.1.now)) result ≡ text_at bytes.now }

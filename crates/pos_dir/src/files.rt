@@ -16,11 +16,13 @@ use std::alloc::Global;
 /// A file in the bytes that spell it.
 #[derive(Drop)]
 pub(crate) struct FileText<'a> {
+    /// Its name.
     pub name: &'a [u8],
+    /// Its bytes.
     pub bytes: &'a [u8],
 }
 
-/// A file.
+/// Reads a file.
 #[tactic(auto, unfolding(crate::specs::Reading::file_at))]
 pub(crate) fn read_file(bytes: &[u8]) -> Option<(FileText<'_>, &[u8])>
     ensures { option_map (λ x. (file_of x.0, x.1.now)) result ≡ file_at bytes.now }
@@ -30,7 +32,7 @@ pub(crate) fn read_file(bytes: &[u8]) -> Option<(FileText<'_>, &[u8])>
     Some((FileText { name, bytes }, rest))
 }
 
-/// The file in memory of its own.
+/// Returns the file in memory of its own.
 fn copy_file(alloc: Global, text: &FileText<'_>) -> Result<File, DirectoryFault>
     ensures { MatchResult result (λ file. file ≡ file_of text.now) (λ fault. fault ≡ DirectoryFault.NoMemory) }
 {
@@ -51,7 +53,7 @@ impl<'a> Item<'a> for File {
     }
 }
 
-/// The bytes behind so many files, whose sizes are at most the room in sum.
+/// Returns the bytes after so many files, if their sizes are at most the room in total.
 #[tactic(auto, using(crate::proofs::Items::counting))]
 fn skip_files(count: u16, bytes: &[u8], room: usize) -> Option<&[u8]>
     ensures { option_map (λ x. x.now) result ≡ end_within room (items_at file_at count bytes.now) }
@@ -66,7 +68,7 @@ fn skip_files(count: u16, bytes: &[u8], room: usize) -> Option<&[u8]>
     Some(rest)
 }
 
-/// Whether one of so many files has the name, where the bytes begin with so many.
+/// Returns whether one of so many files has the name, if the bytes begin with so many.
 #[tactic(auto, using(crate::proofs::Items::counting))]
 pub(crate) fn is_used(count: u16, bytes: &[u8], name: &[u8]) -> bool
     ensures { IfSome (items_at file_at count bytes.now) (λ files. result ≡ has_name files.0 name.now) }
@@ -84,7 +86,7 @@ pub(crate) fn is_used(count: u16, bytes: &[u8], name: &[u8]) -> bool
     false
 }
 
-/// Whether no two of so many files have one name, where the bytes begin with so many.
+/// Returns whether no two of so many files have one name, if the bytes begin with so many.
 #[tactic(auto, using(crate::proofs::Items::counting))]
 fn are_distinct(count: u16, bytes: &[u8]) -> bool
     ensures { IfSome (items_at file_at count bytes.now) (λ files. result ≡ are_distinct files.0) }
@@ -102,7 +104,7 @@ fn are_distinct(count: u16, bytes: &[u8]) -> bool
     true
 }
 
-/// The number of files and the bytes that spell them, where the bytes spell a directory.
+/// Returns the number of files and the bytes that spell them, if the bytes spell a directory.
 #[tactic(auto, unfolding(crate::specs::Reading::directory_at), using(crate::proofs::Items::counting))]
 pub(crate) fn locate_files(limits: Limits, bytes: &[u8]) -> Option<(u16, &[u8])>
     ensures { MatchOption result (directory_at limits bytes.now ≡ None)

@@ -1,6 +1,7 @@
+//! The rules of a directory's spelling.
 use thiserror::Error;
 
-/// A rule of a directory's spelling. docs/DISK.md, "The layouts".
+/// A rule of a directory's spelling that bytes break. docs/DISK.md, "The layouts".
 #[derive(Clone, Copy, Debug, PartialEq, Eq, Error)]
 pub enum Flaw {
     /// There are more files than the limits allow.
@@ -18,7 +19,7 @@ pub enum Flaw {
     /// Bytes are missing at the end.
     #[error("bytes are missing")]
     BytesMissing,
-    /// Bytes are left over behind the last file.
+    /// Bytes are left over after the last file.
     #[error("bytes are left over")]
     BytesLeft,
 }

@@ -11,7 +11,7 @@ use crate::flaw::Flaw;
 use crate::limits::Limits;
 use crate::names::is_name;
 
-/// Whether a name with its length is there that isn't a good one.
+/// Returns whether there is a name with its length that isn't a good one.
 fn has_bad_name(bytes: &[u8]) -> bool
     ensures { result ≡ has_bad_name bytes.now }
 {
@@ -24,7 +24,7 @@ fn has_bad_name(bytes: &[u8]) -> bool
     !is_name(name)
 }
 
-/// Why there is no file at the start of the bytes.
+/// Returns why there is no file at the start of the bytes.
 fn tell_file(bytes: &[u8]) -> Flaw
     ensures { (room : ℕ) (files : List File) → file_at bytes.now ≡ None → IsFileFlaw room files bytes.now result }
 {
@@ -34,8 +34,9 @@ fn tell_file(bytes: &[u8]) -> Flaw
     Flaw::BytesMissing
 }
 
-/// The bytes behind so many files, for which there is room and of which no two have one name, or those behind the
-/// first of them, and why the next one isn't there, has no room, or has a name that one before it has.
+/// Returns the bytes after so many files, for which there is room and of which no two have one name. Otherwise it
+/// returns the bytes after the first of them, and why the next one is refused. It isn't there, has no room, or has a
+/// name that one before it has.
 fn pass_files(count: u16, text: &[u8], room: usize) -> Result<&[u8], (&[u8], Flaw)>
     ensures passed { IfOk result (λ rest. Passes count text.now room rest.now) }
     ensures stopped { IfErr result (λ e. StopsFor count text.now room e.0.now e.1) }
@@ -58,9 +59,10 @@ fn pass_files(count: u16, text: &[u8], room: usize) -> Result<&[u8], (&[u8], Fla
     Ok(rest)
 }
 
-/// The first rule that bytes break which spell no directory within the limits, and its place, counted from the first
-/// byte: where the file begins that isn't good, or what is left over; 0 of the number of files. docs/DISK.md, "The
-/// layouts".
+/// Returns the first rule that bytes break which spell no directory within the limits, and its place.
+///
+/// The place is counted from the first byte. It is where the bad file begins, or where the bytes begin that are left
+/// over. For the number of files it is 0. docs/DISK.md, "The layouts".
 pub fn find_flaw(bytes: &[u8], limits: Limits) -> (usize, Flaw)
     requires { ¬ (IsBody limits bytes.now) }
     ensures flaw { HasFlaw limits bytes.now result.0 result.1 }

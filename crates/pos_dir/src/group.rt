@@ -1,3 +1,4 @@
+//! Groups of changes.
 ghost use Rattle.std.specs.Prelude.{◌≡◌, [], length, slice_get};
 ghost use Rattle.std.specs.Option.{option_copied};
 ghost use Rattle.pos_dir.specs.Calls.{Pushes};
@@ -10,8 +11,8 @@ use std::marker::Model;
 /// The most changes of a group.
 const GROUP_LIMIT: usize = 65_535;
 
-/// A list of changes, to be applied in order, all or none, as a transaction of Hard Totals is
-/// (UnifiedPOS 1.16, Hard Totals). Contracts see the list.
+/// A list of changes, to be applied in order, all or none, as a transaction of Hard Totals is (UnifiedPOS 1.16, Hard
+/// Totals). Contracts see the list.
 #[derive(Drop)]
 pub struct Group<'a> {
     pub(crate) changes: Vec<Change<'a>>,
@@ -30,7 +31,7 @@ impl<'a> Model for Group<'a> {
 }
 
 impl<'a> Group<'a> {
-    /// No changes.
+    /// Returns a group without changes.
     pub fn new(alloc: Global) -> Self
         ensures { result ≡ [] }
     {
@@ -39,23 +40,32 @@ impl<'a> Group<'a> {
         }
     }
 
-    /// The number of changes.
+    /// Returns how many changes there are.
     pub fn len(&self) -> usize
         ensures { result ≡ length self.now }
     {
         self.changes.len()
     }
 
-    /// The first change, or None where there is none.
+    /// Returns the first change, or `None` if there is none.
     pub fn first(&self) -> Option<&Change<'a>>
         ensures { option_copied result ≡ slice_get self.now 0 }
     {
         self.changes.get(0)
     }
 
-    /// Adds a change behind the others. It is refused for a bad name (BadName), a Write of more
-    /// than 65,536 bytes (Range), 65,535 changes (NoRoom) or want of memory (NoMemory), in this
-    /// order; the group is unchanged then, and the change is given back beside the fault.
+    /// Adds a change after the others.
+    ///
+    /// # Errors
+    ///
+    /// The first of these that holds:
+    ///
+    /// - `BadName` if a name isn't 1 to 10 bytes of 0x20 to 0x7F.
+    /// - `Range` if a Write has more than 65,536 bytes.
+    /// - `NoRoom` if the group has 65,535 changes.
+    /// - `NoMemory` if memory ran out.
+    ///
+    /// The group is unchanged then, and the change is returned beside the fault.
     pub fn push(&mut self, change: Change<'a>) -> Result<(), (DirectoryFault, Change<'a>)>
         ensures { Pushes self.old change.entry result self.new }
     {

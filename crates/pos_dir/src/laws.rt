@@ -10,26 +10,26 @@ ghost use Rattle.pos_dir.specs.Spelling.{spelling, group_spelling, body_limit};
 use crate::directory::Directory;
 use crate::group::Group;
 
-/// No two directories within the same limits are spelled alike.
+/// Says that no two directories within the same limits are spelled alike.
 pub fn one_spelling()
     ensures { (limits : Limits) (files others : List File) → AreWritable limits → IsDirectory limits files
         → IsDirectory limits others → spelling files ≡ spelling others → files ≡ others }
 {}
 
-/// The files of a directory are those of one within wider limits.
+/// Says that the files of a directory are those of one within wider limits.
 pub fn wider_directory()
     ensures { (limits wider : Limits) (files : List File) → AreWider limits wider → IsDirectory limits files
         → IsDirectory wider files }
 {}
 
-/// No two groups are spelled alike.
+/// Says that no two groups are spelled alike.
 pub fn one_group_spelling()
     ensures { (changes others : List Change) → IsGroup changes → IsGroup others
         → group_spelling changes ≡ group_spelling others → changes ≡ others }
 {}
 
-/// The files of a directory are within its limits, which the widths of a spelling hold, and have
-/// distinct good names, and their spelling is no longer than a body may be.
+/// Says what is true of each directory. Its limits are ones that the widths of a spelling hold, its files are within
+/// them and have distinct good names, and their spelling is no longer than a body may be.
 pub fn is_directory(directory: &Directory)
     ensures writable { AreWritable directory.now.limits }
     ensures directory { IsDirectory directory.now.limits directory.now.files }
@@ -38,7 +38,7 @@ pub fn is_directory(directory: &Directory)
     let _ = &directory.files;
 }
 
-/// The changes of a group are ones that it takes.
+/// Says that the changes of a group are ones that it takes.
 pub fn is_group(group: &Group<'_>)
     ensures { IsGroup group.now }
 {

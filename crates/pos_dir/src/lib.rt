@@ -1,5 +1,11 @@
-//! Directories of named files of a fixed size, groups of changes on them, and the one spelling of
-//! each as bytes (Hard Totals).
+//! The files of Hard Totals, changes of them, and the one spelling of each as bytes.
+//!
+//! A [`Directory`] holds named files of fixed sizes within [`Limits`]. A [`Group`] is a list of [`Change`]s that is
+//! applied whole or not at all. [`encode`] and [`decode`] write and read a directory, [`encode_group`] and
+//! [`decode_group`] a group. [`DirectoryFault`] and [`Flaw`] say why something is refused.
+//!
+//! The layer above relies on this: each call's result is exactly the model's, and a refused call changes nothing. What
+//! was encoded decodes to the same files, and no two directories are spelled alike.
 #![tactic(auto)]
 
 mod applying;

@@ -1,9 +1,10 @@
+//! How much a directory may hold.
 /// How much a directory may hold.
 #[derive(Clone, Copy, PartialEq, Eq)]
 pub struct Limits {
-    /// The most bytes of all files in sum.
+    /// The most bytes of all files in total.
     pub bytes: u32,
-    /// The most files.
+    /// The most files, at most 250.
     pub files: u16,
 }
 

@@ -1,3 +1,4 @@
+//! Which names files may have.
 ghost use Rattle.std.specs.Prelude.{◌≡◌};
 ghost use Rattle.std.specs.List.{list_all};
 ghost use Rattle.pos_dir.specs.Files.{is_name, is_name_byte};
@@ -5,7 +6,7 @@ ghost use Rattle.pos_dir.specs.Files.{is_name, is_name_byte};
 /// The most bytes of a name.
 const NAME_LIMIT: usize = 10;
 
-/// Whether a file may have the name: 1 to 10 bytes of 0x20 to 0x7F (UnifiedPOS 1.16, Hard Totals).
+/// Returns whether a file may have the name: 1 to 10 bytes of 0x20 to 0x7F (UnifiedPOS 1.16, Hard Totals).
 pub fn is_name(name: &[u8]) -> bool
     ensures { result ≡ is_name name.now }
 {

@@ -28,14 +28,14 @@ struct Outline<'a> {
     size: usize,
 }
 
-/// Whether some outline has the name.
+/// Returns whether some outline has the name.
 fn is_named(outlines: &[Outline<'_>], name: &[u8]) -> bool
     ensures { result ≡ is_named outlines.now name.now }
 {
     outlines.iter().any(|outline| outline.name == name)
 }
 
-/// The sizes in sum.
+/// Returns the sizes in total.
 fn sum_outlines(outlines: &[Outline<'_>]) -> usize
     requires { sum_by (λ outline. outline.size) outlines.now < 2 ^ 32 }
     ensures { result ≡ sum_by (λ outline. outline.size) outlines.now }
@@ -106,7 +106,7 @@ fn check_rename<'a, const N: usize>(
     Ok(())
 }
 
-/// Checks a change of the bytes of a file by the file's size, None where there is no file.
+/// Checks a change of the bytes of a file by the file's size, `None` if there is no file.
 fn check_size(size: Option<usize>, least: usize) -> Result<(), DirectoryFault>
     ensures { result ≡ answer_by_size size least }
 {
@@ -119,7 +119,7 @@ fn check_size(size: Option<usize>, least: usize) -> Result<(), DirectoryFault>
     Ok(())
 }
 
-/// The size of an outline; None behind the last one.
+/// Returns the size of an outline, or `None` after the last one.
 fn outline_size(outlines: &[Outline<'_>], index: u16) -> Option<usize>
     ensures { result ≡ option_map (λ outline. outline.size) (slice_get outlines.now index) }
 {
@@ -127,7 +127,7 @@ fn outline_size(outlines: &[Outline<'_>], index: u16) -> Option<usize>
     Some(outline.size)
 }
 
-/// The size of a file; None behind the last one.
+/// Returns the size of a file, or `None` after the last one.
 fn file_size(files: &[File], index: u16) -> Option<usize>
     ensures { result ≡ size_in files.now index }
 {
@@ -170,7 +170,7 @@ fn outline_files<'a, const N: usize>(outlines: &mut ArrayVec<Outline<'a>, N>, fi
     }
 }
 
-/// Checks a group where there is room for as many outlines as the limits allow files.
+/// Checks a group if there is room for as many outlines as the limits allow files.
 fn check_within<'a, const N: usize>(
     outlines: &mut ArrayVec<Outline<'a>, N>,
     limits: Limits,
@@ -202,7 +202,7 @@ fn check_outlined<'a>(directory: &'a Directory, group: &'a Group<'_>) -> Result<
     check_within(&mut outlines, directory.limits, files, group)
 }
 
-/// Checks a change of the bytes of one file over the file itself; None for another change.
+/// Checks a change of the bytes of one file over the file itself, or returns `None` for another change.
 fn check_alone(files: &[File], change: &Change<'_>) -> Option<Result<(), DirectoryFault>>
     ensures { (limits : Limits)
         → IfSome result (λ answer. result_err answer ≡ result_err (outcome limits files.now change.now)) }
@@ -211,8 +211,17 @@ fn check_alone(files: &[File], change: &Change<'_>) -> Option<Result<(), Directo
     Some(check_size(file_size(files, index), least))
 }
 
-/// Whether a group is applicable, or the fault of the first change that isn't: NoFile, Exists,
-/// Range or NoRoom. It takes no memory, and a single change of a file's bytes takes no time for the other files.
+/// Checks whether a group is applicable. It takes no memory, and a single change of a file's bytes takes no time for
+/// the other files.
+///
+/// # Errors
+///
+/// The fault of the first change that isn't applicable:
+///
+/// - `NoFile` if no file has its index.
+/// - `Exists` if a file has its name.
+/// - `Range` if its bytes pass the end of the file.
+/// - `NoRoom` if the files would be too many or too large.
 pub fn check_group(directory: &Directory, group: &Group<'_>) -> Result<(), DirectoryFault>
     ensures { result_err result ≡ fault_of directory.now.limits directory.now.files group.now }
 {

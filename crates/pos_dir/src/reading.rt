@@ -1,3 +1,4 @@
+//! A directory and a group, read from the bytes that spell them.
 ghost use Rattle.std.specs.Prelude.{◌≤◌};
 ghost use Rattle.pos_dir.specs.declared.limits.TheConstants.{LAYOUT_2};
 ghost use Rattle.pos_dir.specs.Calls.{Decodes, DecodesGroup};
@@ -11,10 +12,13 @@ use crate::group::Group;
 use crate::limits::Limits;
 use std::alloc::Global;
 
-/// The directory within limits of at most 250 files whose spelling (`encode`) the bytes are, all of
-/// them. Bytes that spell no such directory are refused (Malformed): those cut short, bytes left
-/// over, a bad name, a name used twice, more files or more bytes in sum than the limits allow. Want
-/// of memory is answered for the spelling of a directory alone (NoMemory).
+/// Returns the directory, within limits of at most 250 files, whose spelling (`encode`) the bytes are, all of them.
+///
+/// # Errors
+///
+/// - `Malformed` if the bytes spell no such directory. Bytes are missing or left over, a name is bad or used twice, or
+///   there are more files or bytes than the limits allow.
+/// - `NoMemory` if they do spell one, and memory ran out.
 pub fn decode(alloc: Global, bytes: &[u8], limits: Limits) -> Result<Directory, DirectoryFault>
     requires { limits.files ≤ LAYOUT_2.files }
     ensures { Decodes limits bytes.now result }
@@ -26,10 +30,14 @@ pub fn decode(alloc: Global, bytes: &[u8], limits: Limits) -> Result<Directory, 
     Ok(Directory { limits, files })
 }
 
-/// The group whose spelling (`encode_group`) the bytes are, all of them. Bytes that spell no group
-/// are refused (Malformed): those cut short, bytes left over, an unknown tag, a bad name, a Write
-/// of more than 65,536 bytes. Want of memory is answered for the spelling of a group alone
-/// (NoMemory). The names and bytes of its changes are those of the bytes, lent.
+/// Returns the group whose spelling (`encode_group`) the bytes are, all of them. The names and bytes of its changes are
+/// lent from these bytes.
+///
+/// # Errors
+///
+/// - `Malformed` if the bytes spell no group. Bytes are missing or left over, a tag is unknown, a name is bad, or a
+///   Write has more than 65,536 bytes.
+/// - `NoMemory` if they do spell one, and memory ran out.
 pub fn decode_group(alloc: Global, bytes: &[u8]) -> Result<Group<'_>, DirectoryFault>
     ensures { DecodesGroup bytes.now result }
 {

@@ -1,4 +1,5 @@
-//! The memory that changes take, all of it made before the first is carried out, so that carrying them out can't fail.
+//! The memory that changes take. All of it is made before the first is carried out, so that carrying them out can't
+//! fail.
 ghost use Rattle.std.specs.Prelude.{◌≡◌, ◌++◌, List, replicate, MatchResult};
 ghost use Rattle.std.specs.List.{flat_map};
 ghost use Rattle.std.specs.Vec.Iter.{into_iter_items};

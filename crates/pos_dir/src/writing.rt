@@ -1,3 +1,4 @@
+//! The one spelling of a directory and of a group.
 ghost use Rattle.std.specs.Prelude.{◌≡◌, ◌*◌, ◌<◌, ◌≤◌, ◌^◌, [], length, vec_capacity, MatchResult};
 ghost use Rattle.std.specs.Int.{w16, w32, to_be_bytes};
 ghost use Rattle.std.specs.List.{flat_map};
@@ -31,10 +32,15 @@ pub(crate) fn limit_body(limits: Limits) -> usize
     COUNT_SIZE + FILE_HEAD * limits.files as usize + limits.bytes as usize
 }
 
-/// The one spelling of a directory (a body of the totals disk), at most 9,154 bytes within the
-/// limits of layout 1, 69,288 within those of layout 2: the number of files in two bytes; then for
-/// each file in index order the length of its name in one byte, the name, its size in four bytes
-/// and its bytes. Numbers are big-endian. It is refused for want of memory alone (NoMemory).
+/// Returns the one spelling of a directory, which is a body of the totals disk: at most 9,154 bytes within the limits
+/// of layout 1, 69,288 within those of layout 2.
+///
+/// It begins with the number of files in two bytes. Then each file follows in index order: the length of its name in
+/// one byte, the name, its size in four bytes, and its bytes. Numbers are big-endian.
+///
+/// # Errors
+///
+/// `NoMemory` if memory ran out.
 pub fn encode(alloc: Global, directory: &Directory) -> Result<Vec<u8>, DirectoryFault>
     ensures directory { IsDirectory directory.now.limits directory.now.files }
     ensures length { length (spelling directory.now.files) ≤ body_limit directory.now.limits }
@@ -63,9 +69,13 @@ pub(crate) fn put_directory(out: &mut Vec<u8>, directory: &Directory)
     }
 }
 
-/// The one spelling of a group: the number of changes in two bytes; then for each change a tag of
-/// one byte and its fields (docs/DISK.md, "The layouts"). Numbers are big-endian; a file is named
-/// by its index in two bytes. It is refused for want of memory alone (NoMemory).
+/// Returns the one spelling of a group. It begins with the number of changes in two bytes. Then each change follows: a
+/// tag of one byte and its fields (docs/DISK.md, "The layouts"). Numbers are big-endian; a file is named by its index
+/// in two bytes.
+///
+/// # Errors
+///
+/// `NoMemory` if memory ran out.
 pub fn encode_group(alloc: Global, group: &Group<'_>) -> Result<Vec<u8>, DirectoryFault>
     ensures group { IsGroup group.now }
     ensures spelling { MatchResult result (λ bytes. bytes.items ≡ group_spelling group.now)
@@ -80,14 +90,14 @@ pub fn encode_group(alloc: Global, group: &Group<'_>) -> Result<Vec<u8>, Directo
     Ok(out)
 }
 
-/// How many bytes the spelling of a group has. It takes no memory.
+/// Returns how many bytes the spelling of a group has. It takes no memory.
 pub fn measure_group(group: &Group<'_>) -> usize
     ensures { result ≡ length (group_spelling group.now) }
 {
     COUNT_SIZE + measure_changes(group.changes.as_slice())
 }
 
-/// The bytes of the spellings of changes in sum.
+/// Returns how many bytes the spellings of changes have in total.
 fn measure_changes(changes: &[Change<'_>]) -> usize
     requires { IsGroup changes.now }
     ensures size { result ≡ length (flat_map change_spelling changes.now) }
@@ -126,7 +136,7 @@ pub(crate) fn put_u32(out: &mut Vec<u8>, number: u32)
     put(out, &number.to_be_bytes());
 }
 
-/// Writes a name behind its length.
+/// Writes a name after its length.
 pub(crate) fn put_name(out: &mut Vec<u8>, name: &[u8])
     requires name { length name.now < 256 }
     requires room { HasRoom out.old (name_spelling name.now) }
@@ -136,7 +146,7 @@ pub(crate) fn put_name(out: &mut Vec<u8>, name: &[u8])
     put(out, name);
 }
 
-/// Writes bytes behind their number.
+/// Writes bytes after their number.
 pub(crate) fn put_text(out: &mut Vec<u8>, bytes: &[u8])
     requires bytes { length bytes.now < 2 ^ 32 }
     requires room { HasRoom out.old (text_spelling bytes.now) }
