@@ -1,4 +1,4 @@
-// Why a log refuses a call.
+//! Why a log refuses a call.
 ghost use Rattle.std.specs.Prelude.{◌≡◌};
 ghost use Rattle.pos_log.specs.declared.fault.LogFault.TheVariants.{NoMemory};
 
@@ -8,7 +8,7 @@ use thiserror::Error;
 /// Why a log refuses a call. docs/DISK.md, "The log".
 #[derive(Clone, Copy, Debug, PartialEq, Eq, Error)]
 pub enum LogFault {
-    /// The record and the gate behind it don't fit.
+    /// The record and the gate after it don't fit.
     #[error("the log is full")]
     Full,
 

@@ -1,4 +1,4 @@
-// A log of records behind the current image of a disk.
+//! A log of records after the current image of a disk.
 ghost use Rattle.std.specs.Prelude.{◌≢◌, map, ◌≡◌, ◌⊎◌, ◌+◌, length, nat_le, IfErr, IfOk};
 ghost use Rattle.pos_disk.specs.State.{Rises, Watches};
 ghost use Rattle.pos_disk.specs.Keeps.{KeepsDisk};
@@ -17,8 +17,9 @@ use pos_image::{ImageFault, Images, Layout};
 use std::alloc::Global;
 use std::marker::Model;
 
-/// The records behind the current image of a disk: groups of bytes, which are appended one by one. After a fault of the
-/// disk every call but `into_images` has the condition that the disk was opened again. docs/DISK.md, "The log".
+/// The records after the current image of a disk: groups of bytes, which are appended one by one.
+///
+/// After a fault of the disk, open the disk again before any call but `into_images`. docs/DISK.md, "The log".
 #[derive(Drop)]
 pub struct Log<D: Disk> {
     alloc: Global,
@@ -50,13 +51,16 @@ impl<D: Disk> Log<D> {
     ghost use Rattle.pos_log.specs.Logs.{IsLogReady, Appends, Renews, CountsLogFaults, IsOpenFault};
     ghost use Rattle.pos_log.specs.Logs.{images_after, without_images, room_of};
 
-    /// Opens the log behind the current image: gives it with the groups of its records, in order. It writes nothing,
-    /// and reads the log in one piece.
+    /// Opens the log after the current image, and returns it with the groups of its records, in order. It writes
+    /// nothing, and reads the log in one piece.
     ///
     /// # Errors
     ///
-    /// `Damaged` where a record that is open doesn't fit, `Device` where the disk failed, `NoMemory`. A refusal hands
-    /// the images back; after `Device` they have to be opened again.
+    /// - `Damaged` if a record that is open doesn't fit.
+    /// - `Device` if the disk failed: the images have to be opened again.
+    /// - `NoMemory` if memory ran out.
+    ///
+    /// A refusal returns the images.
     pub fn open(
         alloc: Global,
         mut images: Images<D>,
@@ -98,7 +102,7 @@ impl<D: Disk> Log<D> {
         }
     }
 
-    /// How many bytes the longest group has that fits, or None where not even an empty one fits.
+    /// Returns how many bytes the longest group has that fits, or `None` if not even an empty one fits.
     pub fn room(&self) -> Option<u64>
         ensures { result ≡ room_of (layout_of self.now.images.slot) self.now.tail }
     {
@@ -109,7 +113,7 @@ impl<D: Disk> Log<D> {
         Some(end - HEAD as u64 - 1 - self.tail)
     }
 
-    /// Whether a record with a group of so many bytes fits, with the gate behind it.
+    /// Returns whether a record with a group of so many bytes fits, with the gate after it.
     pub fn fits(&self, length: usize) -> bool
         ensures { result ≡ nat_le (end_of self.now.tail length) (slot_size (layout_of self.now.images.slot)) }
     {
@@ -125,8 +129,8 @@ impl<D: Disk> Log<D> {
     ///
     /// # Errors
     ///
-    /// `Full` where the record and the gate behind it don't fit: nothing has changed. `Device` where the disk failed:
-    /// the log has to be opened again.
+    /// - `Full` if the record and the gate after it don't fit. Then nothing has changed.
+    /// - `Device` if the disk failed: the log has to be opened again.
     pub fn append(&mut self, group: &[u8]) -> Result<(), LogFault>
         requires { IsLogReady D.Disk self.old }
         ensures appends { Appends D.Disk self.old group.now result self.new }
@@ -147,13 +151,14 @@ impl<D: Disk> Log<D> {
         Ok(())
     }
 
-    /// Makes an image with this body the current one, with the next sequence and no records behind it. It takes no
+    /// Makes an image with this body the current one, with the next sequence and no records after it. It takes no
     /// memory.
     ///
     /// # Errors
     ///
-    /// `TooLarge` where the body has more bytes than the layout lets it, else `Exhausted` where the current sequence
-    /// is the last one: nothing has changed. `Device` where the disk failed: the log has to be opened again.
+    /// - `TooLarge` if the body has more bytes than the layout allows; otherwise `Exhausted` if the current sequence is
+    ///   the last one. Then nothing has changed.
+    /// - `Device` if the disk failed: the log has to be opened again.
     pub fn renew(&mut self, body: Vec<u8>) -> Result<(), ImageFault>
         requires { IsLogReady D.Disk self.old }
         ensures renews { Renews D.Disk self.old (layout_of self.old.images.slot) body.items
@@ -174,14 +179,14 @@ impl<D: Disk> Log<D> {
         }
     }
 
-    /// Makes an image of layout 2 with this body the current one, with sequence 1 and no records behind it. It takes
-    /// memory for a buffer as long as a log of layout 2, before anything is written. docs/DISK.md, "The move to
-    /// layout 2".
+    /// Makes an image of layout 2 with this body the current one, with sequence 1 and no records after it. It takes
+    /// memory for a buffer as long as a log of layout 2, before anything is written. docs/DISK.md, "The move to layout
+    /// 2".
     ///
     /// # Errors
     ///
-    /// `TooLarge` where the body has more than 81,907 bytes, `NoMemory`: nothing has changed. `Device` where the disk
-    /// failed: the log has to be opened again.
+    /// - `TooLarge` if the body has more than 81,907 bytes, and `NoMemory` if memory ran out. Then nothing has changed.
+    /// - `Device` if the disk failed: the log has to be opened again.
     pub fn migrate(&mut self, body: Vec<u8>) -> Result<(), ImageFault>
         requires ready { IsLogReady D.Disk self.old }
         requires layout { layout_of self.old.images.slot ≡ Layout1 }
@@ -207,14 +212,14 @@ impl<D: Disk> Log<D> {
         }
     }
 
-    /// The layout of the current image.
+    /// Returns the layout of the current image.
     pub fn layout(&self) -> Layout
         ensures { result ≡ layout_of self.now.images.slot }
     {
         self.images.layout()
     }
 
-    /// The number of the current image.
+    /// Returns the number of the current image.
     pub fn sequence(&self) -> u64
         requires { IsLogReady D.Disk self.now }
         ensures { result ≡ self.now.images.sequence }
@@ -222,7 +227,7 @@ impl<D: Disk> Log<D> {
         self.images.sequence()
     }
 
-    /// Gives the images as they are. It takes no memory.
+    /// Returns the images as they are. It takes no memory.
     pub fn into_images(self) -> Images<D>
         ensures { result ≡ self.images }
     {

@@ -1,4 +1,4 @@
-// The records of a log, as the bytes of its span hold them.
+//! The records of a log, as the bytes of its span hold them.
 ghost use Rattle.std.specs.Prelude.{◌≡◌, ◌⊎◌, ◌≤◌, ◌<◌, ℕ, length, map, IfOk, IfErr, MatchOption};
 ghost use Rattle.pos_image.specs.Layout.{is_open};
 ghost use Rattle.pos_log.specs.Records.{HoldsRecords, HoldsSome, HasLength, BreaksAt, spelling};
@@ -8,7 +8,7 @@ use crate::fault::LogFault;
 use crate::layout::{HEAD, OPEN};
 use std::alloc::Global;
 
-// Whether a record stands at this place: its gate is open.
+// Returns whether there is a record at this place: its gate is open.
 fn has_record(span: &[u8], at: usize) -> bool
     requires { at < length span.now }
     ensures { result ≡ is_open span.now at }
@@ -16,7 +16,7 @@ fn has_record(span: &[u8], at: usize) -> bool
     span[at] == OPEN
 }
 
-// The length of the group of the record at this place, where it fits with the gate behind it.
+// Returns the length of the group of the record at this place, if it fits with the gate after it.
 fn group_length(span: &[u8], at: usize) -> Option<usize>
     requires inside { at < length span.now }
     requires short { length span.now ≤ 65536 }
@@ -38,7 +38,11 @@ fn group_length(span: &[u8], at: usize) -> Option<usize>
     Some(length)
 }
 
-/// The groups of the records up to the first closed gate, and the place of that gate.
+/// Returns the groups of the records up to the first closed gate, and the place of that gate.
+///
+/// # Errors
+///
+/// `Damaged` if a record that is open doesn't fit, and `NoMemory` if memory ran out.
 pub fn read_records(alloc: Global, span: &[u8]) -> Result<(Vec<Vec<u8>>, usize), LogFault>
     requires some { 0 < length span.now }
     requires short { length span.now ≤ 65536 }
@@ -62,8 +66,8 @@ pub fn read_records(alloc: Global, span: &[u8]) -> Result<(Vec<Vec<u8>>, usize),
     Ok((groups, at))
 }
 
-/// The place of the record that doesn't fit, counted from the first place of the log, or None where each one does.
-/// docs/DISK.md, "The log".
+/// Returns the place of the record that doesn't fit, counted from the first place of the log, or `None` if each one
+/// fits. docs/DISK.md, "The log".
 pub fn find_damage(span: &[u8]) -> Option<usize>
     requires some { 0 < length span.now }
     requires short { length span.now ≤ 65536 }

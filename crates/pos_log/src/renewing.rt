@@ -1,4 +1,4 @@
-// A new image in the place of the current one.
+//! A new image in the place of the current one.
 ghost use Rattle.std.specs.Prelude.{◌≡◌, ◌⊎◌, length, IfErr};
 ghost use Rattle.pos_image.specs.DiskCalls.{KeepsBeside};
 ghost use Rattle.pos_image.specs.Layout.{layout_of, other};
@@ -12,6 +12,12 @@ use pos_disk::Disk;
 use pos_image::{ImageFault, Images};
 
 /// Prepares the next image, with this body, and publishes it.
+///
+/// # Errors
+///
+/// - `TooLarge` if the body has more bytes than the layout allows; otherwise `Exhausted` if the current sequence is the
+///   last one. Then nothing has changed.
+/// - `Device` if the disk failed.
 pub fn renew_images<D: Disk>(images: &mut Images<D>, body: Vec<u8>) -> Result<(), ImageFault>
     requires { IsReady D.Disk images.old }
     ensures replaces { Replaces D.Disk images.old (next_image images.old body.items) result images.new }
@@ -24,6 +30,10 @@ pub fn renew_images<D: Disk>(images: &mut Images<D>, body: Vec<u8>) -> Result<()
 }
 
 /// Prepares the first image of layout 2, with this body, and publishes it.
+///
+/// # Errors
+///
+/// `TooLarge` if the body has more than 81,907 bytes: then nothing has changed. `Device` if the disk failed.
 pub fn migrate_images<D: Disk>(images: &mut Images<D>, body: Vec<u8>) -> Result<(), ImageFault>
     requires ready { IsReady D.Disk images.old }
     requires layout { layout_of images.old.slot ≡ Layout1 }

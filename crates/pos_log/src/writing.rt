@@ -1,4 +1,4 @@
-// How a record gets into the log.
+//! How a record gets into the log.
 ghost use Rattle.std.specs.Prelude.{◌≡◌, ◌≤◌, ◌+◌, ◌-◌, ◌<◌, ◌^◌, take, length, OnOk, IsErr, IsErrOf, IfErr};
 ghost use Rattle.pos_disk.specs.Keeps.{KeepsDisk};
 ghost use Rattle.pos_image.specs.Layout.{log_place, layout_of};
@@ -15,8 +15,8 @@ use pos_image::{ImageFault, Images};
 // The bytes of a length.
 const LENGTH: usize = 4;
 
-/// Lays out what stands behind the gate of a record, at the front of a buffer: the length and the group, and a closed
-/// gate for the next record.
+/// Writes what follows the gate of a record at the front of a buffer: the length and the group, and a closed gate for
+/// the next record.
 pub fn lay_out_record(buffer: &mut Vec<u8>, group: &[u8])
     requires short { length group.now < 2 ^ 32 }
     requires fits { 5 + length group.now ≤ length buffer.old.items }
@@ -31,7 +31,11 @@ pub fn lay_out_record(buffer: &mut Vec<u8>, group: &[u8])
     behind[0] = CLOSED;
 }
 
-/// Writes bytes into the log, and syncs.
+/// Writes bytes into the log, and then syncs.
+///
+/// # Errors
+///
+/// `Device` if the write or the sync failed.
 pub fn write_through<D: Disk>(
     images: &mut Images<D>,
     at: u64,
