@@ -1,4 +1,4 @@
-// Why no survey is made.
+//! Why no survey is made.
 ghost use Rattle.std.specs.Prelude.{◌≡◌};
 ghost use Rattle.pos_survey.specs.declared.fault.SurveyFault.TheVariants.{NoMemory};
 
@@ -11,17 +11,17 @@ use thiserror::Error;
 pub enum Rule {
     /// Both slots of the disk's layout are open, with the same sequence.
     SameSequence,
-    /// The length of the current body is above 16,371, by layout 2 above 81,907.
+    /// The length of the current body is above 16,371, in layout 2 above 81,907.
     LongBody,
-    /// The current body isn't the spelling of a list of files, for this rule of the spelling.
+    /// The current body isn't the spelling of a list of files: it breaks this rule of the spelling.
     NoFiles(Flaw),
-    /// The log has an open gate whose record doesn't end within the slot, with the gate behind it.
+    /// The log has an open gate whose record doesn't end within the slot, with the gate after it.
     LongRecord,
     /// A record spells no group.
     NoGroup,
     /// A record spells an empty group.
     EmptyGroup,
-    /// A record spells a group that isn't applicable, for this fault of its first change that isn't.
+    /// A record spells a group that isn't applicable: its first change that isn't has this fault.
     NotApplicable(DirectoryFault),
 }
 

@@ -1,4 +1,4 @@
-// Why the image of a disk is damaged, by the heads of its slots.
+//! Why the image of a disk is damaged, by the heads of its slots.
 ghost use Rattle.std.specs.Prelude.{◌≡◌, List, ℕ};
 ghost use Rattle.pos_image.specs.Layout.{first_of, layout_on};
 ghost use Rattle.pos_image.specs.Slots.{HeadsAre};
@@ -38,7 +38,7 @@ fn is_tied(heads: Heads) -> bool
     heads.first.sequence == heads.second.sequence
 }
 
-/// The rule that the image breaks, and the place.
+/// Returns the rule that the image breaks, and the place.
 pub fn tell_damage(heads: Heads) -> SurveyFault
     ensures { (bytes : List ℕ) → HeadsAre bytes heads → image_on bytes ≡ DamagedImage → Breaks bytes result }
 {

@@ -1,6 +1,11 @@
-//! What the bytes of a totals disk hold, told to whoever looks after it: the layout, the current image, the records of
-//! its log and the files, or where the bytes break a rule of the disk, and which. docs/DISK.md; docs/CONSOLE.md, "What
-//! a totals file holds".
+//! What the bytes of a totals disk hold, for whoever looks after it. docs/DISK.md; docs/CONSOLE.md, "What a totals file
+//! holds".
+//!
+//! A [`Survey`] has the layout, the current image, the records of its log and the files. If the bytes break a rule of
+//! the disk, [`SurveyFault`] has the place and the [`Rule`].
+//!
+//! The layer above relies on this: a survey says what a recovery of a store would find in the same bytes, and a refusal
+//! names a rule that they do break.
 #![tactic(auto)]
 
 mod fault;

@@ -1,4 +1,4 @@
-// The records behind the current image, or where they break.
+//! The records after the current image, or where they break.
 ghost use Rattle.std.specs.Prelude.{◌≡◌, ◌<◌, ◌≤◌, map, length, IfOk, IfErr};
 ghost use Rattle.pos_image.specs.Images.{IsReady};
 ghost use Rattle.pos_image.specs.Layout.{disk_size, layout_of};
@@ -13,14 +13,14 @@ use pos_image::{Images, Slot};
 use pos_log::{Log, LogFault, find_damage};
 use std::alloc::Global;
 
-/// Where the log of a slot begins on the disk.
+/// Returns where the log of a slot begins on the disk, in bytes.
 pub fn log_begins(slot: Slot) -> u64
     ensures { result ≡ log_begins slot }
 {
     slot.start() + slot.layout().log()
 }
 
-// The record of the log in this slot that doesn't fit.
+// Returns the record of the log in this slot that doesn't fit.
 fn tell_damage(bytes: &[u8], slot: Slot) -> SurveyFault
     requires whole { disk_size ≤ length bytes.now }
     requires damaged { ¬ (HoldsSome (log_in bytes.now slot)) }
@@ -34,7 +34,11 @@ fn tell_damage(bytes: &[u8], slot: Slot) -> SurveyFault
     }
 }
 
-/// Opens the log behind the current image of a disk with these bytes: gives it with the texts of its records.
+/// Opens the log after the current image of a disk with these bytes, and returns it with the texts of its records.
+///
+/// # Errors
+///
+/// `Damaged` with `LongRecord` if a record doesn't fit, and `NoMemory` if memory ran out.
 pub fn open_log(
     alloc: Global,
     bytes: &[u8],

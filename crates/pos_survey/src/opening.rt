@@ -1,4 +1,4 @@
-// The current image of the bytes of a disk, or why there is none.
+//! The current image of the bytes of a disk, or why there is none.
 ghost use Rattle.std.specs.Prelude.{◌≡◌, ◌≤◌, IfOk, IfErr, length};
 ghost use Rattle.pos_image.specs.Images.{IsReady};
 ghost use Rattle.pos_image.specs.Layout.{disk_size, layout_of};
@@ -31,6 +31,13 @@ fn find_damage(mut disk: MemDisk) -> SurveyFault
 }
 
 /// Opens a disk with these bytes.
+///
+/// # Errors
+///
+/// - `TooSmall` if there are fewer than 327,680 bytes.
+/// - `Unformatted` if the gates of all four slots are closed.
+/// - `Damaged` if the image breaks a rule, with the place and the rule.
+/// - `NoMemory` if memory ran out.
 pub fn open_images(alloc: Global, bytes: &[u8]) -> Result<Images<MemDisk>, SurveyFault>
     ensures ready { IfOk result (IsReady ⟦<MemDisk as Disk>⟧) }
     ensures bytes { IfOk result (λ it. it.disk.present.reading ≡ bytes.now) }
@@ -50,7 +57,11 @@ pub fn open_images(alloc: Global, bytes: &[u8]) -> Result<Images<MemDisk>, Surve
     }
 }
 
-/// The files that the body of the current image spells.
+/// Returns the files that the body of the current image spells.
+///
+/// # Errors
+///
+/// `Damaged` with `NoFiles` if it spells none, and `NoMemory` if memory ran out.
 pub fn read_files(alloc: Global, images: &Images<MemDisk>) -> Result<Directory, SurveyFault>
     requires { IsReady ⟦<MemDisk as Disk>⟧ images.now }
     ensures limits { IfOk result (λ it. it.limits ≡ limits_of (layout_of images.now.slot)) }

@@ -1,4 +1,4 @@
-// The groups of the records of a log, applied in order.
+//! The groups of the records of a log, applied in order.
 ghost use Rattle.std.specs.Prelude.{◌≡◌, ◌+◌, ◌<◌, ◌^◌, length, map, OnOk, IfErr};
 ghost use Rattle.pos_log.specs.Records.{spelling};
 ghost use Rattle.pos_store.specs.Standing.{Applies, IsStep};
@@ -8,10 +8,10 @@ use crate::fault::{Rule, SurveyFault};
 use pos_dir::{Directory, DirectoryFault, apply_group, decode_group};
 use std::alloc::Global;
 
-// The bytes of a record before its group.
+// How many bytes a record has before its group.
 const HEAD: u64 = 5;
 
-// Applies the group that a text spells, or tells the rule that it breaks.
+// Applies the group that a text spells, or returns the rule that it breaks.
 fn apply_text(
     alloc: Global,
     directory: &mut Directory,
@@ -37,7 +37,12 @@ fn apply_text(
     }
 }
 
-/// Applies the groups that texts spell, in order: those of the records of a log that begins at this place.
+/// Applies the groups that texts spell, in order. They are those of the records of a log that begins at this place.
+///
+/// # Errors
+///
+/// - `Damaged` with `NoGroup`, `EmptyGroup` or `NotApplicable`, and the place, for the first record that breaks a rule.
+/// - `NoMemory` if memory ran out.
 pub fn apply_texts(
     alloc: Global,
     directory: &mut Directory,

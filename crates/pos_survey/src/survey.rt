@@ -1,4 +1,4 @@
-// What the bytes of a disk hold.
+//! What the bytes of a disk hold.
 ghost use Rattle.std.specs.Prelude.{IfOk, IfErr};
 ghost use Rattle.pos_survey.specs.Damages.{Breaks};
 ghost use Rattle.pos_survey.specs.Tellings.{Tells};
@@ -11,29 +11,31 @@ use pos_dir::Directory;
 use pos_image::Slot;
 use std::alloc::Global;
 
-/// What the bytes of a disk hold.
+/// A survey of the bytes of a disk: what they hold.
 #[derive(Drop)]
 pub struct Survey {
-    /// The slot of the current image, which tells the layout.
+    /// The slot of the current image, which gives the layout.
     pub slot: Slot,
     /// The sequence of the current image.
     pub sequence: u64,
-    /// How many records are behind it.
+    /// How many records are after it.
     pub records: usize,
-    /// How many bytes the longest group has that fits behind them, or None where not even an empty one fits.
+    /// How many bytes the longest group has that fits after them, or `None` if not even an empty one fits.
     pub room: Option<u64>,
     /// The files, with the changes of the records.
     pub directory: Directory,
 }
 
 impl Survey {
-    /// What the bytes of a disk hold: what a recovery of a store would find in them. docs/CONSOLE.md, "What a totals
-    /// file holds".
+    /// Returns what the bytes of a disk hold: what a recovery of a store would find in them. docs/CONSOLE.md, "What a
+    /// totals file holds".
     ///
     /// # Errors
     ///
-    /// `TooSmall` where there are fewer than 327,680 bytes, `Unformatted` where the gates of all four slots are closed,
-    /// `Damaged` where the bytes break a rule, with the place and the rule, `NoMemory`.
+    /// - `TooSmall` if there are fewer than 327,680 bytes.
+    /// - `Unformatted` if the gates of all four slots are closed.
+    /// - `Damaged` if the bytes break a rule, with the place and the rule.
+    /// - `NoMemory` if memory ran out.
     pub fn of(alloc: Global, bytes: &[u8]) -> Result<Survey, SurveyFault>
         ensures told { IfOk result (Tells bytes.now) }
         ensures broken { IfErr result (Breaks bytes.now) }

@@ -1,4 +1,4 @@
-// What is told of a disk, as lines of text.
+//! A survey as lines of text.
 ghost use Rattle.std.specs.Prelude.{◌≡◌, ◌++◌, map, decimal, IfOk, OnOk};
 ghost use Rattle.pos_survey.specs.Texts.{line, hex_text, shown, shown_byte, number_of, room_text, file_text, files_text, facts_text, survey_text};
 
@@ -8,7 +8,7 @@ use pos_dir::Directory;
 use pos_image::Layout;
 use std::alloc::{AllocError, Global};
 
-// What stands for a byte in a text: itself, or a full stop where it has no character of its own.
+// Returns what is shown for a byte: itself, or a full stop if it has no character of its own.
 fn shown_byte(byte: u8) -> u8
     ensures { result ≡ shown_byte byte }
 {
@@ -21,7 +21,7 @@ fn shown_byte(byte: u8) -> u8
     byte
 }
 
-// What stands for bytes.
+// Returns what is shown for bytes.
 fn show(alloc: Global, bytes: &[u8]) -> Result<Vec<u8>, AllocError>
     ensures { IfOk result (λ text. text.items ≡ shown bytes.now) }
 {
@@ -32,7 +32,7 @@ fn show(alloc: Global, bytes: &[u8]) -> Result<Vec<u8>, AllocError>
     Ok(text)
 }
 
-// Bytes in hex, and a hyphen for none.
+// Returns bytes in hex, and a hyphen for none.
 fn hex_of(alloc: Global, bytes: &[u8]) -> Result<Vec<u8>, AllocError>
     ensures { IfOk result (λ text. text.items ≡ hex_text bytes.now) }
 {
@@ -43,7 +43,7 @@ fn hex_of(alloc: Global, bytes: &[u8]) -> Result<Vec<u8>, AllocError>
     Vec::from_slice(alloc, text.as_bytes())
 }
 
-// Puts a line behind the text: a word, and its value.
+// Puts a line at the end of the text: a word, and its value.
 fn put_line(text: &mut Vec<u8>, word: &str, value: &[u8]) -> Result<(), AllocError>
     ensures { OnOk result (text.new.items ≡ text.old.items ++ line word.now value.now) }
 {
@@ -53,7 +53,7 @@ fn put_line(text: &mut Vec<u8>, word: &str, value: &[u8]) -> Result<(), AllocErr
     text.extend_from_slice(b"\n")
 }
 
-// Puts a line with a number behind the text.
+// Puts a line with a number at the end of the text.
 fn put_number(text: &mut Vec<u8>, word: &str, number: u64) -> Result<(), AllocError>
     ensures { OnOk result (text.new.items ≡ text.old.items ++ line word.now (decimal number)) }
 {
@@ -61,7 +61,7 @@ fn put_number(text: &mut Vec<u8>, word: &str, number: u64) -> Result<(), AllocEr
     put_line(text, word, buffer.format(number).as_bytes())
 }
 
-// Puts the lines of a file behind the text.
+// Puts the lines of a file at the end of the text.
 fn put_file(alloc: Global, text: &mut Vec<u8>, name: &[u8], bytes: &[u8]) -> Result<(), AllocError>
     ensures { OnOk result (text.new.items ≡ text.old.items ++ file_text name.now bytes.now) }
 {
@@ -76,7 +76,7 @@ fn put_file(alloc: Global, text: &mut Vec<u8>, name: &[u8], bytes: &[u8]) -> Res
     put_line(text, "text", &shown)
 }
 
-// Puts the lines of all files behind the text.
+// Puts the lines of all files at the end of the text.
 fn put_files(alloc: Global, text: &mut Vec<u8>, directory: &Directory) -> Result<(), AllocError>
     ensures { OnOk result (text.new.items ≡ text.old.items ++ files_text directory.now.files) }
 {
@@ -89,7 +89,7 @@ fn put_files(alloc: Global, text: &mut Vec<u8>, directory: &Directory) -> Result
     Ok(())
 }
 
-// The number of a layout.
+// Returns the number of a layout.
 fn number_of(layout: Layout) -> u64
     ensures { result ≡ number_of layout }
 {
@@ -99,7 +99,7 @@ fn number_of(layout: Layout) -> u64
     }
 }
 
-// Puts the line of the room in the log behind the text.
+// Puts the line of the room in the log at the end of the text.
 fn put_room(text: &mut Vec<u8>, room: Option<u64>) -> Result<(), AllocError>
     ensures { OnOk result (text.new.items ≡ text.old.items ++ room_text room) }
 {
@@ -109,7 +109,7 @@ fn put_room(text: &mut Vec<u8>, room: Option<u64>) -> Result<(), AllocError>
     }
 }
 
-// Puts the lines of all but the files behind the text.
+// Puts the lines of all but the files at the end of the text.
 fn put_facts(text: &mut Vec<u8>, survey: &Survey) -> Result<(), AllocError>
     ensures { OnOk result (text.new.items ≡ text.old.items ++ facts_text survey.now) }
 {
@@ -122,11 +122,11 @@ fn put_facts(text: &mut Vec<u8>, survey: &Survey) -> Result<(), AllocError>
 }
 
 impl Survey {
-    /// What is told, as lines of text: a fact a line. docs/CONSOLE.md, "What a totals file holds".
+    /// Returns the survey as lines of text: one fact a line. docs/CONSOLE.md, "What a totals file holds".
     ///
     /// # Errors
     ///
-    /// Want of memory.
+    /// [`AllocError`] if memory ran out.
     pub fn to_text(&self, alloc: Global) -> Result<Vec<u8>, AllocError>
         ensures { IfOk result (λ text. text.items ≡ survey_text self.now) }
     {
