@@ -1,7 +1,8 @@
+//! Values of properties, and what a call answers.
 use crate::code::Code;
 use pos_bytes::Bytes;
 
-/// A value of a property, and what a call gives back.
+/// A value of a property, or what a call returns.
 #[derive(Drop)]
 pub enum Value {
     /// Nothing.
@@ -19,8 +20,8 @@ pub enum Value {
 /// What a call answers.
 #[derive(Drop)]
 pub enum Answer {
-    /// It did what it does, and gives this.
+    /// The call did what it does, and returns this.
     Done(Value),
-    /// It was refused with this code, and the extended code, which is 0 but for E_EXTENDED.
+    /// The call was refused with this code and extended code. The extended code is 0 unless the code is E_EXTENDED.
     Refused(Code, u32),
 }

@@ -1,3 +1,4 @@
+//! The calls of an application on a control.
 ghost use Rattle.std.specs.Prelude.{◌≡◌};
 ghost use Rattle.pos_service.specs.Calls.{own_row, row_of, needs_of};
 
@@ -14,39 +15,39 @@ pub enum Call {
     Open(Bytes),
     /// `close`: the control is for no device any more (common chapter).
     Close,
-    /// `claim` with a timeout in milliseconds, -1 for one without end: other controls are kept from the device from now
-    /// on (common chapter).
+    /// `claim` with a timeout in milliseconds, or -1 for no end: it keeps other controls from the device from now on
+    /// (common chapter).
     Claim(i128),
     /// `release`: other controls aren't kept from the device any more (common chapter).
     Release,
-    /// Sets a property.
+    /// Sets a property (common chapter).
     Set(Property, Value),
-    /// Gets a property.
+    /// Gets a property (common chapter).
     Get(Property),
     /// `openDrawer` (chapter Cash Drawer).
     OpenDrawer,
-    /// `clearInput`: the input that is held is deleted (common chapter, chapter Scanner).
+    /// `clearInput`: deletes the input that is held (common chapter, chapter Scanner).
     ClearInput,
-    /// `clearInputProperties`: the properties of the last input have their defaults again (common chapter, chapter
+    /// `clearInputProperties`: gives the properties of the last input their defaults again (common chapter, chapter
     /// Scanner).
     ClearInputProperties,
-    /// `displayText` with the text and the number of its attribute: it is shown from the cursor on (chapter Line
+    /// `displayText` with the text and the number of its attribute: shows the text from the cursor on (chapter Line
     /// Display, as the calls below).
     DisplayText(Bytes, i128),
     /// `displayTextAt` with a row, a column, the text and the number of its attribute.
     DisplayTextAt(i128, i128, Bytes, i128),
-    /// `clearText`.
+    /// `clearText`: blanks the display.
     ClearText,
     /// `scrollText` with the number of a direction, and by how many rows or columns.
     ScrollText(i128, i128),
-    /// `printNormal` with the number of a station and the text: it is printed, at once or later, as AsyncMode says
-    /// (chapter POS Printer, as the calls below).
+    /// `printNormal` with the number of a station and the text: prints it, at once or later, as AsyncMode says (chapter
+    /// POS Printer, as the calls below).
     PrintNormal(i128, Bytes),
-    /// `printImmediate` with the number of a station and the text: it is printed before all that is queued.
+    /// `printImmediate` with the number of a station and the text: prints it before all that is queued.
     PrintImmediate(i128, Bytes),
-    /// `cutPaper` with how much of the paper is cut, in percent.
+    /// `cutPaper` with how much of the paper is cut, in percent, 0 to 100.
     CutPaper(i128),
-    /// `clearOutput`: all output that is queued is deleted (common chapter).
+    /// `clearOutput`: deletes all output that is queued (common chapter).
     ClearOutput,
     /// `create` with the new file's name, its size in bytes, and whether errors are to be detected, which has no effect
     /// (chapter Hard Totals, as the calls below).
@@ -57,15 +58,15 @@ pub enum Call {
     Find(Bytes),
     /// `findByIndex` with an index, counted from 0 in the order of creation.
     FindByIndex(i128),
-    /// `read` with the file's handle, an offset and how many bytes.
+    /// `read` with the file's handle, an offset from 0 and how many bytes.
     Read(i128, i128, i128),
-    /// `write` with the file's handle, an offset and the bytes.
+    /// `write` with the file's handle, an offset from 0 and the bytes.
     Write(i128, i128, Bytes),
     /// `setAll` with the file's handle and a byte.
     SetAll(i128, i128),
     /// `rename` with the file's handle and its new name.
     Rename(i128, Bytes),
-    /// `claimFile` with the file's handle and a timeout in milliseconds, -1 for one without end.
+    /// `claimFile` with the file's handle and a timeout in milliseconds, or -1 for no end.
     ClaimFile(i128, i128),
     /// `releaseFile` with the file's handle.
     ReleaseFile(i128),
@@ -80,13 +81,13 @@ pub enum Call {
 /// What is known of a call beforehand.
 #[derive(Clone, Copy, PartialEq, Eq)]
 pub struct CallRow {
-    /// The category that has it; none where each has it, which then says by itself what it asks.
+    /// The category that has it; none if each category has it. Such a call says by itself what it asks.
     pub category: Option<Category>,
     /// What it asks of the claim of the device.
     pub claim: ClaimNeed,
     /// Whether the device has to be enabled.
     pub is_enabled: bool,
-    /// Whether it may want memory.
+    /// Whether it may take memory.
     pub takes_memory: bool,
 }
 
@@ -103,7 +104,7 @@ fn own_row(category: Category, claim: ClaimNeed, is_enabled: bool, takes_memory:
 }
 
 impl Call {
-    /// What is known of it beforehand.
+    /// Returns what is known of it beforehand.
     pub fn row(&self) -> CallRow
         ensures { result ≡ row_of self.now }
     {
@@ -146,7 +147,8 @@ impl Call {
         }
     }
 
-    /// What it asks of a control of a category before anything else, where it isn't one that every category has.
+    /// Returns what it asks of a control of a category before anything else, if it isn't a call that every category
+    /// has.
     pub fn needs(&self, category: Category) -> Needs
         ensures { result ≡ needs_of category self.now }
     {

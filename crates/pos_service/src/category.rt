@@ -1,9 +1,10 @@
+//! The categories of devices.
 ghost use Rattle.std.specs.Prelude.{◌≡◌};
 ghost use Rattle.pos_service.specs.Categories.{serves, is_exclusive, reports_power, category_named};
 
 use crate::kind::Kind;
 
-/// The category of a control and of the devices that it may open.
+/// The category of a control, and of the devices that it may open.
 #[derive(Clone, Copy, PartialEq, Eq)]
 pub enum Category {
     /// Chapter Cash Drawer.
@@ -19,7 +20,7 @@ pub enum Category {
 }
 
 impl Category {
-    /// The category of this word, as a profile and a script write it.
+    /// Returns the category of this word, as a profile and a script write it, or `None` if there is none.
     pub fn named(word: &[u8]) -> Option<Self>
         ensures { result ≡ category_named word.now }
     {
@@ -41,7 +42,7 @@ impl Category {
         None
     }
 
-    /// Whether its controls may open a device of this kind; a device of no kind has no peripheral.
+    /// Returns whether its controls may open a device of this kind. A device of no kind has no peripheral.
     pub fn serves(self, kind: Option<Kind>) -> bool
         ensures { result ≡ serves self kind }
     {
@@ -60,8 +61,8 @@ impl Category {
         }
     }
 
-    /// Whether its devices are exclusive-use: one is enabled for the control alone that holds it by a claim. The others
-    /// are sharable (common chapter).
+    /// Returns whether its devices are exclusive-use: one is enabled only for the control that has claimed it. The
+    /// others are sharable (common chapter).
     pub fn is_exclusive(self) -> bool
         ensures { result ≡ is_exclusive self }
     {
@@ -74,8 +75,8 @@ impl Category {
         }
     }
 
-    /// Whether its devices tell if they are on: CapPowerReporting is PR_STANDARD (common chapter, device power
-    /// reporting).
+    /// Returns whether its devices report if they are on: CapPowerReporting is PR_STANDARD (common chapter, device
+    /// power reporting).
     pub fn reports_power(self) -> bool
         ensures { result ≡ reports_power self }
     {

@@ -1,8 +1,8 @@
-//! Claims: whose a claim is, and for how long one may be waited for (common chapter, methods claim and release).
+//! Claims: who holds a claim, and how long one may be waited for (common chapter, methods claim and release).
 ghost use Rattle.std.specs.Prelude.{◌≡◌};
 ghost use Rattle.pos_service.specs.Claims.{is_foreign, is_own, is_timeout};
 
-/// Whether the control with a number is the holder.
+/// Returns whether the control with a number is the holder.
 pub fn is_own(number: usize, holder: Option<usize>) -> bool
     ensures { result ≡ is_own number holder }
 {
@@ -12,7 +12,7 @@ pub fn is_own(number: usize, holder: Option<usize>) -> bool
     }
 }
 
-/// Whether there is a holder, and it is another control than the one with a number.
+/// Returns whether there is a holder, and it is another control than the one with a number.
 pub fn is_foreign(number: usize, holder: Option<usize>) -> bool
     ensures { result ≡ is_foreign number holder }
 {
@@ -22,7 +22,7 @@ pub fn is_foreign(number: usize, holder: Option<usize>) -> bool
     }
 }
 
-/// Whether a number is a timeout: so many milliseconds, or -1 for no end.
+/// Returns whether a number is a timeout: 0 or more milliseconds, or -1 for no end.
 pub fn is_timeout(number: i128) -> bool
     ensures { result ≡ is_timeout number }
 {

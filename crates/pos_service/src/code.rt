@@ -1,3 +1,4 @@
+//! The result codes of the standard.
 ghost use Rattle.std.specs.Prelude.{◌≡◌};
 ghost use Rattle.pos_service.specs.Codes.{number_of};
 
@@ -7,7 +8,7 @@ pub const ETOT_NOROOM: u32 = 201;
 /// EPTR_COVER_OPEN, the extended code of a printer whose cover is open (chapter POS Printer).
 pub const EPTR_COVER_OPEN: u32 = 201;
 
-/// EPTR_REC_EMPTY, the extended code of a printer whose paper doesn't suffice (chapter POS Printer).
+/// EPTR_REC_EMPTY, the extended code of a printer that has too little paper (chapter POS Printer).
 pub const EPTR_REC_EMPTY: u32 = 203;
 
 /// A result code of the standard (common chapter, ErrorCode).
@@ -21,7 +22,7 @@ pub enum Code {
     Claimed,
     /// E_NOTCLAIMED: what is asked for has to be claimed first.
     NotClaimed,
-    /// E_NOSERVICE: no peripheral stands behind the device.
+    /// E_NOSERVICE: the device has no peripheral.
     NoService,
     /// E_DISABLED: the control is disabled.
     Disabled,
@@ -41,12 +42,12 @@ pub enum Code {
     Timeout,
     /// E_BUSY: the device is at work.
     Busy,
-    /// E_EXTENDED: the extended code says what is amiss.
+    /// E_EXTENDED: the extended code says what is wrong.
     Extended,
 }
 
 impl Code {
-    /// Its number in the standard.
+    /// Returns its number in the standard.
     pub fn number(self) -> u32
         ensures { result ≡ number_of self }
     {

@@ -1,3 +1,4 @@
+//! What a call comes to.
 use crate::display_text::Place;
 use crate::order::Order;
 
@@ -19,7 +20,7 @@ pub enum Change {
 /// What a call comes to that nothing refuses, at a device with a peripheral.
 #[derive(Drop)]
 pub enum Deed {
-    /// The peripheral is given an order, and once that is done the control changes.
+    /// The peripheral gets an order, and once that is done the control changes.
     Gives(Order, Change),
     /// The control changes, and the peripheral isn't asked.
     Changes(Change),

@@ -19,7 +19,7 @@ pub enum Attribute {
 }
 
 impl Attribute {
-    /// Its number in the standard, 0 to 3.
+    /// Returns its number in the standard, 0 to 3.
     pub fn number(self) -> u32
         ensures { result ≡ attribute_number_of self }
     {
@@ -31,7 +31,7 @@ impl Attribute {
         }
     }
 
-    /// The attribute with a number of the standard: none but for 0 to 3.
+    /// Returns the attribute with a number of the standard, or `None` if the number isn't 0 to 3.
     pub fn from_number(number: i128) -> Option<Self>
         ensures { result ≡ attribute_of number }
     {
@@ -54,7 +54,7 @@ impl Attribute {
     }
 }
 
-/// Where scrollText moves what is shown (chapter Line Display).
+/// Where `scrollText` moves what is shown (chapter Line Display).
 #[derive(Clone, Copy, PartialEq, Eq)]
 pub enum Direction {
     /// DISP_ST_UP.
@@ -68,7 +68,7 @@ pub enum Direction {
 }
 
 impl Direction {
-    /// Its number in the standard, 1 to 4.
+    /// Returns its number in the standard, 1 to 4.
     pub fn number(self) -> u32
         ensures { result ≡ direction_number_of self }
     {
@@ -80,7 +80,7 @@ impl Direction {
         }
     }
 
-    /// The direction with a number of the standard: none but for 1 to 4.
+    /// Returns the direction with a number of the standard, or `None` if the number isn't 1 to 4.
     pub fn from_number(number: i128) -> Option<Self>
         ensures { result ≡ direction_of number }
     {
@@ -102,8 +102,8 @@ impl Direction {
         None
     }
 
-    /// The most units by which a display of so many rows and columns scrolls: its rows up and down, its columns left
-    /// and right.
+    /// Returns the most units by which a display of so many rows and columns scrolls: its rows up and down, its columns
+    /// left and right.
     pub fn most_units(self, rows: u32, columns: u32) -> u32
         ensures { result ≡ most_units rows columns self }
     {
@@ -114,7 +114,7 @@ impl Direction {
     }
 }
 
-/// A character of a display, 0x20 to 0x7E, with its attribute.
+/// A character of a display with its attribute.
 #[derive(Clone, Copy, PartialEq, Eq)]
 pub struct DisplayCell {
     /// The character, 0x20 to 0x7E.
@@ -138,7 +138,7 @@ pub struct Place {
     pub column: u32,
 }
 
-/// The first place.
+/// The first place: row 0, column 0.
 pub const ORIGIN: Place = Place { row: 0, column: 0 };
 
 /// Where the texts of a control begin, and whether they move that place (chapter Line Display, CursorRow, CursorColumn
@@ -147,12 +147,12 @@ pub const ORIGIN: Place = Place { row: 0, column: 0 };
 pub struct Cursor {
     /// The place of CursorRow and CursorColumn.
     pub place: Place,
-    /// CursorUpdate.
+    /// Whether a text moves the place to its end (CursorUpdate).
     pub update: bool,
 }
 
 impl Cursor {
-    /// The cursor of a control that was just opened: at the first place, and moved by texts.
+    /// Returns the cursor of a control that was just opened: at the first place, and moved by texts.
     pub fn new() -> Self
         ensures { result ≡ default_cursor }
     {
@@ -163,6 +163,7 @@ impl Cursor {
     }
 }
 
+/// Returns whether each byte is a line feed, a carriage return or 0x20 to 0x7E.
 fn all_of_text(bytes: &[u8]) -> bool
     ensures { result ≡ list_all is_display_byte bytes.now }
 {
@@ -171,7 +172,8 @@ fn all_of_text(bytes: &[u8]) -> bool
         .all(|b| *b == 10 || *b == 13 || (32 <= *b && *b <= 126))
 }
 
-/// Whether a display takes a text: at most 4,096 bytes, each a line feed, a carriage return or 0x20 to 0x7E.
+/// Returns whether a display takes a text: at most 4,096 bytes, each a line feed, a carriage return or 0x20 to 0x7E
+/// (chapter Line Display).
 pub fn is_text_of_display(bytes: &[u8]) -> bool
     ensures { result ≡ is_display_text bytes.now }
 {
@@ -226,8 +228,8 @@ fn place_after_byte(rows: u32, columns: u32, place: Place, byte: u8) -> Place
     }
 }
 
-/// Where the cursor is after a text that begins at a place of a display of so many rows and columns (chapter Line
-/// Display, CursorRow and CursorColumn with CursorUpdate true).
+/// Returns where the cursor is after a text that begins at a place of a display of so many rows and columns (chapter
+/// Line Display, CursorRow and CursorColumn with CursorUpdate true).
 pub fn place_after(rows: u32, columns: u32, start: Place, bytes: &[u8]) -> Place
     requires some { 1 ≤ columns }
     requires within { is_cursor_place rows columns start ≡ true }

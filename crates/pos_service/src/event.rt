@@ -1,3 +1,4 @@
+//! Events, as an application gets them.
 ghost use Rattle.std.specs.Prelude.{◌≡◌};
 ghost use Rattle.pos_service.specs.Codes.{locus_number_of};
 
@@ -10,13 +11,13 @@ pub enum Event {
     StatusUpdate(u32),
     /// DataEvent: input has come.
     Data,
-    /// ErrorEvent: the code, the extended code, and where the error stands.
+    /// ErrorEvent: the code, the extended code, and where the error is.
     Error(Code, u32, Locus),
     /// OutputCompleteEvent: the output with this OutputID is done.
     OutputComplete(u64),
 }
 
-/// Where an error stands (common chapter, ErrorLocus).
+/// Where an error is (common chapter, ErrorLocus).
 #[derive(Clone, Copy, PartialEq, Eq)]
 pub enum Locus {
     /// EL_OUTPUT.
@@ -28,7 +29,7 @@ pub enum Locus {
 }
 
 impl Locus {
-    /// Its number in the standard.
+    /// Returns its number in the standard.
     pub fn number(self) -> u32
         ensures { result ≡ locus_number_of self }
     {
@@ -40,16 +41,16 @@ impl Locus {
     }
 }
 
-/// What an application answers to an ErrorEvent (common chapter, ErrorResponse). It is handed in with the delivery,
-/// and no other event looks at it.
+/// What an application answers to an ErrorEvent (common chapter, ErrorResponse). It is passed in with the delivery, and
+/// no other event looks at it.
 #[derive(Clone, Copy, PartialEq, Eq)]
 pub enum ErrorReply {
-    /// What the locus has by default.
+    /// The default of the locus.
     Default,
-    /// ER_RETRY: the output is to be tried again.
+    /// ER_RETRY: try the output again.
     Retry,
-    /// ER_CLEAR: what is held is to be deleted.
+    /// ER_CLEAR: delete what is held.
     Clear,
-    /// ER_CONTINUEINPUT: the input that is held is to be delivered.
+    /// ER_CONTINUEINPUT: deliver the input that is held.
     ContinueInput,
 }

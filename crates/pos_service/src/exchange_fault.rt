@@ -1,3 +1,4 @@
+//! Why a peripheral was not attached or detached.
 use thiserror::Error;
 
 /// Why a peripheral was not attached.
@@ -9,7 +10,7 @@ pub enum AttachFault {
     /// The peripheral is of another kind than the device.
     #[error("the peripheral is of another kind")]
     KindDiffers,
-    /// The device has its peripheral.
+    /// The device already has a peripheral.
     #[error("the device has its peripheral")]
     InUse,
 }

@@ -1,3 +1,4 @@
+//! What happens at a peripheral from outside.
 ghost use Rattle.std.specs.Prelude.{◌≡◌};
 ghost use Rattle.pos_service.specs.Peripherals.{input_fits};
 
@@ -7,26 +8,29 @@ use pos_bytes::Bytes;
 /// What happens at a peripheral from outside.
 #[derive(Drop)]
 pub enum Input {
-    /// A drawer is open from now on, or closed.
+    /// A drawer is open from now on if this is true, otherwise closed.
     DrawerMoved(bool),
-    /// A scanner reads a bar code: its type as a number of 0 to 999, all that was read, and the label in it.
+    /// A scanner reads a bar code.
     Scan {
+        /// Its type, as a number of 0 to 999.
         kind: u32,
+        /// All that was read.
         bytes: Bytes,
+        /// The label in it.
         label: Bytes,
     },
     /// A scanner fails to read.
     ScanFault,
-    /// A printer's cover is open from now on, or closed.
+    /// A printer's cover is open from now on if this is true, otherwise closed.
     CoverMoved(bool),
     /// A printer has so many lines of paper left from now on, at most 100,000.
     PaperLoaded(u32),
-    /// A peripheral of any kind is on from now on, or off.
+    /// A peripheral of any kind is on from now on if this is true, otherwise off.
     PowerMoved(bool),
 }
 
 impl Input {
-    /// Whether it can happen at a peripheral of this kind.
+    /// Returns whether it can happen at a peripheral of this kind.
     pub fn fits(&self, kind: Kind) -> bool
         ensures { result ≡ input_fits kind self.now }
     {
@@ -52,7 +56,7 @@ impl Input {
 /// How a peripheral has taken an input.
 #[derive(Clone, Copy, PartialEq, Eq)]
 pub enum Taken {
-    /// There is nothing to tell but the signs.
+    /// There is nothing to report but the signs.
     Quiet,
     /// A scan.
     Scan,

@@ -1,3 +1,4 @@
+//! The kinds of devices.
 ghost use Rattle.std.specs.Prelude.{◌≡◌};
 ghost use Rattle.pos_service.specs.Kinds.{is_drawer, is_display, is_printer, rows_of, columns_of, chars_of};
 
@@ -8,22 +9,22 @@ pub enum Kind {
     Drawer,
     /// A scanner.
     Scanner,
-    /// A line display of 1 to 8 rows of 1 to 80 columns.
+    /// A line display of 1 to 8 rows of 1 to 80 columns (chapter Line Display).
     Display { rows: u32, columns: u32 },
-    /// A receipt printer of 1 to 255 characters a line, whose paper is near its end at 1 to `near` lines, `near`
-    /// being 0 to 100,000.
+    /// A receipt printer of 1 to 255 characters a line (chapter POS Printer). Its paper is near its end at 1 to `near`
+    /// lines, `near` being 0 to 100,000.
     Printer { chars: u32, near: u32 },
 }
 
 impl Kind {
-    /// Whether it is a cash drawer.
+    /// Returns whether it is a cash drawer.
     pub fn is_drawer(self) -> bool
         ensures { result ≡ is_drawer self }
     {
         matches!(self, Kind::Drawer)
     }
 
-    /// Whether it is a line display.
+    /// Returns whether it is a line display.
     pub fn is_display(self) -> bool
         ensures { result ≡ is_display self }
     {
@@ -36,7 +37,7 @@ impl Kind {
         )
     }
 
-    /// Whether it is a receipt printer.
+    /// Returns whether it is a receipt printer.
     pub fn is_printer(self) -> bool
         ensures { result ≡ is_printer self }
     {
@@ -44,7 +45,7 @@ impl Kind {
     }
 }
 
-/// Rows of what stands at a device: 0 where that is no display (chapter Line Display).
+/// Returns how many rows a device of this kind has, or 0 if it is no display (chapter Line Display).
 pub fn rows_of(kind: Option<Kind>) -> u32
     ensures { result ≡ rows_of kind }
 {
@@ -54,7 +55,7 @@ pub fn rows_of(kind: Option<Kind>) -> u32
     }
 }
 
-/// Columns of what stands at a device: 0 where that is no display (chapter Line Display).
+/// Returns how many columns a device of this kind has, or 0 if it is no display (chapter Line Display).
 pub fn columns_of(kind: Option<Kind>) -> u32
     ensures { result ≡ columns_of kind }
 {
@@ -64,7 +65,7 @@ pub fn columns_of(kind: Option<Kind>) -> u32
     }
 }
 
-/// Characters of a line of what stands at a device: 0 where that is no printer (chapter POS Printer).
+/// Returns how many characters a line of a device of this kind has, or 0 if it is no printer (chapter POS Printer).
 pub fn chars_of(kind: Option<Kind>) -> u32
     ensures { result ≡ chars_of kind }
 {

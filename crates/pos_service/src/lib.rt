@@ -1,5 +1,12 @@
-//! The words of a shop counter's device layer by UnifiedPOS 1.16, the trait that a peripheral meets, and the
-//! definitions of the device machine.
+//! The vocabulary of a shop counter's device layer by UnifiedPOS 1.16, and the trait that a peripheral meets.
+//!
+//! - [`Call`], [`Property`], [`Answer`] and [`Code`] are what an application asks and gets, and [`Event`] is what it is
+//!   sent.
+//! - [`Peripheral`] is what serves a device: it takes an [`Order`], gives a [`Reply`], and takes an [`Input`].
+//! - [`Request`] and [`Response`] are what a counter is asked and what it answers.
+//!
+//! The layers above share these types, and the definitions in `specs/` of what the standard asks of each call. A driver
+//! meets the clauses of [`Peripheral`]; then each call on its device follows the standard.
 #![tactic(auto)]
 
 mod answer;

@@ -1,9 +1,10 @@
+//! Want of memory.
 ghost use Rattle.std.specs.Prelude.{◌≡◌};
 
 use std::alloc::AllocError;
 use thiserror::Error;
 
-/// Want of memory: a growth was refused, and nothing has changed.
+/// Memory ran out, and nothing has changed.
 #[derive(Clone, Copy, Debug, PartialEq, Eq, Error)]
 #[error("no memory")]
 pub struct NoMemory;

@@ -15,7 +15,7 @@ fn are_name_bytes(bytes: &[u8]) -> bool
         .all(|byte| byte.is_ascii_alphanumeric() || *byte == b'-')
 }
 
-/// Whether a text names a device: 1 to 16 ASCII letters, digits or hyphens.
+/// Returns whether a text names a device: 1 to 16 ASCII letters, digits or hyphens.
 pub fn is_device_name(text: &[u8]) -> bool
     ensures { result ≡ is_device_name text.now }
 {

@@ -6,9 +6,9 @@
 pub enum ClaimNeed {
     /// Nothing.
     Any,
-    /// That no other control holds the device.
+    /// That no other control has claimed the device.
     NoOther,
-    /// That the control holds the device.
+    /// That the control has claimed the device.
     Own,
 }
 

@@ -2,7 +2,7 @@
 ghost use Rattle.std.specs.Prelude.{◌≡◌, ◌<◌, ◌≤◌, pos, false, MatchOption};
 ghost use Rattle.pos_service.specs.Numbers.{is_natural, is_index, is_up_to};
 
-/// A number, where it isn't below 0.
+/// Returns a number, or `None` if it is below 0.
 pub fn to_natural(number: i128) -> Option<u128>
     ensures { MatchOption result (is_natural number ≡ false) (λ n. number ≡ pos n) }
 {
@@ -12,7 +12,7 @@ pub fn to_natural(number: i128) -> Option<u128>
     Some(number as u128)
 }
 
-/// A number, where it is an index of so many places: at least 0, and less than their number.
+/// Returns a number, or `None` if it is no index of so many places: at least 0, and less than their number.
 pub fn to_index(number: i128, length: u32) -> Option<u32>
     ensures { MatchOption result (is_index length number ≡ false) (λ n. (number ≡ pos n) × (n < length)) }
 {
@@ -25,7 +25,7 @@ pub fn to_index(number: i128, length: u32) -> Option<u32>
     Some(number as u32)
 }
 
-/// A number, where it is 0 to a limit.
+/// Returns a number, or `None` if it isn't 0 to a limit.
 pub fn to_count(number: i128, limit: u32) -> Option<u32>
     ensures { MatchOption result (is_up_to limit number ≡ false) (λ n. (number ≡ pos n) × (n ≤ limit)) }
 {

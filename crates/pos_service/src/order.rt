@@ -1,3 +1,4 @@
+//! What a control asks of a peripheral, and what that replies.
 ghost use Rattle.std.specs.Prelude.{◌≡◌, ◌&&◌, Some, nat_le};
 ghost use Rattle.std.specs.List.{filter_map};
 ghost use Rattle.pos_service.specs.Codes.{code_by, extended_by};
@@ -14,34 +15,42 @@ use pos_bytes::{Bytes, LentBytes};
 /// What a control asks of a peripheral.
 #[derive(Drop)]
 pub enum Order {
-    /// A drawer opens.
+    /// Opens a drawer (chapter Cash Drawer).
     OpenDrawer,
-    /// A display shows a text with an attribute, from a row, and a column of which there may be one more, on.
+    /// Shows a text with an attribute on a display (chapter Line Display).
     ShowText {
+        /// The row where it begins, from 0.
         row: u32,
+        /// The column where it begins, from 0: at most one right of the last column.
         column: u32,
+        /// How it is shown.
         attribute: Attribute,
+        /// The text.
         bytes: Bytes,
     },
-    /// A display is blank.
+    /// Blanks a display (chapter Line Display).
     ClearText,
-    /// What a display shows moves in a direction by so many rows or columns, at most all.
+    /// Moves what a display shows (chapter Line Display).
     Scroll {
+        /// Where it moves.
         direction: Direction,
+        /// By how many rows or columns: at most all.
         units: u32,
     },
-    /// A printer prints a text.
+    /// Prints a text (chapter POS Printer).
     Print {
+        /// The text, at most 4,096 bytes.
         bytes: Bytes,
     },
-    /// A printer cuts the paper by 0 to 100 percent.
+    /// Cuts the paper of a printer (chapter POS Printer).
     Cut {
+        /// How much of the paper, 0 to 100 percent.
         percentage: u8,
     },
 }
 
 impl Order {
-    /// Whether a peripheral of this kind takes it.
+    /// Returns whether a peripheral of this kind takes it.
     pub fn fits(&self, kind: Kind) -> bool
         ensures { result ≡ order_fits kind self.now }
     {
@@ -62,7 +71,7 @@ impl Order {
         }
     }
 
-    /// The word that tells it, by the method that asks for it.
+    /// Returns the word for it: the method that asks for it.
     pub fn word(&self) -> &'static str
         ensures { result.now ≡ order_word self.now }
     {
@@ -76,7 +85,7 @@ impl Order {
         }
     }
 
-    /// What it is told with behind its word, in the method's order; where it has fewer arguments, none.
+    /// Returns what follows its word, in the method's order. If it has fewer arguments, the rest are `None`.
     pub fn arguments(&self) -> [Option<Argument<'_>>; 4]
         ensures { filter_map (λ given. given) result ≡ order_arguments self.now }
     {
@@ -117,7 +126,7 @@ impl Order {
     }
 }
 
-/// What an order is told with, behind its word.
+/// An argument of an order, after its word.
 #[derive(Drop)]
 pub enum Argument<'a> {
     /// A number, as the method takes it.
@@ -142,7 +151,7 @@ fn units_fit(kind: Kind, direction: Direction, units: u32) -> bool
     units <= direction.most_units(rows_of(Some(kind)), columns_of(Some(kind)))
 }
 
-/// What a peripheral says to an order.
+/// What a peripheral replies to an order.
 #[derive(Clone, Copy, PartialEq, Eq)]
 pub enum Reply {
     /// It is done.
@@ -158,8 +167,8 @@ pub enum Reply {
 }
 
 impl Reply {
-    /// The result code that it means: E_EXTENDED for an open cover and too little paper, E_FAILURE for a line that
-    /// failed, E_OFFLINE for a peripheral that is off.
+    /// Returns the result code that it means: E_EXTENDED for an open cover and too little paper, E_FAILURE for a line
+    /// that failed, E_OFFLINE for a peripheral that is off.
     pub fn code(self) -> Code
         ensures { result ≡ code_by self }
     {
@@ -171,7 +180,7 @@ impl Reply {
         }
     }
 
-    /// The extended code with it: EPTR_COVER_OPEN or EPTR_REC_EMPTY with E_EXTENDED, else 0.
+    /// Returns the extended code with it: EPTR_COVER_OPEN or EPTR_REC_EMPTY with E_EXTENDED, otherwise 0.
     pub fn extended(self) -> u32
         ensures { result ≡ extended_by self }
     {

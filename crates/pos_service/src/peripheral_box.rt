@@ -1,3 +1,4 @@
+//! A peripheral of any type.
 ghost use Rattle.std.specs.Prelude.{◌≡◌, true, false};
 
 use crate::ending::Ends;
@@ -9,7 +10,7 @@ use crate::peripheral::Peripheral;
 use crate::plant::Snapshot;
 use crate::signs::Signs;
 
-/// A boxed peripheral of any type. It ends only parked: whoever lets it go has to show that.
+/// A boxed peripheral of any type. It ends only parked: whoever drops it has to show that.
 pub struct PeripheralBox {
     device: Box<dyn Peripheral + Drop>,
 }
@@ -62,7 +63,7 @@ impl Ends for PeripheralBox {
 }
 
 impl PeripheralBox {
-    /// The box of a peripheral that is in service.
+    /// Returns the box of a peripheral that is in service.
     pub fn new(device: Box<dyn Peripheral + Drop>) -> PeripheralBox
         requires { (state device).is_parked ≡ false }
         ensures { ⟦<PeripheralBox as Peripheral>⟧.state result ≡ state device }

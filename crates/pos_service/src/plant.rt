@@ -1,3 +1,4 @@
+//! What a peripheral is physically.
 ghost use Rattle.std.specs.Prelude.{◌≡◌};
 ghost use Rattle.pos_service.specs.Receipts.{items_from, buffer_from};
 
@@ -5,25 +6,25 @@ use crate::display_text::DisplayCell;
 use crate::receipt_text::{Mark, PrintedCharacter};
 use std::marker::Model;
 
-/// What a peripheral is physically: whether it is on, and what is of its kind, which stays while it is off.
+/// What a peripheral is physically: whether it is on, and the part that its kind has. That part stays while it is off.
 #[derive(Drop)]
 pub struct Plant {
     /// Whether it is on.
     pub powered: bool,
-    /// What is of its kind.
+    /// The part that its kind has.
     pub form: Form,
 }
 
-/// What a peripheral is physically by its kind.
+/// What a peripheral is physically, by its kind.
 #[derive(Drop)]
 pub enum Form {
-    /// A drawer, open or not.
+    /// A drawer: true if it is open.
     Drawer(bool),
     /// A scanner, of which nothing changes.
     Scanner,
-    /// A line display, by what it shows.
+    /// A line display: what it shows.
     Display(DisplayCells),
-    /// A receipt printer, by its paper and its cover.
+    /// A receipt printer: its paper and its cover.
     Printer(Receipt),
 }
 
@@ -44,7 +45,7 @@ impl Model for DisplayCells {
 }
 
 impl DisplayCells {
-    /// These cells, row by row, of a display of so many rows and columns, without a copy.
+    /// Returns these cells, row by row, of a display of so many rows and columns. It copies nothing.
     pub fn new(rows: u32, columns: u32, cells: Vec<DisplayCell>) -> Self
         ensures { result ≡ record { rows = rows; columns = columns; cells = cells.items } }
     {
@@ -55,28 +56,28 @@ impl DisplayCells {
         }
     }
 
-    /// How many rows the display has.
+    /// Returns how many rows the display has.
     pub fn rows(&self) -> u32
         ensures { result ≡ self.now.rows }
     {
         self.rows
     }
 
-    /// How many columns the display has.
+    /// Returns how many columns the display has.
     pub fn columns(&self) -> u32
         ensures { result ≡ self.now.columns }
     {
         self.columns
     }
 
-    /// The cells row by row.
+    /// Returns the cells row by row.
     pub fn as_slice(&self) -> &[DisplayCell]
         ensures { result.now ≡ self.now.cells }
     {
         self.cells.as_slice()
     }
 
-    /// The cells row by row as a `Vec`, without a copy.
+    /// Returns the cells row by row as a `Vec`. It copies nothing.
     pub fn into_vec(self) -> Vec<DisplayCell>
         ensures { result.items ≡ self.cells }
     {
@@ -89,8 +90,8 @@ impl DisplayCells {
     }
 }
 
-/// A receipt printer's paper and cover. Contracts see how many characters a line has, the list of what is printed, the
-/// line buffer, how many lines of paper are left, and whether the cover is open.
+/// A receipt printer's paper and cover. Contracts see how many characters a line has, what is printed, the line buffer,
+/// how many lines of paper are left, and whether the cover is open.
 #[derive(Drop)]
 pub struct Receipt {
     chars: u32,
@@ -116,8 +117,11 @@ impl Model for Receipt {
 }
 
 impl Receipt {
-    /// What is printed on lines of so many characters, in two flat lists without a copy: the lines and the cuts, and
-    /// all characters, those of the line buffer last; so many lines of paper are left, and the cover is open or not.
+    /// Returns what is printed on lines of so many characters, with so many lines of paper left, and the cover open or
+    /// not. It copies nothing.
+    ///
+    /// What is printed comes in two flat lists: the lines and the cuts, and all characters, those of the line buffer
+    /// last.
     pub fn new(
         chars: u32,
         marks: Vec<Mark>,
@@ -142,14 +146,15 @@ impl Receipt {
         }
     }
 
-    /// How many characters a line has.
+    /// Returns how many characters a line has.
     pub fn chars(&self) -> u32
         ensures { result ≡ self.now.chars }
     {
         self.chars
     }
 
-    /// What is printed, in two flat lists: the lines and the cuts, and all characters, those of the line buffer last.
+    /// Returns what is printed, in two flat lists: the lines and the cuts, and all characters, those of the line buffer
+    /// last.
     pub fn printed(&self) -> (&[Mark], &[PrintedCharacter])
         ensures items { items_from result.0.now result.1.now ≡ self.now.items }
         ensures buffer { buffer_from result.0.now result.1.now ≡ self.now.buffer }
@@ -157,14 +162,14 @@ impl Receipt {
         (self.marks.as_slice(), self.characters.as_slice())
     }
 
-    /// How many lines of paper are left.
+    /// Returns how many lines of paper are left.
     pub fn lines_left(&self) -> u32
         ensures { result ≡ self.now.left }
     {
         self.left
     }
 
-    /// Whether the cover is open.
+    /// Returns whether the cover is open.
     pub fn is_cover_open(&self) -> bool
         ensures { result ≡ self.now.is_cover_open }
     {

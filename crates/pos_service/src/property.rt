@@ -1,3 +1,4 @@
+//! The properties of a control.
 ghost use Rattle.std.specs.Prelude.{◌≡◌, ◌==◌, ◌||◌, bytes_eq, nat_le};
 ghost use Rattle.std.specs.Map.{lookup};
 ghost use Rattle.pos_service.specs.Controls.{default_settings};
@@ -11,28 +12,28 @@ use crate::words::is;
 /// Totals).
 #[derive(Clone, Copy, PartialEq, Eq)]
 pub enum Property {
-    /// What the control is at: closed 1, idle 2, busy 3, in error 4.
+    /// The state of the control: closed 1, idle 2, busy 3, in error 4.
     State,
-    /// Whether the control holds the device by a claim.
+    /// Whether the control has claimed the device.
     Claimed,
     /// Whether the device is in operation for this control.
     DeviceEnabled,
     /// Whether no event is delivered.
     FreezeEvents,
-    /// How the device tells its power: not at all (PR_NONE) 0, or whether it is on (PR_STANDARD) 1.
+    /// How the device reports its power: not at all (PR_NONE) 0, or whether it is on (PR_STANDARD) 1.
     CapPowerReporting,
-    /// Whether the control is notified of the device's power: not (PN_DISABLED) 0, or else (PN_ENABLED) 1.
+    /// Whether the control is notified of the device's power: not (PN_DISABLED) 0, or notified (PN_ENABLED) 1.
     PowerNotify,
     /// The device's power, as far as the control is notified of it: unknown (PS_UNKNOWN) 2000, on (PS_ONLINE) 2001, off
     /// (PS_OFF_OFFLINE) 2004.
     PowerState,
     /// Whether DataEvents and errors of input are delivered.
     DataEventEnabled,
-    /// Whether the control is disabled by the next input that comes.
+    /// Whether the next input that comes disables the control.
     AutoDisable,
     /// How many DataEvents are enqueued.
     DataCount,
-    /// Whether the label and the type of what is scanned are told.
+    /// Whether the label and the type of what is scanned are reported.
     DecodeData,
     /// All that was scanned, of the last DataEvent that was delivered.
     ScanData,
@@ -40,7 +41,7 @@ pub enum Property {
     ScanDataLabel,
     /// The type of its bar code, as a number of 0 to 999.
     ScanDataType,
-    /// Whether the drawer can tell if it is open.
+    /// Whether the drawer can report if it is open.
     CapStatus,
     /// Whether the drawer is open.
     DrawerOpened,
@@ -66,7 +67,7 @@ pub enum Property {
     RecEmpty,
     /// Whether the paper is near its end, or none is left.
     RecNearEnd,
-    /// How many bytes the files of the totals may have in sum.
+    /// How many bytes the files of the totals may have in total.
     TotalsSize,
     /// How many bytes are left for new files.
     FreeData,
@@ -76,13 +77,13 @@ pub enum Property {
     TransactionInProgress,
     /// Whether changes can be made together as a transaction.
     CapTransactions,
-    /// Whether there is one file alone.
+    /// Whether there can be only one file.
     CapSingleFile,
     /// Whether files are kept with error detection.
     CapErrorDetection,
 }
 
-/// The properties of a control that are set, but for DeviceEnabled and those of the cursor.
+/// The properties of a control that are set, except DeviceEnabled and those of the cursor.
 #[derive(Clone, Copy, PartialEq, Eq)]
 pub struct Settings {
     /// FreezeEvents.
@@ -100,7 +101,7 @@ pub struct Settings {
 }
 
 impl Settings {
-    /// Those of a control that was just opened.
+    /// Returns those of a control that was just opened.
     pub fn new() -> Self
         ensures { result ≡ default_settings }
     {
@@ -118,17 +119,17 @@ impl Settings {
 /// What is known of a property beforehand.
 #[derive(Clone, Copy, PartialEq, Eq)]
 pub struct PropertyRow {
-    /// The category whose controls have it; none where those of each have it.
+    /// The category whose controls have it; none if each has it.
     pub category: Option<Category>,
-    /// Whether it can be read of an open control alone.
+    /// Whether it can be read only of an open control.
     pub is_open: bool,
     /// What reading it asks of the claim of the device.
     pub claim: ClaimNeed,
-    /// Whether it can be read of an enabled device alone.
+    /// Whether it can be read only of an enabled device.
     pub is_enabled: bool,
-    /// Whether it can be read of totals alone that are ready.
+    /// Whether it can be read only of totals that are ready.
     pub is_of_files: bool,
-    /// Whether its value is a copy of bytes, for which memory may be wanted.
+    /// Whether its value is a copy of bytes, which takes memory.
     pub is_of_bytes: bool,
     /// Whether it can be set at all.
     pub is_settable: bool,
@@ -268,7 +269,8 @@ fn named_at_length(word: &[u8]) -> Option<Property>
 }
 
 impl Property {
-    /// The property of this name, as the standard writes it. It is sought among those whose names are as long.
+    /// Returns the property of this name, as the standard writes it, or `None` if there is none. It is looked up among
+    /// those whose names are as long.
     pub fn named(word: &[u8]) -> Option<Self>
         ensures { result ≡ property_named word.now }
     {
@@ -283,7 +285,7 @@ impl Property {
         }
     }
 
-    /// What is known of it beforehand.
+    /// Returns what is known of it beforehand.
     pub fn row(self) -> PropertyRow
         ensures { result ≡ row_of self }
     {
@@ -328,7 +330,7 @@ impl Property {
         }
     }
 
-    /// What reading it asks of a control of a category before anything else.
+    /// Returns what reading it asks of a control of a category before anything else.
     pub fn needs(self, category: Category) -> Needs
         ensures { result ≡ needs_of category self }
     {
@@ -341,8 +343,8 @@ impl Property {
         }
     }
 
-    /// What setting it asks of a control of a category before anything else: DeviceEnabled of an exclusive-use device
-    /// that the control holds it.
+    /// Returns what setting it asks of a control of a category before anything else. To set DeviceEnabled of an
+    /// exclusive-use device, the control has to have claimed it.
     pub fn needs_to_set(self, category: Category) -> Needs
         ensures { result ≡ needs_to_set category self }
     {
@@ -362,7 +364,7 @@ impl Property {
 }
 
 impl PropertyRow {
-    /// Whether the controls of a category have it.
+    /// Returns whether the controls of a category have it.
     fn is_in(self, category: Category) -> bool
         ensures { result ≡ is_in self.category category }
     {

@@ -7,7 +7,7 @@ mod number;
 
 use self::number::{count_digits, count_inner, is_upper_byte, number_in};
 
-/// Where the characters of a line stand (escape sequences cA, rA and N).
+/// Where the characters of a line are (chapter POS Printer, escape sequences cA, rA and N).
 #[derive(Clone, Copy, PartialEq, Eq)]
 pub enum Alignment {
     /// At the left.
@@ -31,15 +31,15 @@ pub enum Piece {
     Cut(u8),
     /// Characters are bold from here on.
     Bold,
-    /// Lines that end from here on stand so.
+    /// Lines that end from here on have this alignment.
     Align(Alignment),
-    /// From here on characters aren't bold, and lines that end stand at the left.
+    /// From here on characters aren't bold, and lines that end are at the left.
     Normal,
     /// An escape sequence whose number is out of its range: the printer doesn't take the data.
     OutOfRange,
 }
 
-/// What stands at the front of some bytes.
+/// What is at the front of some bytes.
 #[derive(Clone, Copy, PartialEq, Eq)]
 pub enum Token {
     /// Bytes that are dropped.
@@ -59,10 +59,10 @@ pub struct PrintedCharacter {
     pub is_bold: bool,
 }
 
-/// What stands on a roll: a line that has ended, with its alignment and the number of its characters, or a cut.
+/// What is on a roll: a line that has ended, or a cut.
 #[derive(Clone, Copy, PartialEq, Eq)]
 pub enum Mark {
-    /// A line of so many characters.
+    /// A line with its alignment and the number of its characters.
     Line(Alignment, usize),
     /// A cut of 1 to 100 percent.
     Cut(u8),
@@ -75,17 +75,18 @@ pub enum Outcome {
     Done,
     /// The cover is open, and nothing was done.
     CoverOpen,
-    /// The paper has ended or doesn't suffice, and nothing was done.
+    /// The paper has ended or isn't enough, and nothing was done.
     PaperEnd,
 }
 
+/// Returns whether a word is this text.
 fn is(word: &[u8], text: &str) -> bool
     ensures { result ≡ bytes_eq word.now text.now }
 {
     word == text.as_bytes()
 }
 
-/// A cut of so many percent. A cut of 0 is none; above 100 the number is out of range.
+/// Returns a cut of so many percent. A cut of 0 is none; above 100 the number is out of range (chapter POS Printer).
 pub fn cut_of(number: u32) -> Token
     ensures { pieces_in result ≡ cut_pieces number }
 {
@@ -98,7 +99,7 @@ pub fn cut_of(number: u32) -> Token
     Token::One(Piece::OutOfRange)
 }
 
-/// So many line ends. Above 255 the number is out of range.
+/// Returns so many line ends. Above 255 the number is out of range.
 fn line_ends_of(number: u32) -> Token
     ensures { pieces_in result ≡ line_end_pieces number }
 {
@@ -108,7 +109,7 @@ fn line_ends_of(number: u32) -> Token
     Token::One(Piece::OutOfRange)
 }
 
-/// What digits and letters behind ESC | stand for.
+/// Returns what digits and letters after ESC | stand for.
 fn numbered_token(digits: &[u8], letters: &[u8]) -> Token
     ensures { pieces_in result ≡ numbered_pieces digits.now letters.now }
 {
@@ -124,7 +125,7 @@ fn numbered_token(digits: &[u8], letters: &[u8]) -> Token
     Token::Nothing
 }
 
-/// What the bytes behind ESC | stand for, up to the upper-case letter.
+/// Returns what the bytes after ESC | stand for, up to the upper-case letter.
 fn command_token(body: &[u8]) -> Token
     ensures { pieces_in result ≡ sequence_pieces body.now }
 {
@@ -144,7 +145,7 @@ fn command_token(body: &[u8]) -> Token
     numbered_token(digits, letters)
 }
 
-/// What begins behind ESC |, and the bytes behind it.
+/// Returns what begins after ESC |, and the bytes after it.
 fn sequence_token(bytes: &[u8]) -> (Token, &[u8])
     ensures pieces { pieces (27 ∷ 124 ∷ bytes.now) ≡ pieces_in result.0 ++ pieces result.1.now }
     ensures shorter { length result.1.now ≤ length bytes.now }
@@ -160,7 +161,8 @@ fn sequence_token(bytes: &[u8]) -> (Token, &[u8])
     (command_token(body), rest)
 }
 
-/// What stands at the front of some bytes, of which there is at least one, and the bytes behind it.
+/// Returns what is at the front of some bytes, of which there is at least one, and the bytes after it (chapter POS
+/// Printer).
 pub fn next_token(bytes: &[u8]) -> (Token, &[u8])
     requires { 0 < length bytes.now }
     ensures pieces { pieces bytes.now ≡ pieces_in result.0 ++ pieces result.1.now }
@@ -179,12 +181,14 @@ pub fn next_token(bytes: &[u8]) -> (Token, &[u8])
     }
 }
 
+/// Returns whether each byte is a line feed, a carriage return, ESC or 0x20 to 0x7E.
 fn all_allowed(bytes: &[u8]) -> bool
     ensures { result ≡ list_all is_printable_byte bytes.now }
 {
     bytes.iter().all(|b| (32 <= *b && *b <= 126) || *b == 10 || *b == 13 || *b == 27)
 }
 
+/// Returns whether no number in a token is out of its range.
 #[tactic(auto, using(crate::proofs::PieceLemmas::all_line_ends))]
 fn is_in_range_token(token: Token) -> bool
     ensures { result ≡ list_all is_in_range (pieces_in token) }
@@ -197,8 +201,8 @@ fn is_in_range_token(token: Token) -> bool
     }
 }
 
-/// The character at the front of some bytes, if one stands there that needs no look at the others, as each byte from
-/// 0x20 on is, and the bytes behind it.
+/// Returns the character at the front of some bytes, and the bytes after it, if no look at the others is needed: each
+/// byte from 0x20 on is such a character.
 pub fn next_character(bytes: &[u8]) -> Option<(u8, &[u8])>
     ensures pieces { IfSome result (λ front. pieces bytes.now ≡ Piece.Character front.0 ∷ pieces front.1.now) }
     ensures shorter { IfSome result (λ front. length front.1.now < length bytes.now) }
@@ -228,8 +232,9 @@ fn all_in_range(bytes: &[u8]) -> bool
     true
 }
 
-/// Whether a printer takes these bytes as the data of a request: at most 4,096 bytes, each a line feed, a carriage
-/// return, ESC or 0x20 to 0x7E, and no number of an escape sequence out of its range.
+/// Returns whether a printer takes these bytes as the data of a request (chapter POS Printer). They are at most 4,096
+/// bytes, each a line feed, a carriage return, ESC or 0x20 to 0x7E, and no number of an escape sequence is out of its
+/// range.
 pub fn is_printable(bytes: &[u8]) -> bool
     ensures { result ≡ is_printable_text bytes.now }
 {

@@ -1,3 +1,4 @@
+//! What a counter is asked, and what it answers.
 use crate::answer::Answer;
 use crate::call::Call;
 use crate::category::Category;
@@ -11,32 +12,32 @@ use pos_bytes::LentBytes;
 /// What may be asked of a counter. Devices are named by their names.
 ///
 /// `N` is what a new control is to be called, `C` names one that is there, and `P` is a peripheral that is to be
-/// attached: at a counter nothing, a number and a peripheral; in a script the names of controls and the number of a
-/// spare.
+/// attached. At a counter they are nothing, a number and a peripheral; in a script, the names of controls and the
+/// number of a spare.
 #[derive(Drop)]
 pub enum Request<'a, N, C, P> {
-    /// A new control of a category.
+    /// Makes a new control of a category.
     NewControl(N, Category),
     /// A call of an application on its control.
     CallOf(C, Call),
-    /// Something happens at a device.
+    /// Makes something happen at a device.
     InputTo(LentBytes<'a>, Input),
-    /// The first request of output that waits for a device is to be done.
+    /// Does the first request of output that waits for a device.
     WorkOn(LentBytes<'a>),
-    /// The event that may be delivered to a control, with the application's answer to an ErrorEvent.
+    /// Delivers the event that may be delivered to a control, with the application's answer to an ErrorEvent.
     Deliver(C, ErrorReply),
-    /// What a device is physically.
+    /// Shows what a device is physically.
     Snapshot(LentBytes<'a>),
-    /// A peripheral is to serve a device.
+    /// Attaches a peripheral to a device.
     Attach(LentBytes<'a>, P),
-    /// A device is to be vacant.
+    /// Detaches the peripheral of a device.
     Detach(LentBytes<'a>),
 }
 
-/// What a counter answers to a request. `P` is a peripheral that is handed out.
+/// What a counter answers to a request. `P` is a peripheral that is returned.
 #[derive(Drop)]
 pub enum Response<P> {
-    /// The new control's number.
+    /// The new control's number, from 0.
     Made(usize),
     /// There are as many controls as there may be.
     Full,
@@ -44,11 +45,11 @@ pub enum Response<P> {
     Answered(Answer),
     /// The input has happened.
     TakenIn,
-    /// No device has the name, or no peripheral stands behind it.
+    /// No device has the name, or it has no peripheral.
     NoDevice,
     /// The device has no such input.
     WrongInput,
-    /// What has come of the work.
+    /// What came of the work.
     Worked(Worked),
     /// The event, or none.
     Delivered(Option<Event>),
@@ -56,12 +57,12 @@ pub enum Response<P> {
     Shown(Snapshot),
     /// The peripheral serves the device.
     Attached,
-    /// The peripheral is handed back.
+    /// Why the peripheral wasn't attached, and the peripheral.
     NotAttached(AttachFault, P),
     /// The peripheral that served the device, out of service.
     Detached(P),
-    /// The device has what it had.
+    /// Why the peripheral wasn't detached. The device has what it had.
     NotDetached(DetachFault),
-    /// No memory was found, and nothing has changed.
+    /// Memory ran out, and nothing has changed.
     OutOfMemory,
 }

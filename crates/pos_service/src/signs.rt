@@ -1,3 +1,4 @@
+//! What a peripheral shows of itself.
 ghost use Rattle.std.specs.Prelude.{◌≡◌};
 ghost use Rattle.pos_service.specs.Receipts.{paper_level, is_empty, is_near_end};
 
@@ -13,7 +14,7 @@ pub enum PaperLevel {
 }
 
 impl PaperLevel {
-    /// With so many lines left, by the number of lines at which the paper is near its end.
+    /// Returns how much paper there is with `left` lines, if the paper is near its end at `near` lines or fewer.
     pub fn of_lines(near: u32, left: u32) -> Self
         ensures { result ≡ paper_level near left }
     {
@@ -26,7 +27,7 @@ impl PaperLevel {
         PaperLevel::Good
     }
 
-    /// Whether no line is left (property RecEmpty).
+    /// Returns whether no line is left (chapter POS Printer, RecEmpty).
     pub fn is_empty(self) -> bool
         ensures { result ≡ is_empty self }
     {
@@ -36,7 +37,7 @@ impl PaperLevel {
         }
     }
 
-    /// Whether the paper is near its end, or no line is left (property RecNearEnd).
+    /// Returns whether the paper is near its end, or no line is left (chapter POS Printer, RecNearEnd).
     pub fn is_near_end(self) -> bool
         ensures { result ≡ is_near_end self }
     {
@@ -47,7 +48,7 @@ impl PaperLevel {
     }
 }
 
-/// What a peripheral shows of itself, on or off. A part that its kind lacks is false, or good.
+/// What a peripheral shows of itself, on or off. A sign that its kind lacks is false, or good.
 #[derive(Clone, Copy, PartialEq, Eq)]
 pub struct Signs {
     /// Whether the peripheral is on.

@@ -1,7 +1,7 @@
 //! Whether a word is a text.
 ghost use Rattle.std.specs.Prelude.{◌≡◌, bytes_eq};
 
-/// Whether a word is this text. In place where it is asked, so that a text of few bytes is compared at once.
+/// Returns whether a word is this text. It is inlined, so that a text of few bytes is compared at once.
 #[inline(always)]
 pub fn is(word: &[u8], text: &str) -> bool
     ensures { result ≡ bytes_eq word.now text.now }

@@ -1,3 +1,4 @@
+//! What comes of work on a device's output.
 use crate::code::Code;
 
 /// What comes of work on a device's output (common chapter, asynchronous output).
