@@ -1,12 +1,15 @@
+//! A flaky line to a peripheral.
 ghost use Rattle.std.specs.Prelude.{◌≡◌, ◌+◌, ◌&&◌, true, false, nat_le, nat_lt};
 ghost use Rattle.pos_service.specs.Peripherals.{Asked, Fed, Parks, input_fits, order_fits};
 ghost use Rattle.pos_sims.specs.Flakies.{CountsOrder, Fails, KeepsSchedule, fails_next, flaky_of, state_of};
 
 use pos_service::{Input, Kind, NoMemory, Order, Peripheral, Reply, Signs, Snapshot, Taken};
 
-/// A peripheral with a flaky line: the orders with the numbers `first` to `first + times - 1`, counted from 1, meet a
-/// line fault and don't reach the peripheral; the others do. The count stays at 18,446,744,073,709,551,615. What it is,
-/// shows and takes is the peripheral's; its line fails where the peripheral's does too.
+/// A peripheral with a flaky line. The orders with the numbers `first` to `first + times - 1`, counted from 1, meet a
+/// line fault and don't reach the peripheral; the others do.
+///
+/// The count stays at 18,446,744,073,709,551,615. What it is, shows and takes is the peripheral's. Its line also fails
+/// when the peripheral's does.
 #[derive(Drop)]
 pub struct Flaky<P: Peripheral> {
     inner: P,
@@ -17,7 +20,7 @@ pub struct Flaky<P: Peripheral> {
 }
 
 impl<P: Peripheral> Flaky<P> {
-    /// A flaky line to a peripheral that is in service.
+    /// Returns a flaky line to a peripheral that is in service.
     pub fn new(inner: P, first: u32, times: u32) -> Self
         requires { (P.Peripheral.state inner).is_parked ≡ false }
         ensures { result ≡ flaky_of inner first times }
@@ -32,7 +35,7 @@ impl<P: Peripheral> Flaky<P> {
     }
 }
 
-/// Whether a number is one of `times` numbers from `first` on.
+/// Returns whether a number is one of `times` numbers from `first` on.
 fn is_among(number: u64, first: u32, times: u32) -> bool
     ensures { result ≡ (nat_le first number && nat_lt number (first + times)) }
 {

@@ -1,3 +1,4 @@
+//! The cells of a window, as a text is laid on them.
 ghost use Rattle.std.specs.Prelude.{◌≡◌, ◌+◌, ◌*◌, ◌<◌, ◌≤◌, length};
 ghost use Rattle.pos_service.specs.Displays.{Display};
 ghost use Rattle.pos_sims.specs.Windows.{SameSize, ShiftsToFront, with_run_at};
@@ -9,7 +10,7 @@ pub(crate) trait Grid {
     /// The window's size, and its cells row by row.
     ghost shown: { Self → Display };
 
-    /// Puts characters with an attribute into a row, from a place on, one behind the other.
+    /// Puts characters with an attribute into a row, from a place on, one after the other.
     fn put_run(&mut self, place: Place, attribute: Attribute, characters: &[u8])
         requires count { length (shown self.old).cells ≡ (shown self.old).rows * (shown self.old).columns }
         requires row { place.row < (shown self.old).rows }
@@ -20,7 +21,7 @@ pub(crate) trait Grid {
               (shown self.old).cells;
         } };
 
-    /// Each row is the one that stood below it, and the last is blank.
+    /// Moves each row up by one, and blanks the last.
     fn feed_row(&mut self)
         ensures size { SameSize (shown self.old) (shown self.new) }
         ensures moved { ShiftsToFront (shown self.old).columns (shown self.old).cells (shown self.new).cells };

@@ -1,3 +1,4 @@
+//! How a text is laid on the cells of a window.
 ghost use Rattle.std.specs.Prelude.{◌≡◌, ◌+◌, ◌<◌, ◌≤◌, true, false, [], ◌∷◌, length, slice_index, take};
 ghost use Rattle.std.specs.List.{list_all};
 ghost use Rattle.pos_sims.specs.Windows.{IsOfManner, IsWithin, Lays, SameSize, ShowsOver, is_character, with_run_at};
@@ -8,12 +9,15 @@ use pos_service::display_text::{Attribute, DisplayCell, Place};
 /// How a text is shown: the size of the display, and the text's attribute.
 #[derive(Clone, Copy)]
 pub(crate) struct Manner {
+    /// How many rows the display has.
     pub rows: u32,
+    /// How many columns the display has.
     pub columns: u32,
+    /// How the text is shown.
     pub attribute: Attribute,
 }
 
-/// The place is at the start of the next row. Below the last row the cells scroll.
+/// Returns the start of the next row. Below the last row the cells scroll.
 fn next_row<W: Grid>(window: &mut W, manner: Manner, place: Place) -> Place
     requires within { IsWithin manner (W.Grid.shown window.old).cells place }
     requires size { IsOfManner manner (W.Grid.shown window.old) }
@@ -55,7 +59,7 @@ pub(crate) fn put_characters(
     }
 }
 
-/// Characters for which there is room in the row.
+/// Puts characters for which there is room in the row, and returns the place after them.
 fn lay_run<W: Grid>(window: &mut W, manner: Manner, place: Place, characters: &[u8]) -> Place
     requires within { IsWithin manner (W.Grid.shown window.old).cells place }
     requires size { IsOfManner manner (W.Grid.shown window.old) }
@@ -74,8 +78,8 @@ fn lay_run<W: Grid>(window: &mut W, manner: Manner, place: Place, characters: &[
     }
 }
 
-/// One byte of a text for which there is no room in the row: a line feed, a carriage return, or a character right of
-/// the last column, which goes to the next row first.
+/// Puts one byte of a text for which there is no room in the row, and returns the place after it. It is a line feed, a
+/// carriage return, or a character right of the last column, which goes to the next row first.
 fn lay_byte<W: Grid>(window: &mut W, manner: Manner, place: Place, byte: u8) -> Place
     requires within { IsWithin manner (W.Grid.shown window.old).cells place }
     requires size { IsOfManner manner (W.Grid.shown window.old) }
@@ -98,14 +102,14 @@ fn lay_byte<W: Grid>(window: &mut W, manner: Manner, place: Place, byte: u8) -> 
     lay_run(window, manner, start, &[byte])
 }
 
-/// Whether a byte of a text is a character: neither a line feed nor a carriage return.
+/// Returns whether a byte of a text is a character: neither a line feed nor a carriage return.
 fn is_character_byte(b: u8) -> bool
     ensures { result ≡ is_character b }
 {
     b != b'\n' && b != b'\r'
 }
 
-/// Whether all bytes are characters, all looked at together.
+/// Returns whether all bytes are characters. It looks at all of them together.
 fn are_characters(bytes: &[u8]) -> bool
     ensures { result ≡ list_all is_character bytes.now }
 {
@@ -116,7 +120,7 @@ fn are_characters(bytes: &[u8]) -> bool
     all
 }
 
-/// A place in a text before which all bytes are characters, found by eights.
+/// Returns a place in a text before which all bytes are characters, found by eights.
 fn skip_eights(bytes: &[u8]) -> usize
     ensures bound { result ≤ length bytes.now }
     ensures printed { list_all is_character (take result bytes.now) ≡ true }
@@ -128,7 +132,7 @@ fn skip_eights(bytes: &[u8]) -> usize
     place
 }
 
-/// How many characters stand at the front of a text, so many at most.
+/// Returns how many characters are at the front of a text, at most so many.
 fn count_characters(bytes: &[u8], most: usize) -> usize
     ensures bound { result ≤ length bytes.now }
     ensures most { result ≤ most }
@@ -144,8 +148,8 @@ fn count_characters(bytes: &[u8], most: usize) -> usize
     most
 }
 
-/// The front of a text: its characters for which there is room in the row, or else one byte; and how many bytes they
-/// are.
+/// Puts the front of a text, and returns the place after it and how many bytes it has. The front is the characters for
+/// which there is room in the row, or otherwise one byte.
 fn lay_front<W: Grid>(window: &mut W, manner: Manner, place: Place, bytes: &[u8]) -> (Place, usize)
     requires within { IsWithin manner (W.Grid.shown window.old).cells place }
     requires size { IsOfManner manner (W.Grid.shown window.old) }
@@ -163,7 +167,7 @@ fn lay_front<W: Grid>(window: &mut W, manner: Manner, place: Place, bytes: &[u8]
     (lay_run(window, manner, place, &bytes[..count]), count)
 }
 
-/// A text from a place on.
+/// Puts a text from a place on.
 pub(crate) fn lay_text<W: Grid>(window: &mut W, manner: Manner, start: Place, bytes: &[u8])
     requires within { IsWithin manner (W.Grid.shown window.old).cells start }
     requires size { IsOfManner manner (W.Grid.shown window.old) }

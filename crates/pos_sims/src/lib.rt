@@ -1,4 +1,12 @@
-//! Simulated peripherals.
+//! Simulated peripherals, to test a till without hardware.
+//!
+//! - [`PlainDrawer`], [`PlainScanner`], [`LineDisplay`] and [`RollPrinter`] are one of each kind.
+//! - A [`Screen`] keeps a display's cells: a [`Window`] row by row, a [`Ring`] with rows that turn. A [`Roll`] is what
+//!   a printer prints on.
+//! - [`Flaky`] fails chosen orders of a peripheral, and [`Recorder`] counts all of them.
+//!
+//! The layer above relies on this: each meets the trait `Peripheral`, so it does what the standard says of its kind.
+//! Orders to a drawer, a scanner and a display take no memory.
 #![tactic(auto)]
 
 mod flaky;

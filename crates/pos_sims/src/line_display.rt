@@ -1,3 +1,4 @@
+//! A simulated line display.
 ghost use Rattle.std.specs.Prelude.{◌≡◌, ◌≤◌, true, false, IsOk, IfOk};
 ghost use Rattle.pos_service.specs.Displays.{blank_display};
 ghost use Rattle.pos_service.specs.Peripherals.{Asked, Fed, order_fits};
@@ -15,7 +16,7 @@ use pos_service::{
 use std::alloc::Global;
 
 /// A line display of 1 to 8 rows of 1 to 80 columns whose line never fails (chapter Line Display), over a window of its
-/// own kind. Its cells are made by `new`; after that a snapshot alone takes memory.
+/// own kind. `new` makes its cells; after that only a snapshot takes memory.
 #[derive(Drop)]
 pub struct LineDisplay<S: Screen> {
     alloc: Global,
@@ -25,14 +26,18 @@ pub struct LineDisplay<S: Screen> {
     orders: u64,
 }
 
-/// A line display whose cells stand row by row.
+/// A line display whose cells are kept row by row.
 pub type PlainDisplay = LineDisplay<Window>;
 
 /// A line display whose rows are a ring: a scroll up or down by a row moves no cell.
 pub type RingDisplay = LineDisplay<Ring>;
 
 impl<S: Screen> LineDisplay<S> {
-    /// A blank display of 1 to 8 rows of 1 to 80 columns that is on and in service.
+    /// Returns a blank display of 1 to 8 rows of 1 to 80 columns that is on and in service.
+    ///
+    /// # Errors
+    ///
+    /// [`NoMemory`] if memory ran out.
     pub fn new(alloc: Global, rows: u32, columns: u32) -> Result<Self, NoMemory>
         requires rows { (1 ≤ rows) × (rows ≤ 8) }
         requires columns { (1 ≤ columns) × (columns ≤ 80) }

@@ -1,3 +1,4 @@
+//! A simulated cash drawer.
 ghost use Rattle.std.specs.Prelude.{◌≡◌, true, false, IsOk, IfOk};
 ghost use Rattle.pos_service.specs.Peripherals.{Asked, Fed, input_fits, order_fits};
 ghost use Rattle.pos_sims.specs.Drawers.{drawer_state, state_of};
@@ -18,7 +19,7 @@ pub struct PlainDrawer {
 }
 
 impl PlainDrawer {
-    /// A closed drawer that is on and in service.
+    /// Returns a closed drawer that is on and in service.
     pub fn new() -> Self
         ensures { state_of result ≡ drawer_state false false }
     {

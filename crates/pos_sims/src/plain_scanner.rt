@@ -1,3 +1,4 @@
+//! A simulated scanner.
 ghost use Rattle.std.specs.Prelude.{◌≡◌, true, false, IsOk, IfOk};
 ghost use Rattle.pos_service.specs.Peripherals.{Asked, Fed, input_fits};
 ghost use Rattle.pos_sims.specs.Scanners.{scanner_state, state_of};
@@ -8,7 +9,7 @@ use pos_service::{
     Taken,
 };
 
-/// A scanner that takes no memory (chapter Scanner). Its line fails with orders alone, none of which a scanner takes.
+/// A scanner that takes no memory (chapter Scanner). Its line fails only with orders, none of which a scanner takes.
 #[derive(Drop)]
 pub struct PlainScanner {
     powered: bool,
@@ -17,7 +18,7 @@ pub struct PlainScanner {
 }
 
 impl PlainScanner {
-    /// A scanner that is on and in service.
+    /// Returns a scanner that is on and in service.
     pub fn new() -> Self
         ensures { state_of result ≡ scanner_state false 0 }
     {

@@ -4,7 +4,8 @@ ghost use Rattle.pos_sims.specs.Powers.{passes_by, power_after};
 
 use pos_service::Input;
 
-/// Takes an input as far as it is one of the power. Whether nothing more comes of it: the power has moved, or is off.
+/// Takes an input if it is one of the power. Returns whether nothing more comes of the input: the power has moved, or
+/// is off.
 pub(crate) fn passes_by(powered: &mut bool, input: &Input) -> bool
     ensures power { powered.new ≡ power_after input.now powered.old }
     ensures passes { result ≡ passes_by powered.old input.now }

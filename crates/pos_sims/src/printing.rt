@@ -1,3 +1,4 @@
+//! How a request is printed on a tape.
 ghost use Rattle.std.specs.Prelude.{◌≡◌, ◌++◌, ◌∷◌, [], ◌+◌, ◌-◌, ◌<◌, ◌≤◌, take, drop, length, replicate, vec_len, Err, OnOk, OnErr, IfOk};
 ghost use Rattle.pos_service.specs.Receipts.{characters_in, plain, pieces, pieces_in};
 ghost use Rattle.pos_sims.specs.Tapes.{Adds, IsPrinted, StopsShort, add_cut, end_begun, end_full, end_line, lines_on, pieces_asked, printed_on, put_character, step, work_after, work_of};
@@ -9,7 +10,7 @@ use pos_service::receipt_text::{
 use std::alloc::Global;
 
 impl Tape {
-    /// Nothing is printed, and the line buffer is empty.
+    /// Returns a tape on which nothing is printed, with an empty line buffer.
     pub fn new(alloc: Global, chars: usize) -> Self
         requires { (1 ≤ chars) × (chars ≤ 255) }
         ensures made { printed_on result ≡ record { items = []; buffer = [] } }
@@ -27,7 +28,7 @@ impl Tape {
         }
     }
 
-    /// A request begins.
+    /// Begins a request.
     fn begin(&mut self, limit: u32)
         ensures work { work_of self.new ≡ record { style = plain; made = printed_on self.old; used = 0 } }
         ensures characters { self.new.characters ≡ self.old.characters }
@@ -42,7 +43,7 @@ impl Tape {
         self.limit = limit;
     }
 
-    /// The line buffer is a line.
+    /// Makes the line buffer a line.
     #[tactic(auto, using(crate::proofs::TapeLemmas::characters_append))]
     fn end_line(&mut self) -> Result<(), Stop>
         ensures ok { OnOk result (work_of self.new ≡ end_line (work_of self.old)) }
@@ -67,7 +68,7 @@ impl Tape {
         }
     }
 
-    /// The line buffer is a line, if it has begun.
+    /// Makes the line buffer a line, if it has begun.
     fn end_begun(&mut self) -> Result<(), Stop>
         ensures ok { OnOk result (work_of self.new ≡ end_begun (work_of self.old)) }
         ensures paper { StopsShort result self.old.limit (end_begun (work_of self.old)).used }
@@ -79,7 +80,7 @@ impl Tape {
         self.end_line()
     }
 
-    /// The line buffer is a line, if it is full.
+    /// Makes the line buffer a line, if it is full.
     fn end_full(&mut self) -> Result<(), Stop>
         ensures ok { OnOk result (work_of self.new ≡ end_full self.old.chars (work_of self.old)) }
         ensures room { OnOk result (vec_len self.new.characters < self.new.start + self.new.chars) }
@@ -92,7 +93,7 @@ impl Tape {
         self.end_line()
     }
 
-    /// A character behind the line buffer, which isn't full.
+    /// Puts a character at the end of the line buffer, which isn't full.
     fn push(&mut self, character: PrintedCharacter) -> Result<(), Stop>
         requires { vec_len self.old.characters < self.old.start + self.old.chars }
         ensures ok { OnOk result (work_of self.new ≡ put_character character (work_of self.old)) }
@@ -105,7 +106,7 @@ impl Tape {
         }
     }
 
-    /// A cut behind the items.
+    /// Puts a cut after the items.
     #[tactic(auto, using(crate::proofs::TapeLemmas::items_append, crate::proofs::TapeLemmas::characters_append))]
     fn cut(&mut self, percentage: u8) -> Result<(), Stop>
         ensures ok { OnOk result (work_of self.new ≡ add_cut percentage (work_of self.old)) }
@@ -118,7 +119,7 @@ impl Tape {
         }
     }
 
-    /// One character, in a line of its own where the line buffer is full.
+    /// Puts one character. If the line buffer is full, it begins a line of its own.
     fn lay_character(&mut self, byte: u8) -> Result<(), Stop>
         ensures ok { OnOk result (work_of self.new ≡ step self.old.chars (work_of self.old) (Piece.Character byte)) }
         ensures paper { StopsShort result self.old.limit
@@ -132,7 +133,7 @@ impl Tape {
         }
     }
 
-    /// One piece.
+    /// Prints one piece.
     fn lay_piece(&mut self, piece: Piece) -> Result<(), Stop>
         ensures ok { OnOk result (work_of self.new ≡ step self.old.chars (work_of self.old) piece) }
         ensures paper { StopsShort result self.old.limit (step self.old.chars (work_of self.old) piece).used }
@@ -163,7 +164,7 @@ impl Tape {
         }
     }
 
-    /// So many line ends.
+    /// Prints so many line ends.
     fn end_lines(&mut self, count: u8) -> Result<(), Stop>
         ensures ok { OnOk result (work_of self.new ≡ work_after self.old (replicate count Piece.LineEnd)) }
         ensures paper { StopsShort result self.old.limit (work_after self.old (replicate count Piece.LineEnd)).used }
@@ -177,7 +178,7 @@ impl Tape {
         Ok(())
     }
 
-    /// The pieces of a token.
+    /// Prints the pieces of a token.
     fn lay_token(&mut self, token: Token) -> Result<(), Stop>
         ensures ok { OnOk result (work_of self.new ≡ work_after self.old (pieces_in token)) }
         ensures paper { StopsShort result self.old.limit (work_after self.old (pieces_in token)).used }
@@ -190,7 +191,7 @@ impl Tape {
         }
     }
 
-    /// All pieces of some bytes, in one pass over them.
+    /// Prints all pieces of some bytes, in one pass over them.
     fn lay(&mut self, bytes: &[u8]) -> Result<(), Stop>
         ensures ok { OnOk result (work_of self.new ≡ work_after self.old (pieces bytes.now)) }
         ensures paper { StopsShort result self.old.limit (work_after self.old (pieces bytes.now)).used }
@@ -214,7 +215,7 @@ impl Tape {
         Ok(())
     }
 
-    /// The tape as it was when it had so many characters and marks, and its line buffer began there.
+    /// Makes the tape as it was when it had so many characters and marks, and its line buffer began there.
     fn back_to(&mut self, characters: usize, marks: usize, start: usize)
         requires covered { characters_in (take marks self.old.marks.items) ≡ start }
         requires within { start ≤ characters }
@@ -230,7 +231,7 @@ impl Tape {
         self.start = start;
     }
 
-    /// All that is asked.
+    /// Prints all that is asked.
     fn lay_asked(&mut self, asked: &Asked<'_>) -> Result<(), Stop>
         ensures ok { OnOk result (work_of self.new ≡ work_after self.old (pieces_asked asked.now)) }
         ensures paper { StopsShort result self.old.limit (work_after self.old (pieces_asked asked.now)).used }
@@ -242,7 +243,12 @@ impl Tape {
         }
     }
 
-    /// A request, which may use so many lines. It says how many it has used. A request that stops is undone whole.
+    /// Prints a request, which may use so many lines, and returns how many it has used. A request that stops is undone
+    /// whole.
+    ///
+    /// # Errors
+    ///
+    /// `NoMemory` if memory ran out, and `PaperEnd` if the request needs more lines.
     pub fn print(&mut self, asked: &Asked<'_>, limit: u32) -> Result<u32, Stop>
         ensures ok { OnOk result (IsPrinted self.old (pieces_asked asked.now) self.new) }
         ensures used { IfOk result (λ used. (used ≡ lines_on self.old (pieces_asked asked.now)) × (used ≤ limit)) }
@@ -263,7 +269,7 @@ impl Tape {
         }
     }
 
-    /// The line buffer.
+    /// Returns the line buffer.
     pub fn buffer(&self) -> &[PrintedCharacter]
         ensures { result.now ≡ (printed_on self.now).buffer }
     {

@@ -1,11 +1,12 @@
+//! A peripheral whose orders are counted.
 ghost use Rattle.std.specs.Prelude.{◌≡◌, true, false};
 ghost use Rattle.pos_service.specs.Peripherals.{Asked, counted, order_fits};
 ghost use Rattle.pos_sims.specs.Recorders.{recorder_of, state_of};
 
 use pos_service::{Input, Kind, NoMemory, Order, Peripheral, Reply, Signs, Snapshot, Taken};
 
-/// A peripheral whose orders are counted, whatever comes of them. Each goes on to the peripheral within, and what it
-/// is, shows and takes is that one's.
+/// A peripheral whose orders are counted, whatever comes of them. Each is passed on to the inner peripheral, and what
+/// this one is, shows and takes is what that one does.
 #[derive(Drop)]
 pub struct Recorder<P: Peripheral> {
     inner: P,
@@ -13,7 +14,7 @@ pub struct Recorder<P: Peripheral> {
 }
 
 impl<P: Peripheral> Recorder<P> {
-    /// A recorder of a peripheral that is in service. It has counted none of its orders.
+    /// Returns a recorder of a peripheral that is in service. It has counted none of its orders.
     pub fn new(inner: P) -> Self
         requires { (P.Peripheral.state inner).is_parked ≡ false }
         ensures { result ≡ recorder_of inner }
@@ -21,7 +22,7 @@ impl<P: Peripheral> Recorder<P> {
         Recorder { inner, asks: 0 }
     }
 
-    /// How many orders came; at 18,446,744,073,709,551,615 it stays.
+    /// Returns how many orders came. At 18,446,744,073,709,551,615 the count stays.
     pub fn asks(&self) -> u64
         ensures { result ≡ (state_of P.Peripheral self.now).orders }
     {

@@ -1,3 +1,4 @@
+//! A device window whose rows turn.
 ghost use Rattle.std.specs.Prelude.{◌<◌, vec_len};
 ghost use Rattle.pos_sims.specs.Windows.{IsSized};
 

@@ -1,3 +1,4 @@
+//! The roll of a receipt printer.
 ghost use Rattle.std.specs.Prelude.{◌≡◌, ◌≤◌, List, false, None, IfOk, IfSome, OnErr};
 ghost use Rattle.pos_service.specs.declared.receipt_text.Piece.{Piece};
 ghost use Rattle.pos_service.specs.Receipts.{Prints, empty_roll, pieces, cut_pieces, items_from, buffer_from};
@@ -9,8 +10,8 @@ use pos_service::receipt_text::{Mark, Outcome, PrintedCharacter};
 use std::alloc::Global;
 use std::marker::Model;
 
-/// The roll of a receipt printer: what is printed on it, the line buffer, how many lines of paper are left, and
-/// whether the cover is open (UnifiedPOS 1.16, chapter POS Printer). A request is printed whole or not at all.
+/// The roll of a receipt printer: what is printed on it, the line buffer, how many lines of paper are left, and whether
+/// the cover is open (UnifiedPOS 1.16, chapter POS Printer). A request is printed whole or not at all.
 #[derive(Drop)]
 pub struct Roll {
     tape: Tape,
@@ -28,8 +29,8 @@ impl Model for Roll {
 }
 
 impl Roll {
-    /// A roll for 1 to 255 characters a line, with so many lines of paper, on which nothing is printed. The cover is
-    /// closed.
+    /// Returns a roll for 1 to 255 characters a line, with so many lines of paper, on which nothing is printed. The
+    /// cover is closed.
     pub fn new(alloc: Global, chars: u32, lines: u32) -> Self
         requires { (1 ≤ chars) × (chars ≤ 255) }
         ensures { result ≡ empty_roll chars lines }
@@ -41,21 +42,21 @@ impl Roll {
         }
     }
 
-    /// The cover is open from now on, or closed.
+    /// Opens or closes the cover.
     pub fn move_cover(&mut self, is_open: bool)
         ensures { self.new ≡ record self.old { is_cover_open = is_open } }
     {
         self.is_cover_open = is_open;
     }
 
-    /// So many lines of paper are left from now on.
+    /// Sets how many lines of paper are left.
     pub fn load(&mut self, lines: u32)
         ensures { self.new ≡ record self.old { left = lines } }
     {
         self.left = lines;
     }
 
-    /// What hinders each request: an open cover, or else no line of paper left.
+    /// Returns what hinders each request: an open cover, or otherwise no line of paper left.
     fn hindrance(&self) -> Option<Outcome>
         ensures hindered { (ps : List Piece) → IfSome result (λ outcome. Prints self.now ps outcome self.now) }
         ensures free { result ≡ None → (self.now.is_cover_open ≡ false) × (1 ≤ self.now.left) }
@@ -87,8 +88,12 @@ impl Roll {
         }
     }
 
-    /// Prints the data of a request, all of it or nothing: with the cover open CoverOpen, else with no line of paper
-    /// left, or fewer than the request needs, PaperEnd. Want of memory changes nothing.
+    /// Prints the data of a request, all of it or nothing, and returns what came of it. The result is `CoverOpen` if
+    /// the cover is open, and otherwise `PaperEnd` if no line of paper is left, or fewer than the request needs.
+    ///
+    /// # Errors
+    ///
+    /// [`NoMemory`] if memory ran out. Then nothing has changed.
     pub fn print(&mut self, bytes: &[u8]) -> Result<Outcome, NoMemory>
         ensures outcome { IfOk result (λ outcome. Prints self.old (pieces bytes.now) outcome self.new) }
         ensures no_memory { OnErr result (self.new ≡ self.old) }
@@ -96,8 +101,11 @@ impl Roll {
         self.request(&Asked::Text(bytes))
     }
 
-    /// Cuts the paper by 0 to 100 percent, a request with that cut alone, which ends as `print` does. Want of memory
-    /// changes nothing.
+    /// Cuts the paper by 0 to 100 percent, which is a request with that cut alone. Its results are those of `print`.
+    ///
+    /// # Errors
+    ///
+    /// [`NoMemory`] if memory ran out. Then nothing has changed.
     pub fn cut(&mut self, percentage: u8) -> Result<Outcome, NoMemory>
         requires { percentage ≤ 100 }
         ensures outcome { IfOk result (λ outcome. Prints self.old (cut_pieces percentage) outcome self.new) }
@@ -106,7 +114,7 @@ impl Roll {
         self.request(&Asked::Cut(percentage))
     }
 
-    /// How many characters a line has, 1 to 255.
+    /// Returns how many characters a line has, 1 to 255.
     pub fn chars(&self) -> u32
         ensures chars { result ≡ self.now.chars }
         ensures in_range { (1 ≤ result) × (result ≤ 255) }
@@ -114,21 +122,22 @@ impl Roll {
         self.tape.chars as u32
     }
 
-    /// How many lines of paper are left.
+    /// Returns how many lines of paper are left.
     pub fn lines_left(&self) -> u32
         ensures { result ≡ self.now.left }
     {
         self.left
     }
 
-    /// Whether the cover is open.
+    /// Returns whether the cover is open.
     pub fn is_cover_open(&self) -> bool
         ensures { result ≡ self.now.is_cover_open }
     {
         self.is_cover_open
     }
 
-    /// What is printed, in two flat lists: the lines and the cuts, and all characters, those of the line buffer last.
+    /// Returns what is printed, in two flat lists: the lines and the cuts, and all characters, those of the line buffer
+    /// last.
     pub fn printed(&self) -> (&[Mark], &[PrintedCharacter])
         ensures items { items_from result.0.now result.1.now ≡ self.now.items }
         ensures buffer { buffer_from result.0.now result.1.now ≡ self.now.buffer }
@@ -136,7 +145,7 @@ impl Roll {
         (self.tape.marks.as_slice(), self.tape.characters.as_slice())
     }
 
-    /// The line buffer: the characters of the line that has begun.
+    /// Returns the line buffer: the characters of the line that has begun.
     pub fn buffer(&self) -> &[PrintedCharacter]
         ensures { result.now ≡ self.now.buffer }
     {

@@ -1,3 +1,4 @@
+//! A simulated receipt printer.
 ghost use Rattle.std.specs.Prelude.{◌≤◌};
 
 mod device;
@@ -5,8 +6,8 @@ mod device;
 use crate::roll::Roll;
 use std::alloc::Global;
 
-/// A receipt printer of 1 to 255 characters a line, whose paper is near its end at up to 100,000 lines, and whose line
-/// never fails (chapter POS Printer). A request is printed whole or not at all.
+/// A receipt printer of 1 to 255 characters a line (chapter POS Printer). Its paper is near its end at up to 100,000
+/// lines, and its line never fails. A request is printed whole or not at all.
 #[derive(Drop)]
 pub struct RollPrinter {
     alloc: Global,

@@ -1,10 +1,11 @@
+//! How cells scroll.
 ghost use Rattle.std.specs.Prelude.{◌≡◌, ◌*◌, ◌≤◌, length};
 ghost use Rattle.pos_service.specs.Displays.{Scrolls, most_units};
 ghost use Rattle.pos_sims.specs.Windows.{IsSized, ShiftsToFront, ShiftsToEnd, MovesToFront, MovesToEnd, display_of};
 
 use pos_service::display_text::{BLANK, Direction, DisplayCell};
 
-/// Each cell moves so many places to the front; behind them are blanks.
+/// Moves each cell so many places to the front; after them are blanks.
 pub(crate) fn shift_to_front(cells: &mut [DisplayCell], places: usize)
     ensures count { length cells.new ≡ length cells.old }
     ensures moved { ShiftsToFront places cells.old cells.new }
@@ -15,7 +16,7 @@ pub(crate) fn shift_to_front(cells: &mut [DisplayCell], places: usize)
     cells[len - places..].fill(BLANK);
 }
 
-/// Each cell moves so many places to the end; before them are blanks.
+/// Moves each cell so many places to the end; before them are blanks.
 pub(crate) fn shift_to_end(cells: &mut [DisplayCell], places: usize)
     ensures count { length cells.new ≡ length cells.old }
     ensures moved { ShiftsToEnd places cells.old cells.new }
@@ -26,7 +27,7 @@ pub(crate) fn shift_to_end(cells: &mut [DisplayCell], places: usize)
     cells[..places].fill(BLANK);
 }
 
-/// Within each part of `width` cells, each cell moves so many places to the front; behind them are blanks.
+/// Moves each cell within each part of `width` cells so many places to the front; after them are blanks.
 pub(crate) fn move_to_front(cells: &mut [DisplayCell], width: usize, places: usize)
     requires some { 1 ≤ width }
     ensures count { length cells.new ≡ length cells.old }
@@ -42,7 +43,7 @@ pub(crate) fn move_to_front(cells: &mut [DisplayCell], width: usize, places: usi
     }
 }
 
-/// Within each part of `width` cells, each cell moves so many places to the end; before them are blanks.
+/// Moves each cell within each part of `width` cells so many places to the end; before them are blanks.
 pub(crate) fn move_to_end(cells: &mut [DisplayCell], width: usize, places: usize)
     requires some { 1 ≤ width }
     ensures count { length cells.new ≡ length cells.old }

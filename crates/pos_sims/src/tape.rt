@@ -1,15 +1,16 @@
+//! What a printer has printed.
 ghost use Rattle.std.specs.Prelude.{◌≡◌, ◌+◌, ◌≤◌, vec_len};
 ghost use Rattle.pos_service.specs.Receipts.{characters_in};
 
 use pos_service::receipt_text::{Alignment, Mark, PrintedCharacter};
 
-/// What is printed, in two flat lists that only grow at their ends or go back to an earlier length, and the request
-/// that prints.
+/// What is printed, and the request that prints. It is in two flat lists that only grow at their ends or go back to an
+/// earlier length.
 #[derive(Drop)]
 pub(crate) struct Tape {
     /// The characters of a line.
     pub chars: usize,
-    /// The characters of all lines, and behind them those of the line buffer.
+    /// The characters of all lines, and after them those of the line buffer.
     pub characters: Vec<PrintedCharacter>,
     /// The lines and the cuts.
     pub marks: Vec<Mark>,
@@ -43,7 +44,7 @@ pub(crate) enum Asked<'a> {
 /// Why a request stops before its end.
 #[derive(Clone, Copy, PartialEq, Eq)]
 pub(crate) enum Stop {
-    /// A growth was refused.
+    /// Memory ran out.
     NoMemory,
     /// A line ends, and no line of paper is left for it.
     PaperEnd,

@@ -1,3 +1,4 @@
+//! How the rows of a ring turn.
 ghost use Rattle.std.specs.Prelude.{◌≡◌, ◌+◌, ◌*◌, ◌<◌, ◌≤◌, length, replicate, vec_len};
 ghost use Rattle.pos_service.specs.Displays.{blank};
 ghost use Rattle.pos_sims.specs.Rings.{IsAbove, IsBelow, StandsAt, blanked, shown_on};
@@ -15,7 +16,7 @@ use std::alloc::Global;
 /// A blank row of the longest.
 const BLANK_ROW: [DisplayCell; 80] = [BLANK; 80];
 
-/// Blanks cells, no more than the longest row has: copied at once, which is faster than one by one.
+/// Blanks cells, no more than the longest row has. They are copied at once, which is faster than one by one.
 fn blank_row(cells: &mut [DisplayCell])
     requires { length cells.old ≤ 80 }
     ensures { cells.new ≡ replicate (length cells.old) blank }
@@ -24,7 +25,7 @@ fn blank_row(cells: &mut [DisplayCell])
     cells.copy_from_slice(&BLANK_ROW[..len]);
 }
 
-/// The row below a row of a ring of so many.
+/// Returns the row below a row of a ring of so many.
 fn below(row: u32, rows: u32) -> u32
     requires { row < rows }
     ensures { IsBelow rows row result }
@@ -32,7 +33,7 @@ fn below(row: u32, rows: u32) -> u32
     if row + 1 == rows { 0 } else { row + 1 }
 }
 
-/// The row above a row of a ring of so many.
+/// Returns the row above a row of a ring of so many.
 fn above(row: u32, rows: u32) -> u32
     requires { row < rows }
     ensures { IsAbove rows row result }
@@ -40,7 +41,7 @@ fn above(row: u32, rows: u32) -> u32
     if row == 0 { rows - 1 } else { row - 1 }
 }
 
-/// Where a cell of the window stands in a ring of so many cells, of which the one at `start` comes first.
+/// Returns where a cell of the window is in a ring of so many cells, of which the one at `start` comes first.
 fn in_ring(at: usize, start: usize, count: usize) -> usize
     requires at { at < count }
     requires start { start ≤ count }
@@ -52,7 +53,7 @@ fn in_ring(at: usize, start: usize, count: usize) -> usize
 }
 
 impl Ring {
-    /// Where the first row of the window begins among the cells.
+    /// Returns where the first row of the window begins among the cells.
     fn start(&self) -> usize
         ensures start { result ≡ self.now.first * self.now.columns }
         ensures row { result + self.now.columns ≤ vec_len self.now.cells }
@@ -72,7 +73,7 @@ impl Ring {
         blank_row(&mut self.cells[start..start + columns]);
     }
 
-    /// Each row is the one that stood above it, and the first is blank.
+    /// Moves each row down by one, and blanks the first.
     fn feed_back(&mut self)
         ensures size { SameSize (shown_on self.old) (shown_on self.new) }
         ensures moved { ShiftsToEnd (shown_on self.old).columns (shown_on self.old).cells (shown_on self.new).cells }
@@ -81,7 +82,7 @@ impl Ring {
         self.blank_first_row();
     }
 
-    /// What is shown moves up by so many rows.
+    /// Moves what is shown up by so many rows.
     fn scroll_up(&mut self, units: u32)
         ensures size { SameSize (shown_on self.old) (shown_on self.new) }
         ensures moved { let old = shown_on self.old in
@@ -92,7 +93,7 @@ impl Ring {
         }
     }
 
-    /// What is shown moves down by so many rows.
+    /// Moves what is shown down by so many rows.
     fn scroll_down(&mut self, units: u32)
         ensures size { SameSize (shown_on self.old) (shown_on self.new) }
         ensures moved { let old = shown_on self.old in

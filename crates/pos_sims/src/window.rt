@@ -1,3 +1,4 @@
+//! A device window whose cells are kept row by row.
 use crate::grid::Grid;
 use crate::laying::{Manner, lay_text, put_characters};
 use crate::screen::Screen;
@@ -7,7 +8,7 @@ use pos_service::{DisplayCells, Kind, NoMemory};
 use std::alloc::Global;
 use std::marker::Model;
 
-/// A device window whose cells stand row by row, from the first. Contracts see its size and its cells.
+/// A device window whose cells are kept row by row, from the first. Contracts see its size and its cells.
 #[derive(Drop)]
 pub struct Window {
     rows: u32,

@@ -1,3 +1,4 @@
+//! A simulated receipt printer as a peripheral.
 ghost use Rattle.std.specs.Prelude.{◌≡◌, ◌≤◌, true, false, IsOk};
 ghost use Rattle.pos_service.specs.Peripherals.{Asked, Fed, input_fits, order_fits};
 ghost use Rattle.pos_service.specs.Receipts.{empty_roll};
@@ -14,8 +15,8 @@ use pos_service::{
 use std::alloc::Global;
 
 impl RollPrinter {
-    /// A printer of 1 to 255 characters a line that is on and in service and has printed nothing, with 0 to 100,000
-    /// lines of paper left, which are near their end at 1 to `near`, 0 to 100,000. The cover is closed.
+    /// Returns a printer of 1 to 255 characters a line that is on and in service and has printed nothing. It has 0 to
+    /// 100,000 lines of paper left, which are near their end at 1 to `near`, 0 to 100,000. The cover is closed.
     pub fn new(alloc: Global, chars: u32, lines: u32, near: u32) -> Self
         requires chars { (1 ≤ chars) × (chars ≤ 255) }
         requires lines { lines ≤ 100000 }
@@ -33,7 +34,7 @@ impl RollPrinter {
     }
 }
 
-/// What a printer replies, once this has come of a request.
+/// Returns what a printer replies, once this has come of a request.
 fn reply_of(outcome: Outcome) -> Reply
     ensures { result ≡ reply_of outcome }
 {
