@@ -1,3 +1,4 @@
+//! The built profile.
 ghost use Rattle.std.specs.Prelude.{◌≡◌, IfOk};
 ghost use Rattle.pos_profile.specs.Built.{built, built_devices, built_spares};
 
@@ -30,9 +31,13 @@ fn make_spares(alloc: Global) -> Result<Vec<Entry>, NoMemory>
 }
 
 impl Profile {
-    /// The built profile: the cash drawer `d1`, the scanner `s1`, the line display `p1` of 2 rows of 4 columns, the
-    /// receipt printer `r1` of 8 characters a line, with 5 lines of paper, near their end at 2, the Hard Totals device
-    /// `t1`, and a spare cash drawer.
+    /// Returns the built profile: the cash drawer `d1`, the scanner `s1`, the line display `p1` of 2 rows of 4 columns,
+    /// the receipt printer `r1`, the Hard Totals device `t1`, and a spare cash drawer. The printer has 8 characters a
+    /// line and 5 lines of paper, which are near their end at 2.
+    ///
+    /// # Errors
+    ///
+    /// [`NoMemory`] if memory ran out.
     pub fn built(alloc: Global) -> Result<Profile, NoMemory>
         ensures { IfOk result (λ profile. profile ≡ built) }
     {

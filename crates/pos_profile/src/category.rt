@@ -18,21 +18,21 @@ pub(crate) const ALL_CATEGORIES: [Category; 5] = [
     Category::HardTotals,
 ];
 
-/// The categories of devices, as a user is told them.
+/// The categories of devices, as a user sees them.
 pub(crate) const DEVICE_CATEGORIES: &str =
     "CashDrawer, Scanner, LineDisplay, POSPrinter or HardTotals";
 
 /// The categories of spares: those that have a peripheral.
 pub(crate) const SPARE_CATEGORIES: &str = "CashDrawer, Scanner, LineDisplay or POSPrinter";
 
-/// Whether it is Hard Totals, whose device has no peripheral.
+/// Returns whether it is Hard Totals, whose device has no peripheral.
 pub(crate) fn is_totals(category: Category) -> bool
     ensures { result ≡ is_totals category }
 {
     matches!(category, Category::HardTotals)
 }
 
-/// The kind of a category's devices with the numbers of an entry, or none for Hard Totals.
+/// Returns the kind of a category's devices with the numbers of an entry, or `None` for Hard Totals.
 pub(crate) fn kind_with(category: Category, entry: &Entry) -> Option<Kind>
     ensures { result ≡ kind_with category entry.now }
 {
@@ -51,7 +51,7 @@ pub(crate) fn kind_with(category: Category, entry: &Entry) -> Option<Kind>
     }
 }
 
-/// The device of a category in the built profile.
+/// Returns the device of a category in the built profile.
 pub(crate) fn built_device(alloc: Global, category: Category) -> Result<Entry, NoMemory>
     ensures { IfOk result (λ entry. entry ≡ built_entry category) }
 {

@@ -1,3 +1,4 @@
+//! How a registry's devices end.
 use crate::slot::Slot;
 use pos_service::Ends;
 

@@ -1,3 +1,4 @@
+//! An entry of a profile.
 ghost use Rattle.std.specs.Prelude.{◌≡◌};
 ghost use Rattle.pos_profile.specs.Kinds.{kind_of};
 
@@ -6,12 +7,13 @@ use crate::text::Text;
 use pos_service::{Category, Kind};
 
 /// A device of the profile, or a spare. A number that its category doesn't have is 0, and a spare's name is empty.
-/// By `ring`, `flaky` and `recorded` a device differs from a plain one; of Hard Totals, none does.
+///
+/// By `ring`, `flaky` and `recorded` a device differs from a plain one; Hard Totals have none of them.
 #[derive(Drop)]
 pub struct Entry {
-    /// The name by which controls open it, 1 to 16 ASCII letters, digits or hyphens.
+    /// The name by which controls open it: 1 to 16 ASCII letters, digits or hyphens.
     pub name: Text,
-    /// What it is.
+    /// Its category.
     pub category: Category,
     /// The rows of a display, 1 to 8.
     pub rows: u32,
@@ -21,19 +23,19 @@ pub struct Entry {
     pub chars: u32,
     /// The lines of paper that a printer begins with, 0 to 100,000.
     pub lines: u32,
-    /// How many lines of paper are left where a printer's paper is near its end, 0 to 100,000.
+    /// How many lines of paper are left when a printer's paper is near its end, 0 to 100,000.
     pub near: u32,
-    /// The rows of a display are a ring, of which a scroll by one row moves no cell.
+    /// Whether the rows of a display are a ring, of which a scroll by one row moves no cell.
     pub ring: bool,
     /// Which orders of the device fail, counted from 1: the number of the first, and how many, each 0 to 1,000,000.
-    /// None fails where it is 0 of them, or there is no such pair.
+    /// None fails if it is 0 of them, or there is no such pair.
     pub flaky: Option<(u32, u32)>,
-    /// The orders of the device are counted.
+    /// Whether the orders of the device are counted.
     pub recorded: bool,
 }
 
 impl Entry {
-    /// What a peripheral for it has to be, or none for Hard Totals, which have no peripheral.
+    /// Returns what a peripheral for it has to be, or `None` for Hard Totals, which have no peripheral.
     pub fn kind(&self) -> Option<Kind>
         ensures { result ≡ kind_of self.now }
     {

@@ -1,3 +1,4 @@
+//! What is wrong with a profile, for its writer.
 ghost use Rattle.std.specs.Prelude.{IfOk};
 ghost use Rattle.toml.specs.Parse.{parse_document};
 ghost use Rattle.pos_profile.specs.Mistakes.{Explains};
@@ -7,8 +8,12 @@ use crate::root::{DocumentFault, read_document};
 use pos_service::NoMemory;
 use std::alloc::Global;
 
-/// What isn't sound in a profile's text, for its writer: the mistake whose number `Profile::from_text` tells by its
-/// refusal BadEntry. None where the text is no TOML document, or each entry of it is sound.
+/// Returns what isn't sound in a profile's text, for its writer: the mistake with the number of the refusal `BadEntry`
+/// of `Profile::from_text`. It is `None` if the text is no TOML document, or each entry of it is sound.
+///
+/// # Errors
+///
+/// [`NoMemory`] if memory ran out.
 pub fn find_mistake(alloc: Global, text: &str) -> Result<Option<Mistake>, NoMemory>
     ensures { IfOk result (Explains (parse_document text.now)) }
 {

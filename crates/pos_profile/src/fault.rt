@@ -1,3 +1,4 @@
+//! Why a text is no profile.
 use crate::text::Text;
 use thiserror::Error;
 
@@ -7,13 +8,14 @@ pub enum ProfileFault {
     /// The text is no TOML document.
     #[error("the profile is no TOML document")]
     BadText,
-    /// The lowest number of what isn't sound: 0 for the root, and from 1 on the entries, devices counted before spares.
+    /// An entry isn't sound. The number is the lowest of what isn't sound: 0 for the root, and from 1 on the entries,
+    /// devices counted before spares.
     #[error("entry {0} of the profile is not sound")]
     BadEntry(usize),
-    /// The first name that stands a second time.
+    /// Two devices have the same name: the first that comes a second time.
     #[error("two devices of the profile have the name {0}")]
     Duplicate(Text),
-    /// No memory was found.
+    /// Memory ran out.
     #[error("no memory")]
     NoMemory,
 }

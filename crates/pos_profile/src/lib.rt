@@ -1,5 +1,13 @@
-//! The devices of a shop counter: their profile, which is read from TOML, and the registry of what peripheral serves
-//! each of them.
+//! The devices of a shop counter: the profile that lists them, and the registry of the peripherals that serve them.
+//!
+//! - [`Profile`] is read from TOML, and each [`Entry`] is a device or a spare. [`ProfileFault`] says why a text is no
+//!   profile, and [`find_mistake`] what its writer has to change.
+//! - [`Registry`] has a [`Slot`] for each device with a peripheral. It finds a device by its name, and attaches and
+//!   detaches peripherals.
+//!
+//! The layer above relies on this: each profile is sound (`laws::is_profile`), so names are distinct and numbers in
+//! their ranges. A device is served only by a peripheral of its kind that is in service, and a refusal returns the
+//! peripheral.
 #![tactic(auto)]
 
 mod built;

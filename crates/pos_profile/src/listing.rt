@@ -30,25 +30,25 @@ pub(crate) struct Flaw {
 pub(crate) enum ListFault {
     /// One of them isn't sound.
     Flawed(Flaw),
-    /// No memory was found.
+    /// Memory ran out.
     NoMemory,
 }
 
-/// Whether one of them is an entry of Hard Totals.
+/// Returns whether one of them is an entry of Hard Totals.
 fn has_totals(entries: &[Entry]) -> bool
     ensures { result ≡ list_any (λ entry. is_totals entry.category) entries.now }
 {
     entries.iter().any(|entry| is_totals(entry.category))
 }
 
-/// Whether an entry is a second one of Hard Totals.
+/// Returns whether an entry is a second one of Hard Totals.
 fn is_second_totals(earlier: &[Entry], entry: &Entry) -> bool
     ensures { result ≡ is_refused_after (map (λ entry. Some entry) earlier.now) (Some (Some entry.now)) }
 {
     is_totals(entry.category) && has_totals(earlier)
 }
 
-/// The entries that values are, or the first that isn't sound.
+/// Returns the entries that values are, or the first value that isn't sound.
 pub(crate) fn read_entries(
     alloc: Global,
     role: Role,
@@ -76,7 +76,7 @@ pub(crate) fn read_entries(
     Ok(entries)
 }
 
-/// The first place whose name stands at an earlier one.
+/// Returns the first place whose name is also at an earlier one.
 pub(crate) fn first_repeated(alloc: Global, entries: &[Entry]) -> Result<Option<usize>, NoMemory>
     ensures { IfOk result (FindsRepeated (names_of entries.now)) }
 {

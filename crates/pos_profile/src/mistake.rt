@@ -1,3 +1,4 @@
+//! What isn't sound in a profile.
 use crate::category::{DEVICE_CATEGORIES, SPARE_CATEGORIES};
 use crate::number::NumberKey;
 use crate::optional::OptionalKey;
@@ -6,16 +7,16 @@ use crate::table::MOST_ORDERS;
 use crate::text::Text;
 use std::fmt;
 
-/// Where a profile isn't sound.
+/// The place in a profile that isn't sound.
 #[derive(Clone, Copy, PartialEq, Eq)]
 pub enum Place {
     /// At its root.
     Root,
-    /// At the entry of a list that has this number, counted from 1 in its own list.
+    /// At the entry of a list with this number, counted from 1 in its own list.
     Listed(Role, usize),
 }
 
-/// What isn't sound at a place of a profile.
+/// Why a place of a profile isn't sound.
 #[derive(Drop)]
 pub enum Reason {
     /// The value of the root's key is no array.
@@ -39,7 +40,7 @@ pub enum Reason {
 /// The first thing in a profile that isn't sound, for its writer.
 #[derive(Drop)]
 pub struct Mistake {
-    /// The number that the refusal of the profile tells.
+    /// The number that the refusal of the profile has.
     pub number: usize,
     /// Where it is.
     pub place: Place,

@@ -1,9 +1,10 @@
+//! The numbers of an entry.
 ghost use Rattle.std.specs.Prelude.{◌≡◌};
 ghost use Rattle.pos_profile.specs.Numbers.{has_number, key_of_number, least_of, most_of};
 
 use pos_service::Category;
 
-/// A number of a display or of a printer.
+/// The key of a number of a display or of a printer.
 #[derive(Clone, Copy, PartialEq, Eq)]
 pub enum NumberKey {
     /// The rows of a display, 1 to 8.
@@ -14,7 +15,7 @@ pub enum NumberKey {
     Chars,
     /// The lines of paper that a printer begins with, 0 to 100,000.
     Lines,
-    /// How many lines of paper are left where a printer's paper is near its end, 0 to 100,000.
+    /// How many lines of paper are left when a printer's paper is near its end, 0 to 100,000.
     Near,
 }
 
@@ -28,7 +29,7 @@ pub(crate) const ALL_NUMBERS: [NumberKey; 5] = [
 ];
 
 impl NumberKey {
-    /// Whether entries of a category have it: a display its rows and columns, a printer the others.
+    /// Returns whether entries of a category have it: a display its rows and columns, a printer the others.
     pub(crate) fn is_of(self, category: Category) -> bool
         ensures { result ≡ has_number category self }
     {
@@ -40,7 +41,7 @@ impl NumberKey {
         }
     }
 
-    /// The key of an entry at which it stands.
+    /// Returns its key in an entry.
     pub fn key(self) -> &'static str
         ensures { result.now ≡ key_of_number self }
     {
@@ -53,7 +54,7 @@ impl NumberKey {
         }
     }
 
-    /// The least that it may be.
+    /// Returns the least that it may be.
     pub fn least(self) -> u32
         ensures { result ≡ least_of self }
     {
@@ -63,7 +64,7 @@ impl NumberKey {
         }
     }
 
-    /// The most that it may be.
+    /// Returns the most that it may be.
     pub fn most(self) -> u32
         ensures { result ≡ most_of self }
     {

@@ -1,3 +1,4 @@
+//! The optional keys of an entry.
 ghost use Rattle.std.specs.Prelude.{◌≡◌};
 ghost use Rattle.pos_profile.specs.OptionalKeys.{has_option, key_of_option};
 
@@ -22,7 +23,7 @@ pub(crate) const ALL_OPTIONS: [OptionalKey; 3] = [
 ];
 
 impl OptionalKey {
-    /// The key of an entry at which it stands.
+    /// Returns its name in an entry.
     pub fn key(self) -> &'static str
         ensures { result.now ≡ key_of_option self }
     {
@@ -33,7 +34,7 @@ impl OptionalKey {
         }
     }
 
-    /// Whether entries of a category may have it: displays have all, Hard Totals none, others all but a ring.
+    /// Returns whether entries of a category may have it: displays have all, Hard Totals none, others all but a ring.
     pub(crate) fn is_of(self, category: Category) -> bool
         ensures { result ≡ has_option category self }
     {

@@ -35,7 +35,7 @@ fn note(
 }
 
 impl Places {
-    /// The places of these names; one that stands twice has its first.
+    /// Returns the places of these names. A name that comes twice has its first place.
     pub(crate) fn of(alloc: Global, plan: &[Planned]) -> Result<Self, NoMemory>
         ensures { IfOk result (λ index. IsIndexOf index (map (λ planned. planned.name) plan.now)) }
     {
@@ -46,7 +46,7 @@ impl Places {
         Ok(Places { places })
     }
 
-    /// The place of a name.
+    /// Returns the place of a name.
     pub(crate) fn find(&self, name: &[u8]) -> Option<usize>
         ensures { result ≡ found_in self.now name.now }
     {

@@ -13,7 +13,7 @@ pub(crate) struct Planned {
     pub(crate) kind: Kind,
 }
 
-/// The devices that have a peripheral, in order.
+/// Returns the devices that have a peripheral, in order.
 pub(crate) fn plan(alloc: Global, entries: &[Entry]) -> Result<Vec<Planned>, NoMemory>
     ensures { IfOk result (λ plan. plan.items ≡ planned_of entries.now) }
 {

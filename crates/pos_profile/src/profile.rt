@@ -1,3 +1,4 @@
+//! The profile of a counter.
 ghost use Rattle.std.specs.Prelude.{◌≡◌, option_copied};
 ghost use Rattle.std.specs.List.{find};
 ghost use Rattle.toml.specs.Parse.{parse_document};
@@ -34,7 +35,7 @@ impl Model for Profile {
         IsSoundProfile (record { devices = profile.devices.items; spares = profile.spares.items }) };
 }
 
-/// The profile that a document is.
+/// Returns the profile that a document is.
 fn from_table(alloc: Global, root: &Table) -> Result<Profile, ProfileFault>
     ensures { Gives (table_view root.now) result }
 {
@@ -57,11 +58,18 @@ fn from_table(alloc: Global, root: &Table) -> Result<Profile, ProfileFault>
 }
 
 impl Profile {
-    /// The profile that a text is.
+    /// Returns the profile that a text is.
     ///
-    /// Refused with BadText where the text is no TOML document; else with BadEntry and the lowest number of what isn't
-    /// sound, 0 for the root, from 1 on the entries, devices counted before spares; else with Duplicate and the first
-    /// name that stands a second time. NoMemory may come at any text.
+    /// # Errors
+    ///
+    /// The first of these that holds:
+    ///
+    /// - `BadText` if the text is no TOML document.
+    /// - `BadEntry` with the lowest number of what isn't sound: 0 for the root, and from 1 on the entries, devices
+    ///   counted before spares.
+    /// - `Duplicate` with the first name that comes a second time.
+    ///
+    /// `NoMemory` if memory ran out, which may happen at any text.
     pub fn from_text(alloc: Global, text: &str) -> Result<Profile, ProfileFault>
         ensures { FromDocument (parse_document text.now) result }
     {
@@ -72,21 +80,22 @@ impl Profile {
         }
     }
 
-    /// The devices in order.
+    /// Returns the devices in order.
     pub fn devices(&self) -> &[Entry]
         ensures { result.now ≡ self.now.devices }
     {
         self.devices.as_slice()
     }
 
-    /// The device of Hard Totals, if there is one. It has no peripheral, and so no place in a registry.
+    /// Returns the device of Hard Totals, or `None` if there is none. It has no peripheral, and so no place in a
+    /// registry.
     pub fn totals(&self) -> Option<&Entry>
         ensures { option_copied result ≡ find (λ entry. is_totals entry.category) self.now.devices }
     {
         self.devices.iter().find(|entry| is_totals(entry.category))
     }
 
-    /// The spares in order.
+    /// Returns the spares in order.
     pub fn spares(&self) -> &[Entry]
         ensures { result.now ≡ self.now.spares }
     {

@@ -20,11 +20,11 @@ use toml::{Table, Value};
 pub(crate) enum EntryFault {
     /// It isn't sound.
     Flawed(Reason),
-    /// No memory was found.
+    /// Memory ran out.
     NoMemory,
 }
 
-/// The category of an entry, where it may have it.
+/// Returns the category of an entry, if it may have it.
 fn category_for(role: Role, table: &Table) -> Option<Category>
     ensures { result ≡ category_for role (table_view table.now) }
 {
@@ -38,7 +38,7 @@ fn category_for(role: Role, table: &Table) -> Option<Category>
     }
 }
 
-/// The name of an entry, where it is sound: that of a device, or a spare's empty one.
+/// Returns the name of an entry, if it is sound: that of a device, or a spare's empty one.
 fn name_for<'a>(role: Role, table: &'a Table) -> Option<&'a str>
     ensures { option_copied result ≡ name_for role (table_view table.now) }
 {
@@ -70,8 +70,8 @@ pub(crate) const NO_NUMBERS: Numbers = Numbers {
     near: 0,
 };
 
-/// A number of an entry: 0 where its category doesn't have it, else what stands at its key. Refused where that is
-/// missing or not in its range.
+/// Returns a number of an entry: 0 if its category doesn't have it, and otherwise the one at its key. It is refused if
+/// that is missing or not in its range.
 fn number_of(category: Category, key: NumberKey, table: &Table) -> Result<u32, NumberKey>
     ensures { ReadsNumber category key (table_view table.now) result }
 {
@@ -81,7 +81,7 @@ fn number_of(category: Category, key: NumberKey, table: &Table) -> Result<u32, N
     number_at(table, key).ok_or(key)
 }
 
-/// The numbers that a category has, or the first that is missing or not in its range.
+/// Returns the numbers that a category has, or the first that is missing or not in its range.
 fn numbers_of(category: Category, table: &Table) -> Result<Numbers, NumberKey>
     ensures { ReadsNumbers category (table_view table.now) result }
 {
@@ -99,7 +99,8 @@ fn numbers_of(category: Category, table: &Table) -> Result<Numbers, NumberKey>
     })
 }
 
-/// The entry of a category with a copy of this name and these numbers, whose device differs so from a plain one.
+/// Returns the entry of a category with a copy of this name and these numbers, whose device differs in this way from a
+/// plain one.
 pub(crate) fn named_entry(
     alloc: Global,
     category: Category,
@@ -123,7 +124,7 @@ pub(crate) fn named_entry(
     })
 }
 
-/// The entry that a table is, or what is wrong with it.
+/// Returns the entry that a table is, or what is wrong with it.
 fn read_table(alloc: Global, role: Role, table: &Table) -> Result<Entry, EntryFault>
     ensures { ReadsTable role (table_view table.now) result }
 {
@@ -153,7 +154,7 @@ fn read_table(alloc: Global, role: Role, table: &Table) -> Result<Entry, EntryFa
     }
 }
 
-/// The entry that a value is, or what is wrong with it by itself.
+/// Returns the entry that a value is, or what is wrong with the value alone.
 pub(crate) fn read_value(alloc: Global, role: Role, value: &Value) -> Result<Entry, EntryFault>
     ensures { ReadsValue role (view value.now) result }
 {

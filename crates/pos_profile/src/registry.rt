@@ -1,3 +1,4 @@
+//! The peripherals that serve the devices of a profile.
 ghost use Rattle.std.specs.Prelude.{◌≡◌, ◌≢◌, ◌<◌, ◌≤◌, [], None, Some, true, false, IfOk, IfErr, IfSome, is_some, slice_get, map, length, vec_capacity};
 ghost use Rattle.std.specs.Option.{option_map};
 ghost use Rattle.std.specs.Borrow.{sem};
@@ -14,8 +15,8 @@ use crate::slot::Slot;
 use pos_service::{AttachFault, DetachFault, Kind, NoMemory, Peripheral};
 use std::alloc::Global;
 
-/// The devices of a profile that have a peripheral, in its order, each with what serves it. It is ended by
-/// `into_entries` alone.
+/// The devices of a profile that have a peripheral, in its order, each with what serves it. Only `into_entries` ends
+/// it.
 ///
 /// Hard Totals have no peripheral, and so no place here.
 pub struct Registry<P> {
@@ -23,7 +24,7 @@ pub struct Registry<P> {
     slots: Vec<Slot<P>>,
 }
 
-/// Whether kinds are the same.
+/// Returns whether kinds are the same.
 fn is_same(one: Kind, other: Kind) -> bool
     ensures same { result ≡ true → one ≡ other }
     ensures differ { result ≡ false → one ≢ other }
@@ -48,7 +49,7 @@ fn fill<P: Peripheral>(mut slots: Vec<Slot<P>>, plan: Vec<Planned>) -> Vec<Slot<
     slots
 }
 
-/// The plan of a profile's devices, and the places of their names.
+/// Returns the plan of a profile's devices, and the places of their names.
 fn prepare(alloc: Global, profile: &Profile) -> Result<(Vec<Planned>, Places), NoMemory>
     ensures planned { IfOk result (λ made. made.0.items ≡ planned_of profile.now.devices) }
     ensures index { IfOk result (λ made. IsIndexOf made.1 (map (λ planned. planned.name) made.0.items)) }
@@ -59,8 +60,11 @@ fn prepare(alloc: Global, profile: &Profile) -> Result<(Vec<Planned>, Places), N
 }
 
 impl<P: Peripheral> Registry<P> {
-    /// The registry of a profile's devices, each vacant. An empty list becomes its list of devices; want of memory ends
-    /// that list.
+    /// Returns the registry of a profile's devices, each vacant. An empty list becomes its list of devices.
+    ///
+    /// # Errors
+    ///
+    /// [`NoMemory`] if memory ran out. Then the empty list is dropped.
     pub fn new(alloc: Global, profile: &Profile, mut slots: Vec<Slot<P>>) -> Result<Self, NoMemory>
         requires empty { slots.items ≡ [] }
         ensures vacant { IfOk result (λ registry.
@@ -82,7 +86,7 @@ impl<P: Peripheral> Registry<P> {
         })
     }
 
-    /// The place of the first device with a name.
+    /// Returns the place of the first device with a name, or `None` if there is none.
     pub fn find(&self, name: &[u8]) -> Option<usize>
         requires { IsRegistrySound P.Peripheral self.now }
         ensures { result ≡ place_of (names_of (devices P.Peripheral self.now)) name.now }
@@ -90,14 +94,14 @@ impl<P: Peripheral> Registry<P> {
         self.places.find(name)
     }
 
-    /// How many devices have a place.
+    /// Returns how many devices have a place.
     pub fn count(&self) -> usize
         ensures { result ≡ length (devices P.Peripheral self.now) }
     {
         self.slots.len()
     }
 
-    /// What the peripheral of the device at a place has to be; None at no place.
+    /// Returns what the peripheral of the device at a place has to be, or `None` if there is no such place.
     pub fn kind(&self, place: usize) -> Option<Kind>
         ensures { result ≡ kind_at (devices P.Peripheral self.now) place }
     {
@@ -107,7 +111,7 @@ impl<P: Peripheral> Registry<P> {
         }
     }
 
-    /// What serves the device at a place; None where it is vacant, or no place.
+    /// Returns what serves the device at a place, or `None` if it is vacant or there is no such place.
     pub fn peripheral(&self, place: usize) -> Option<&P>
         ensures { option_map (λ found. P.Peripheral.state found.now) result
             ≡ standing_at (devices P.Peripheral self.now) place }
@@ -118,8 +122,8 @@ impl<P: Peripheral> Registry<P> {
         }
     }
 
-    /// Lends what serves the device at a place, which is not vacant. The registry stays sound where this stays in
-    /// service and of its kind.
+    /// Lends what serves the device at a place, which is not vacant. The registry stays sound if this stays in service
+    /// and of its kind.
     pub fn serving(&mut self, place: usize) -> &mut P
         requires sound { IsRegistrySound P.Peripheral self.old }
         requires served { is_some (standing_at (devices P.Peripheral self.old) place) ≡ true }
@@ -134,7 +138,7 @@ impl<P: Peripheral> Registry<P> {
         self.slots[place].serving()
     }
 
-    /// The first device with a name, and its place.
+    /// Returns the first device with a name, and its place.
     fn named(&self, name: &[u8]) -> Option<(usize, &Slot<P>)>
         requires { IsRegistrySound P.Peripheral self.now }
         ensures place { option_map (λ found. found.0) result
@@ -148,7 +152,7 @@ impl<P: Peripheral> Registry<P> {
         Some((place, &self.slots[place]))
     }
 
-    /// Hands out what serves the device at a place, which is vacant then; None where it is vacant.
+    /// Takes what serves the device at a place, which is vacant then, or `None` if it is vacant already.
     fn take(&mut self, place: usize) -> Option<P>
         requires sound { IsRegistrySound P.Peripheral self.old }
         requires within { place < length (devices P.Peripheral self.old) }
@@ -159,7 +163,7 @@ impl<P: Peripheral> Registry<P> {
         self.slots[place].peripheral.take()
     }
 
-    /// Has a peripheral serve the device at a vacant place.
+    /// Makes a peripheral serve the device at a vacant place.
     fn put(&mut self, place: usize, peripheral: P)
         requires sound { IsRegistrySound P.Peripheral self.old }
         requires may_serve { MayServe (devices P.Peripheral self.old) place (P.Peripheral.state peripheral) }
@@ -175,10 +179,17 @@ impl<P: Peripheral> Registry<P> {
         }
     }
 
-    /// Has a peripheral serve the first device with a name, which is vacant and of its kind.
+    /// Makes a peripheral serve the first device with a name, which is vacant and of its kind. It takes no memory.
     ///
-    /// Refused with Unknown where no device here has the name, else with InUse where the device has its peripheral,
-    /// else with KindDiffers. A refusal hands the peripheral back. It takes no memory.
+    /// # Errors
+    ///
+    /// The first of these that holds:
+    ///
+    /// - `Unknown` if no device here has the name.
+    /// - `InUse` if the device has its peripheral.
+    /// - `KindDiffers` if the peripheral is of another kind than the device.
+    ///
+    /// A refusal returns the peripheral.
     pub fn attach(&mut self, name: &[u8], peripheral: P) -> Result<(), (AttachFault, P)>
         requires sound { IsRegistrySound P.Peripheral self.old }
         requires unparked { (P.Peripheral.state peripheral).is_parked ≡ false }
@@ -201,11 +212,16 @@ impl<P: Peripheral> Registry<P> {
         Ok(())
     }
 
-    /// Takes what serves the first device with a name out of service, and hands it out. The caller tells whether a
-    /// control has the device open.
+    /// Takes what serves the first device with a name out of service, and returns it. The caller says whether a control
+    /// has the device open. It takes no memory.
     ///
-    /// Refused with Unknown where no device here has the name, else with Vacant where the device has no peripheral,
-    /// else with InUse where a control has it open. It takes no memory.
+    /// # Errors
+    ///
+    /// The first of these that holds:
+    ///
+    /// - `Unknown` if no device here has the name.
+    /// - `Vacant` if the device has no peripheral.
+    /// - `InUse` if a control has it open.
     pub fn detach(&mut self, name: &[u8], is_open: bool) -> Result<P, DetachFault>
         requires sound { IsRegistrySound P.Peripheral self.old }
         ensures detaches { Detaches P.Peripheral.state (devices P.Peripheral self.old) name.now is_open result
@@ -230,8 +246,8 @@ impl<P: Peripheral> Registry<P> {
         }
     }
 
-    /// Ends the registry: its devices in the profile's order, each once, with their peripherals, which are taken out of
-    /// service and else as they were. It takes no memory.
+    /// Ends the registry, and returns its devices in the profile's order, each once, with their peripherals. These are
+    /// taken out of service, and are otherwise as they were. It takes no memory.
     pub fn into_entries(self) -> Vec<Slot<P>>
         requires { Unit {0} }
         ensures { devices_of P.Peripheral result.items ≡ map parked (devices P.Peripheral self) }

@@ -1,7 +1,8 @@
+//! The two lists of a profile.
 ghost use Rattle.std.specs.Prelude.{◌≡◌};
 ghost use Rattle.pos_profile.specs.Tables.{key_of};
 
-/// In which of a profile's two lists an entry stands.
+/// The list of a profile that an entry is in.
 #[derive(Clone, Copy, PartialEq, Eq)]
 pub enum Role {
     /// A device of the counter.
@@ -11,7 +12,7 @@ pub enum Role {
 }
 
 impl Role {
-    /// The key of the root at which the list stands.
+    /// Returns the key of the list at the root.
     pub fn key(self) -> &'static str
         ensures { result.now ≡ key_of self }
     {

@@ -28,11 +28,11 @@ pub(crate) struct Lists {
 pub(crate) enum DocumentFault {
     /// This isn't sound.
     Mistaken(Mistake),
-    /// No memory was found.
+    /// Memory ran out.
     NoMemory,
 }
 
-/// Whether the root is sound, or what is wrong with it.
+/// Checks whether the root is sound, and returns what is wrong with it.
 fn check_root(alloc: Global, root: &Table) -> Result<(), EntryFault>
     ensures { ChecksRoot (table_view root.now) result }
 {
@@ -51,14 +51,14 @@ fn check_root(alloc: Global, root: &Table) -> Result<(), EntryFault>
     Ok(())
 }
 
-/// The entries of a list of the document.
+/// Returns the entries of a list of the document.
 fn read_list(alloc: Global, root: &Table, role: Role) -> Result<Vec<Entry>, ListFault>
     ensures { ReadsList role (values_at (key_of role) (table_view root.now)) result }
 {
     read_entries(alloc, role, values_at(root, role.key()))
 }
 
-/// The first mistake of a document is a flaw of a list, behind so many entries of other lists.
+/// Returns the first mistake of a document: a flaw of a list, after so many entries of other lists.
 fn listed(before: usize, role: Role, flaw: Flaw) -> DocumentFault
     requires { before + flaw.place < 2 ^ 63 }
     ensures { result ≡ Mistaken (mistake_at before role flaw.place flaw.reason) }
@@ -70,7 +70,7 @@ fn listed(before: usize, role: Role, flaw: Flaw) -> DocumentFault
     })
 }
 
-/// The lists of a document, or its first mistake.
+/// Returns the lists of a document, or its first mistake.
 pub(crate) fn read_document(alloc: Global, root: &Table) -> Result<Lists, DocumentFault>
     ensures { ReadsDocument (table_view root.now) result }
 {

@@ -1,3 +1,4 @@
+//! A place of a registry.
 ghost use Rattle.std.specs.Prelude.{◌≡◌, Some, is_some, true};
 ghost use Rattle.std.specs.Borrow.{sem};
 ghost use Rattle.pos_profile.specs.Lending.{slot_lends};
@@ -11,12 +12,12 @@ pub struct Slot<P> {
     pub name: Bytes,
     /// What its peripheral has to be.
     pub kind: Kind,
-    /// Its peripheral, or none where the device is vacant.
+    /// Its peripheral; none if the device is vacant.
     pub peripheral: Option<P>,
 }
 
 impl<P> Slot<P> {
-    /// What serves the device, which is not vacant.
+    /// Lends what serves the device, which is not vacant.
     pub(crate) fn serving(&mut self) -> &mut P
         requires { is_some self.old.peripheral ≡ true }
         ensures* lends { sem 𝓛 (slot_lends P.row self.entry result) }

@@ -12,14 +12,14 @@ use crate::role::Role;
 use pos_service::Category;
 use toml::{Table, Value};
 
-/// The value at a key.
+/// Returns the value at a key.
 fn member<'a>(table: &'a Table, key: &str) -> Option<&'a Value>
     ensures { option_map (λ value. view value.now) result ≡ get_member key.now (table_view table.now) }
 {
     table.get(key)
 }
 
-/// The text at a key.
+/// Returns the text at a key.
 pub(crate) fn text_at<'a>(table: &'a Table, key: &str) -> Option<&'a str>
     ensures { option_copied result ≡ text_at key.now (table_view table.now) }
 {
@@ -29,6 +29,7 @@ pub(crate) fn text_at<'a>(table: &'a Table, key: &str) -> Option<&'a str>
     }
 }
 
+/// Returns a number, if it is in its range.
 fn number_within(number: i64, least: u32, most: u32) -> Option<u32>
     ensures { result ≡ number_within least most number }
 {
@@ -38,7 +39,7 @@ fn number_within(number: i64, least: u32, most: u32) -> Option<u32>
     }
 }
 
-/// A number of the table, where it is there and in its range.
+/// Returns a number of the table, if it is there and in its range.
 pub(crate) fn number_at(table: &Table, key: NumberKey) -> Option<u32>
     ensures { result ≡ number_at key (table_view table.now) }
 {
@@ -52,7 +53,7 @@ pub(crate) fn number_at(table: &Table, key: NumberKey) -> Option<u32>
     }
 }
 
-/// The truth value at an optional key, false where it is absent; none where another value stands.
+/// Returns the truth value at an optional key, false if it is absent, or `None` if the value is another one.
 pub(crate) fn truth_at(table: &Table, key: OptionalKey) -> Option<bool>
     ensures { result ≡ truth_at key (table_view table.now) }
 {
@@ -65,7 +66,7 @@ pub(crate) fn truth_at(table: &Table, key: OptionalKey) -> Option<bool>
 /// The most that a number of failing orders may be.
 pub(crate) const MOST_ORDERS: u32 = 1_000_000;
 
-/// The values of an array.
+/// Returns the values of an array.
 fn array_in(value: &Value) -> Option<&[Value]>
     ensures { option_map (λ values. map (λ value. view value) values.now) result ≡ array_in (view value.now) }
 {
@@ -75,7 +76,7 @@ fn array_in(value: &Value) -> Option<&[Value]>
     }
 }
 
-/// A number of failing orders.
+/// Returns a number of failing orders.
 fn failing_number(value: &Value) -> Option<u32>
     ensures { result ≡ failing_number (view value.now) }
 {
@@ -85,7 +86,7 @@ fn failing_number(value: &Value) -> Option<u32>
     }
 }
 
-/// Which orders fail, where there are the number of the first, how many, and no other value.
+/// Returns which orders fail, if there are the number of the first, how many, and no other value.
 fn failing_in(values: &[Value]) -> Option<(u32, u32)>
     ensures { result ≡ failing_in (map (λ value. view value) values.now) }
 {
@@ -95,7 +96,7 @@ fn failing_in(values: &[Value]) -> Option<(u32, u32)>
     }
 }
 
-/// Which orders fail, if the table has any; none where the value is no array of two numbers in their range.
+/// Returns which orders fail, if the table has any, or `None` if the value is no array of two numbers in their range.
 pub(crate) fn flaky_at(table: &Table) -> Option<Option<(u32, u32)>>
     ensures { result ≡ flaky_at (table_view table.now) }
 {
@@ -111,7 +112,7 @@ pub(crate) fn flaky_at(table: &Table) -> Option<Option<(u32, u32)>>
     }
 }
 
-/// Whether entries of a category have a number of this key.
+/// Returns whether entries of a category have a number of this key.
 fn is_number_key(category: Category, key: &str) -> bool
     ensures { result ≡ is_number_key category key.now }
 {
@@ -120,7 +121,7 @@ fn is_number_key(category: Category, key: &str) -> bool
         .any(|number| number.is_of(category) && key == number.key())
 }
 
-/// Whether entries of a category may have this optional key.
+/// Returns whether entries of a category may have this optional key.
 fn is_option_key(category: Category, key: &str) -> bool
     ensures { result ≡ is_option_key category key.now }
 {
@@ -129,7 +130,7 @@ fn is_option_key(category: Category, key: &str) -> bool
         .any(|option| option.is_of(category) && key == option.key())
 }
 
-/// Whether entries of a category may have this number or this optional key.
+/// Returns whether entries of a category may have this number or this optional key.
 fn is_category_key(category: Category, key: &str) -> bool
     ensures { result ≡ is_category_key category key.now }
 {
@@ -146,6 +147,7 @@ pub(crate) enum Keys {
 }
 
 impl Keys {
+    /// Returns whether the table may have this key.
     fn has(self, key: &str) -> bool
         ensures { result ≡ is_key self key.now }
     {
@@ -161,7 +163,7 @@ impl Keys {
     }
 }
 
-/// A key of a table that it may not have.
+/// Returns a key of a table that it may not have.
 pub(crate) fn unknown_key(table: &Table, keys: Keys) -> Option<&str>
     ensures { FindsUnknown (is_key keys) (table_view table.now) (option_copied result) }
 {
@@ -173,7 +175,7 @@ pub(crate) fn unknown_key(table: &Table, keys: Keys) -> Option<&str>
     None
 }
 
-/// Whether a key is absent or has an array.
+/// Returns whether a key is absent or has an array.
 pub(crate) fn is_list(table: &Table, key: &str) -> bool
     ensures { result ≡ is_list (get_member key.now (table_view table.now)) }
 {
@@ -183,7 +185,7 @@ pub(crate) fn is_list(table: &Table, key: &str) -> bool
     }
 }
 
-/// The values of the array at a key; none where there is no array.
+/// Returns the values of the array at a key, or none if there is no array.
 pub(crate) fn values_at<'a>(table: &'a Table, key: &str) -> &'a [Value]
     ensures { map (λ value. view value) result.now ≡ values_at key.now (table_view table.now) }
 {

@@ -1,3 +1,4 @@
+//! The texts of a profile.
 ghost use Rattle.std.specs.Prelude.{◌≡◌, IfOk};
 
 use pos_service::NoMemory;
@@ -20,7 +21,11 @@ impl Model for Text {
 }
 
 impl Text {
-    /// A copy of this text.
+    /// Returns a copy of this text.
+    ///
+    /// # Errors
+    ///
+    /// [`NoMemory`] if memory ran out.
     pub fn copy_of(alloc: Global, content: &str) -> Result<Self, NoMemory>
         ensures { IfOk result (λ text. text ≡ content.now) }
     {
@@ -30,14 +35,14 @@ impl Text {
         }
     }
 
-    /// The text.
+    /// Returns the text.
     pub fn as_str(&self) -> &str
         ensures { result.now ≡ self.now }
     {
         self.content.as_str()
     }
 
-    /// Its bytes.
+    /// Returns its bytes.
     pub fn as_bytes(&self) -> &[u8]
         ensures { result.now ≡ self.now }
     {

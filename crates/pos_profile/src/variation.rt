@@ -10,11 +10,11 @@ use toml::Table;
 /// How the device of an entry differs from a plain one.
 #[derive(Clone, Copy)]
 pub(crate) struct Variation {
-    /// Its rows are a ring.
+    /// Whether its rows are a ring.
     pub(crate) ring: bool,
-    /// Its orders from this number on fail, so many of them.
+    /// The number of its first order that fails, and how many fail from there on.
     pub(crate) flaky: Option<(u32, u32)>,
-    /// Its orders are counted.
+    /// Whether its orders are counted.
     pub(crate) recorded: bool,
 }
 
@@ -25,6 +25,7 @@ pub(crate) const PLAIN: Variation = Variation {
     recorded: false,
 };
 
+/// Returns a truth value of an entry, false if its category doesn't have it.
 fn truth_of(category: Category, key: OptionalKey, table: &Table) -> Result<bool, OptionalKey>
     ensures { ReadsTruth category key (table_view table.now) result }
 {
@@ -34,6 +35,7 @@ fn truth_of(category: Category, key: OptionalKey, table: &Table) -> Result<bool,
     truth_at(table, key).ok_or(key)
 }
 
+/// Returns which orders of an entry's device fail: none if its category doesn't have them.
 fn flaky_of(category: Category, table: &Table) -> Result<Option<(u32, u32)>, OptionalKey>
     ensures { ReadsFlaky category (table_view table.now) result }
 {
@@ -43,8 +45,8 @@ fn flaky_of(category: Category, table: &Table) -> Result<Option<(u32, u32)>, Opt
     flaky_at(table).ok_or(OptionalKey::Flaky)
 }
 
-/// How the device of an entry differs from a plain one, or the first optional key of the category whose value is none
-/// that it may have.
+/// Returns how the device of an entry differs from a plain one, or the first optional key of the category whose value
+/// is none that it may have.
 pub(crate) fn variation_of(category: Category, table: &Table) -> Result<Variation, OptionalKey>
     ensures { ReadsVariation category (table_view table.now) result }
 {
