@@ -1,3 +1,4 @@
+//! What is delivered to an application.
 ghost use Rattle.std.specs.Prelude.{◌≡◌};
 
 use pos_service::{Event, Scan};

@@ -1,3 +1,4 @@
+//! The events that don't wait, in their places among those that wait.
 ghost use Rattle.std.specs.Prelude.{◌≡◌, ◌+◌, ◌<◌, ◌≤◌, ◌^◌, [], ◌∷◌, ◌++◌};
 ghost use Rattle.std.specs.VecDeque.{deque_len, deque_capacity};
 ghost use Rattle.pos_events.specs.declared.others.Other.{Other};
@@ -10,7 +11,7 @@ use std::collections::VecDeque;
 /// An event that doesn't wait, in its place among those that wait.
 #[derive(Clone, Copy, PartialEq, Eq)]
 pub(crate) struct Other {
-    /// How many waiting events stand directly before it.
+    /// How many waiting events are directly before it.
     pub(crate) before: usize,
     /// The event.
     pub(crate) event: Told,
@@ -20,12 +21,12 @@ pub(crate) struct Other {
 #[derive(Drop)]
 pub(crate) struct Others {
     pub(crate) events: VecDeque<Other>,
-    /// How many waiting events stand behind the last of them.
+    /// How many waiting events are after the last of them.
     pub(crate) behind: usize,
 }
 
 impl Others {
-    /// None, and nothing waits.
+    /// Returns no events, with nothing that waits.
     pub(crate) fn new(alloc: Global) -> Self
         ensures events { result.events.items ≡ [] }
         ensures behind { result.behind ≡ 0 }
@@ -36,7 +37,7 @@ impl Others {
         }
     }
 
-    /// Puts an event behind all.
+    /// Puts an event after all.
     pub(crate) fn push(&mut self, event: Told)
         requires { deque_len self.old.events < deque_capacity self.old.events }
         ensures events { let other : Other = record { before = self.old.behind; event = event } in
@@ -52,7 +53,7 @@ impl Others {
         self.behind = 0;
     }
 
-    /// Takes the first.
+    /// Takes the first event, if there is one.
     pub(crate) fn pop(&mut self) -> Option<Told>
         requires { all_before self.old.events.items + self.old.behind < 2 ^ 64 }
         ensures first { result ≡ first_told self.old.events.items }
@@ -72,7 +73,7 @@ impl Others {
         Some(other.event)
     }
 
-    /// How many waiting events stand before the first, or stand there where there is none.
+    /// Returns how many waiting events are before the first, or in all if there is none.
     pub(crate) fn before_first(&self) -> usize
         ensures { result ≡ before_first self.now.events.items self.now.behind }
     {
@@ -82,7 +83,7 @@ impl Others {
         }
     }
 
-    /// The first waiting event is gone.
+    /// Notes that the first waiting event is gone.
     pub(crate) fn one_less(&mut self)
         requires { 0 < before_first self.old.events.items self.old.behind }
         ensures rest { self.new.events.items ≡ one_less self.old.events.items }
@@ -100,7 +101,7 @@ impl Others {
         }
     }
 
-    /// Nothing waits any more.
+    /// Notes that nothing waits any more.
     pub(crate) fn forget_waiting(&mut self)
         ensures events { tolds self.new.events.items ≡ tolds self.old.events.items }
         ensures counted { all_before self.new.events.items + self.new.behind ≡ 0 }
@@ -113,7 +114,7 @@ impl Others {
         self.behind = 0;
     }
 
-    /// Deletes the errors of output. What stood before one of them stands before the next event that stays.
+    /// Deletes the errors of output. What was before one of them is before the next event that stays.
     pub(crate) fn remove_errors(&mut self)
         requires { all_before self.old.events.items + self.old.behind < 2 ^ 64 }
         ensures events { self.new.events.items ≡ without_errors 0 self.old.events.items }

@@ -1,3 +1,4 @@
+//! The events of one control.
 ghost use Rattle.std.specs.Prelude.{◌≡◌, ◌≤◌, ◌<◌, OnOk, OnErr};
 ghost use Rattle.pos_service.specs.Events.{no_events, data_count};
 
@@ -11,17 +12,17 @@ use std::alloc::Global;
 use std::collections::VecDeque;
 use std::marker::Model;
 
-/// A control's events, oldest first, and whether it is in the input error state (common chapter). Contracts see the
-/// list, the state, and how many more events there is room for.
+/// The events of a control, oldest first, and whether it is in the input error state (common chapter). Contracts see
+/// the list, the state, and how many more events there is room for.
 #[derive(Drop)]
 pub struct EventQueue {
     /// Of the DataEvents.
     scans: VecDeque<Scan>,
     /// The events that don't wait, in their places.
     others: Others,
-    /// Whether EL_INPUT_DATA is held: it stands directly before the first DataEvent, and isn't counted.
+    /// Whether EL_INPUT_DATA is held: it is directly before the first DataEvent, and isn't counted.
     input_data: bool,
-    /// Whether the input error state stands, and with it EL_INPUT: it is the last of the waiting events.
+    /// Whether the control is in the input error state, and so EL_INPUT is held: it is the last of the waiting events.
     in_error: bool,
 }
 
@@ -45,7 +46,7 @@ impl Model for EventQueue {
 }
 
 impl EventQueue {
-    /// No events, and no error.
+    /// Returns a queue without events that is in no error state.
     pub fn new(alloc: Global) -> Self
         ensures { result.list ≡ no_events }
     {
@@ -57,7 +58,11 @@ impl EventQueue {
         }
     }
 
-    /// Makes room for so many more events, where there is less. Want of memory changes nothing but that room.
+    /// Makes room for so many more events, if there is less.
+    ///
+    /// # Errors
+    ///
+    /// [`NoMemory`] if memory ran out. Then nothing but that room has changed.
     pub fn room(&mut self, count: usize) -> Result<(), NoMemory>
         ensures room { OnOk result (count ≤ self.new.spare) }
         ensures full { OnErr result (self.old.spare < count) }
@@ -69,7 +74,7 @@ impl EventQueue {
         Ok(())
     }
 
-    /// DataCount: how many DataEvents are enqueued (common chapter).
+    /// Returns how many DataEvents are enqueued (common chapter, DataCount).
     #[tactic(auto, using(crate::proofs::ReadingLemmas::count_events))]
     pub fn data_count(&self) -> usize
         ensures { result ≡ data_count self.now.list }
@@ -77,7 +82,7 @@ impl EventQueue {
         self.scans.len()
     }
 
-    /// Whether the input error state stands (common chapter, error handling).
+    /// Returns whether the control is in the input error state (common chapter, error handling).
     pub fn in_error(&self) -> bool
         ensures { result ≡ self.now.list.in_error }
     {

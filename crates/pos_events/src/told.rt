@@ -1,3 +1,4 @@
+//! The events that don't wait for DataEventEnabled.
 ghost use Rattle.std.specs.Prelude.{◌≡◌};
 ghost use Rattle.pos_events.specs.Queue.{delivery_of};
 ghost use Rattle.pos_events.specs.QueueParts.{is_error, told_event};
@@ -17,7 +18,7 @@ pub(crate) enum Told {
 }
 
 impl Told {
-    /// Whether it is an error of output.
+    /// Returns whether it is an error of output.
     pub(crate) fn is_error(self) -> bool
         ensures { result ≡ is_error self }
     {
@@ -28,7 +29,7 @@ impl Told {
         }
     }
 
-    /// The event as its application gets it.
+    /// Returns the event as its application gets it.
     pub(crate) fn delivery(self) -> Delivery
         ensures { result ≡ delivery_of (told_event self) }
     {

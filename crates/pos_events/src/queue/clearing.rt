@@ -1,3 +1,4 @@
+//! How events are deleted.
 ghost use Rattle.std.specs.Prelude.{◌≡◌, ◌≤◌};
 ghost use Rattle.pos_service.specs.Events.{no_events, input_cleared, output_cleared};
 

@@ -1,3 +1,4 @@
+//! How events leave the queue.
 ghost use Rattle.std.specs.Prelude.{true, false, ◌≡◌, ◌≤◌, option_map};
 ghost use Rattle.pos_service.specs.Events.{deliverable, delivered, split, left_by, after_reply, input_error, clears_input};
 ghost use Rattle.pos_events.specs.Queue.{delivery_of};
@@ -8,11 +9,16 @@ use crate::delivery::{Delivery, without_scan};
 use pos_service::{Code, ErrorReply, Event, Locus};
 
 impl EventQueue {
-    /// Takes the event that may be delivered now, or gives None (common chapter, event queue). While events are frozen
-    /// (FreezeEvents) there is none. Else it is the first while data events are enabled (DataEventEnabled), and the
-    /// first that doesn't wait while they aren't: DataEvents and ErrorEvents of input wait. The reply is what the
-    /// application answers to an ErrorEvent of input: any at EL_INPUT, ER_CLEAR at EL_INPUT_DATA deletes DataEvents and
-    /// ErrorEvents of input and ends the input error state. What it does to output is left to the caller.
+    /// Takes the event that may be delivered now, and returns it, or `None` if there is none (common chapter, event
+    /// queue).
+    ///
+    /// - While events are frozen (FreezeEvents), there is none.
+    /// - While data events are enabled (DataEventEnabled), it is the first event.
+    /// - Otherwise it is the first that doesn't wait: DataEvents and ErrorEvents of input wait.
+    ///
+    /// The reply is what the application answers to an ErrorEvent of input. Any reply at EL_INPUT, and ER_CLEAR at
+    /// EL_INPUT_DATA, deletes DataEvents and ErrorEvents of input and ends the input error state. What a reply does to
+    /// output is left to the caller.
     #[tactic(auto, using(crate::proofs::DeliveringLemmas::delivered_told))]
     pub fn deliver(
         &mut self,
@@ -90,7 +96,7 @@ pub(crate) enum Waiting {
     Input,
 }
 
-/// The first of the waiting events, where there is one: EL_INPUT_DATA stands before the scans, EL_INPUT behind them.
+/// Returns the first of the waiting events, if there is one: EL_INPUT_DATA is before the scans, EL_INPUT after them.
 fn first_waiting(input_data: bool, no_scans: bool) -> Waiting
     ensures { result ≡ first_waiting input_data no_scans }
 {
@@ -103,14 +109,15 @@ fn first_waiting(input_data: bool, no_scans: bool) -> Waiting
     Waiting::Data
 }
 
-/// An ErrorEvent of an input error: E_FAILURE.
+/// Returns an ErrorEvent of an input error: E_FAILURE.
 fn input_error(locus: Locus) -> Delivery
     ensures { result ≡ delivery_of (input_error locus) }
 {
     without_scan(Event::Error(Code::Failure, 0, locus))
 }
 
-/// Whether this reply to an ErrorEvent deletes the input that is held: always at EL_INPUT, ER_CLEAR at EL_INPUT_DATA.
+/// Returns whether this reply to an ErrorEvent deletes the input that is held: always at EL_INPUT, ER_CLEAR at
+/// EL_INPUT_DATA.
 fn clears_input(locus: Locus, reply: ErrorReply) -> bool
     ensures { result ≡ clears_input locus reply }
 {

@@ -1,3 +1,4 @@
+//! How events come into the queue.
 ghost use Rattle.std.specs.Prelude.{◌≡◌, ◌≤◌, ◌+◌};
 ghost use Rattle.pos_service.specs.declared.event.Locus.TheVariants as locus;
 ghost use Rattle.pos_service.specs.Events.{Status, Error, Complete, enqueued, scanned, input_failed};
@@ -8,7 +9,7 @@ use crate::told::Told;
 use pos_service::{Code, Scan};
 
 impl EventQueue {
-    /// A device has a new status: a StatusUpdateEvent is enqueued (common chapter).
+    /// Enqueues a StatusUpdateEvent: a device has this new status (common chapter).
     pub fn status(&mut self, code: u32)
         requires { 1 ≤ self.old.spare }
         ensures enqueued { self.new.list ≡ enqueued (Status code) self.old.list }
@@ -19,6 +20,7 @@ impl EventQueue {
 
     /// A scan has come: a DataEvent is enqueued, but not in the input error state (common chapter).
 
+    /// Enqueues a DataEvent for a scan that has come, but not in the input error state (common chapter).
     pub fn data(&mut self, scan: Scan)
         requires { 1 ≤ self.old.spare }
         ensures enqueued { self.new.list ≡ scanned scan self.old.list }
@@ -30,9 +32,10 @@ impl EventQueue {
         }
     }
 
-    /// A scan has failed: the input error state stands from now on, with its ErrorEvents, EL_INPUT_DATA directly
-    /// before the first DataEvent, where there is one, and EL_INPUT at the end. In that state nothing changes (common
-    /// chapter).
+    /// Puts the control into the input error state: a scan has failed (common chapter).
+    ///
+    /// The ErrorEvents are enqueued: EL_INPUT_DATA directly before the first DataEvent, if there is one, and EL_INPUT
+    /// at the end. In that state already, nothing changes.
     pub fn input_error(&mut self)
         requires { 2 ≤ self.old.spare }
         ensures enqueued { self.new.list ≡ input_failed self.old.list }
@@ -46,7 +49,8 @@ impl EventQueue {
         self.input_data = !self.scans.is_empty();
     }
 
-    /// An output request has failed: an ErrorEvent with EL_OUTPUT is enqueued (common chapter).
+    /// Enqueues an ErrorEvent with EL_OUTPUT, with code and extended code: an output request has failed (common
+    /// chapter).
     pub fn output_error(&mut self, code: Code, extended: u32)
         requires { 1 ≤ self.old.spare }
         ensures enqueued { self.new.list ≡ enqueued (Error code extended locus.Output) self.old.list }
@@ -55,7 +59,7 @@ impl EventQueue {
         self.enqueue(Told::OutputError(code, extended));
     }
 
-    /// The output request with this OutputID is done: an OutputCompleteEvent is enqueued (common chapter).
+    /// Enqueues an OutputCompleteEvent: the output request with this OutputID is done (common chapter).
     pub fn complete(&mut self, id: u64)
         requires { 1 ≤ self.old.spare }
         ensures enqueued { self.new.list ≡ enqueued (Complete id) self.old.list }
