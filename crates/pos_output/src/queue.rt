@@ -1,3 +1,4 @@
+//! The outstanding output of one control.
 ghost use Rattle.std.specs.Prelude.{◌≡◌, ◌==◌, ◌<◌, true, Some, length, option_map, IsSome, IfOk, IfErr};
 ghost use Rattle.pos_service.specs.Output.{last_output_id, no_output, output_deleted, request_done, request_failed};
 ghost use Rattle.pos_service.specs.Output.{request_retried, request_to_do, with_request};
@@ -8,8 +9,8 @@ use std::alloc::Global;
 use std::collections::VecDeque;
 use std::marker::Model;
 
-/// A control's outstanding output: its requests with their OutputIDs, oldest first, whether the first has failed, and
-/// the OutputID of the next (common chapter, OutputID). Contracts see these.
+/// The outstanding output of a control: its requests with their OutputIDs, oldest first (common chapter, OutputID). It
+/// also has whether the first has failed, and the OutputID of the next. Contracts see these.
 #[derive(Drop)]
 pub struct OutputQueue {
     requests: VecDeque<(u64, Order)>,
@@ -26,7 +27,7 @@ impl Model for OutputQueue {
 }
 
 impl OutputQueue {
-    /// No output, with the OutputID that the first request gets.
+    /// Returns a queue without output, with the OutputID that the first request gets.
     pub fn starting(alloc: Global, next_id: u64) -> Self
         ensures { result ≡ no_output next_id }
     {
@@ -37,22 +38,26 @@ impl OutputQueue {
         }
     }
 
-    /// Whether no request is held, whether or not the first has failed.
+    /// Returns whether no request is held, whether or not the first has failed.
     pub fn is_empty(&self) -> bool
         ensures { result ≡ (length self.now.requests == 0) }
     {
         self.requests.is_empty()
     }
 
-    /// The OutputID that the next request gets. 18446744073709551615 means that none is left.
+    /// Returns the OutputID that the next request gets. 18446744073709551615 means that none is left.
     pub fn next_id(&self) -> u64
         ensures { result ≡ self.now.next }
     {
         self.next
     }
 
-    /// Queues a request behind the others and gives its OutputID. A failed first request stays the first. A refusal
-    /// changes nothing and hands the order back: NoMemory, or Exhausted where no OutputID is left.
+    /// Queues a request after the others, and returns its OutputID. A failed first request stays the first.
+    ///
+    /// # Errors
+    ///
+    /// `NoMemory` if memory ran out, and `Exhausted` if no OutputID is left. Then nothing has changed, and the order is
+    /// returned.
     pub fn put(&mut self, order: Order) -> Result<u64, (PutFault, Order)>
         ensures given { IfOk result (λ id. id ≡ self.old.next) }
         ensures queued { IfOk result (λ _. self.new ≡ with_request order self.old) }
@@ -73,7 +78,8 @@ impl OutputQueue {
         Ok(id)
     }
 
-    /// The request that is to be done now, with its OutputID: the first, or None while it has failed.
+    /// Returns the request that is to be done now, with its OutputID: the first one, or `None` if it has failed or
+    /// there is none.
     pub fn first(&self) -> Option<(u64, &Order)>
         ensures { option_map (λ request. (request.0, request.1.now)) result ≡ request_to_do self.now }
     {
@@ -86,7 +92,7 @@ impl OutputQueue {
         }
     }
 
-    /// The request that was to be done is done: it is removed, and its OutputID is given.
+    /// Removes the request that was to be done, because it is done, and returns its OutputID.
     pub fn done(&mut self) -> u64
         requires { IsSome (request_to_do self.old) }
         ensures id { option_map (λ request. request.0) (request_to_do self.old) ≡ Some result }
@@ -98,8 +104,8 @@ impl OutputQueue {
         }
     }
 
-    /// The request that was to be done has failed: it stays the first, and nothing is to be done until it is retried or
-    /// cleared.
+    /// Notes that the request that was to be done has failed. It stays the first, and nothing is to be done until it is
+    /// retried or cleared.
     pub fn failed(&mut self)
         requires { IsSome (request_to_do self.old) }
         ensures { self.new ≡ request_failed self.old }
@@ -107,14 +113,15 @@ impl OutputQueue {
         self.is_failed = true;
     }
 
-    /// Whether the first request has failed: the output error state stands (common chapter, error handling).
+    /// Returns whether the first request has failed, so that the control is in the output error state (common chapter,
+    /// error handling).
     pub fn is_failed(&self) -> bool
         ensures { result ≡ self.now.is_failed }
     {
         self.is_failed
     }
 
-    /// The request that has failed is to be tried again, with the OutputID that it has (ER_RETRY).
+    /// Makes the failed request the one to be done again, with the OutputID that it has (common chapter, ER_RETRY).
     pub fn retry(&mut self)
         requires { self.old.is_failed ≡ true }
         ensures { self.new ≡ request_retried self.old }
@@ -123,7 +130,7 @@ impl OutputQueue {
         self.is_failed = false;
     }
 
-    /// Deletes all requests, and ends the error (clearOutput, ER_CLEAR). OutputIDs go on.
+    /// Deletes all requests, and ends the error (common chapter, clearOutput, ER_CLEAR). OutputIDs go on.
     pub fn clear(&mut self)
         ensures { self.new ≡ output_deleted self.old }
     {
