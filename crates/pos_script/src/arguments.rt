@@ -1,3 +1,4 @@
+//! The words of a line that are arguments.
 ghost use Rattle.std.specs.Prelude.{◌≡◌, true, is_some};
 ghost use Rattle.pos_script.specs.Lines.{words_of};
 ghost use Rattle.pos_script.specs.Arguments.{Shape, Reads, word_as, none, one, two, three, four};
@@ -12,23 +13,28 @@ use thiserror::Error;
 /// Why a line was not read.
 #[derive(Clone, Copy, Debug, PartialEq, Eq, Error)]
 pub enum LineFault {
-    /// Its shape is wrong.
+    /// Its shape is wrong: too few or too many words, or a word that isn't what it must be.
     #[error("the line has a wrong shape")]
     WrongShape,
-    /// Its shape is right, and there was no memory for what is kept of it.
+    /// Its shape is right, and memory ran out for what is kept of it.
     #[error("no memory for the line")]
     NoMemory,
 }
 
-/// What a word of a line may stand for.
+/// What a word of a line may stand for (docs/CONSOLE.md, "Words").
 pub trait Argument: Sized + Drop {
     ghost shape: { Shape Self };
 
-    /// Whether a word is of this shape. It takes no memory.
+    /// Returns whether a word is of this shape. It takes no memory.
     fn has_shape(word: &[u8]) -> bool
         ensures { result ≡ is_some (shape.named word.now) };
 
-    /// What a word stands for. Refused where it isn't of this shape, before memory is asked for.
+    /// Returns what a word stands for.
+    ///
+    /// # Errors
+    ///
+    /// - `WrongShape` if the word isn't of this shape. That is checked before memory is taken.
+    /// - `NoMemory` if memory ran out.
     fn read(alloc: Global, word: &[u8]) -> Result<Self, LineFault>
         ensures { Reads (word_as shape word.now) result };
 }
@@ -138,7 +144,7 @@ impl Argument for Bytes {
 /// The name of a device, which a call keeps.
 #[derive(Drop)]
 pub struct DeviceName {
-    /// Its bytes.
+    /// Its bytes: 1 to 16 ASCII letters, digits or hyphens.
     pub name: Bytes,
 }
 
@@ -160,7 +166,11 @@ impl Argument for DeviceName {
     }
 }
 
-/// Reads no argument: nothing but spaces is left of the line.
+/// Checks that no argument is left of the line, but only spaces.
+///
+/// # Errors
+///
+/// `WrongShape` if a word is left.
 pub fn read_none(words: &[u8]) -> Result<(), LineFault>
     ensures { Reads (none (words_of words.now)) result }
 {
@@ -170,7 +180,11 @@ pub fn read_none(words: &[u8]) -> Result<(), LineFault>
     Ok(())
 }
 
-/// Reads one argument, the last of the line.
+/// Reads one argument, the last of the line, and returns it.
+///
+/// # Errors
+///
+/// `WrongShape` if the word is missing or not of its shape, or another follows; `NoMemory` if memory ran out.
 pub fn read_one<A: Argument>(alloc: Global, words: &[u8]) -> Result<A, LineFault>
     ensures { Reads (one A.shape (words_of words.now)) result }
 {
@@ -183,7 +197,13 @@ pub fn read_one<A: Argument>(alloc: Global, words: &[u8]) -> Result<A, LineFault
     A::read(alloc, word)
 }
 
-/// Reads two arguments, the last of the line. All shapes are looked at before memory is asked for.
+/// Reads two arguments, the last of the line, and returns them.
+///
+/// # Errors
+///
+/// - `WrongShape` if a word is missing or not of its shape, or another follows. All shapes are checked before memory is
+///   taken.
+/// - `NoMemory` if memory ran out.
 pub fn read_two<A: Argument, B: Argument>(alloc: Global, words: &[u8]) -> Result<(A, B), LineFault>
     ensures { Reads (two A.shape B.shape (words_of words.now)) result }
 {
@@ -203,7 +223,13 @@ pub fn read_two<A: Argument, B: Argument>(alloc: Global, words: &[u8]) -> Result
     }
 }
 
-/// Reads three arguments, the last of the line. All shapes are looked at before memory is asked for.
+/// Reads three arguments, the last of the line, and returns them.
+///
+/// # Errors
+///
+/// - `WrongShape` if a word is missing or not of its shape, or another follows. All shapes are checked before memory is
+///   taken.
+/// - `NoMemory` if memory ran out.
 pub fn read_three<A: Argument, B: Argument, C: Argument>(
     alloc: Global,
     words: &[u8],
@@ -226,7 +252,13 @@ pub fn read_three<A: Argument, B: Argument, C: Argument>(
     }
 }
 
-/// Reads four arguments, the last of the line. All shapes are looked at before memory is asked for.
+/// Reads four arguments, the last of the line, and returns them.
+///
+/// # Errors
+///
+/// - `WrongShape` if a word is missing or not of its shape, or another follows. All shapes are checked before memory is
+///   taken.
+/// - `NoMemory` if memory ran out.
 pub fn read_four<A: Argument, B: Argument, C: Argument, D: Argument>(
     alloc: Global,
     words: &[u8],

@@ -1,3 +1,4 @@
+//! The verbs of lines, and what the words after them ask.
 ghost use Rattle.std.specs.Prelude.{◌≡◌, ◌∷◌, MatchOption};
 ghost use Rattle.pos_script.specs.Lines.{words_of};
 ghost use Rattle.pos_script.specs.Arguments.{Reads, from_three, misshapen, one};
@@ -12,7 +13,7 @@ use pos_service::words::is;
 use pos_service::{Call, Category, ErrorReply, Input, LentBytes, is_device_name};
 use std::alloc::Global;
 
-/// The verb of a line that asks a call, behind which stands the control's name.
+/// The verb of a line that asks for a call, after which the control's name comes.
 #[derive(Clone, Copy)]
 pub enum CallVerb {
     /// `open CONTROL DEVICE`
@@ -31,7 +32,7 @@ pub enum CallVerb {
     Method,
 }
 
-/// The verb of a line that asks something of a device, behind which stands its name alone.
+/// The verb of a line that asks something of a device, after which only its name comes.
 #[derive(Clone, Copy)]
 pub enum DeviceVerb {
     /// `show DEVICE`
@@ -47,7 +48,7 @@ pub enum DeviceVerb {
 pub enum Verb {
     /// `new CONTROL CATEGORY`
     New,
-    /// A call of a control.
+    /// A call of a control
     Call(CallVerb),
     /// `input DEVICE`, and what happens there
     Input,
@@ -55,7 +56,7 @@ pub enum Verb {
     Deliver,
     /// `attach DEVICE SPARE`
     Attach,
-    /// What is asked of a device.
+    /// What is asked of a device
     Device(DeviceVerb),
 }
 
@@ -64,13 +65,13 @@ pub enum Verb {
 pub struct Command<'a> {
     /// Its verb.
     pub verb: Verb,
-    /// The name of a control or a device: 1 to 16 letters of ASCII, digits or hyphens.
+    /// The name of a control or a device: 1 to 16 ASCII letters, digits or hyphens.
     pub name: LentBytes<'a>,
-    /// The text behind it.
+    /// The text after it.
     pub words: &'a [u8],
 }
 
-/// The verb of this word. Those of most lines are sought first.
+/// Returns the verb of this word. Those of most lines are looked for first.
 #[inline(always)]
 fn named_verb(word: &[u8]) -> Option<Verb>
     ensures { result ≡ verb_named word.now }
@@ -94,8 +95,8 @@ fn named_verb(word: &[u8]) -> Option<Verb>
     }
 }
 
-/// A line that is known to be well spelled and not quiet, taken apart; nothing where it doesn't begin with a verb and a
-/// name.
+/// Returns a line taken apart, or `None` if it doesn't begin with a verb and a name. The line is known to be well
+/// spelled and not quiet.
 #[inline(always)]
 pub fn read_command(line: &[u8]) -> Option<Command<'_>>
     ensures { MatchOption result (request_of_words (words_of line.now) ≡ misshapen)
@@ -115,7 +116,7 @@ pub fn read_command(line: &[u8]) -> Option<Command<'_>>
     })
 }
 
-/// A method, and its arguments.
+/// Reads a method and its arguments.
 fn read_method(alloc: Global, words: &[u8]) -> Result<Call, LineFault>
     ensures { Reads (method_of (words_of words.now)) result }
 {
@@ -125,9 +126,13 @@ fn read_method(alloc: Global, words: &[u8]) -> Result<Call, LineFault>
     read_call(alloc, method, rest)
 }
 
-/// What a line of a call's verb asks of its control, by the words behind its name. WrongShape is answered where its
-/// shape is wrong, before any memory is asked for (docs/CONSOLE.md, "Lines", "Methods" and "Words"), and NoMemory where
-/// there is none for what the call keeps of it.
+/// Returns the call that a line asks for on its control, by its verb and the words after the control's name.
+///
+/// # Errors
+///
+/// - `WrongShape` if the shape is wrong (docs/CONSOLE.md, "Lines", "Methods" and "Words"). That is checked before
+///   memory is taken.
+/// - `NoMemory` if memory ran out for what the call keeps of the line.
 #[inline(always)]
 pub fn read_called(alloc: Global, verb: CallVerb, words: &[u8]) -> Result<Call, LineFault>
     ensures { Reads (called verb (words_of words.now)) result }
@@ -145,14 +150,14 @@ pub fn read_called(alloc: Global, verb: CallVerb, words: &[u8]) -> Result<Call, 
     }
 }
 
-/// A scan, by its type, its data and its label.
+/// Reads a scan: its type, its data and its label.
 fn read_scan(alloc: Global, words: &[u8]) -> Result<Input, LineFault>
     ensures { Reads (from_three count_shape bytes_shape bytes_shape input.Scan (words_of words.now)) result }
 {
     read_three(alloc, words).map(|(kind, (bytes, label))| Input::Scan { kind, bytes, label })
 }
 
-/// What happens at a device.
+/// Reads what happens at a device.
 fn read_event(alloc: Global, word: &[u8], words: &[u8]) -> Result<Input, LineFault>
     ensures { Reads (input_of word.now (words_of words.now)) result }
 {
@@ -174,7 +179,7 @@ fn read_event(alloc: Global, word: &[u8], words: &[u8]) -> Result<Input, LineFau
     read_printer_event(alloc, word, words)
 }
 
-/// The last word of a line, which is one of two: whether it is the first of them.
+/// Reads the last word of a line, which is one of two, and returns whether it is the first of them.
 fn read_choice(words: &[u8], first: &str, second: &str) -> Result<bool, LineFault>
     ensures { Reads (choice_of first.now second.now (words_of words.now)) result }
 {
@@ -190,7 +195,7 @@ fn read_choice(words: &[u8], first: &str, second: &str) -> Result<bool, LineFaul
     Err(LineFault::WrongShape)
 }
 
-/// What happens at a printer.
+/// Reads what happens at a printer.
 fn read_printer_event(alloc: Global, word: &[u8], words: &[u8]) -> Result<Input, LineFault>
     ensures { Reads (printer_input_of word.now (words_of words.now)) result }
 {
@@ -203,21 +208,34 @@ fn read_printer_event(alloc: Global, word: &[u8], words: &[u8]) -> Result<Input,
     Err(LineFault::WrongShape)
 }
 
-/// The category of a new control, by the words of a `new` line behind its name; refused as a call's line is.
+/// Returns the category of a new control, by the words of a `new` line after its name.
+///
+/// # Errors
+///
+/// `WrongShape` if they aren't one category.
 pub fn read_category(alloc: Global, words: &[u8]) -> Result<Category, LineFault>
     ensures { Reads (one category_shape (words_of words.now)) result }
 {
     read_one(alloc, words)
 }
 
-/// The number of a spare, by the words of an `attach` line behind the device's name; refused as a call's line is.
+/// Returns the number of a spare, by the words of an `attach` line after the device's name.
+///
+/// # Errors
+///
+/// `WrongShape` if they aren't one number that isn't negative.
 pub fn read_spare(alloc: Global, words: &[u8]) -> Result<u32, LineFault>
     ensures { Reads (one count_shape (words_of words.now)) result }
 {
     read_one(alloc, words)
 }
 
-/// What happens at a device, by the words of an `input` line behind its name; refused as a call's line is.
+/// Returns what happens at a device, by the words of an `input` line after its name.
+///
+/// # Errors
+///
+/// - `WrongShape` if they are no input of any device.
+/// - `NoMemory` if memory ran out for the data of a scan.
 pub fn read_happening(alloc: Global, words: &[u8]) -> Result<Input, LineFault>
     ensures { Reads (happening (words_of words.now)) result }
 {
@@ -227,8 +245,12 @@ pub fn read_happening(alloc: Global, words: &[u8]) -> Result<Input, LineFault>
     read_event(alloc, word, rest)
 }
 
-/// The answer to an ErrorEvent, by the words of a `deliver` line behind its name: the default one where no word gives
-/// it.
+/// Returns the answer to an ErrorEvent, by the words of a `deliver` line after its name. Without a word it is the
+/// default one (common chapter, ErrorResponse).
+///
+/// # Errors
+///
+/// `WrongShape` if they are more than one word, or no answer.
 pub fn read_reply(alloc: Global, words: &[u8]) -> Result<ErrorReply, LineFault>
     ensures { Reads (reply_of (words_of words.now)) result }
 {

@@ -15,11 +15,12 @@ pub trait Glyph {
 
     ghost look: { Self → ℕ };
 
-    /// The character, a byte.
+    /// Returns the character, a byte.
     fn character(&self) -> u8
         ensures { result ≡ character self.now };
 
-    /// The number of how it looks.
+    /// Returns the number of how it looks: on a display its attribute, 0 to 3, and of a printer 1 if it is bold,
+    /// otherwise 0.
     fn look(&self) -> u32
         ensures { result ≡ look self.now };
 }
@@ -74,7 +75,11 @@ fn write_looks<W: Sink, G: Glyph>(writer: &mut W, glyphs: &[G]) -> Result<(), Wr
     Ok(())
 }
 
-/// Writes all characters, a separator, and how each character looks.
+/// Writes all characters in hex, a separator, and how each character looks, one digit each.
+///
+/// # Errors
+///
+/// [`WriteFault`] if a write failed. Then only a front of the text was written.
 pub fn write_glyphs<W: Sink, G: Glyph>(
     writer: &mut W,
     separator: &str,
@@ -88,7 +93,11 @@ pub fn write_glyphs<W: Sink, G: Glyph>(
     write_looks(writer, glyphs)
 }
 
-/// Writes printed characters and how they look, or that there is none.
+/// Writes printed characters and how they look, or that there are none.
+///
+/// # Errors
+///
+/// [`WriteFault`] if a write failed. Then only a front of the text was written.
 pub fn write_printed<W: Sink>(
     writer: &mut W,
     printed: &[PrintedCharacter],

@@ -1,4 +1,12 @@
-//! What the lines of a script say, and how its answers are printed (docs/CONSOLE.md).
+//! What the lines of a script ask, and how the answers are printed (docs/CONSOLE.md).
+//!
+//! - A [`LineBuffer`] takes a script in pieces, and returns each [`Line`].
+//! - [`read_command`] takes a line apart into a [`Command`], and [`read_called`] and its neighbours return what it
+//!   asks.
+//! - [`print_reply`] writes a [`Reply`] to a line, and [`print_fault`] a [`LineFault`].
+//!
+//! The layer above relies on this: what is read and what is written is exactly what the definitions say, however the
+//! script is cut into pieces. Printing takes no memory, and a wrong shape is refused before memory is taken.
 #![tactic(auto)]
 
 mod arguments;

@@ -18,7 +18,7 @@ pub enum Look {
     Comment,
     /// It is nothing but spaces.
     Blank,
-    /// It is nothing but spaces and a carriage return at its end.
+    /// It is nothing but spaces, with a carriage return at its end.
     BlankThenReturn,
     /// It is another line.
     Loud,
@@ -36,16 +36,16 @@ pub enum Line<'a> {
     Words(&'a [u8]),
 }
 
-/// Where a line is that a piece ended.
+/// The place of a line that a piece ended.
 #[derive(Clone, Copy)]
 pub enum EndedLine<'a> {
     /// The buffer holds it.
     Held,
-    /// The piece has it whole, and nothing of it was put into the buffer.
+    /// The piece has all of it, and nothing of it was put into the buffer.
     InPiece(Line<'a>),
 }
 
-/// Whether eight bytes are plain, all looked at together.
+/// Returns whether eight bytes are plain. It looks at all of them together.
 fn are_eight_plain(bytes: &[u8]) -> bool
     requires { length bytes.now ≡ 8 }
     ensures { result ≡ are_plain bytes.now }
@@ -60,7 +60,7 @@ fn are_eight_plain(bytes: &[u8]) -> bool
         & is_plain_byte(bytes[7])
 }
 
-/// A place in a piece before which all bytes are plain, found by eights.
+/// Returns a place in a piece before which all bytes are plain, found by eights.
 fn skip_eights(piece: &[u8]) -> usize
     ensures bound { result ≤ length piece.now }
     ensures plain { are_plain (take result piece.now) ≡ true }
@@ -72,7 +72,7 @@ fn skip_eights(piece: &[u8]) -> usize
     place
 }
 
-/// How many bytes of a piece are plain, up to the first that isn't.
+/// Returns how many bytes of a piece are plain, up to the first that isn't.
 fn count_plain(piece: &[u8]) -> usize
     ensures bound { result ≤ length piece.now }
     ensures plain { are_plain (take result piece.now) ≡ true }
@@ -86,7 +86,8 @@ fn count_plain(piece: &[u8]) -> usize
     piece.len()
 }
 
-/// Where the first line feed of a piece stands, if none stands before `from`; the length where there is none.
+/// Returns where the first line feed of a piece is, if there is none before `from`, or the length if there is none at
+/// all.
 fn find_feed(piece: &[u8], from: usize) -> usize
     requires bound { from ≤ length piece.now }
     requires front { have_no_feed (take from piece.now) ≡ true }
@@ -103,7 +104,7 @@ fn find_feed(piece: &[u8], from: usize) -> usize
     piece.len()
 }
 
-/// Where the first line feed of a piece stands, or its length where there is none; and whether the bytes before are
+/// Returns where the first line feed of a piece is, or its length if there is none; and whether the bytes before are
 /// plain.
 fn find_end(piece: &[u8]) -> (usize, bool)
     ensures bound { result.0 ≤ length piece.now }
@@ -118,7 +119,7 @@ fn find_end(piece: &[u8]) -> (usize, bool)
     (find_feed(piece, plain), false)
 }
 
-/// How a line looks that goes on by bytes, where it isn't empty before them.
+/// Returns how a line looks that goes on with these bytes, if it isn't empty before them.
 fn go_on(look: Look, bytes: &[u8]) -> Look
     ensures { result ≡ look_with look bytes.now }
 {
@@ -130,7 +131,7 @@ fn go_on(look: Look, bytes: &[u8]) -> Look
     }
 }
 
-/// How a line looks whose last bytes are these, behind spaces or nothing.
+/// Returns how a line looks whose last bytes are these, after spaces or nothing.
 fn look_behind_spaces(bytes: &[u8]) -> Look
     ensures { result ≡ look_from false (is_blank bytes.now) (is_blank (without_cr bytes.now)) }
 {
@@ -143,7 +144,7 @@ fn look_behind_spaces(bytes: &[u8]) -> Look
     Look::Loud
 }
 
-/// How a line looks.
+/// Returns how a line looks.
 fn look_whole(line: &[u8]) -> Look
     ensures { result ≡ look_of line.now }
 {
@@ -153,7 +154,7 @@ fn look_whole(line: &[u8]) -> Look
     look_behind_spaces(line)
 }
 
-/// How a line looks that is in two parts.
+/// Returns how a line looks that is in two parts.
 fn look_at(front: &[u8], rest: &[u8]) -> Look
     ensures { result ≡ look_of (front.now ++ rest.now) }
 {
@@ -163,7 +164,7 @@ fn look_at(front: &[u8], rest: &[u8]) -> Look
     go_on(look_whole(front), rest)
 }
 
-/// How a line looks at its line feed, where a carriage return before it doesn't count.
+/// Returns how a line looks at its line feed, where a carriage return before it doesn't count.
 fn end_look(look: Look) -> Look
     ensures { result ≡ look_ended look }
 {
@@ -173,7 +174,7 @@ fn end_look(look: Look) -> Look
     }
 }
 
-/// Whether a line that looks so prints nothing.
+/// Returns whether a line that looks like this prints nothing.
 fn is_passed_over(look: Look) -> bool
     ensures { result ≡ is_quiet_look look }
 {
@@ -183,7 +184,7 @@ fn is_passed_over(look: Look) -> bool
     }
 }
 
-/// The line of these bytes, of which it is said whether all are plain.
+/// Returns the line of these bytes, given whether all are plain.
 fn line_of(bytes: &[u8], is_plain: bool) -> Line<'_>
     requires { is_plain ≡ are_plain bytes.now }
     ensures { IsLine result bytes.now }
@@ -197,7 +198,7 @@ fn line_of(bytes: &[u8], is_plain: bool) -> Line<'_>
     Line::Misspelled
 }
 
-/// The line of these bytes before a line feed, of which it is said whether all are plain.
+/// Returns the line of these bytes before a line feed, given whether all are plain.
 fn line_at_feed(bytes: &[u8], is_plain: bool) -> Line<'_>
     requires { is_plain ≡ are_plain bytes.now }
     ensures { IsLine result (without_cr bytes.now) }
@@ -209,8 +210,8 @@ fn line_at_feed(bytes: &[u8], is_plain: bool) -> Line<'_>
     line_of(line, all_plain(line))
 }
 
-/// What was read of a line of a script, which comes in pieces (docs/CONSOLE.md, "Lines"). Want of memory is met when it
-/// is made, and never later.
+/// What was read of a line of a script, which comes in pieces (docs/CONSOLE.md, "Lines"). It takes memory only when it
+/// is made.
 #[derive(Drop)]
 pub struct LineBuffer {
     bytes: Vec<u8>,
@@ -231,7 +232,11 @@ impl Model for LineBuffer {
 }
 
 impl LineBuffer {
-    /// A buffer with room for a line, of which nothing was read.
+    /// Returns a buffer with room for a line, of which nothing was read.
+    ///
+    /// # Errors
+    ///
+    /// [`NoMemory`] if memory ran out.
     pub fn new(alloc: Global) -> Result<LineBuffer, NoMemory>
         ensures { IfOk result (λ buffer. StandsFor buffer []) }
     {
@@ -245,9 +250,11 @@ impl LineBuffer {
         }
     }
 
-    /// Takes from a piece, which comes behind what was read, the bytes up to and with the first line feed, and gives
-    /// the line that they end and what it leaves: then the line is held, if the piece doesn't have all of it, until the
-    /// buffer is cleared for the next. Takes all of a piece without a line feed, and gives nothing.
+    /// Takes bytes from a piece, which comes after what was read, up to and with the first line feed. Returns the line
+    /// that they end, and the rest of the piece. If the piece doesn't have all of the line, the buffer holds it until
+    /// it is cleared for the next.
+    ///
+    /// A piece without a line feed is taken whole, and the result is `None`.
     #[inline(always)]
     pub fn feed<'a>(&mut self, piece: &'a [u8]) -> Option<(EndedLine<'a>, &'a [u8])>
         ensures lines { (read : List ℕ) → StandsFor self.old read
@@ -267,7 +274,7 @@ impl LineBuffer {
         Some((EndedLine::Held, &piece[end + 1..]))
     }
 
-    /// A line that a piece ended.
+    /// Returns a line that a piece ended.
     pub fn ended_line<'a>(&'a self, ended: EndedLine<'a>) -> Line<'a>
         ensures { (line : List ℕ) → IsEnded ended.entry self.now line → IsLine result line }
     {
@@ -277,7 +284,7 @@ impl LineBuffer {
         }
     }
 
-    /// Adds bytes to a line, of which it is said whether all are plain.
+    /// Adds bytes to a line, given whether all are plain.
     fn add(&mut self, bytes: &[u8], is_plain: bool)
         requires { is_plain ≡ are_plain bytes.now }
         ensures { self.new ≡ kept_with self.old bytes.now }
@@ -307,7 +314,8 @@ impl LineBuffer {
         }
     }
 
-    /// Whether nothing is held: at the end of the input, whether there is no last line that lacks its line feed.
+    /// Returns whether nothing is held. At the end of the input this says that there is no last line without a line
+    /// feed.
     pub fn is_empty(&self) -> bool
         ensures kept { result ≡ is_kept_nothing self.now }
         ensures end { (read : List ℕ) → StandsFor self.now read → EndsInput read result self.now }
@@ -318,7 +326,7 @@ impl LineBuffer {
         }
     }
 
-    /// The line that is held.
+    /// Returns the line that is held.
     pub fn line(&self) -> Line<'_>
         ensures { (line : List ℕ) → IsHeld self.now line → IsLine result line }
     {

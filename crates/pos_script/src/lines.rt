@@ -1,8 +1,9 @@
+//! Lines and words.
 ghost use Rattle.std.specs.Prelude.{◌≡◌, ◌<◌, ◌∷◌, [], length, MatchOption, IfSome, IfNone};
 ghost use Rattle.std.specs.List.{list_all};
 ghost use Rattle.pos_script.specs.Lines.{pieces, words_of, without_cr, is_quiet, is_space, is_plain};
 
-/// The front of a text up to a byte, and what follows that byte, if it is there.
+/// Returns the front of a text up to a byte, and what follows that byte, if it is there.
 fn cut(text: &[u8], at: u8) -> (&[u8], Option<&[u8]>)
     ensures pieces { MatchOption result.1 (pieces at text.now ≡ result.0.now ∷ [])
         (λ rest. pieces at text.now ≡ result.0.now ∷ pieces at rest.now) }
@@ -17,7 +18,7 @@ fn cut(text: &[u8], at: u8) -> (&[u8], Option<&[u8]>)
     (text, None)
 }
 
-/// The first word of a line, and the rest of the line; nothing where there is no word.
+/// Returns the first word of a line and the rest of the line, or `None` if there is no word.
 pub fn next_word(line: &[u8]) -> Option<(&[u8], &[u8])>
     ensures { MatchOption result (words_of line.now ≡ [])
         (λ found. words_of line.now ≡ found.0.now ∷ words_of found.1.now) }
@@ -34,7 +35,7 @@ pub fn next_word(line: &[u8]) -> Option<(&[u8], &[u8])>
     }
 }
 
-/// A line without a carriage return at its end.
+/// Returns a line without a carriage return at its end.
 pub fn strip_cr(line: &[u8]) -> &[u8]
     ensures { result.now ≡ without_cr line.now }
 {
@@ -46,28 +47,28 @@ pub fn strip_cr(line: &[u8]) -> &[u8]
     }
 }
 
-/// Whether a line is nothing but spaces.
+/// Returns whether a line is nothing but spaces.
 pub fn all_spaces(line: &[u8]) -> bool
     ensures { result ≡ list_all is_space line.now }
 {
     line.iter().all(|b| *b == 32)
 }
 
-/// Whether a byte is a space or a sign that ASCII prints.
+/// Returns whether a byte is a space or a sign that ASCII prints, 0x20 to 0x7E.
 pub fn is_plain_byte(b: u8) -> bool
     ensures { result ≡ is_plain b }
 {
     32 <= b && b <= 126
 }
 
-/// Whether each byte of a line is a space or a sign that ASCII prints.
+/// Returns whether each byte of a line is a space or a sign that ASCII prints.
 pub fn all_plain(line: &[u8]) -> bool
     ensures { result ≡ list_all is_plain line.now }
 {
     line.iter().all(|b| is_plain_byte(*b))
 }
 
-/// Whether a line prints nothing: it is empty or nothing but spaces, or its first byte is `#`.
+/// Returns whether a line prints nothing: it is empty or nothing but spaces, or its first byte is `#`.
 pub fn is_quiet_line(line: &[u8]) -> bool
     ensures { result ≡ is_quiet line.now }
 {

@@ -1,3 +1,4 @@
+//! The calls of `call` lines, by their methods.
 ghost use Rattle.pos_script.specs.Lines.{words_of};
 ghost use Rattle.pos_service.specs.declared.call.Call.TheVariants as call;
 ghost use Rattle.pos_script.specs.Arguments.{Reads, from_three, from_four};
@@ -9,7 +10,13 @@ use pos_service::Call;
 use pos_service::words::is;
 use std::alloc::Global;
 
-/// The call of a method, by its word and the words behind it, whatever its control is.
+/// Returns the call of a method, by its word and the words after it, whatever its control is.
+///
+/// # Errors
+///
+/// - `WrongShape` if there is no such method, or the words aren't its arguments. That is checked before memory is
+///   taken.
+/// - `NoMemory` if memory ran out for what the call keeps.
 pub fn read_call(alloc: Global, method: &[u8], words: &[u8]) -> Result<Call, LineFault>
     ensures { Reads (call_of method.now (words_of words.now)) result }
 {
@@ -25,7 +32,7 @@ pub fn read_call(alloc: Global, method: &[u8], words: &[u8]) -> Result<Call, Lin
     read_display_call(alloc, method, words)
 }
 
-/// The call of a method of a line display, or of another one.
+/// Returns the call of a method of a line display, or of another one.
 fn read_display_call(alloc: Global, method: &[u8], words: &[u8]) -> Result<Call, LineFault>
     ensures { Reads (call_in display_methods method.now (words_of words.now)) result }
 {
@@ -44,7 +51,7 @@ fn read_display_call(alloc: Global, method: &[u8], words: &[u8]) -> Result<Call,
     read_printer_call(alloc, method, words)
 }
 
-/// The call `displayTextAt`, by the words behind it.
+/// Returns the call `displayTextAt`, by the words after it.
 fn read_text_at(alloc: Global, words: &[u8]) -> Result<Call, LineFault>
     ensures { Reads (from_four number_shape number_shape bytes_shape number_shape call.DisplayTextAt
         (words_of words.now)) result }
@@ -54,7 +61,7 @@ fn read_text_at(alloc: Global, words: &[u8]) -> Result<Call, LineFault>
     ))
 }
 
-/// The call of a method of a receipt printer, or of another one.
+/// Returns the call of a method of a receipt printer, or of another one.
 fn read_printer_call(alloc: Global, method: &[u8], words: &[u8]) -> Result<Call, LineFault>
     ensures { Reads (call_in printer_methods method.now (words_of words.now)) result }
 {
@@ -73,7 +80,7 @@ fn read_printer_call(alloc: Global, method: &[u8], words: &[u8]) -> Result<Call,
     read_totals_call(alloc, method, words)
 }
 
-/// The call of a method of Hard Totals.
+/// Returns the call of a method of Hard Totals.
 fn read_totals_call(alloc: Global, method: &[u8], words: &[u8]) -> Result<Call, LineFault>
     ensures { Reads (call_in totals_methods method.now (words_of words.now)) result }
 {
@@ -92,14 +99,14 @@ fn read_totals_call(alloc: Global, method: &[u8], words: &[u8]) -> Result<Call, 
     read_handle_call(alloc, method, words)
 }
 
-/// The call `create`, by the words behind it.
+/// Returns the call `create`, by the words after it.
 fn read_create(alloc: Global, words: &[u8]) -> Result<Call, LineFault>
     ensures { Reads (from_three bytes_shape number_shape truth_shape call.Create (words_of words.now)) result }
 {
     read_three(alloc, words).map(|(name, (size, detection))| Call::Create(name, size, detection))
 }
 
-/// The call of a method of Hard Totals on a file by its handle, or of another one.
+/// Returns the call of a method of Hard Totals on a file by its handle, or of another one.
 fn read_handle_call(alloc: Global, method: &[u8], words: &[u8]) -> Result<Call, LineFault>
     ensures { Reads (call_in handle_methods method.now (words_of words.now)) result }
 {
@@ -122,7 +129,7 @@ fn read_handle_call(alloc: Global, method: &[u8], words: &[u8]) -> Result<Call, 
     read_transaction_call(alloc, method, words)
 }
 
-/// The call of a method of Hard Totals that claims a file, or is of a transaction.
+/// Returns the call of a method of Hard Totals that claims a file, or is of a transaction.
 fn read_transaction_call(alloc: Global, method: &[u8], words: &[u8]) -> Result<Call, LineFault>
     ensures { Reads (call_in transaction_methods method.now (words_of words.now)) result }
 {

@@ -1,3 +1,4 @@
+//! The replies to lines, as text.
 ghost use Rattle.std.specs.Prelude.{◌≡◌, ◌++◌, ◌∷◌, [], codes};
 ghost use Rattle.std.specs.Fmt.{signed_decimal};
 ghost use Rattle.pos_script.specs.Writing.{Writes};
@@ -61,7 +62,7 @@ fn print_value<W: Sink>(writer: &mut W, value: Value) -> Result<(), WriteFault>
     }
 }
 
-/// Writes `err` and a result code, and the extended code behind E_EXTENDED.
+/// Writes `err` and a result code, and the extended code after E_EXTENDED.
 fn print_refusal<W: Sink>(writer: &mut W, code: Code, extended: u32) -> Result<(), WriteFault>
     ensures { Writes (W.given writer.old) (W.given writer.new)
         (answer_text (Answer.Refused code extended) ++ 10 ∷ []) result }
@@ -164,7 +165,7 @@ fn print_receipt<W: Sink>(writer: &mut W, receipt: &Receipt) -> Result<(), Write
     write_parts(writer, &["\n"])
 }
 
-/// Writes what a device is physically, but its power.
+/// Writes what a device is physically, except its power.
 fn print_plant<W: Sink>(writer: &mut W, snapshot: Snapshot) -> Result<(), WriteFault>
     ensures { Writes (W.given writer.old) (W.given writer.new) (plant_text snapshot.0 ++ 10 ∷ []) result }
 {
@@ -203,7 +204,7 @@ fn print_worked<W: Sink>(writer: &mut W, worked: Worked) -> Result<(), WriteFaul
     }
 }
 
-/// Why a peripheral was not attached, as a line.
+/// Returns why a peripheral was not attached, as a line.
 fn attach_line(fault: AttachFault) -> &'static str
     ensures { result.now ≡ attach_text fault ++ 10 ∷ [] }
 {
@@ -214,7 +215,7 @@ fn attach_line(fault: AttachFault) -> &'static str
     }
 }
 
-/// Why a peripheral was not detached, as a line.
+/// Returns why a peripheral was not detached, as a line.
 fn detach_line(fault: DetachFault) -> &'static str
     ensures { result.now ≡ detach_text fault ++ 10 ∷ [] }
 {
@@ -248,8 +249,11 @@ fn print_response<W: Sink>(writer: &mut W, response: Response<()>) -> Result<(),
     }
 }
 
-/// Writes the reply to a line, as a line of its own (docs/CONSOLE.md, "Answers"). It takes no memory. At a fault a
-/// front of the text is written, and not all of it.
+/// Writes the reply to a line, as a line of its own (docs/CONSOLE.md, "Answers"). It takes no memory.
+///
+/// # Errors
+///
+/// [`WriteFault`] if a write failed. Then a front of the text was written, and not all of it.
 #[inline(always)]
 pub fn print_reply<W: Sink>(writer: &mut W, reply: Reply) -> Result<(), WriteFault>
     ensures { Writes (W.given writer.old) (W.given writer.new) (reply_text reply ++ 10 ∷ []) result }
@@ -263,7 +267,11 @@ pub fn print_reply<W: Sink>(writer: &mut W, reply: Reply) -> Result<(), WriteFau
     }
 }
 
-/// Writes why a line was not read, as a line of its own. At a fault a front of the text is written, and not all of it.
+/// Writes why a line was not read, as a line of its own. It takes no memory.
+///
+/// # Errors
+///
+/// [`WriteFault`] if a write failed. Then a front of the text was written, and not all of it.
 pub fn print_fault<W: Sink>(writer: &mut W, fault: LineFault) -> Result<(), WriteFault>
     ensures { Writes (W.given writer.old) (W.given writer.new) (fault_text fault ++ 10 ∷ []) result }
 {

@@ -11,7 +11,7 @@ use pos_service::Receipt;
 use pos_service::receipt_text::{Alignment, Mark, PrintedCharacter};
 use pos_streams::{Sink, WriteFault};
 
-/// Where a line stands, as a letter.
+/// Returns where a line is, as a letter.
 fn letter_of(alignment: Alignment) -> &'static str
     ensures { result.now ≡ alignment_text alignment }
 {
@@ -22,14 +22,14 @@ fn letter_of(alignment: Alignment) -> &'static str
     }
 }
 
-/// Whether a cover is open, as a word.
+/// Returns whether a cover is open, as a word.
 fn word_of(is_open: bool) -> &'static str
     ensures { result.now ≡ cover_text is_open }
 {
     if is_open { "open" } else { "closed" }
 }
 
-/// The first so many characters, and those behind them.
+/// Returns the first so many characters, and those after them.
 fn split_line(
     characters: &[PrintedCharacter],
     count: usize,
@@ -40,7 +40,7 @@ fn split_line(
     characters.split_at(count.min(characters.len()))
 }
 
-/// The line buffer: the characters behind those of the lines.
+/// Returns the line buffer: the characters after those of the lines.
 fn line_buffer<'a>(marks: &[Mark], characters: &'a [PrintedCharacter]) -> &'a [PrintedCharacter]
     ensures { result.now ≡ buffer_from marks.now characters.now }
 {
@@ -53,7 +53,7 @@ fn line_buffer<'a>(marks: &[Mark], characters: &'a [PrintedCharacter]) -> &'a [P
     rest
 }
 
-/// Writes a line that was printed, behind a space.
+/// Writes a line that was printed, after a space.
 fn write_line<W: Sink>(
     writer: &mut W,
     alignment: Alignment,
@@ -66,7 +66,7 @@ fn write_line<W: Sink>(
     write_printed(writer, characters)
 }
 
-/// Writes a cut, behind a space.
+/// Writes a cut, after a space.
 fn write_cut<W: Sink>(writer: &mut W, percentage: u8) -> Result<(), WriteFault>
     ensures { Writes (W.given writer.old) (W.given writer.new)
         (codes " " ++ item_text (CutAt percentage)) result }
@@ -99,6 +99,10 @@ fn write_items<W: Sink>(
 }
 
 /// Writes a printer's cover, how many lines of paper are left, its line buffer, and what is printed.
+///
+/// # Errors
+///
+/// [`WriteFault`] if a write failed. Then only a front of the text was written.
 pub fn write_receipt<W: Sink>(writer: &mut W, receipt: &Receipt) -> Result<(), WriteFault>
     ensures { Writes (W.given writer.old) (W.given writer.new) (printer_text receipt.now) result }
 {

@@ -1,3 +1,4 @@
+//! The reply to a line.
 use pos_service::Response;
 
 /// The reply to a line that isn't quiet (docs/CONSOLE.md, "Answers").
@@ -9,8 +10,8 @@ pub enum Reply {
     BadControl,
     /// No spare has the number: `bad spare`.
     BadSpare,
-    /// There was no memory for what is kept of the line: `memory`.
+    /// Memory ran out for what is kept of the line: `memory`.
     Memory,
-    /// What the counter answers. The peripheral that it hands out is told of no more.
+    /// What the counter answers. A peripheral that it returns is not printed.
     Responded(Response<()>),
 }

@@ -1,3 +1,4 @@
+//! What words stand for.
 ghost use Rattle.std.specs.Prelude.{◌≡◌, ◌<◌, ◌^◌, true, is_some, Some, IfSome, IfOk};
 ghost use Rattle.std.specs.List.{list_all};
 ghost use Rattle.hex.specs.Hex.{is_hex_digit};
@@ -8,19 +9,21 @@ use pos_service::words::is;
 use pos_service::{Bytes, ErrorReply, NoMemory, Value};
 use std::alloc::Global;
 
+/// Returns whether a byte is a digit.
 fn is_digit_byte(b: u8) -> bool
     ensures { result ≡ is_digit b }
 {
     48 <= b && b <= 57
 }
 
+/// Returns whether each byte of a word is a digit.
 fn all_digits(word: &[u8]) -> bool
     ensures { result ≡ list_all is_digit word.now }
 {
     word.iter().all(|b| is_digit_byte(*b))
 }
 
-/// The number that some digits write.
+/// Returns the number that some digits write.
 fn sum_digits(digits: &[u8]) -> u64
     requires { is_digits digits.now ≡ true }
     ensures value { result ≡ number_of_digits digits.now }
@@ -33,7 +36,7 @@ fn sum_digits(digits: &[u8]) -> u64
     number
 }
 
-/// The number of 1 to 18 digits.
+/// Returns the number of 1 to 18 digits.
 fn digits(word: &[u8]) -> Option<u64>
     ensures value { result ≡ digits_named word.now }
     ensures bound { IfSome result (λ number. number < 10 ^ 18) }
@@ -44,7 +47,7 @@ fn digits(word: &[u8]) -> Option<u64>
     None
 }
 
-/// The number of a word: 1 to 18 digits, with or without a minus before them.
+/// Returns the number of a word, 1 to 18 digits with or without a minus before them, or `None` if it is no such word.
 pub fn number(word: &[u8]) -> Option<i128>
     ensures { result ≡ number_named word.now }
 {
@@ -60,7 +63,8 @@ pub fn number(word: &[u8]) -> Option<i128>
     }
 }
 
-/// The number of a word, where it isn't negative; one past 32 bits is read as the greatest of these.
+/// Returns the number of a word, or `None` if it is negative or none. One past 32 bits is read as the greatest of
+/// these.
 pub fn count(word: &[u8]) -> Option<u32>
     ensures { result ≡ count_named word.now }
 {
@@ -74,7 +78,7 @@ pub fn count(word: &[u8]) -> Option<u32>
     Some(number as u32)
 }
 
-/// The truth value of a word: `true` or `false`.
+/// Returns the truth value of a word, `true` or `false`, or `None` if it is neither.
 pub fn truth(word: &[u8]) -> Option<bool>
     ensures { result ≡ truth_named word.now }
 {
@@ -87,20 +91,25 @@ pub fn truth(word: &[u8]) -> Option<bool>
     None
 }
 
+/// Returns whether each byte of a word is a hex digit, of either case.
 fn all_hex_digits(word: &[u8]) -> bool
     ensures { result ≡ list_all is_hex_digit word.now }
 {
     word.iter().all(|b| b.is_ascii_hexdigit())
 }
 
-/// Whether a word writes bytes: a hyphen for none, or two hex digits of either case for each.
+/// Returns whether a word writes bytes: a hyphen for none, or two hex digits of either case for each.
 pub fn is_hex_word(word: &[u8]) -> bool
     ensures { result ≡ is_some (bytes_named word.now) }
 {
     is(word, "-") || (word.len() % 2 == 0 && all_hex_digits(word))
 }
 
-/// The bytes that a word writes. Want of memory is the only refusal.
+/// Returns the bytes that a word writes.
+///
+/// # Errors
+///
+/// [`NoMemory`] if memory ran out.
 pub fn decode(alloc: Global, word: &[u8]) -> Result<Bytes, NoMemory>
     requires { is_some (bytes_named word.now) ≡ true }
     ensures { IfOk result (λ bytes. bytes_named word.now ≡ Some bytes) }
@@ -114,7 +123,7 @@ pub fn decode(alloc: Global, word: &[u8]) -> Result<Bytes, NoMemory>
     }
 }
 
-/// The reply to an ErrorEvent of this name.
+/// Returns the reply to an ErrorEvent of this name, or `None` if there is none (common chapter, ErrorResponse).
 pub fn error_reply(word: &[u8]) -> Option<ErrorReply>
     ensures { result ≡ error_reply_named word.now }
 {
@@ -130,7 +139,7 @@ pub fn error_reply(word: &[u8]) -> Option<ErrorReply>
     None
 }
 
-/// The value of a word: `true`, `false` or a number.
+/// Returns the value of a word, `true`, `false` or a number, or `None` if it is none of them.
 pub fn value(word: &[u8]) -> Option<Value>
     ensures { result ≡ value_named word.now }
 {

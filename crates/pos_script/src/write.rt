@@ -1,3 +1,4 @@
+//! How bytes and texts are written.
 ghost use Rattle.std.specs.Prelude.{◌≡◌, ◌∷◌, [], flat_map};
 ghost use Rattle.hex.specs.Hex.{encode_lower};
 ghost use Rattle.pos_script.specs.Writing.{Writes};
@@ -18,8 +19,11 @@ fn write_rest<W: Sink>(writer: &mut W, bytes: &[u8]) -> Result<(), WriteFault>
     Ok(())
 }
 
-/// Writes all bytes, and stops at the first write that fails. Most often one write takes them all: so that is looked at
-/// first, in place where it is asked.
+/// Writes all bytes. Most often one write takes them all, so that case is inlined and comes first.
+///
+/// # Errors
+///
+/// [`WriteFault`] at the first write that fails. Then only a front of the bytes was written.
 #[inline(always)]
 pub fn write_bytes<W: Sink>(writer: &mut W, bytes: &[u8]) -> Result<(), WriteFault>
     ensures { Writes (W.given writer.old) (W.given writer.new) bytes.now result }
@@ -37,6 +41,10 @@ pub fn write_bytes<W: Sink>(writer: &mut W, bytes: &[u8]) -> Result<(), WriteFau
 }
 
 /// Writes texts one after another.
+///
+/// # Errors
+///
+/// [`WriteFault`] at the first write that fails. Then only a front of the texts was written.
 #[inline(always)]
 pub fn write_parts<W: Sink>(writer: &mut W, parts: &[&str]) -> Result<(), WriteFault>
     ensures { Writes (W.given writer.old) (W.given writer.new) (flat_map (λ part. part.now) parts.now) result }
@@ -47,6 +55,7 @@ pub fn write_parts<W: Sink>(writer: &mut W, parts: &[&str]) -> Result<(), WriteF
     Ok(())
 }
 
+/// Returns the two hex digits of a byte.
 fn hex_pair(b: u8) -> [u8; 2]
     ensures { result ≡ encode_lower (b ∷ []) }
 {
@@ -56,6 +65,10 @@ fn hex_pair(b: u8) -> [u8; 2]
 }
 
 /// Writes bytes as lower-case hex.
+///
+/// # Errors
+///
+/// [`WriteFault`] at the first write that fails. Then only a front of the text was written.
 pub fn write_hex<W: Sink>(writer: &mut W, bytes: &[u8]) -> Result<(), WriteFault>
     ensures { Writes (W.given writer.old) (W.given writer.new) (encode_lower bytes.now) result }
 {
