@@ -56,7 +56,7 @@ pub trait Disk {
         ensures own { own_read self.old self.new at out.old out.new result };
 
     /// Writes the bytes from place `at` on. From the beginning of a write its range is loose, whatever the result:
-    /// until the next sync a crash may leave any bytes there.
+    /// until a sync succeeds, a crash may leave any bytes there.
     ///
     /// # Errors
     ///

@@ -4,9 +4,9 @@
 //! - [`FuseDisk`] fails on demand.
 //! - [`Relay`] is a disk that keeps errands for its owner.
 //!
-//! A layer above relies on three facts of an honest disk. A read gives what was written, a sync makes it stay, and a
-//! crash changes only places that were written since the last sync. Each fault is counted, so a contract above can say
-//! that a refusal has a cause.
+//! A layer above relies on three facts of an honest disk. A read gives what was written, a successful sync makes it
+//! stay, and a crash changes only places that were written after that. Each fault is counted, so a contract above can
+//! say that a refusal has a cause.
 #![tactic(auto)]
 
 mod device;

@@ -6,8 +6,8 @@
 //!   detaches peripherals.
 //!
 //! The layer above relies on this: each profile is sound (`laws::is_profile`), so names are distinct and numbers in
-//! their ranges. A device is served only by a peripheral of its kind that is in service, and a refusal returns the
-//! peripheral.
+//! their ranges. A device is served only by a peripheral of its kind that is in service, and one that isn't attached is
+//! returned.
 #![tactic(auto)]
 
 mod built;

@@ -45,7 +45,7 @@ impl Kind {
     }
 }
 
-/// Returns how many rows a device of this kind has, or 0 if it is no display (chapter Line Display).
+/// Returns how many rows a device's peripheral has, or 0 if there is none or it is no display (chapter Line Display).
 pub fn rows_of(kind: Option<Kind>) -> u32
     ensures { result ≡ rows_of kind }
 {
@@ -55,7 +55,8 @@ pub fn rows_of(kind: Option<Kind>) -> u32
     }
 }
 
-/// Returns how many columns a device of this kind has, or 0 if it is no display (chapter Line Display).
+/// Returns how many columns a device's peripheral has, or 0 if there is none or it is no display (chapter Line
+/// Display).
 pub fn columns_of(kind: Option<Kind>) -> u32
     ensures { result ≡ columns_of kind }
 {
@@ -65,7 +66,8 @@ pub fn columns_of(kind: Option<Kind>) -> u32
     }
 }
 
-/// Returns how many characters a line of a device of this kind has, or 0 if it is no printer (chapter POS Printer).
+/// Returns how many characters a line of a device's peripheral has, or 0 if there is none or it is no printer (chapter
+/// POS Printer).
 pub fn chars_of(kind: Option<Kind>) -> u32
     ensures { result ≡ chars_of kind }
 {

@@ -11,8 +11,8 @@ use crate::signs::Signs;
 
 /// A peripheral, which serves a device: a simulation, or the driver of real hardware.
 ///
-/// A request to one that is out of service, or one that doesn't fit its kind, may have any result. A box of one ends
-/// only parked: see `PeripheralBox`.
+/// A request to one that is out of service, or one that doesn't fit its kind, may have any result and any effect. A box
+/// of one ends only parked: see `PeripheralBox`.
 pub trait Peripheral {
     /// Its kind, its plant, whether it is parked, how often its line has failed, and how many orders it was given.
     ghost state: { Self → PeripheralState };

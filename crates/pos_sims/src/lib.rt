@@ -5,8 +5,8 @@
 //!   a printer prints on.
 //! - [`Flaky`] fails chosen orders of a peripheral, and [`Recorder`] counts all of them.
 //!
-//! The layer above relies on this: each meets the trait `Peripheral`, so it does what the standard says of its kind.
-//! Orders to a drawer, a scanner and a display take no memory.
+//! The layer above relies on this: each peripheral meets the trait `Peripheral`, so it does what the standard says of
+//! its kind. Orders to a drawer, a scanner and a display take no memory.
 #![tactic(auto)]
 
 mod flaky;
