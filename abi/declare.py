@@ -24,7 +24,7 @@ TYPES = {
 }
 RESULTS = {"u32": "uint32_t", None: "void"}
 
-SPECS = TOP / "crates/pos_service/specs"
+SPECS = [TOP / "crates" / crate / "specs" for crate in ("pos_service", "pos_printer")]
 
 # The numbers of the standard that no enum of the crates names. Each is read from a definition: its file, its name, and
 # the form of the text in which the number is.
@@ -74,7 +74,8 @@ def definition(path, name):
 
 def defined(file, name, form):
     """The number that a definition of the devices has in this form, once."""
-    (found,) = re.findall(form, definition(SPECS / f"{file}.antt", name))
+    (path,) = [path for specs in SPECS if (path := specs / f"{file}.antt").exists()]
+    (found,) = re.findall(form, definition(path, name))
     return int(found)
 
 

@@ -16,6 +16,8 @@ import declare
 
 TOP = declare.TOP
 SERVICE = TOP / "crates/pos_service/specs"
+DISPLAY = TOP / "crates/pos_display/specs"
+PRINTER = TOP / "crates/pos_printer/specs"
 SCRIPT = TOP / "crates/pos_script/specs"
 TOTALS = TOP / "crates/pos_totals/specs"
 PROFILE = TOP / "crates/pos_profile/specs"
@@ -104,7 +106,7 @@ def most(path, name, form):
 def ranges(numbers):
     """The ranges that the tables of refusals ask of arguments, by the method's word and the argument: the least and the
     most, as a number or as a number and a property; of bytes their least and most count."""
-    display = equations(SERVICE / "DisplayCalls.antt", "display_rows")
+    display = equations(DISPLAY / "DisplayCalls.antt", "display_rows")
     one(r"is_index \(rows_of at\) row", display)
     one(r"is_up_to \(columns_of at\) column", display)
     forever = -1 - most(SERVICE / "Claims.antt", "is_timeout", r"nat_eq n (\d+)")
@@ -112,7 +114,7 @@ def ranges(numbers):
     data = (0, most(SERVICE / "Receipts.antt", "is_printable_text", r"length bytes\) (\d+)"))
     name = tuple(int(one(form, equations(TOTALS / "TotalsFiles.antt", "is_name")))
                  for form in (r"nat_le (\d+) \(length name\)", r"\(length name\) (\d+)"))
-    percentage = (0, most(SERVICE / "PrinterCalls.antt", "printer_rows", r"is_up_to (\d+) percentage"))
+    percentage = (0, most(PRINTER / "PrinterCalls.antt", "printer_rows", r"is_up_to (\d+) percentage"))
     device = tuple(int(one(form, equations(SERVICE / "Names.antt", "is_device_name")))
                    for form in (r"nat_le (\d+) \(length text\)", r"\(length text\) (\d+)"))
     attributes = [number for word, number in numbers.items() if word.startswith("DISP_DT_")]

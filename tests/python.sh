@@ -66,7 +66,7 @@ copies() {
   rm -rf "$work/tree"
   mkdir "$work/tree"
   cp -r "$top/abi" "$work/tree/abi"
-  for crate in kijolvar pos_service pos_script pos_totals pos_profile; do
+  for crate in kijolvar pos_service pos_display pos_printer pos_script pos_totals pos_profile; do
     mkdir -p "$work/tree/crates/$crate"
     cp -r "$top/crates/$crate/"{src,specs} "$work/tree/crates/$crate"
   done
@@ -105,7 +105,7 @@ planted "a constant that isn't one" $words 's/^S_IDLE = /S_IDLED = /' describe.p
 planted "an error that is no code" $words 's/"E_BUSY"/"E_BUSIER"/' describe.py 'E_BUSIER is no code'
 planted "a number of the definitions" $specs/Statuses.antt 's/^cover_status true = 11/cover_status true = 13/' \
   describe.py "isn't what the definitions say"
-planted "a range of the definitions" $specs/PrinterCalls.antt 's/is_up_to 100 percentage/is_up_to 90 percentage/' \
+planted "a range of the definitions" crates/pos_printer/specs/PrinterCalls.antt 's/is_up_to 100 percentage/is_up_to 90 percentage/' \
   describe.py "isn't what the definitions say"
 planted "a property of the definitions" $specs/Properties.antt 's/codes "AutoDisable"/codes "Auto"/' \
   describe.py 'properties.Auto has no entry'

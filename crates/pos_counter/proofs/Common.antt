@@ -36,7 +36,7 @@ pub use Rattle.pos_service.specs.Hardware.{Effect, Hardware, SameHardware, Taken
 pub use Rattle.pos_service.specs.Needs.{table}
 pub use Rattle.pos_service.specs.Numbers.{is_index, is_up_to}
 pub use Rattle.pos_service.specs.Peripherals.{IsInRange, PeripheralState, signs_of}
-pub use Rattle.pos_service.specs.PrinterCalls.{DueRequest, WorksAt, WorksOn, after_work, due_request_at}
+pub use Rattle.pos_printer.specs.PrinterCalls.{DueRequest, WorksAt, WorksOn, after_work, due_request_at}
 pub use Rattle.pos_service.specs.Properties.{after_set, cursor_after, get_rows, property_of, set_rows, takes, tells_power}
 pub use Rattle.pos_service.specs.Refusals.{Decided, Row, first_refusal}
 pub use Rattle.pos_service.specs.declared.answer.Answer.{Answer}

@@ -8,7 +8,7 @@ use Rattle.pos_counter.proofs.Common.{option_map, origin, place_left, refl, retu
 use Rattle.pos_counter.proofs.Common.{with_text, ℕ, ℤ, ◌∷◌, ◌≡◌, ◌≤◌, ⊤}
 use Rattle.std.proofs.lemmas.Bool.Decides.{nat_tests}
 use Rattle.std.proofs.lemmas.Nat.{mod_below}
-use Rattle.pos_service.specs.DisplayCalls.{display_deed, display_rows, scrolls, shows}
+use Rattle.pos_display.specs.DisplayCalls.{display_deed, display_rows, scrolls, shows}
 use Rattle.pos_service.specs.declared.deed.Change.TheVariants as change
 use Rattle.pos_service.specs.declared.display_text.Attribute.{Attribute}
 use Rattle.pos_counter.proofs.Lifts.{decided_none, decided_some}

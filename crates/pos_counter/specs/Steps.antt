@@ -27,11 +27,11 @@ use Rattle.pos_service.specs.Categories.{serves}
 use Rattle.pos_service.specs.Properties.{set_rows, after_set, tells_power, get_rows, is_of_bytes, property_of}
 use Rattle.pos_service.specs.Hardware.{Hardware, Effect, TakesIn}
 use Rattle.pos_service.specs.Deeds.{Does as CarriesOut}
-use Rattle.pos_service.specs.DisplayCalls.{display_rows, display_deed}
-use Rattle.pos_service.specs.DrawerCalls.{drawer_deed}
+use Rattle.pos_display.specs.DisplayCalls.{display_rows, display_deed}
+use Rattle.pos_drawer.specs.DrawerCalls.{drawer_deed}
 use Rattle.pos_service.specs.Needs.{table}
-use Rattle.pos_service.specs.PrinterCalls.{printer_rows, printer_deed, due_request_at, WorksAt}
-use Rattle.pos_service.specs.ScannerCalls.{scanner_deed}
+use Rattle.pos_printer.specs.PrinterCalls.{printer_rows, printer_deed, due_request_at, WorksAt}
+use Rattle.pos_scanner.specs.ScannerCalls.{scanner_deed}
 use Rattle.pos_service.specs.declared.property.Property.{Property}
 use Rattle.pos_service.specs.declared.answer.Value.{Value}
 use Rattle.pos_service.specs.declared.facts.Facts.{Facts}

@@ -1,7 +1,7 @@
 //! The work on the output that waits for devices (common chapter, asynchronous output).
 ghost use Rattle.std.specs.Prelude.{◌≡◌, Some, false};
 ghost use Rattle.pos_service.specs.Claims.{holder_at};
-ghost use Rattle.pos_service.specs.PrinterCalls.{WorksAt};
+ghost use Rattle.pos_printer.specs.PrinterCalls.{WorksAt};
 ghost use Rattle.pos_service.specs.Hardware.{hardware_of, StaysInService};
 ghost use Rattle.pos_common.specs.KeptControls.{controls_of};
 ghost use Rattle.pos_counter.specs.KeptDevices.{AreDevicesSound, devices_in};

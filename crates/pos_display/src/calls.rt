@@ -3,7 +3,7 @@ ghost use Rattle.std.specs.Option.{option_map};
 ghost use Rattle.pos_service.specs.declared.category.Category.TheVariants as category;
 ghost use Rattle.pos_service.specs.Calls.{has_call};
 ghost use Rattle.pos_service.specs.Deeds.{DeedFits, Plans};
-ghost use Rattle.pos_service.specs.DisplayCalls.{display_deed, display_rows, left_by, scroll_rows, scrolls, shows, text_rows};
+ghost use Rattle.pos_display.specs.DisplayCalls.{display_deed, display_rows, left_by, scroll_rows, scrolls, shows, text_rows};
 ghost use Rattle.pos_service.specs.Displays.{attribute_of, direction_of, is_cursor_place};
 ghost use Rattle.pos_service.specs.Kinds.{is_display, rows_of, columns_of};
 

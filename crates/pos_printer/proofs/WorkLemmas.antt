@@ -17,7 +17,8 @@ use Rattle.pos_service.specs.Deeds.{Ordered}
 use Rattle.pos_service.specs.Kinds.{is_printer}
 use Rattle.pos_service.specs.Output.{request_to_do}
 use Rattle.pos_service.specs.Peripherals.{Asked, PeripheralState, signs_of}
-use Rattle.pos_service.specs.PrinterCalls.{after_work, first_request, worked_by, WorksAt}
+use Rattle.pos_common.specs.DueRequests.{first_request}
+use Rattle.pos_printer.specs.PrinterCalls.{after_work, worked_by, WorksAt}
 use Rattle.pos_service.specs.Hardware.{hardware_of}
 use Rattle.pos_service.specs.Statuses.{heard_signs}
 use Rattle.pos_common.specs.KeptControls.{KeptControl, HasRoom, controls_of, work_events}

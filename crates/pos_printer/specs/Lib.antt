@@ -1,1 +1,2 @@
+pub mod PrinterCalls
 pub mod Requests

@@ -3,7 +3,7 @@ ghost use Rattle.pos_service.specs.declared.category.Category.TheVariants as cat
 ghost use Rattle.pos_service.specs.Calls.{has_call};
 ghost use Rattle.pos_service.specs.Deeds.{Plans, PrintersDo};
 ghost use Rattle.pos_service.specs.Peripherals.{PrintersTake};
-ghost use Rattle.pos_service.specs.PrinterCalls.{immediately, is_busy, is_receipt, printer_deed, printer_rows, request_of, text_rows};
+ghost use Rattle.pos_printer.specs.PrinterCalls.{immediately, is_busy, is_receipt, printer_deed, printer_rows, request_of, text_rows};
 
 use pos_common::Control;
 use pos_service::numbers::{to_count, to_natural};

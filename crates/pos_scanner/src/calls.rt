@@ -3,7 +3,7 @@ ghost use Rattle.pos_service.specs.declared.category.Category.TheVariants as cat
 ghost use Rattle.pos_service.specs.declared.kind.Kind.{Kind};
 ghost use Rattle.pos_service.specs.Calls.{has_call};
 ghost use Rattle.pos_service.specs.Deeds.{DeedFits, MayWantFor};
-ghost use Rattle.pos_service.specs.ScannerCalls.{scanner_deed};
+ghost use Rattle.pos_scanner.specs.ScannerCalls.{scanner_deed};
 
 use pos_service::{Call, Change, Deed};
 

@@ -4,9 +4,7 @@ pub mod Claims
 pub mod Codes
 pub mod Controls
 pub mod Deeds
-pub mod DisplayCalls
 pub mod Displays
-pub mod DrawerCalls
 pub mod Events
 pub mod Kinds
 pub mod Names
@@ -14,11 +12,9 @@ pub mod Needs
 pub mod Numbers
 pub mod Output
 pub mod Peripherals
-pub mod PrinterCalls
 pub mod Properties
 pub mod Receipts
 pub mod Refusals
 pub mod Requests
-pub mod ScannerCalls
 pub mod Hardware
 pub mod Statuses

@@ -18,11 +18,12 @@ use Rattle.pos_service.specs.declared.order.Reply.TheVariants as reply
 use Rattle.pos_service.specs.declared.worked.Worked.{Worked}
 use Rattle.pos_service.specs.declared.worked.Worked.TheVariants as worked
 use Rattle.pos_service.specs.Codes.{code_by, extended_by}
-use Rattle.pos_service.specs.Controls.{Control, listens, completed, output_failed}
+use Rattle.pos_common.specs.DueRequests.{first_request}
+use Rattle.pos_service.specs.Controls.{Control, completed, output_failed}
 use Rattle.pos_service.specs.Deeds.{ChangesOne, GivesOne, Ordered}
 use Rattle.pos_service.specs.Kinds.{is_printer}
 use Rattle.pos_service.specs.Numbers.{is_up_to}
-use Rattle.pos_service.specs.Output.{is_outstanding, request_to_do}
+use Rattle.pos_service.specs.Output.{is_outstanding}
 use Rattle.pos_service.specs.Receipts.{is_printable_text}
 use Rattle.pos_service.specs.Refusals.{Row, when}
 use Rattle.pos_service.specs.Hardware.{Hardware, SameHardware, Effect}
@@ -78,10 +79,6 @@ pub record DueRequest : Type 0 where
   pub holder : ℕ
   pub id : ℕ
   pub given : Order
-
--- the first request of a control, where it has the device at this place open and enabled and no output error stands
-abbrev pub first_request : ℕ → Control → Option (ℕ × Order)
-first_request place control = if listens place control then request_to_do control.writer.output else None
 
 -- a request of a control, as one that is to be done now
 abbrev pub due_request : ℕ → ℕ × Order → DueRequest
