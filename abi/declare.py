@@ -160,7 +160,7 @@ def constants(source):
 
 def c(source):
     print(f"""/* A till's devices for C: lines in, the text of their answers out. Written by abi/declare.py: don't change it by hand.
-   abi/README.md says how it is used, docs/CONSOLE.md what the lines are. */
+   abi/README.md says how it is used, docs/reference/console.md what the lines are. */
 #ifndef KIJOLVAR_H
 #define KIJOLVAR_H
 

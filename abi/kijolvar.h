@@ -1,5 +1,5 @@
 /* A till's devices for C: lines in, the text of their answers out. Written by abi/declare.py: don't change it by hand.
-   abi/README.md says how it is used, docs/CONSOLE.md what the lines are. */
+   abi/README.md says how it is used, docs/reference/console.md what the lines are. */
 #ifndef KIJOLVAR_H
 #define KIJOLVAR_H
 
@@ -28,7 +28,7 @@ enum {
     KIJOLVAR_OK = 0,
     /* There was no memory, and nothing was done. */
     KIJOLVAR_NO_MEMORY = 1,
-    /* The profile is refused (docs/PROFILE.md). */
+    /* The profile is refused (docs/reference/profile.md). */
     KIJOLVAR_BAD_PROFILE = 2,
     /* What is told is longer than the room for it. */
     KIJOLVAR_SHORT = 3,
@@ -149,7 +149,7 @@ enum {
 uint32_t kijolvar_version(void);
 
 /* A new till over the devices of a profile, which are simulated, with totals on a formatted disk in memory. The
-   profile is TOML (docs/PROFILE.md); an empty one is the built profile. The till is what is written to out.
+   profile is TOML (docs/reference/profile.md); an empty one is the built profile. The till is what is written to out.
 
    Answers OK, NO_MEMORY or BAD_PROFILE; where it isn't OK, nothing is written. */
 uint32_t kijolvar_open(const uint8_t *profile, size_t profile_len, void **out);
@@ -165,7 +165,7 @@ uint32_t kijolvar_open_file(const uint8_t *profile, size_t profile_len, const ui
     **out);
 
 /* A new till as kijolvar_open_file makes it, over a file that has no totals yet, of at least 327,680 bytes: it gets
-   no files (docs/DISK.md, "Formatting"), which are the till's first errands.
+   no files (docs/reference/totals-file.md, "Formatting"), which are the till's first errands.
 
    Answers OK, NO_MEMORY or BAD_PROFILE, FORMATTED where the file has totals, or TOO_SMALL; where it isn't OK, nothing
    is written, and the file stays as it is. */

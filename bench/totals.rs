@@ -43,7 +43,7 @@ impl Disk {
     }
 }
 
-/// Layout 1 (docs/DISK.md).
+/// Layout 1 (docs/reference/totals-file.md).
 const SIZE: usize = 327_680;
 const SLOTS: [usize; 2] = [0, 32_768];
 const LATER: [usize; 2] = [65_536, 196_608];

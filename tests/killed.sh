@@ -9,7 +9,7 @@
 # judged, also one that came too early or too late. The file must hold one file of totals, whole, as one transaction left it:
 # the last that was answered or a later one that was asked for; between calls the last that was answered. After that the
 # file can be moved to layout 2 exactly once, and holds the same.
-# This tries the end of the process. What a loss of power leaves is the crash model of docs/DISK.md.
+# This tries the end of the process. What a loss of power leaves is the crash model of docs/proofs/crashes.md.
 # Usage: tests/killed.sh [TIMES [PROGRAM]]. It does TIMES rounds, by default 25. Without PROGRAM it builds one, and needs rt. It
 # needs python3, and a TMPDIR on a disk. Its last line is 'N passed, M failed', four for each round.
 set -eu

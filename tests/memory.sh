@@ -2,10 +2,10 @@
 # Shows which lines of a script take memory, and when. No contract can say it: a body may grow, ignore a refusal and
 # go on. It runs the program over each script of crates/pos_console/scripts, one line a read, with a `malloc` and a
 # `write` of its own that report each event. It wants three things of each run:
-#   the program prints NAME.stdout while each growth is refused in the lines that take no memory (docs/MODEL.md, "Where
-#   the machine is free"): a delivery, `attach`, `detach`, `claim`, `release`, `close`, reading a number or truth value,
-#   setting a property but for enabling, and of the calls clearInput, clearInputProperties, clearOutput, claimFile,
-#   releaseFile, beginTrans and rollback;
+#   the program prints NAME.stdout while each growth is refused in the lines that take no memory
+#   (docs/reference/model.md, "Where the machine is free"): a delivery, `attach`, `detach`, `claim`, `release`, `close`,
+#   reading a number or truth value, setting a property but for enabling, and of the calls clearInput,
+#   clearInputProperties, clearOutput, claimFile, releaseFile, beginTrans and rollback;
 #   none of these lines asked for a growth;
 #   in no line a growth came after a write to the disk.
 # It wants the last of `format` and `migrate` too. With -t it also runs the tests `orders::..` of pos_counter_tests that

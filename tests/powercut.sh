@@ -4,9 +4,9 @@
 # A library that the loader puts first (tests/powercut/recorder.c) records their writes, lengths, syncs and answers in order. After
 # each entry a cut may leave any of the writes since the last sync, and of each a front, a back, or some sectors or bytes; a file
 # whose folder isn't synced may be missing (tests/powercut/cuts.py). A reader of its own (tests/powercut/reader.py), written from
-# docs/DISK.md, reads each file that is left. It has to hold the files after some first changes, at least all that were answered
-# before the cut, and a transaction whole or not at all. The program reads some of the files too, by `files` and by a run, and has
-# to find the same.
+# docs/reference/totals-file.md, reads each file that is left. It has to hold the files after some first changes, at
+# least all that were answered before the cut, and a transaction whole or not at all. The program reads some of the
+# files too, by `files` and by a run, and has to find the same.
 # It records `run` by both layouts, over new files, over noise and over what a cut left, also killed and run again; `format`;
 # `migrate`, also cut and done again; and a till in Python over the library, also killed as it creates its file. In these records
 # it leaves out some syncs of every kind, and has to find a file that is amiss. At the harmless kinds it has to find none.

@@ -19,7 +19,7 @@ RUN = 9
 # Documents whose prose isn't measured yet.
 NOT_COVERED = []
 # Written by tools/contracts.py from the contracts' names: a table.
-GENERATED = ["docs/CONTRACTS.md"]
+GENERATED = ["docs/proofs/contracts.md"]
 # Words that have a plainer one: `again`, `returns`, `prints`, `in total`, `so does`, `if` and the like.
 REPLACED = re.compile(
     r"\banew\b|\bof one's own\b|\bhand(?:s|ed|ing)? (?:out|on|over)\b|\b(?:is|are|was|were) told\b|\bin sum\b"

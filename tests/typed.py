@@ -294,7 +294,7 @@ class Runner:
 
 
 def lines_of(script):
-    """The lines of a script (docs/CONSOLE.md, "Lines"): a carriage return before a line feed is dropped."""
+    """The lines of a script (docs/reference/console.md, "Lines"): a carriage return before a line feed is dropped."""
     *lines, last = script.split(b"\n")
     lines = [line.removesuffix(b"\r") for line in lines]
     return [*lines, last] if last else lines

@@ -1,5 +1,5 @@
 #!/usr/bin/env python3
-"""Writes docs/CONTRACTS.md: each function with a contract that a crate's users can call.
+"""Writes docs/proofs/contracts.md: each function with a contract that a crate's users can call.
 
 What a row says is from the function's docstring and from the names of its clauses.
 
@@ -12,7 +12,7 @@ import sys
 sys.dont_write_bytecode = True
 import sources
 
-PAGE = "docs/CONTRACTS.md"
+PAGE = "docs/proofs/contracts.md"
 HEAD = """# The contracts of all crates
 
 `tools/contracts.py` writes this page from the sources, and `tests/documents.sh` compares it. [PROOFS.md](PROOFS.md) is

@@ -1,5 +1,5 @@
 #!/usr/bin/env python3
-"""Writes the links of docs/RULES.md, with their lines, and checks each row.
+"""Writes the links of docs/proofs/rules.md, with their lines, and checks each row.
 
 Usage: tools/rules.py, or with --check to compare only. A row has a rule, the standard's section, the prose, the
 definition, the function and the test. The text of a link says where it leads:
@@ -24,7 +24,7 @@ import sys
 sys.dont_write_bytecode = True
 import sources
 
-PAGE = "docs/RULES.md"
+PAGE = "docs/proofs/rules.md"
 SCRIPTS = "crates/pos_console/scripts"
 
 

@@ -1,5 +1,6 @@
 #!/usr/bin/env python3
-"""Writes the lists of docs/TRUST.md: the definitions that the contracts of README.md and docs/PROOFS.md reach.
+"""Writes the lists of docs/proofs/trust.md: the definitions that the contracts of README.md and
+docs/proofs/what-is-proved.md reach.
 
 Usage: tools/trust.py, or with --check to compare only. A contract is any function that one of the two documents names
 in backticks as `crate::function` or `crate::Type::function`, and each function of a type that it names as
@@ -12,8 +13,8 @@ import sys
 sys.dont_write_bytecode = True
 import sources
 
-PAGE = "docs/TRUST.md"
-DOCUMENTS = {"README": "README.md", "PROOFS": "docs/PROOFS.md"}
+PAGE = "docs/proofs/trust.md"
+DOCUMENTS = {"README": "README.md", "PROOFS": "docs/proofs/what-is-proved.md"}
 BY_EYE = ["crates/pos_streams/src/adapters.rt", "crates/pos_file/src/system_file.rt", "crates/pos_console/src/main.rt",
           "crates/kijolvar/src/tray.rt", "abi/heap.c", "abi/kijolvar.h"]
 TABLE = "| File | Lines | Definitions and types, with their lines |\n|---|---|---|\n"

@@ -81,7 +81,7 @@ enum kij_code {
     KIJ_OK = 0,
     /** There was no memory, and nothing was done. */
     KIJ_NO_MEMORY = 1,
-    /** The profile is refused (docs/PROFILE.md). */
+    /** The profile is refused (docs/reference/profile.md). */
     KIJ_BAD_PROFILE = 2,
     /** The call was carried out, but there was no memory for its answer. */
     KIJ_NO_ANSWER = 4,
@@ -159,7 +159,8 @@ enum kij_flags {
  * Creating a file is all or nothing: it gets its name once it is whole and synced. The file is locked (flock) until
  * kij_close. A call that changes the totals returns once the change is synced.
  *
- * @param profile the profile's text (TOML, docs/PROFILE.md), which ends in a 0 byte; null or empty is the built profile
+ * @param profile the profile's text (TOML, docs/reference/profile.md), which ends in a 0 byte; null or empty is the
+    *   built profile
  * @param totals  the path of the file of the totals, or null: then the totals are in memory
  * @param flags   one of enum kij_flags
  * @param till    where the till is written
@@ -173,7 +174,7 @@ kij_result kij_open(const char *profile, const char *totals, int flags, kij_till
 void kij_close(kij_till *till);
 
 /**
- * Carries out lines of the text interface (docs/CONSOLE.md) one after the other, and returns their answers.
+ * Carries out lines of the text interface (docs/reference/console.md) one after the other, and returns their answers.
  *
  * @param lines  the lines, each but the last ended by a line feed
  * @param size   how many bytes, or KIJ_ZERO_ENDED
@@ -324,7 +325,8 @@ typedef struct kij_work_report {
 /** Works on the output that waits for a printer (AsyncMode): its first request is done, or fails. */
 kij_result kij_work(kij_till *till, const char *device, kij_work_report *report);
 
-/** Returns what a simulated device is physically, as docs/CONSOLE.md says under "Answers". The text is lent. */
+/** Returns what a simulated device is physically, as docs/reference/console.md says under "Answers". The text is
+   lent. */
 kij_result kij_show(kij_till *till, const char *device, const char **text);
 
 /** Returns whether a simulated drawer is open. KIJ_WRONG_TYPE if the device is no drawer. */

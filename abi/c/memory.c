@@ -1,5 +1,6 @@
 /* Refuses each allocation in turn, over a small day with totals in memory and one with totals in a file, and a drawer of the
-   host's. Each answer is a code or a line of docs/CONSOLE.md, the drawer's order comes if it was opened, and nothing is left.
+   host's. Each answer is a code or a line of docs/reference/console.md, the drawer's order comes if it was opened, and
+   nothing is left.
    The file opens again: it has what was acknowledged, and nothing of what was refused. */
 #include "kijolvar.h"
 #include <stdbool.h>

@@ -103,7 +103,7 @@ def leave(chance, way, old, entry):
         return sectors(chance, old, new, entry.at)
     if way == "bytes":
         return torn(chance, old, new)
-    # the last four are neither old nor new bytes, which a disk of docs/DISK.md may leave
+    # the last four are neither old nor new bytes, which a disk of docs/proofs/crashes.md may leave
     if way == "gates":
         return torn(chance, torn(chance, old, new), b"\xa5" * len(new))
     if way == "any":

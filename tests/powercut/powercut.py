@@ -15,7 +15,8 @@ import reader
 
 HERE = pathlib.Path(__file__).resolve().parent
 NO_FILES = (1, ())
-# What a cut may leave of a formatting. docs/DISK.md promises nothing of one that is cut short; this is what the program does.
+# What a cut may leave of a formatting. docs/reference/totals-file.md promises nothing of one that is cut short; this is
+# what the program does.
 UNMADE = [reader.ABSENT, reader.SHORT, reader.UNFORMATTED, NO_FILES]
 
 # What a sync is of. Without one of these some cut loses an answer or the files.
@@ -410,7 +411,7 @@ GATED = bytes(byte if byte % 2 else reader.OPEN for byte in range(256))
 
 
 def noise_around(chance, image):
-    """A file with the same totals, and noise wherever docs/DISK.md lets any bytes stand."""
+    """A file with the same totals, and noise wherever docs/reference/totals-file.md lets any bytes stand."""
     found, noise = reader.Reader().read(image), bytearray(chance.randbytes(len(image)).translate(GATED))
     starts, size, _, log, _, _ = reader.LAYOUTS[found.layout]
     slot, length = found.slot, int.from_bytes(image[found.slot + 9:found.slot + 13], "big")

@@ -1,4 +1,5 @@
-"""Reads totals files by docs/DISK.md. It is a second implementation of a recovery, written from that document alone, so that
+"""Reads totals files by docs/reference/totals-file.md. It is a second implementation of a recovery, written from that
+document alone, so that
 a hundred thousand files are read in a minute. `powercut.py` compares it with the program over a sample of them."""
 import collections
 
@@ -167,7 +168,7 @@ class Reader:
 
 
 def survey(found):
-    """What `pos_console files` prints of a file (docs/CONSOLE.md, "What a totals file holds")."""
+    """What `pos_console files` prints of a file (docs/reference/console.md, "What a totals file holds")."""
     lines = [f"layout {found.layout}", f"slot {found.slot}", f"sequence {found.sequence}", f"records {found.records}",
              f"room {found.room if found.room >= 0 else 'none'}", f"files {len(found.files)}"]
     for name, kept in found.files:

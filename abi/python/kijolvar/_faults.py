@@ -58,7 +58,7 @@ class LibraryFault(Error):
 
 
 class ProfileError(LibraryFault):
-    """The profile is refused (docs/PROFILE.md says what a profile may have).
+    """The profile is refused (docs/reference/profile.md says what a profile may have).
 
     Attributes:
         reason: What is wrong with it.

@@ -1,4 +1,5 @@
-"""Why a profile is refused. The library only says that it is; this looks for the reason, by docs/PROFILE.md."""
+"""Why a profile is refused. The library only says that it is; this looks for the reason, by
+docs/reference/profile.md."""
 from __future__ import annotations
 
 import re

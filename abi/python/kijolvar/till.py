@@ -229,7 +229,7 @@ class Till:
     # The text layer.
 
     def carry_out(self, lines: str) -> str:
-        """Carries out lines of the text layer (docs/CONSOLE.md), and returns what they print."""
+        """Carries out lines of the text layer (docs/reference/console.md), and returns what they print."""
         return self._carry_out(lines.encode()).decode()
 
 
@@ -255,7 +255,8 @@ def open(profile: Profile | None = None, totals: Path | BinaryIO | None = None, 
     """Opens a till.
 
     Args:
-        profile: The text of a profile (docs/PROFILE.md), or the path of a file with it (a pathlib.Path). Without one,
+        profile: The text of a profile (docs/reference/profile.md), or the path of a file with it (a pathlib.Path).
+        Without one,
             it is the built profile: drawer d1, scanner s1, display p1, receipt printer r1 and Hard Totals t1. An empty
             text is a profile without devices.
         totals: The path of a file of totals, which is locked until the till is closed; or a file that open_totals or

@@ -21,7 +21,7 @@ number_word n = codes " " ++ decimal n
 abbrev pub bytes_word : List ℕ → List ℕ
 bytes_word bytes = codes " " ++ hex_text bytes
 
--- an argument of an order behind a space (docs/CONSOLE.md, "Methods")
+-- an argument of an order behind a space (docs/reference/console.md, "Methods")
 abbrev pub argument_text : Argument → List ℕ
 argument_text (Number n) = number_word n
 argument_text (Bytes bytes) = bytes_word bytes

@@ -1,4 +1,4 @@
--- The profile that a till is opened with (docs/PROFILE.md).
+-- The profile that a till is opened with (docs/reference/profile.md).
 use Rattle.std.specs.Prelude.{◌≡◌, ◌≢◌, ◌⊎◌, ℕ, List, [], Ok, Err, IsUtf8}
 use Rattle.toml.specs.Parse.{parse_document}
 use Rattle.pos_profile.specs.Built.{built}

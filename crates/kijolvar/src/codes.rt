@@ -10,7 +10,7 @@ pub const OK: u32 = 0;
 /// There was no memory, and nothing was done.
 pub const NO_MEMORY: u32 = 1;
 
-/// The profile is refused (docs/PROFILE.md).
+/// The profile is refused (docs/reference/profile.md).
 pub const BAD_PROFILE: u32 = 2;
 
 /// What is told is longer than the room for it.

@@ -1,4 +1,5 @@
-//! A till for C, and for whatever calls C: lines in, the text of their answers out (docs/CONSOLE.md, abi/README.md).
+//! A till for C, and for whatever calls C: lines in, the text of their answers out (docs/reference/console.md,
+//! abi/README.md).
 #![tactic(auto)]
 
 ghost use Rattle.std.specs.Prelude.{◌≡◌, ◌≢◌, IfOk, MatchOption, MatchResult, None, Some};
@@ -92,7 +93,8 @@ fn begin(alloc: Global, profile: Profile, disk: TillDisk) -> Result<Box<Session>
 }
 
 /// A new till over the devices of a profile, which are simulated, with totals on a formatted disk in memory. The
-/// profile is TOML (docs/PROFILE.md); an empty one is the built profile. The till is what is written to `out`.
+/// profile is TOML (docs/reference/profile.md); an empty one is the built profile. The till is what is written to
+/// `out`.
 ///
 /// Answers OK, NO_MEMORY or BAD_PROFILE; where it isn't OK, nothing is written.
 #[unsafe(no_mangle)]
@@ -153,7 +155,7 @@ pub extern "C" fn kijolvar_open_file(
 }
 
 /// A new till as `kijolvar_open_file` makes it, over a file that has no totals yet, of at least 327,680 bytes: it gets
-/// no files (docs/DISK.md, "Formatting"), which are the till's first errands.
+/// no files (docs/reference/totals-file.md, "Formatting"), which are the till's first errands.
 ///
 /// Answers OK, NO_MEMORY or BAD_PROFILE, FORMATTED where the file has totals, or TOO_SMALL; where it isn't OK, nothing
 /// is written, and the file stays as it is.

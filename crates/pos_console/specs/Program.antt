@@ -1,4 +1,4 @@
--- What the program does for its words, and how it ends (docs/CONSOLE.md, "The program").
+-- What the program does for its words, and how it ends (docs/reference/console.md, "The program").
 use Rattle.std.specs.Prelude.{◌≡◌, ◌++◌, ℕ, List, Result, Ok, Err, Vec, map}
 use Rattle.pos_streams.specs.Streams.{Appends, Fails}
 use Rattle.pos_disk.specs.declared.device.Disk.{Ghosts as DiskGhosts}

@@ -1,4 +1,4 @@
--- What the program does with a script (docs/CONSOLE.md, "The program").
+-- What the program does with a script (docs/reference/console.md, "The program").
 use Rattle.std.specs.Prelude.{◌∷◌, [], false, List, Some, None, Result, codes}
 use Rattle.pos_counter.specs.Machine.{Device, Machine}
 use Rattle.pos_sims.specs.Drawers.{drawer_state}

@@ -1,4 +1,4 @@
--- What is told of a totals file (docs/CONSOLE.md, "What a totals file holds").
+-- What is told of a totals file (docs/reference/console.md, "What a totals file holds").
 use Rattle.std.specs.Prelude.{◌≡◌, ℕ, List, codes}
 use Rattle.pos_dir.specs.declared.flaw.Flaw.{Flaw}
 use Rattle.pos_dir.specs.declared.flaw.Flaw.TheVariants as flaw

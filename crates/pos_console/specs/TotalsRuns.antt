@@ -1,4 +1,4 @@
--- What a run over a profile and the totals in a file leaves (docs/CONSOLE.md, "The program").
+-- What a run over a profile and the totals in a file leaves (docs/reference/console.md, "The program").
 use Rattle.std.specs.Prelude.{◌⊎◌, ℕ, List, Result}
 use Rattle.pos_counter.specs.Counters.{IsLeftDuring}
 use Rattle.pos_disk.specs.declared.device.Disk.{Ghosts as DiskGhosts}

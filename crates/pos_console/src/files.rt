@@ -102,7 +102,7 @@ fn tell_bytes<'a, W: Sink>(
 }
 
 /// Tells what the totals file at a path holds, as lines of text, or which rule it breaks and where. The file is only
-/// read. docs/CONSOLE.md, "What a totals file holds".
+/// read. docs/reference/console.md, "What a totals file holds".
 pub fn tell_file<'a, F: NamedFiles, W: Sink>(
     alloc: Global,
     files: &F,

@@ -1,6 +1,6 @@
 //! The program: it runs a script of requests to the devices of a shop counter, which it reads from standard input, and
 //! writes what each line prints to standard output; or it formats a disk for one, moves it to layout 2, or
-//! tells what it holds (docs/CONSOLE.md).
+//! tells what it holds (docs/reference/console.md).
 #![tactic(auto)]
 
 mod files;

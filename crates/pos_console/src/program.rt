@@ -125,7 +125,7 @@ pub fn end<E: Eprint>(errors: &E, outcome: Result<(), Fault<'_>>) -> ExitCode
 
 /// The program, over the files that its words name, a script to read, a writer for the answers and one for a fault. It
 /// does what the words ask for, if they could be read, and ends with the status of what became of it.
-/// docs/CONSOLE.md, "The program".
+/// docs/reference/console.md, "The program".
 pub fn perform<F: NamedFiles, E: Eprint, S: AsStr + Drop, R: Source, W: Sink>(
     alloc: Global,
     files: &F,

@@ -30,7 +30,7 @@ const FIRST_HANDLE: u64 = 1;
 ///
 /// Each call is a step of the device machine that the counter stands for, so each list of calls is a run of it. Of
 /// calls at Hard Totals that use the disk, and of what a crash leaves, this is said over an honest disk; all else is a
-/// step over any disk. docs/MODEL.md, "Over any disk".
+/// step over any disk. docs/reference/model.md, "Over any disk".
 pub struct Counter<D: Disk, P> {
     pub(crate) alloc: Global,
     pub(crate) controls: Vec<Control>,

@@ -214,8 +214,8 @@ pub fn errands_change_nothing<D: Disk, P: Peripheral>(counter: &Counter<D, P>)
 
 /// Whatever the disk of a counter is, honest or not: each request of a run that spares the disk is a step of the
 /// machine, and another, which is a call at Hard Totals, changes nothing beside them; and where all spare the disk, it
-/// is as it was. What the other calls answer and do to the totals is said over an honest disk alone. docs/MODEL.md,
-/// "Over any disk".
+/// is as it was. What the other calls answer and do to the totals is said over an honest disk alone.
+/// docs/reference/model.md, "Over any disk".
 pub fn runs_over_any_disk<D: Disk, P: Peripheral>(counter: &Counter<D, P>)
     ensures { (left : List Standing) (failures : ℕ) (steps : List (Request × Response)) (old : _)
         → IsSettled old.totals.totals left

@@ -1,4 +1,4 @@
--- Why bytes spell no directory, and where: the rules of docs/DISK.md, "The layouts", on a body.
+-- Why bytes spell no directory, and where: the rules of docs/reference/totals-file.md, "The layouts", on a body.
 use Rattle.std.specs.Prelude.{◌≡◌, ◌≢◌, ◌⊎◌, ◌<◌, ◌≤◌, ◌+◌, ℕ, List, [], length, Bool, true, false, not, Option, Some, None}
 use Rattle.std.specs.Int.{w16}
 use Rattle.std.specs.List.{flat_map}

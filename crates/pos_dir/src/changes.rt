@@ -130,7 +130,7 @@ pub(crate) fn measure_change(change: &Change<'_>) -> usize
     }
 }
 
-/// Writes a change: its tag, and its fields (docs/DISK.md, "The layouts").
+/// Writes a change: its tag, and its fields (docs/reference/totals-file.md, "The layouts").
 pub(crate) fn put_change(out: &mut Vec<u8>, change: &Change<'_>)
     requires change { IsChange change.now }
     requires room { HasRoom out.old (change_spelling change.now) }

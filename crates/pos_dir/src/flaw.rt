@@ -1,7 +1,7 @@
 //! The rules of a directory's spelling.
 use thiserror::Error;
 
-/// A rule of a directory's spelling that bytes break. docs/DISK.md, "The layouts".
+/// A rule of a directory's spelling that bytes break. docs/reference/totals-file.md, "The layouts".
 #[derive(Clone, Copy, Debug, PartialEq, Eq, Error)]
 pub enum Flaw {
     /// There are more files than the limits allow.

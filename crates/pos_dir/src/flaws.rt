@@ -62,7 +62,7 @@ fn pass_files(count: u16, text: &[u8], room: usize) -> Result<&[u8], (&[u8], Fla
 /// Returns the first rule that bytes break which spell no directory within the limits, and its place.
 ///
 /// The place is counted from the first byte. It is where the bad file begins, or where the bytes begin that are left
-/// over. For the number of files it is 0. docs/DISK.md, "The layouts".
+/// over. For the number of files it is 0. docs/reference/totals-file.md, "The layouts".
 pub fn find_flaw(bytes: &[u8], limits: Limits) -> (usize, Flaw)
     requires { ¬ (IsBody limits bytes.now) }
     ensures flaw { HasFlaw limits bytes.now result.0 result.1 }

@@ -70,8 +70,8 @@ pub(crate) fn put_directory(out: &mut Vec<u8>, directory: &Directory)
 }
 
 /// Returns the one spelling of a group. It begins with the number of changes in two bytes. Then each change follows: a
-/// tag of one byte and its fields (docs/DISK.md, "The layouts"). Numbers are big-endian; a file is named by its index
-/// in two bytes.
+/// tag of one byte and its fields (docs/reference/totals-file.md, "The layouts"). Numbers are big-endian; a file is
+/// named by its index in two bytes.
 ///
 /// # Errors
 ///

@@ -1,4 +1,4 @@
--- What is known of a disk that lies outside the program (docs/DISK.md, "Premises on a real disk").
+-- What is known of a disk that lies outside the program (docs/guide/power-cuts.md, "Premises on a real disk").
 use Rattle.std.specs.Prelude.{◌≡◌, Bool, true, false, [], Ok, Err}
 use Rattle.pos_disk.specs.State.{Answer, DiskState}
 

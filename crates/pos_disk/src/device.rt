@@ -13,7 +13,7 @@ pub struct DiskFault;
 ///
 /// The contracts on reads, writes, syncs and crashes hold for an honest disk alone. The size stays on any disk. An
 /// honest disk counts its failures: the count rises if a call returns a fault, up to its last value, and only then.
-/// docs/DISK.md, "The model of a disk".
+/// docs/proofs/crashes.md, "The model of a disk".
 pub trait Disk {
     /// How many bytes it has, whether it is honest or not.
     ghost size: { Self → ℕ };

@@ -63,7 +63,7 @@ impl MemDisk {
     }
 
     /// Returns the disk that a crash at this moment leaves, at rest. Each loose place has what `fill` says, and each
-    /// other one what a read gives. docs/DISK.md, "What a crash leaves".
+    /// other one what a read gives. docs/proofs/crashes.md, "What a crash leaves".
     ///
     /// # Errors
     ///

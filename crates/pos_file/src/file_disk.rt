@@ -15,7 +15,7 @@ use std::io;
 /// file, until the file is opened again: the system may count as settled what the device never had.
 ///
 /// No clause can say what a file keeps, so the disk is never honest. Its own relations say what it asks of the file.
-/// docs/DISK.md, "Premises on a real disk".
+/// docs/guide/power-cuts.md, "Premises on a real disk".
 #[derive(Drop)]
 pub struct FileDisk<F: BlockFile + Drop> {
     file: F,

@@ -1,5 +1,5 @@
--- The layouts of a disk: where their slots lie, and the fields of a slot. Numbers are big-endian. docs/DISK.md, "The
--- layouts".
+-- The layouts of a disk: where their slots lie, and the fields of a slot. Numbers are big-endian.
+-- docs/reference/totals-file.md, "The layouts".
 use Rattle.std.specs.Prelude.{◌≡◌, ◌⊎◌, ◌+◌, ℕ, List, get_or, nat_eq, Bool, ◌||◌, if◌then◌else◌}
 use Rattle.std.specs.Int.{w32, w64, from_be_bytes}
 use Rattle.pos_disk.specs.State.{InRange, part}

@@ -6,7 +6,7 @@ use pos_disk::DiskFault;
 use std::alloc::AllocError;
 use thiserror::Error;
 
-/// Why images on a disk refuse a call. docs/DISK.md, "Opening and recovery".
+/// Why images on a disk refuse a call. docs/reference/totals-file.md, "Opening and recovery".
 #[derive(Clone, Copy, Debug, PartialEq, Eq, Error)]
 pub enum ImageFault {
     /// No slot of the disk is open.

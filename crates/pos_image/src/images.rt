@@ -21,7 +21,7 @@ use std::marker::Model;
 /// The images of a disk: the current one, and the prepared one if there is one.
 ///
 /// A body has 0 to 16,371 bytes, in layout 2 up to 81,907. A sequence is a `u64`. After a fault of the disk, open the
-/// disk again before any call but `into_disk`. docs/DISK.md, "The layouts".
+/// disk again before any call but `into_disk`. docs/reference/totals-file.md, "The layouts".
 #[derive(Drop)]
 pub struct Images<D: Disk> {
     alloc: Global,
@@ -49,8 +49,8 @@ impl<D: Disk> Images<D> {
     ghost use Rattle.pos_image.specs.declared.layout.Layout.TheVariants.{Layout1};
 
     /// Formats a disk, and returns it at rest: the current image is that of no files, body `0000` and sequence 1 in
-    /// layout 1. It takes no memory. Nothing is promised of a disk whose formatting was interrupted. docs/DISK.md,
-    /// "Formatting".
+    /// layout 1. It takes no memory. Nothing is promised of a disk whose formatting was interrupted.
+    /// docs/reference/totals-file.md, "Formatting".
     ///
     /// # Errors
     ///
@@ -93,8 +93,8 @@ impl<D: Disk> Images<D> {
         }
     }
 
-    /// Opens a disk that a crash may have left, and finds its current image. It writes nothing. docs/DISK.md, "Opening
-    /// and recovery".
+    /// Opens a disk that a crash may have left, and finds its current image. It writes nothing.
+    /// docs/reference/totals-file.md, "Opening and recovery".
     ///
     /// # Errors
     ///
@@ -175,8 +175,8 @@ impl<D: Disk> Images<D> {
         self.disk
     }
 
-    /// Writes a new image beside the current one, which stays the current one. The body is copied once. docs/DISK.md,
-    /// "A new image".
+    /// Writes a new image beside the current one, which stays the current one. The body is copied once.
+    /// docs/reference/totals-file.md, "A new image".
     ///
     /// # Errors
     ///
@@ -211,8 +211,8 @@ impl<D: Disk> Images<D> {
     }
 
     /// Writes the first image of layout 2, with sequence 1, into the slot at 65,536. The current image of layout 1
-    /// stays the current one, and no slot of layout 1 is written. It takes the body over, and no memory. docs/DISK.md,
-    /// "The move to layout 2".
+    /// stays the current one, and no slot of layout 1 is written. It takes the body over, and no memory.
+    /// docs/reference/totals-file.md, "The move to layout 2".
     ///
     /// # Errors
     ///
@@ -235,7 +235,7 @@ impl<D: Disk> Images<D> {
     }
 
     /// Makes the prepared image the current one. From then on the disk has its layout. It takes no memory.
-    /// docs/DISK.md, "A new image" and "The move to layout 2".
+    /// docs/reference/totals-file.md, "A new image" and "The move to layout 2".
     ///
     /// # Errors
     ///

@@ -1,4 +1,4 @@
-//! The layouts of a disk. docs/DISK.md, "The layouts".
+//! The layouts of a disk. docs/reference/totals-file.md, "The layouts".
 ghost use Rattle.std.specs.Prelude.{◌≡◌};
 ghost use Rattle.pos_image.specs.Layout.{slot_size, longest, log_place, log_size, first_of};
 

@@ -12,7 +12,8 @@ use crate::images::Images;
 use pos_disk::Disk;
 
 /// The log of the current slot. Places are counted from the gate of the slot, and each range is within `log_span`. A
-/// call leaves the rest of the slot's log, and all else of the disk, as it is. docs/DISK.md, "The log span".
+/// call leaves the rest of the slot's log, and all else of the disk, as it is. docs/reference/totals-file.md, "The log
+/// span".
 impl<D: Disk> Images<D> {
     ghost use Rattle.pos_image.specs.Images.{IsReady, FailsFor, CountsFaults};
     ghost use Rattle.pos_image.specs.Spans.{IsWritable, WritesSpan, WritesOnly, CrashKeepsImage, span_of};

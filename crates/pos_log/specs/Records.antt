@@ -1,4 +1,5 @@
--- The records of a log, as the span behind an image holds them. Numbers are big-endian. docs/DISK.md, "The log".
+-- The records of a log, as the span behind an image holds them. Numbers are big-endian. docs/reference/totals-file.md,
+-- "The log".
 use Rattle.std.specs.Prelude.{◌≡◌, ◌⊎◌, ◌+◌, ◌<◌, ◌≤◌, ◌^◌, ℕ, List, [], ◌∷◌, ◌++◌, length, take, true, false}
 use Rattle.std.specs.Int.{w32, to_be_bytes}
 use Rattle.std.specs.List.{AllByRecursion, flat_map}

@@ -5,7 +5,7 @@ ghost use Rattle.pos_log.specs.declared.fault.LogFault.TheVariants.{NoMemory};
 use std::alloc::AllocError;
 use thiserror::Error;
 
-/// Why a log refuses a call. docs/DISK.md, "The log".
+/// Why a log refuses a call. docs/reference/totals-file.md, "The log".
 #[derive(Clone, Copy, Debug, PartialEq, Eq, Error)]
 pub enum LogFault {
     /// The record and the gate after it don't fit.

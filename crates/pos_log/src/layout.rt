@@ -1,4 +1,4 @@
-//! What a record has beside its group. docs/DISK.md, "The log".
+//! What a record has beside its group. docs/reference/totals-file.md, "The log".
 
 /// How many bytes a record has before its group: its gate, and its length in four bytes.
 pub const HEAD: usize = 5;

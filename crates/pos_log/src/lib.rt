@@ -1,5 +1,5 @@
 //! A log of records after the current image of a totals disk (Hard Totals). Each record is a group of bytes that is
-//! written whole or not at all. docs/DISK.md, "The log".
+//! written whole or not at all. docs/reference/totals-file.md, "The log".
 //!
 //! [`Log`] opens the log and returns its groups, appends a record, and starts again with a new image or moves to layout
 //! 2. [`LogFault`] says why it refuses, and [`find_damage`] where a log is damaged.

@@ -19,7 +19,8 @@ use std::marker::Model;
 
 /// The records after the current image of a disk: groups of bytes, which are appended one by one.
 ///
-/// After a fault of the disk, open the disk again before any call but `into_images`. docs/DISK.md, "The log".
+/// After a fault of the disk, open the disk again before any call but `into_images`. docs/reference/totals-file.md,
+/// "The log".
 #[derive(Drop)]
 pub struct Log<D: Disk> {
     alloc: Global,
@@ -180,8 +181,8 @@ impl<D: Disk> Log<D> {
     }
 
     /// Makes an image of layout 2 with this body the current one, with sequence 1 and no records after it. It takes
-    /// memory for a buffer as long as a log of layout 2, before anything is written. docs/DISK.md, "The move to layout
-    /// 2".
+    /// memory for a buffer as long as a log of layout 2, before anything is written. docs/reference/totals-file.md,
+    /// "The move to layout 2".
     ///
     /// # Errors
     ///

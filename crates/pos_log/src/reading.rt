@@ -67,7 +67,7 @@ pub fn read_records(alloc: Global, span: &[u8]) -> Result<(Vec<Vec<u8>>, usize),
 }
 
 /// Returns the place of the record that doesn't fit, counted from the first place of the log, or `None` if each one
-/// fits. docs/DISK.md, "The log".
+/// fits. docs/reference/totals-file.md, "The log".
 pub fn find_damage(span: &[u8]) -> Option<usize>
     requires some { 0 < length span.now }
     requires short { length span.now ≤ 65536 }

@@ -1,4 +1,4 @@
--- The category whose devices have no peripheral (docs/PROFILE.md).
+-- The category whose devices have no peripheral (docs/reference/profile.md).
 use Rattle.std.specs.Prelude.{Bool, true, false}
 use Rattle.pos_service.specs.declared.category.Category.{Category}
 use Rattle.pos_service.specs.declared.category.Category.TheVariants.{HardTotals}

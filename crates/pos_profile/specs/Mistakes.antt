@@ -1,4 +1,4 @@
--- What isn't sound in a document, and why (docs/PROFILE.md).
+-- What isn't sound in a document, and why (docs/reference/profile.md).
 use Rattle.std.specs.Prelude.{◌≡◌, ◌<◌, ◌+◌, ◌^◌, ℕ, zero, suc, List, Option, Some, None, true, false, IsSomeAnd, Result, Ok, Err, map, slice_get, take, length}
 use Rattle.std.specs.Prelude.{Vec, ⊤}
 use Rattle.std.specs.List.{list_any}

@@ -1,4 +1,4 @@
--- The numbers of a profile's entries: their keys, their ranges, and which a category has (docs/PROFILE.md).
+-- The numbers of a profile's entries: their keys, their ranges, and which a category has (docs/reference/profile.md).
 use Rattle.std.specs.Prelude.{ℕ, List, [], ◌∷◌, Bool, true, false, ◌&&◌, codes, bytes_eq}
 use Rattle.std.specs.List.{list_any}
 use Rattle.pos_service.specs.declared.category.Category.{Category}

@@ -1,4 +1,5 @@
--- The keys that a profile's entries may have or lack: which a category has, and their values (docs/PROFILE.md).
+-- The keys that a profile's entries may have or lack: which a category has, and their values
+-- (docs/reference/profile.md).
 use Rattle.std.specs.Prelude.{ℕ, List, [], ◌∷◌, Bool, true, false, ◌&&◌, codes, bytes_eq}
 use Rattle.std.specs.List.{list_any}
 use Rattle.pos_service.specs.declared.category.Category.{Category}

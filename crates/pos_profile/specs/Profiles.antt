@@ -1,4 +1,4 @@
--- What a document is as a profile (docs/PROFILE.md).
+-- What a document is as a profile (docs/reference/profile.md).
 use Rattle.std.specs.Prelude.{◌≡◌, ◌<◌, ℕ, zero, suc, List, ◌++◌, Option, Some, None, Bool, true, false, not, ◌&&◌, map, bytes_eq, slice_get, take, Result, Ok}
 use Rattle.std.specs.Prelude.{Err, ⊤}
 use Rattle.std.specs.List.{list_any}

@@ -1,4 +1,4 @@
--- What is true of every entry of a profile, and of every profile (docs/PROFILE.md).
+-- What is true of every entry of a profile, and of every profile (docs/reference/profile.md).
 use Rattle.std.specs.Prelude.{◌≡◌, ◌≤◌, ℕ, List, [], Bool, true, false, Some, IfSome, is_some, map}
 use Rattle.std.specs.List.{All}
 use Rattle.pos_service.specs.Names.{is_device_name}

@@ -1,4 +1,4 @@
--- What a profile asks of a table (docs/PROFILE.md).
+-- What a profile asks of a table (docs/reference/profile.md).
 use Rattle.std.specs.Prelude.{◌≡◌, ℕ, ℤ, pos, negsuc, List, [], ◌∷◌, is_some, Option, Some, None, Bool, true, false, ◌&&◌, ◌||◌, codes, nat_le, bytes_eq}
 use Rattle.std.specs.Prelude.{option_and_then, option_map, if◌then◌else◌}
 use Rattle.toml.specs.Data.{Data, Items, no_items, item, Members, no_members, member, as_array, as_bool, as_str, as_integer, get_member}

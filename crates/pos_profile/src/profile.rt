@@ -16,7 +16,7 @@ use std::alloc::Global;
 use std::marker::Model;
 use toml::Table;
 
-/// The devices of a counter and its spares, each in the order of the profile (docs/PROFILE.md).
+/// The devices of a counter and its spares, each in the order of the profile (docs/reference/profile.md).
 #[derive(Drop)]
 pub struct Profile {
     pub(crate) devices: Vec<Entry>,

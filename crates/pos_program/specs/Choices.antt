@@ -1,4 +1,4 @@
--- The program's command lines, and what words ask for (docs/CONSOLE.md, "The program").
+-- The program's command lines, and what words ask for (docs/reference/console.md, "The program").
 use Rattle.std.specs.Prelude.{◌≡◌, ◌≢◌, ◌⊎◌, List, [], Option, Some, Bool, true, false, ◌||◌, bytes_eq, codes, Result, Ok, Err, slice_get}
 use Rattle.std.specs.declared.io.ErrorKind.{ErrorKind as IoKind}
 use Rattle.std.specs.declared.io.ErrorKind.TheVariants as io

@@ -1,4 +1,4 @@
--- What the program ends with (docs/CONSOLE.md, "The program").
+-- What the program ends with (docs/reference/console.md, "The program").
 use Rattle.std.specs.Prelude.{◌≡◌, ◌≢◌, ℕ, Result, Ok, Err}
 use Rattle.std.specs.IoError.{error_kind}
 use Rattle.std.specs.declared.io.Error.{Error}

@@ -1,4 +1,4 @@
--- What formatting a disk answers, and what it leaves (docs/DISK.md, "Formatting").
+-- What formatting a disk answers, and what it leaves (docs/reference/totals-file.md, "Formatting").
 use Rattle.std.specs.Prelude.{◌≡◌, ◌⊎◌, ℕ, List, true, false, Result, Ok, Err, OnOk}
 use Rattle.pos_disk.specs.Memory.{state_of}
 use Rattle.pos_disk.specs.State.{DiskState, IsAtRest, Watches}

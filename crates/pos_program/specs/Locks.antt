@@ -1,4 +1,4 @@
--- What the lock on a totals file makes of opening it (docs/CONSOLE.md, "The program").
+-- What the lock on a totals file makes of opening it (docs/reference/console.md, "The program").
 use Rattle.std.specs.Prelude.{◌≡◌, ◌≢◌, Result, Ok, Err}
 use Rattle.std.specs.IoError.{error_kind}
 use Rattle.std.specs.declared.fs.locks.TryLockError.{TryLockError}

@@ -1,4 +1,5 @@
--- What moving the totals in a file to layout 2 answers, and what it leaves (docs/DISK.md, "The move to layout 2").
+-- What moving the totals in a file to layout 2 answers, and what it leaves (docs/reference/totals-file.md, "The move to
+-- layout 2").
 use Rattle.std.specs.Prelude.{◌≡◌, ℕ, List, map, Result, Ok, Err, OnOk}
 use Rattle.pos_disk.specs.Memory.{state_of}
 use Rattle.pos_file.specs.Calls.{Call}

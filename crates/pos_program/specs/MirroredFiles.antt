@@ -1,4 +1,5 @@
--- What the file below a mirror was asked, taken as the crash model takes it (docs/DISK.md, "The model of a disk").
+-- What the file below a mirror was asked, taken as the crash model takes it (docs/proofs/crashes.md, "The model of a
+-- disk").
 use Rattle.std.specs.Prelude.{◌≡◌, ◌++◌, ◌∷◌, ℕ, List, Some, false, length}
 use Rattle.pos_disk.specs.Memory.{Memory, fresh}
 use Rattle.pos_file.specs.Calls.{Call, read_call}

@@ -1,4 +1,4 @@
--- What a run's files give (docs/CONSOLE.md, "The program").
+-- What a run's files give (docs/reference/console.md, "The program").
 use Rattle.std.specs.Prelude.{◌≡◌, ℕ, List, Result, Ok, Err}
 use Rattle.pos_file.specs.declared.file_disk.FileDisk.{FileDisk}
 use Rattle.pos_mirror.specs.Mirror.{Mirror}

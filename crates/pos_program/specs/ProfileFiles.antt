@@ -1,4 +1,4 @@
--- What the bytes of a profile's file give (docs/PROFILE.md, docs/CONSOLE.md).
+-- What the bytes of a profile's file give (docs/reference/profile.md, docs/reference/console.md).
 use Rattle.std.specs.Prelude.{◌≡◌, ◌≢◌, ◌⊎◌, ◌+◌, ℕ, List, Option, Some, Result, Ok, Err, ◌==◌, count_by, take, IsUtf8, ⊤, Vec}
 use Rattle.std.specs.IoError.{error_kind}
 use Rattle.std.specs.declared.io.Error.{Error}

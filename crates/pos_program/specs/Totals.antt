@@ -1,4 +1,4 @@
--- What reading the totals in a file answers (docs/CONSOLE.md, "What a totals file holds").
+-- What reading the totals in a file answers (docs/reference/console.md, "What a totals file holds").
 use Rattle.std.specs.Prelude.{ℕ, List, Result, Ok, Err, Vec}
 use Rattle.pos_program.specs.declared.file_fault.FileFault.{FileFault}
 

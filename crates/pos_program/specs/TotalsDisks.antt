@@ -1,4 +1,4 @@
--- How the disk of the totals in a file is opened (docs/CONSOLE.md, "The program").
+-- How the disk of the totals in a file is opened (docs/reference/console.md, "The program").
 use Rattle.std.specs.Prelude.{◌≡◌, List, false, max, min, Result, Ok, Err}
 use Rattle.pos_disk.specs.Memory.{fresh}
 use Rattle.pos_disk.specs.declared.device.Disk.{Ghosts}

@@ -10,7 +10,7 @@ use std::fmt;
 use std::fmt::Write;
 
 /// Why the program ends with another status than 0. A fault is told in one line, whatever the paths and the file have
-/// in them. docs/CONSOLE.md, "The program".
+/// in them. docs/reference/console.md, "The program".
 #[derive(Drop)]
 pub enum Fault<'a> {
     /// The words ask for nothing.

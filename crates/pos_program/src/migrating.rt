@@ -19,7 +19,7 @@ use std::alloc::Global;
 
 /// Moves the totals on a disk to layout 2, in place, and gives the disk back: their files stay as they are, and may be
 /// more and longer from then on. It recovers them first. The slots of layout 1 are not written, and a crash at any
-/// moment leaves the same files by one layout or the other. docs/DISK.md, "The move to layout 2".
+/// moment leaves the same files by one layout or the other. docs/reference/totals-file.md, "The move to layout 2".
 ///
 /// # Errors
 ///

@@ -164,7 +164,7 @@ fn is_help(word: &str) -> bool
 /// What the words after the program's name ask for. Where they are those of no command the answer says why: `Help`
 /// where help is asked for, `Unknown` with a first word that names no command, `Refused` where `clap` refuses the words
 /// after it, as an option that is missing or repeated, or a word too many. Answers `NoMemory` where there was none to
-/// read the words of a command. docs/CONSOLE.md, "The program".
+/// read the words of a command. docs/reference/console.md, "The program".
 pub fn choice<'a, S: AsStr>(alloc: Global, words: &'a [S]) -> Result<Task<'a>, ChoiceFault<'a>>
     ensures { Chooses (map S.text words.entry.now) result }
 {

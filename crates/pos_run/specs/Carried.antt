@@ -1,4 +1,4 @@
--- What the program does to a counter as it carries out lines (docs/CONSOLE.md, "Answers").
+-- What the program does to a counter as it carries out lines (docs/reference/console.md, "Answers").
 use Rattle.std.specs.Prelude.{◌≡◌, ◌++◌, ◌⊎◌, ◌∷◌, [], ℕ, List, Some, Result, MatchResult, OnOk}
 use Rattle.pos_streams.specs.Streams.{Given}
 use Rattle.pos_disk.specs.declared.device.Disk.{Ghosts as DiskGhosts}

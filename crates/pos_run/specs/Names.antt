@@ -1,4 +1,4 @@
--- The names of a script's controls (docs/CONSOLE.md, "Lines").
+-- The names of a script's controls (docs/reference/console.md, "Lines").
 use Rattle.std.specs.Prelude.{ℕ, List, Option, bytes_eq, map}
 use Rattle.std.specs.Map.{lookup}
 use Rattle.indexmap.specs.IndexMap.{spare}

@@ -1,4 +1,4 @@
--- What a run of a script leaves (docs/CONSOLE.md, "The program").
+-- What a run of a script leaves (docs/reference/console.md, "The program").
 use Rattle.std.specs.Prelude.{◌≡◌, ◌++◌, ◌∷◌, ◌⊎◌, [], ℕ, length, replicate, List, Option, Some, None, Result, Ok, Err, option_map}
 use Rattle.std.proofs.Common.{inl, inr}
 use Rattle.pos_streams.specs.Streams.{Appends, Fails, Given}

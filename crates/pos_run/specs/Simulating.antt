@@ -1,4 +1,4 @@
--- What is simulated for the entries of a profile (docs/CONSOLE.md, "The program").
+-- What is simulated for the entries of a profile (docs/reference/console.md, "The program").
 use Rattle.std.specs.Prelude.{◌≡◌, ◌≤◌, ◌⊎◌, ◌++◌, ◌∷◌, [], ℕ, Bool, true, false, List, Option, Some, None, Result, Err, IfSome, map, option_map, slice_get, ⊤}
 use Rattle.pos_service.specs.declared.kind.Kind.{Kind}
 use Rattle.pos_service.specs.declared.kind.Kind.TheVariants as kind

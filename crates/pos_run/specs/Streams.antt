@@ -1,4 +1,4 @@
--- How a script is read and its answers are written (docs/CONSOLE.md, "The program").
+-- How a script is read and its answers are written (docs/reference/console.md, "The program").
 use Rattle.std.specs.Prelude.{◌≡◌, ℕ, zero, suc, ◌+◌, ◌≤◌, ◌⊎◌, Bool, true, false, List, [], length, take, Result, Ok, Err, nat_lt, is_err}
 use Rattle.std.specs.Bool.{MatchBool}
 use Rattle.pos_streams.specs.declared.sink.Sink.{Ghosts as SinkGhosts}

@@ -1,4 +1,4 @@
--- What a script asks of the machine, and what it prints (docs/CONSOLE.md, "Answers").
+-- What a script asks of the machine, and what it prints (docs/reference/console.md, "Answers").
 use Rattle.std.specs.Prelude.{◌≡◌, ℕ, ◌⊎◌, ◌++◌, ◌∷◌, [], Bool, true, false, List, Option, Some, None, MatchOption, Result, Ok, Err, IsTrue, is_some, option_map, if◌then◌else◌}
 use Rattle.std.specs.Bool.{MatchBool}
 use Rattle.pos_service.specs.Hardware.{hardware_of}

@@ -15,8 +15,8 @@ use pos_streams::{Sink, WriteFault};
 use std::alloc::Global;
 
 /// Carries out the lines of a text in order, each whole before the next, and writes what each prints
-/// (docs/CONSOLE.md). What stands behind the last line feed is a line too, where it isn't empty. What a buffer held
-/// before is forgotten.
+/// (docs/reference/console.md). What stands behind the last line feed is a line too, where it isn't empty. What a
+/// buffer held before is forgotten.
 ///
 /// At a fault of the writer the earlier lines were carried out and the line at which it came, and no later one; of what
 /// they print a front is written, and not all.

@@ -1,5 +1,5 @@
 //! Scripts of requests run over the devices of a shop counter, with spares beside them; and over the devices of a
-//! profile, which are simulated (docs/CONSOLE.md).
+//! profile, which are simulated (docs/reference/console.md).
 #![tactic(auto)]
 
 mod answers;

@@ -187,8 +187,8 @@ fn carry_out_script<R: Source, W: Sink, D: Disk, P: Peripheral + Ends>(
     }
 }
 
-/// Carries out the lines of a script in order, and writes what each prints (docs/CONSOLE.md), over a counter of any
-/// peripherals and any disk. One line is kept at a time, in room that is made before anything is read.
+/// Carries out the lines of a script in order, and writes what each prints (docs/reference/console.md), over a counter
+/// of any peripherals and any disk. One line is kept at a time, in room that is made before anything is read.
 ///
 /// Each line is carried out before more is read, and all that the lines before print is handed on and flushed by then.
 /// So it is where a read fails, or there were as many as may be: the lines that a line feed ended were carried out. At

@@ -1,4 +1,4 @@
--- How the words of a line are read: their shapes, and what they stand for (docs/CONSOLE.md, "Words").
+-- How the words of a line are read: their shapes, and what they stand for (docs/reference/console.md, "Words").
 use Rattle.std.specs.Prelude.{◌≡◌, ℕ, Bool, true, false, ◌||◌, List, [], ◌∷◌, Option, Some, None, is_some, option_map, Result, Ok, Err}
 use Rattle.pos_script.specs.declared.arguments.LineFault.{LineFault}
 use Rattle.pos_script.specs.declared.arguments.LineFault.TheVariants as fault

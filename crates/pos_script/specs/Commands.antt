@@ -1,4 +1,4 @@
--- What a line of a script asks (docs/CONSOLE.md, "Lines").
+-- What a line of a script asks (docs/reference/console.md, "Lines").
 use Rattle.std.specs.Prelude.{ℕ, Bool, true, false, List, [], ◌∷◌, Option, Some, None, bytes_eq, codes, if◌then◌else◌}
 use Rattle.std.specs.Map.{lookup}
 use Rattle.pos_service.specs.declared.call.Call.{Call}

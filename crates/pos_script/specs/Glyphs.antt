@@ -1,4 +1,4 @@
--- Characters and how they look, as `show` prints them (docs/CONSOLE.md, "Answers").
+-- Characters and how they look, as `show` prints them (docs/reference/console.md, "Answers").
 use Rattle.std.specs.Prelude.{ℕ, ◌++◌, Bool, true, false, List, [], ◌∷◌, codes, decimal, map, flat_map}
 use Rattle.hex.specs.Hex.{encode_lower}
 use Rattle.pos_service.specs.declared.display_text.DisplayCell.{DisplayCell}

@@ -1,4 +1,4 @@
--- What a line buffer keeps of a script that comes in pieces (docs/CONSOLE.md, "Lines").
+-- What a line buffer keeps of a script that comes in pieces (docs/reference/console.md, "Lines").
 use Rattle.std.specs.Prelude.{◌≡◌, ◌<◌, ◌++◌, ℕ, Bool, true, false, not, List, [], ◌∷◌, Option, Some, None, length, nat_le, ◌==◌, if◌then◌else◌, MatchOption}
 use Rattle.std.specs.Bool.{MatchBool}
 use Rattle.std.specs.List.{list_all}

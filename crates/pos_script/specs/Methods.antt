@@ -1,4 +1,4 @@
--- The methods of `call` (docs/CONSOLE.md, "Methods").
+-- The methods of `call` (docs/reference/console.md, "Methods").
 use Rattle.std.specs.Prelude.{ℕ, List, [], ◌∷◌, bytes_eq, codes, if◌then◌else◌}
 use Rattle.pos_service.specs.declared.call.Call.{Call}
 use Rattle.pos_service.specs.declared.call.Call.TheVariants as call

@@ -1,4 +1,4 @@
--- What `show` prints of a receipt printer (docs/CONSOLE.md, "Answers").
+-- What `show` prints of a receipt printer (docs/reference/console.md, "Answers").
 use Rattle.std.specs.Prelude.{ℕ, ◌++◌, Bool, true, false, List, codes, decimal, flat_map}
 use Rattle.pos_service.specs.declared.receipt_text.Alignment.{Alignment}
 use Rattle.pos_service.specs.declared.receipt_text.Alignment.TheVariants as alignment

@@ -1,4 +1,4 @@
--- What a line prints (docs/CONSOLE.md, "Answers").
+-- What a line prints (docs/reference/console.md, "Answers").
 use Rattle.std.specs.Prelude.{ℕ, ◌++◌, Bool, true, false, List, [], ◌∷◌, Option, Some, None, codes, decimal}
 use Rattle.std.specs.Fmt.{signed_decimal}
 use Rattle.hex.specs.Hex.{encode_lower}

@@ -1,4 +1,4 @@
--- What the words of a line stand for (docs/CONSOLE.md, "Words").
+-- What the words of a line stand for (docs/reference/console.md, "Words").
 use Rattle.std.specs.Prelude.{ℕ, ℤ, pos, negsuc, neg_ℤ, min, Bool, true, false, not, ◌&&◌, ◌+◌, ◌-◌, ◌*◌, List, [], ◌∷◌, Option, Some, None, length, nat_le}
 use Rattle.std.specs.Prelude.{◌==◌, bytes_eq, codes, if◌then◌else◌, option_map, option_and_then}
 use Rattle.std.specs.List.{list_all, fold}

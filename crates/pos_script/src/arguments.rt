@@ -21,7 +21,7 @@ pub enum LineFault {
     NoMemory,
 }
 
-/// What a word of a line may stand for (docs/CONSOLE.md, "Words").
+/// What a word of a line may stand for (docs/reference/console.md, "Words").
 pub trait Argument: Sized + Drop {
     ghost shape: { Shape Self };
 

@@ -60,7 +60,7 @@ pub enum Verb {
     Device(DeviceVerb),
 }
 
-/// A line of a script, taken apart (docs/CONSOLE.md, "Lines").
+/// A line of a script, taken apart (docs/reference/console.md, "Lines").
 #[derive(Drop)]
 pub struct Command<'a> {
     /// Its verb.
@@ -130,7 +130,8 @@ fn read_method(alloc: Global, words: &[u8]) -> Result<Call, LineFault>
 ///
 /// # Errors
 ///
-/// - `WrongShape` if the shape is wrong (docs/CONSOLE.md, "Lines", "Methods" and "Words"). That is checked before
+/// - `WrongShape` if the shape is wrong (docs/reference/console.md, "Lines", "Methods" and "Words"). That is checked
+/// before
 ///   memory is taken.
 /// - `NoMemory` if memory ran out for what the call keeps of the line.
 #[inline(always)]

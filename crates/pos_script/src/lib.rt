@@ -1,4 +1,4 @@
-//! What the lines of a script ask, and how the answers are printed (docs/CONSOLE.md).
+//! What the lines of a script ask, and how the answers are printed (docs/reference/console.md).
 //!
 //! - A [`LineBuffer`] takes a script in pieces, and returns each [`Line`].
 //! - [`read_command`] takes a line apart into a [`Command`], and [`read_called`] and its neighbours return what it

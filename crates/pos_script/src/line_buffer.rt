@@ -24,7 +24,7 @@ pub enum Look {
     Loud,
 }
 
-/// A line of a script (docs/CONSOLE.md, "Lines").
+/// A line of a script (docs/reference/console.md, "Lines").
 #[derive(Clone, Copy)]
 pub enum Line<'a> {
     /// It prints nothing: a comment, or nothing but spaces.
@@ -210,8 +210,8 @@ fn line_at_feed(bytes: &[u8], is_plain: bool) -> Line<'_>
     line_of(line, all_plain(line))
 }
 
-/// What was read of a line of a script, which comes in pieces (docs/CONSOLE.md, "Lines"). It takes memory only when it
-/// is made.
+/// What was read of a line of a script, which comes in pieces (docs/reference/console.md, "Lines"). It takes memory
+/// only when it is made.
 #[derive(Drop)]
 pub struct LineBuffer {
     bytes: Vec<u8>,

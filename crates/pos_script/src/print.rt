@@ -249,7 +249,7 @@ fn print_response<W: Sink>(writer: &mut W, response: Response<()>) -> Result<(),
     }
 }
 
-/// Writes the reply to a line, as a line of its own (docs/CONSOLE.md, "Answers"). It takes no memory.
+/// Writes the reply to a line, as a line of its own (docs/reference/console.md, "Answers"). It takes no memory.
 ///
 /// # Errors
 ///

@@ -1,7 +1,7 @@
 //! The reply to a line.
 use pos_service::Response;
 
-/// The reply to a line that isn't quiet (docs/CONSOLE.md, "Answers").
+/// The reply to a line that isn't quiet (docs/reference/console.md, "Answers").
 #[derive(Drop)]
 pub enum Reply {
     /// Its shape is wrong: `bad line`.

@@ -1,4 +1,4 @@
--- The names of devices (docs/PROFILE.md, docs/CONSOLE.md).
+-- The names of devices (docs/reference/profile.md, docs/reference/console.md).
 use Rattle.std.specs.Prelude.{ℕ, List, length, Bool, ◌&&◌, ◌||◌, ◌==◌, nat_le}
 use Rattle.std.specs.List.{list_all}
 use Rattle.std.specs.Char.{is_ascii_alphanumeric}

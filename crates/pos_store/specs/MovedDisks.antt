@@ -1,4 +1,5 @@
--- What moving the files of a disk to layout 2 answers, and what it leaves (docs/DISK.md, "The move to layout 2").
+-- What moving the files of a disk to layout 2 answers, and what it leaves (docs/reference/totals-file.md, "The move to
+-- layout 2").
 use Rattle.std.specs.Prelude.{◌≡◌, ℕ, List, [], ◌∷◌, map, Result, Ok, Err}
 use Rattle.pos_dir.specs.declared.file.File.{File}
 use Rattle.pos_disk.specs.State.{DiskState, IsAtRest, LeavesOnly, MayLeave, Rises}

@@ -14,7 +14,8 @@ use std::alloc::Global;
 use std::marker::Model;
 
 /// The files of a totals disk, changed by whole groups. Contracts see the disk and its layout, the files with
-/// their sequence, or Off, and the place behind its records. docs/DISK.md, "The log" and "The layouts".
+/// their sequence, or Off, and the place behind its records. docs/reference/totals-file.md, "The log" and "The
+/// layouts".
 #[derive(Drop)]
 pub struct Store<D: Disk> {
     alloc: Global,

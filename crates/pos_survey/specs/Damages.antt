@@ -1,4 +1,4 @@
--- Which rule of a totals disk its bytes break, and where. docs/DISK.md, "Opening and recovery".
+-- Which rule of a totals disk its bytes break, and where. docs/reference/totals-file.md, "Opening and recovery".
 use Rattle.std.specs.Prelude.{◌≡◌, ◌≤◌, ◌<◌, ◌+◌, ◌++◌, ℕ, List, [], ◌∷◌, length, true, Some, ⊤}
 use Rattle.pos_dir.specs.Calls.{IsBody, IsGroupText}
 use Rattle.pos_dir.specs.Changes.{IsGroup, fault_of}

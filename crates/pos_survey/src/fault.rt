@@ -6,7 +6,8 @@ use pos_dir::{DirectoryFault, Flaw};
 use std::alloc::AllocError;
 use thiserror::Error;
 
-/// A rule that the bytes of a disk break: one of those of docs/DISK.md, "Opening and recovery", under Damaged.
+/// A rule that the bytes of a disk break: one of those of docs/reference/totals-file.md, "Opening and recovery", under
+/// Damaged.
 #[derive(Clone, Copy, Debug, PartialEq, Eq)]
 pub enum Rule {
     /// Both slots of the disk's layout are open, with the same sequence.

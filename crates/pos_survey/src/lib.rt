@@ -1,5 +1,5 @@
-//! What the bytes of a totals disk hold, for whoever looks after it. docs/DISK.md; docs/CONSOLE.md, "What a totals file
-//! holds".
+//! What the bytes of a totals disk hold, for whoever looks after it. docs/reference/totals-file.md;
+//! docs/reference/console.md, "What a totals file holds".
 //!
 //! A [`Survey`] has the layout, the current image, the records of its log and the files. If the bytes break a rule of
 //! the disk, [`SurveyFault`] has the place and the [`Rule`].

@@ -27,8 +27,8 @@ pub struct Survey {
 }
 
 impl Survey {
-    /// Returns what the bytes of a disk hold: what a recovery of a store would find in them. docs/CONSOLE.md, "What a
-    /// totals file holds".
+    /// Returns what the bytes of a disk hold: what a recovery of a store would find in them. docs/reference/console.md,
+    /// "What a totals file holds".
     ///
     /// # Errors
     ///

@@ -122,7 +122,7 @@ fn put_facts(text: &mut Vec<u8>, survey: &Survey) -> Result<(), AllocError>
 }
 
 impl Survey {
-    /// Returns the survey as lines of text: one fact a line. docs/CONSOLE.md, "What a totals file holds".
+    /// Returns the survey as lines of text: one fact a line. docs/reference/console.md, "What a totals file holds".
     ///
     /// # Errors
     ///

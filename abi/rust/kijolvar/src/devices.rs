@@ -55,7 +55,7 @@ pub enum Order {
     ClearText { device: String },
     /// The display moves what it shows by so many rows or columns.
     ScrollText { device: String, direction: u32, units: u32 },
-    /// The printer prints the data, with its escape sequences (docs/PRINTER.md).
+    /// The printer prints the data, with its escape sequences (docs/reference/printer.md).
     Print { device: String, data: Vec<u8> },
     /// The printer cuts the paper.
     CutPaper { device: String, percentage: u32 },

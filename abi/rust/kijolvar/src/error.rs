@@ -22,7 +22,7 @@ pub enum Cause {
     NoMemory,
     /// The call was carried out, but there was no memory for its answer.
     NoAnswer,
-    /// The profile is refused (docs/PROFILE.md).
+    /// The profile is refused (docs/reference/profile.md).
     BadProfile,
     /// The file is shorter than a disk of totals.
     TooSmall,

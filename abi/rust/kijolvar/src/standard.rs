@@ -12,7 +12,7 @@ pub(crate) mod library {
     pub(crate) const OK: u32 = 0;
     /// There was no memory, and nothing was done.
     pub(crate) const NO_MEMORY: u32 = 1;
-    /// The profile is refused (docs/PROFILE.md).
+    /// The profile is refused (docs/reference/profile.md).
     pub(crate) const BAD_PROFILE: u32 = 2;
     /// What is told is longer than the room for it.
     pub(crate) const SHORT: u32 = 3;

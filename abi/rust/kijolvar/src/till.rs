@@ -222,8 +222,8 @@ pub struct Till {
 }
 
 impl Till {
-    /// Opens a till over a profile's text (TOML, docs/PROFILE.md; [`BUILT_PROFILE`] is the built one), with its totals
-    /// in memory or in a file.
+    /// Opens a till over a profile's text (TOML, docs/reference/profile.md; [`BUILT_PROFILE`] is the built one), with
+    /// its totals in memory or in a file.
     ///
     /// The file is locked until the till is dropped, and a call that changes the totals returns once the change is
     /// synced. A file that isn't formatted opens; enabling its totals is E_NOHARDWARE.
@@ -265,8 +265,8 @@ impl Till {
         self.number
     }
 
-    /// Carries out lines of the text interface (docs/CONSOLE.md) one after the other, and returns their answers, a line
-    /// each.
+    /// Carries out lines of the text interface (docs/reference/console.md) one after the other, and returns their
+    /// answers, a line each.
     ///
     /// # Errors
     ///
@@ -431,7 +431,7 @@ impl Till {
         Work::read(&text).map_err(|cause| Error::new("work", cause))
     }
 
-    /// Returns what a simulated device is physically, as docs/CONSOLE.md says under "Answers".
+    /// Returns what a simulated device is physically, as docs/reference/console.md says under "Answers".
     ///
     /// # Errors
     ///
