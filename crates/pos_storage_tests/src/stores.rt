@@ -1,9 +1,6 @@
 // The files of a store: on the disk, after a stop at each call of it, and after refused growths.
-ghost use Rattle.std.specs.Prelude.{◌≡◌, true};
-ghost use Rattle.pos_store.specs.Commits.{IsApplicable};
-
 use crate::shared_disks::{BODY, FORMATTED, GROUP, SECOND, THIRD, bytes_of, disk_of, has};
-use pos_dir::{DirectoryFault, Group, check_group, decode_group};
+use pos_dir::{DirectoryFault, Group, decode_group};
 use pos_disk::{Disk, DiskFault, Fill, FuseDisk, MemDisk};
 use pos_image::{ImageFault, Layout};
 use pos_store::{Mode, Store, StoreFault};
@@ -65,19 +62,9 @@ fn carry_out<D: Disk>(store: &mut Store<D>, group: &Group<'_>) -> Result<(), Sto
     }
 }
 
-// Whether a group may be committed: it is applicable to the files of a store that is ready.
-fn may_commit<D: Disk>(store: &Store<D>, group: &Group<'_>) -> bool
-    ensures { result ≡ true → IsApplicable store.now.layout store.now.state group.now }
-{
-    match store.files() {
-        Some(directory) => check_group(directory, group).is_ok(),
-        None => true,
-    }
-}
-
-// A commit of a group, which isn't empty and is applicable here.
+// A commit of a group, which isn't empty here.
 fn commit<D: Disk>(store: &mut Store<D>, group: &Group<'_>) -> Result<(), StoreFault> {
-    if group.len() == 0 || !may_commit(store, group) {
+    if group.len() == 0 {
         return Err(StoreFault::Damaged);
     }
     store.commit(group)
@@ -94,6 +81,33 @@ fn a_group_on_the_disk(rt: HostRuntime) -> Result<(), Fail> {
     assert!(rt;
         has(&bytes, LOG + 29, &[0]) && has(&bytes, 0, &FORMATTED) && has(&bytes, SECOND, &[0])
     );
+    Ok(())
+}
+
+// Creates B and then A, which is there; and writes four bytes of A from place 1 on, and from place 0 on.
+const CREATES: [u8; 16] = [0, 2, 1, 1, 0x42, 0, 0, 0, 0, 1, 1, 0x41, 0, 0, 0, 0];
+
+const PASSES_THE_END: [u8; 17] = [0, 1, 4, 0, 0, 0, 0, 0, 1, 0, 0, 0, 4, 1, 2, 3, 4];
+
+const OVERWRITES: [u8; 17] = [0, 1, 4, 0, 0, 0, 0, 0, 0, 0, 0, 0, 4, 1, 2, 3, 4];
+
+// The disk works for the recovery and one commit alone, so a refusal hasn't called it.
+#[test]
+fn a_group_that_is_not_applicable(rt: HostRuntime) -> Result<(), Fail> {
+    let alloc = rt.alloc();
+    let mut store = Store::new(alloc, FuseDisk::new(fresh(alloc, &[])?, 11, 1));
+    let off = Err(StoreFault::Off);
+    assert!(rt; commit(&mut store, &decode_group(alloc, &CREATES)?) == off);
+    carry_out(&mut store, &decode_group(alloc, &GROUP)?)?;
+    for (text, fault) in [
+        (CREATES.as_slice(), DirectoryFault::Exists),
+        (PASSES_THE_END.as_slice(), DirectoryFault::Range),
+    ] {
+        let outcome = commit(&mut store, &decode_group(alloc, text)?);
+        assert!(rt; outcome == Err(StoreFault::Refused(fault)) && is_after(&store) == Ok(true));
+    }
+    let outcome = commit(&mut store, &decode_group(alloc, &OVERWRITES)?);
+    assert!(rt; outcome == Err(StoreFault::Device) && store.mode() == Mode::Off);
     Ok(())
 }
 
@@ -301,12 +315,13 @@ fn each_stop_of_a_migration(rt: HostRuntime) -> Result<(), Fail> {
 fn faults_are_told(rt: HostRuntime) -> Result<(), Fail> {
     let no_room = DirectoryFault::NoRoom;
     let text = format!(in rt.alloc();
-        "{DiskFault}; {no_room}; {}; {}",
+        "{DiskFault}; {}; {}; {}",
+        StoreFault::Refused(no_room),
         StoreFault::Exhausted,
         ImageFault::TooSmall
     )?;
     let wanted =
-        "the disk failed; there is no room; the sequences have run out; the disk is too small";
+        "the disk failed; the group is refused: there is no room; the sequences have run out; the disk is too small";
     assert_eq!(rt; text.as_str(), wanted);
     Ok(())
 }

@@ -1,10 +1,10 @@
 -- What a commit answers, and what a crash during it may leave.
 use Rattle.std.specs.Prelude.{◌≡◌, ◌⊎◌, ◌≤◌, ◌+◌, ◌^◌, ℕ, Bool, true, false, nat_le, if◌then◌else◌, List, [], ◌∷◌, length, Result, Ok, Err, IsOk, IsErr}
-use Rattle.std.specs.Prelude.{IsErrOf, ⊤, MatchResult}
+use Rattle.std.specs.Prelude.{IsErrOf, ⊤, MatchOption, MatchResult, Option, None}
 use Rattle.pos_disk.specs.State.{DiskState, Rises, HasNotFailed}
 use Rattle.pos_disk.specs.Keeps.{KeepsDisk}
 use Rattle.pos_disk.specs.declared.device.Disk.{Ghosts}
-use Rattle.pos_dir.specs.Changes.{outcome_of_all}
+use Rattle.pos_dir.specs.Changes.{fault_of, outcome_of_all}
 use Rattle.pos_dir.specs.Files.{IsDirectory}
 use Rattle.pos_dir.specs.Spelling.{spelling, group_spelling, body_limit}
 use Rattle.pos_dir.specs.declared.change.Change.{Change}
@@ -126,3 +126,17 @@ pub record Commits {D : Type 0} (bound : Ghosts D) (old : StoreView D) (changes 
   pub counts : bound.honest old.disk
       → IsErrOf result fault.Device ⊎ HasNotFailed (bound.state old.disk) (bound.state new.disk)
   pub keeps : KeepsDisk bound old.disk new.disk
+
+-- why a group isn't committed: the fault of its first change that isn't applicable to the files; none while the store
+-- is off
+abbrev pub refusal_of : Layout → StoreState → List Change → Option DirectoryFault
+refusal_of layout Off changes = None
+refusal_of layout (Ready files sequence) changes = fault_of (limits_of layout) files changes
+
+-- What a commit of any group does: one that isn't applicable is refused with the fault of its first change that isn't,
+-- and nothing changes, and any other is committed.
+abbrev pub CommitsIfApplicable : {D : Type 0} → Ghosts D → StoreView D → List Change → Result (Unit {0}) StoreFault
+    → StoreView D → Type 0
+CommitsIfApplicable bound old changes result new =
+    MatchOption (refusal_of old.layout old.state changes) (Commits bound old changes result new)
+    (λ cause. (result ≡ Err (fault.Refused cause)) × (new ≡ old))

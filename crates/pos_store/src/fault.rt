@@ -13,6 +13,9 @@ pub enum StoreFault {
     /// The store is off: its files are not known.
     #[error("the store is off")]
     Off,
+    /// The group isn't applicable to the files: the fault of its first change that isn't.
+    #[error("the group is refused: {0}")]
+    Refused(DirectoryFault),
     /// The group doesn't fit behind the log, and the sequence is 18,446,744,073,709,551,615, the last one.
     #[error("the sequences have run out")]
     Exhausted,

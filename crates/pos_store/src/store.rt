@@ -7,7 +7,7 @@ use crate::migrating::migrate_files;
 use crate::mode::Mode;
 use crate::recovering::recover_files;
 use core::mem::replace_with;
-use pos_dir::{Directory, Group};
+use pos_dir::{Directory, DirectoryFault, Group, check_group};
 use pos_disk::Disk;
 use pos_image::Layout;
 use std::alloc::Global;
@@ -37,7 +37,7 @@ impl<D: Disk> Store<D> {
     ghost use Rattle.pos_disk.specs.State.{IsAtRest};
     ghost use Rattle.pos_image.specs.declared.layout.Layout.TheVariants.{Layout1};
     ghost use Rattle.pos_store.specs.StoreViews.{Off, WhenReady, files_of, mode_of};
-    ghost use Rattle.pos_store.specs.Commits.{Commits, IsApplicable};
+    ghost use Rattle.pos_store.specs.Commits.{Commits, CommitsIfApplicable, IsApplicable, refusal_of};
     ghost use Rattle.pos_store.specs.Layouts.{limits_of};
     ghost use Rattle.pos_store.specs.Migrations.{Migrates};
     ghost use Rattle.pos_store.specs.Recoveries.{Recovers};
@@ -67,17 +67,40 @@ impl<D: Disk> Store<D> {
         replace_with(&mut self.disk_or_log, self.alloc, recover_files)
     }
 
-    /// Carries out all changes of a group, which is applicable to the files, or none; it isn't checked again
-    /// (`pos_dir::check_group` tells whether a group is applicable). At Ok they are on the disk: as a record behind
-    /// the current image where it fits, which leaves the sequence, else in a new image. An append takes no time for
-    /// the bytes of other files.
+    /// Checks a group, which isn't empty, and carries out all its changes or none. At Ok they are on the disk: as a
+    /// record behind the current image if it fits there, which leaves the sequence, else in a new image. An append
+    /// takes no time for the bytes of other files.
     ///
     /// # Errors
     ///
-    /// `Off` where the store is off, `NoMemory`, `Exhausted` where the group doesn't fit and the sequence is the last
-    /// one: nothing has changed, and the disk wasn't written. `Device` where the disk failed: the store is off, and the
-    /// next recovery finds the files before the group or those after it.
+    /// `Off` if the store is off, else `Refused` with the fault of the first change that isn't applicable to the files
+    /// that the changes before it made (`NoFile`, `Exists`, `Range` or `NoRoom`); then `NoMemory`, and `Exhausted` if
+    /// the group doesn't fit and the sequence is the last one: nothing has changed, and the disk wasn't used. `Device`
+    /// if the disk failed: the store is off, and the next recovery finds the files before the group or those after it.
     pub fn commit(&mut self, group: &Group<'_>) -> Result<(), StoreFault>
+        requires some { 0 < length group.now }
+        ensures { CommitsIfApplicable D.Disk self.old group.now result self.new }
+    {
+        if let Some(fault) = self.refusal(group) {
+            return Err(StoreFault::Refused(fault));
+        }
+        self.commit_applicable(group)
+    }
+
+    // Why the files refuse a group; nothing does while the store is off.
+    fn refusal(&self, group: &Group<'_>) -> Option<DirectoryFault>
+        ensures { result ≡ refusal_of self.now.layout self.now.state group.now }
+    {
+        check_group(self.files()?, group).err()
+    }
+
+    /// Commits a group as `commit` does, without checking it again: the caller knows that it is applicable to the
+    /// files (`pos_dir::check_group` returns whether it is).
+    ///
+    /// # Errors
+    ///
+    /// Those of `commit`, but for `Refused`.
+    pub fn commit_applicable(&mut self, group: &Group<'_>) -> Result<(), StoreFault>
         requires some { 0 < length group.now }
         requires applicable { IsApplicable self.old.layout self.old.state group.now }
         ensures { Commits D.Disk self.old group.now result self.new }

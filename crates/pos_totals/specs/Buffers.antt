@@ -113,6 +113,7 @@ abbrev pub transactions_after : StoreFault → List (Option (List Change)) → L
 transactions_after fault.Device transactions = without_transactions transactions
 transactions_after fault.NoMemory transactions = transactions
 transactions_after fault.Off transactions = transactions
+transactions_after (fault.Refused cause) transactions = transactions
 transactions_after fault.Exhausted transactions = transactions
 transactions_after fault.Unformatted transactions = transactions
 transactions_after fault.Damaged transactions = transactions

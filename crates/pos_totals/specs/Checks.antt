@@ -182,6 +182,7 @@ CommitsAt bound old totals control (Err want) new =
 abbrev pub answer_of : StoreFault → Result Answer NoMemory
 answer_of fault.NoMemory = Err (record {})
 answer_of fault.Off = Ok (answer.Refused code.Failure 0)
+answer_of (fault.Refused cause) = Ok (answer.Refused code.Failure 0)
 answer_of fault.Exhausted = Ok (answer.Refused code.Failure 0)
 answer_of fault.Unformatted = Ok (answer.Refused code.Failure 0)
 answer_of fault.Damaged = Ok (answer.Refused code.Failure 0)

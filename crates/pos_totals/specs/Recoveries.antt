@@ -105,6 +105,7 @@ code_of fault.Device = Some code.Failure
 -- a store's fault of a recovery, in the totals' words; a recovery has no other
 abbrev pub told_as : StoreFault → Option RecoveryFault
 told_as store.Off = None
+told_as (store.Refused cause) = None
 told_as store.Exhausted = None
 told_as store.AlreadyLayout2 = None
 told_as store.Unformatted = Some fault.Unformatted

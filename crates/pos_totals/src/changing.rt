@@ -70,7 +70,7 @@ fn put_group<D: Disk>(
     ensures transactions { MatchResult result (λ done. transactions.new ≡ transactions.old)
         (λ fault. transactions.new ≡ transactions_after fault transactions.old) }
 {
-    match store.commit(group) {
+    match store.commit_applicable(group) {
         Ok(()) => Ok(()),
         Err(fault) => {
             end_at(fault, transactions);

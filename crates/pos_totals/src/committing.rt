@@ -80,7 +80,7 @@ fn commit_buffer<D: Disk>(
     match make_plan(alloc, store, holdings, control) {
         Ok(Plan::Refused(refusal)) => Ok(Commitment::Refused(refusal)),
         Ok(Plan::Nothing) => Ok(Commitment::Done),
-        Ok(Plan::Group(group)) => match store.commit(&group) {
+        Ok(Plan::Group(group)) => match store.commit_applicable(&group) {
             Ok(()) => Ok(Commitment::Done),
             Err(fault) => Ok(Commitment::Failed(fault)),
         },

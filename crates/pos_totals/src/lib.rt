@@ -3,6 +3,7 @@
 
 mod arranging;
 mod asking;
+mod calls;
 mod changing;
 mod checking;
 mod claims;

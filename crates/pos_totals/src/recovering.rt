@@ -73,7 +73,10 @@ fn tell_fault(fault: StoreFault) -> RecoveryFault
         StoreFault::Damaged => RecoveryFault::Damaged,
         StoreFault::NoMemory => RecoveryFault::NoMemory,
         StoreFault::Device => RecoveryFault::Device,
-        StoreFault::Off | StoreFault::Exhausted | StoreFault::AlreadyLayout2 => unreachable!(),
+        StoreFault::Off
+        | StoreFault::Refused(_)
+        | StoreFault::Exhausted
+        | StoreFault::AlreadyLayout2 => unreachable!(),
     }
 }
 

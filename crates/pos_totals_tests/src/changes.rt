@@ -1,8 +1,8 @@
 // Changes of two files, and what they make of them.
-use crate::two_files::spell;
+use crate::two_files::{disk_with_files, over, spell};
 use pos_disk::Disk;
-use pos_service::{Answer, NoMemory};
-use pos_totals::{Arrangement, Edit, RecoveryFault, Request, Totals};
+use pos_service::{Answer, Code, NoMemory};
+use pos_totals::{RecoveryFault, Totals};
 use std::alloc::{AllocError, Global};
 use std::test::Fail;
 
@@ -43,54 +43,27 @@ fn spelled_after(alloc: Global, change: Change) -> Result<Vec<u8>, AllocError> {
 }
 
 /// Writes over two bytes of the first file.
-pub const OVERWRITES: Request<'static> = Request::Edit {
-    handle: 1,
-    edit: Edit::Write {
-        offset: 1,
-        bytes: &[8, 9],
-    },
-};
-
-// What a change asks for, where the files have the handles 1 and 2.
-fn request_of(change: Change) -> Option<Request<'static>> {
-    match change {
-        Change::Create => Some(Request::Create {
-            name: b"C",
-            size: 1,
-        }),
-        Change::Delete => Some(Request::Delete { name: b"A" }),
-        Change::Rename => Some(Request::Rename {
-            handle: 1,
-            name: b"C",
-        }),
-        Change::Write => Some(OVERWRITES),
-        Change::SetAll => Some(Request::Edit {
-            handle: 1,
-            edit: Edit::SetAll { value: 7 },
-        }),
-        Change::Commit => None,
-    }
+pub fn overwrite<D: Disk>(totals: &mut Totals<D>) -> Result<Answer, NoMemory> {
+    totals.write(0, 1, 1, &[8, 9])
 }
 
 /// Carries out a change, where the files have the handles 1 and 2.
 pub fn carry_out<D: Disk>(totals: &mut Totals<D>, change: Change) -> Result<Answer, NoMemory> {
-    match request_of(change) {
-        Some(request) => totals.change(0, request),
-        None => commit_both(totals),
+    match change {
+        Change::Create => totals.create(0, b"C", 1, false),
+        Change::Delete => totals.delete(0, b"A"),
+        Change::Rename => totals.rename(0, 1, b"C"),
+        Change::Write => overwrite(totals),
+        Change::SetAll => totals.set_all(0, 1, 7),
+        Change::Commit => commit_both(totals),
     }
 }
 
 // Writes both files in one transaction, where the control has begun one already in that.
 fn commit_both<D: Disk>(totals: &mut Totals<D>) -> Result<Answer, NoMemory> {
-    let _ = totals.arrange(0, Arrangement::BeginTrans);
-    totals.change(0, OVERWRITES)?;
-    totals.change(
-        0,
-        Request::Edit {
-            handle: 2,
-            edit: Edit::SetAll { value: 7 },
-        },
-    )?;
+    let _ = totals.begin_trans(0);
+    overwrite(totals)?;
+    totals.set_all(0, 2, 7)?;
     totals.commit_trans(0)
 }
 
@@ -107,4 +80,20 @@ pub fn is_after<D: Disk>(
         return Err(RecoveryFault::Damaged)?;
     }
     Ok(is_after)
+}
+
+#[test]
+fn a_claim_and_a_rollback(rt: HostRuntime) -> Result<(), Fail> {
+    let mut totals = over(rt.alloc(), disk_with_files(rt.alloc())?)?;
+    totals.recover()?;
+    assert!(rt; matches!(totals.claim_file(0, 1, 0), Answer::Done(_)));
+    let foreign = totals.write(1, 1, 1, &[8, 9])?;
+    assert!(rt; matches!(foreign, Answer::Refused(Code::Claimed, 0)));
+    assert!(rt; matches!(totals.release_file(0, 1), Answer::Done(_)));
+    assert!(rt; matches!(totals.begin_trans(0), Answer::Done(_)));
+    overwrite(&mut totals)?;
+    assert!(rt; matches!(totals.rollback(0), Answer::Done(_)));
+    let text = spell(rt.alloc(), &totals, 1)?;
+    assert!(rt; !totals.in_transaction(0) && text.as_slice() == BEFORE.as_slice());
+    Ok(())
 }

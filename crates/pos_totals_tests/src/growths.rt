@@ -1,9 +1,9 @@
 // Refused growths, answers that ample memory gives, and texts.
-use crate::changes::{BEFORE, CHANGES, Change, OVERWRITES, carry_out, is_after};
+use crate::changes::{BEFORE, CHANGES, Change, carry_out, is_after, overwrite};
 use crate::two_files::{disk_of_layout_2, disk_with_files, over, spell};
 use pos_disk::MemDisk;
 use pos_service::{Answer, Value};
-use pos_totals::{Arrangement, Edit, Question, RecoveryFault, Request, Totals};
+use pos_totals::{RecoveryFault, Totals};
 use std::alloc::Global;
 use std::test::Fail;
 
@@ -35,8 +35,8 @@ fn a_refused_growth_changes_nothing(rt: HostRuntime) -> Result<(), Fail> {
 // Buffers a write, and commits what is buffered: whether the write is on the disk where it was answered, and not where
 // a growth was refused.
 fn buffers_once(alloc: Global, totals: &mut Totals<MemDisk>) -> Result<bool, Fail> {
-    let _ = totals.arrange(0, Arrangement::BeginTrans);
-    let is_buffered = totals.change(0, OVERWRITES).is_ok();
+    let _ = totals.begin_trans(0);
+    let is_buffered = overwrite(totals).is_ok();
     totals.commit_trans(0)?;
     Ok(is_after(alloc, totals, Change::Write, 1)? == is_buffered)
 }
@@ -51,29 +51,10 @@ fn a_refused_growth_buffers_nothing(rt: HostRuntime) -> Result<(), Fail> {
 
 // Fills what is free with a third file, and gives what a read of it answers.
 fn fill_up(totals: &mut Totals<MemDisk>, bytes: &[u8]) -> Result<Answer, Fail> {
-    let (handle, offset, count) = (3, 0, bytes.len() as i128);
-    totals.change(
-        0,
-        Request::Create {
-            name: b"C",
-            size: count,
-        },
-    )?;
-    totals.change(
-        0,
-        Request::Edit {
-            handle,
-            edit: Edit::Write { offset, bytes },
-        },
-    )?;
-    Ok(totals.ask(
-        0,
-        Question::Read {
-            handle,
-            offset,
-            count,
-        },
-    )?)
+    let size = bytes.len() as i128;
+    totals.create(0, b"C", size, true)?;
+    totals.write(0, 3, 0, bytes)?;
+    Ok(totals.read(0, 3, 0, size)?)
 }
 
 // Whether a third file of so many bytes may be written whole, and nothing is free then.

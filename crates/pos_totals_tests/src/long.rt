@@ -3,7 +3,7 @@
 use crate::two_files::{disk_with_files, over, spell};
 use pos_disk::{Disk, MemDisk};
 use pos_service::{Answer, NoMemory};
-use pos_totals::{Arrangement, Edit, Request, Totals};
+use pos_totals::Totals;
 use std::alloc::Global;
 use std::test::Fail;
 
@@ -11,8 +11,7 @@ use std::test::Fail;
 fn set_often(totals: &mut Totals<MemDisk>, handle: i128, times: u16) -> Result<bool, NoMemory> {
     for number in 0..times {
         let value = (number % 250) as i128 + 1;
-        let edit = Edit::SetAll { value };
-        let answer = totals.change(0, Request::Edit { handle, edit })?;
+        let answer = totals.set_all(0, handle, value)?;
         if !matches!(answer, Answer::Done(_)) {
             return Ok(false);
         }
@@ -62,7 +61,7 @@ fn ample_memory_recovers_a_thousand_records(rt: HostRuntime) -> Result<(), Fail>
 fn ample_memory_commits_a_hundred_changes(rt: HostRuntime) -> Result<(), Fail> {
     let mut totals = over(rt.alloc(), disk_with_files(rt.alloc())?)?;
     totals.recover()?;
-    let _ = totals.arrange(0, Arrangement::BeginTrans);
+    let _ = totals.begin_trans(0);
     assert!(rt; set_often(&mut totals, 1, 99)? && set_often(&mut totals, 2, 1)?);
     assert!(rt; matches!(totals.commit_trans(0)?, Answer::Done(_)));
     let wanted = [0x41u8, 99, 99, 99, 99, 0x42, 1, 1];

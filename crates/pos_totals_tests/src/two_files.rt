@@ -1,7 +1,7 @@
 // A disk with two files, totals over it, and what they have.
 use pos_disk::{Disk, MemDisk};
 use pos_service::{Answer, NoMemory, Value};
-use pos_totals::{Question, Totals};
+use pos_totals::Totals;
 use std::alloc::{AllocError, Global};
 use std::test::Fail;
 
@@ -40,10 +40,10 @@ pub fn over<D: Disk + Drop>(alloc: Global, disk: D) -> Result<Totals<D>, NoMemor
 }
 
 // The size of the file with a name, if it has this handle; -1, if not.
-fn size_of<D: Disk>(totals: &Totals<D>, name: &[u8], handle: i128) -> Result<i128, NoMemory> {
-    match totals.ask(0, Question::Find { name })? {
-        Answer::Done(Value::Pair(found, size)) if found == handle => Ok(size),
-        _ => Ok(-1),
+fn size_of<D: Disk>(totals: &Totals<D>, name: &[u8], handle: i128) -> i128 {
+    match totals.find(0, name) {
+        Answer::Done(Value::Pair(found, size)) if found == handle => size,
+        _ => -1,
     }
 }
 
@@ -54,16 +54,10 @@ fn spell_file<D: Disk>(
     handle: i128,
     index: i128,
 ) -> Result<(), Fail> {
-    if let Answer::Done(Value::Bytes(name)) = totals.ask(0, Question::FindByIndex { index })? {
-        let count = size_of(totals, name.as_slice(), handle)?;
+    if let Answer::Done(Value::Bytes(name)) = totals.find_by_index(0, index)? {
+        let count = size_of(totals, name.as_slice(), handle);
         text.extend_from_slice(name.as_slice())?;
-        let offset = 0;
-        let read = Question::Read {
-            handle,
-            offset,
-            count,
-        };
-        if let Answer::Done(Value::Bytes(bytes)) = totals.ask(0, read)? {
+        if let Answer::Done(Value::Bytes(bytes)) = totals.read(0, handle, 0, count)? {
             text.extend_from_slice(bytes.as_slice())?;
         }
     }
