@@ -3,7 +3,8 @@ use Rattle.std.specs.Prelude.{◌≡◌, ◌++◌, ℕ, List, [], ◌∷◌, fal
 use Rattle.std.specs.Bool.{MatchBool}
 use Rattle.std.specs.declared.fs.locks.TryLockError.{TryLockError}
 use Rattle.pos_disk.specs.State.{Answer}
-use Rattle.pos_disk.specs.Unkept.{is_fault}
+use Rattle.pos_disk.specs.Unkept.{is_fault, unknown_state}
+use Rattle.pos_disk.specs.declared.device.Disk.{Ghosts}
 use Rattle.pos_disk.specs.declared.device.DiskFault.{DiskFault}
 use Rattle.pos_file.specs.Answers.{answer_of, lock_fault, synced_of}
 use Rattle.pos_file.specs.Calls.{Call, lock_call, measure_call, read_call, resize_call, share_call, sync_call, write_call}
@@ -40,6 +41,18 @@ FileSyncs calls old new answer =
     MatchBool old.has_failed (AsksNothing old new answer)
     ((done : Option ℕ) × Asks calls old.file new.file (sync_call done ∷ [])
     × (new ≡ record old { file = new.file; has_failed = is_fault answer }) × (answer ≡ synced_of done))
+
+-- what contracts see of the disks in files that have these calls
+abbrev pub file_disks : {F : Type 0} → (F → List Call) → Ghosts (FileDisk F)
+file_disks calls = record {
+  size = λ disk. disk.size;
+  fixed = λ disk. None;
+  honest = λ disk. ⊥;
+  state = λ disk. unknown_state;
+  own_read = FileReads calls;
+  own_write = FileWrites calls;
+  own_sync = FileSyncs calls;
+}
 
 -- what is made of a file's answer to a call for a lock: if it is locked, it is measured; a refusal hands it back
 abbrev pub FollowsLock : {F : Type 0} → (F → List Call) → F → Result (Unit {0}) TryLockError
