@@ -11,6 +11,7 @@ use Rattle.pos_program.specs.Faults.{status_of}
 use Rattle.pos_program.specs.Formatting.{FormatsFile}
 use Rattle.pos_program.specs.Migrating.{MigratesFile}
 use Rattle.pos_program.specs.Opening.{OpensRun}
+use Rattle.pos_program.specs.TotalsDisks.{AreRead}
 use Rattle.pos_program.specs.declared.choice_fault.ChoiceFault.{ChoiceFault}
 use Rattle.pos_program.specs.declared.fault.Fault.{Fault}
 use Rattle.pos_program.specs.declared.fault.Fault.TheVariants as fault
@@ -76,20 +77,28 @@ IsWritten old new text = Appends old.given new.given text × IsFlushed new
 abbrev pub IsCutOff : Writing → Writing → List ℕ → Type 0
 IsCutOff old new text = (front : List ℕ) × (back : List ℕ) × (text ≡ front ++ back) × Fails old.given new.given front
 
--- what it tells of the bytes that reading the totals in the file at a path gave, by how its writer stood before, and
--- after: their survey's text, as far as it can be written; or why there is none, and then nothing is written
-abbrev pub TellsBytes : List ℕ → Result (List ℕ) FileFault → Writing → Writing → Result (Unit {0}) Fault → Type 0
-TellsBytes path (Ok bytes) old new (Ok u) = (text : List ℕ) × IsTold bytes text × IsWritten old new text
-TellsBytes path (Ok bytes) old new (Err fault.Write) = (text : List ℕ) × IsTold bytes text × IsCutOff old new text
-TellsBytes path (Ok bytes) old new (Err (fault.Disk at cause)) =
-    (at.now ≡ path) × IsBroken bytes cause × (new ≡ old)
-TellsBytes path (Ok bytes) old new (Err other) = ⊥
-TellsBytes path (Err cause) old new result = EndsAtDisk path (Err cause) result × (new ≡ old)
+-- what it tells of the bytes of the totals in the file at a path, by how its writer stood before, and after: their
+-- survey's text, as far as it can be written; or why there is none, and then nothing is written
+abbrev pub TellsBytes : List ℕ → List ℕ → Writing → Writing → Result (Unit {0}) Fault → Type 0
+TellsBytes path bytes old new (Ok u) = (text : List ℕ) × IsTold bytes text × IsWritten old new text
+TellsBytes path bytes old new (Err fault.Write) = (text : List ℕ) × IsTold bytes text × IsCutOff old new text
+TellsBytes path bytes old new (Err (fault.Disk at cause)) = (at.now ≡ path) × IsBroken bytes cause × (new ≡ old)
+TellsBytes path bytes old new (Err other) = ⊥
+
+-- what it tells of totals that were only read: of the bytes that the one read of their file gave; or why they can't be
+-- read
+abbrev pub TellsOpened : {B : Type 0} → FileGhosts B → List ℕ → Result (Mirror (FileDisk B)) FileFault → Writing
+    → Writing → Result (Unit {0}) Fault → Type 0
+TellsOpened below path (Ok totals) old new result =
+    AreRead below.calls totals × TellsBytes path totals.memory.present.reading old new result
+TellsOpened below path (Err cause) old new result = EndsAtDisk path (Err cause) result × (new ≡ old)
 
 -- it tells what the totals file at a path holds
-abbrev pub TellsFile : {F B : Type 0} → Ghosts F B → F → List ℕ → Writing → Writing → Result (Unit {0}) Fault → Type 0
-TellsFile files them path old new result =
-    (read : Result (List ℕ) FileFault) × files.gives_totals them path read × TellsBytes path read old new result
+abbrev pub TellsFile : {F B : Type 0} → Ghosts F B → FileGhosts B → F → List ℕ → Writing → Writing
+    → Result (Unit {0}) Fault → Type 0
+TellsFile {F} {B} files below them path old new result =
+    (opened : Result (Mirror (FileDisk B)) FileFault) × files.reads_disk them path opened
+    × TellsOpened below path opened old new result
 
 -- what it does for a task, over these files: by how its reader and its writer stood before, and after
 abbrev pub Does : {F B : Type 0} → Ghosts F B → FileGhosts B → DiskGhosts (Mirror (FileDisk B)) → F → Task → Streams
@@ -102,7 +111,7 @@ Does files below mirrors them (Format disk) streams result =
 Does files below mirrors them (Migrate disk) streams result =
     EndsMove files below them disk.now result × AreUntouched streams
 Does files below mirrors them (Files disk) streams result =
-    TellsFile files them disk.now streams.writer streams.writer_after result
+    TellsFile files below them disk.now streams.writer streams.writer_after result
     × (streams.reader_after ≡ streams.reader)
 
 -- what it does for what the words ask for: nothing where they ask for nothing

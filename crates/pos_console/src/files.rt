@@ -1,10 +1,11 @@
 //! What a totals file holds, told.
-ghost use Rattle.std.specs.Prelude.{◌≡◌, Ok, IfErr, IfOk, MatchResult};
+ghost use Rattle.std.specs.Prelude.{◌≡◌, IfErr, IfOk, MatchResult};
 ghost use Rattle.pos_run.specs.Streams.{writing_of};
 ghost use Rattle.pos_console.specs.Program.{IsCutOff, IsWritten, TellsBytes, TellsFile};
 ghost use Rattle.pos_console.specs.Telling.{IsBroken, IsTold, TellsBreak, words_of, words_of_flaw};
 
 use pos_dir::Flaw;
+use pos_file::BlockFile;
 use pos_program::{Fault, FileFault, NamedFiles};
 use pos_run::AnswerWriter;
 use pos_script::write_bytes;
@@ -88,7 +89,7 @@ fn tell_bytes<'a, W: Sink>(
     path: &'a str,
     bytes: &[u8],
 ) -> Result<(), Fault<'a>>
-    ensures { TellsBytes path.entry.now (Ok bytes.now)
+    ensures { TellsBytes path.entry.now bytes.now
         (writing_of W.Sink writer.old) (writing_of W.Sink writer.new) result }
 {
     let text = match survey_text(alloc, bytes) {
@@ -101,19 +102,19 @@ fn tell_bytes<'a, W: Sink>(
     }
 }
 
-/// Tells what the totals file at a path holds, as lines of text, or which rule it breaks and where. The file is only
-/// read. docs/reference/console.md, "What a totals file holds".
+/// Tells what the totals file at a path holds, as lines of text, or which rule it breaks and where. The file is read
+/// once, and nothing is written to it. docs/reference/console.md, "What a totals file holds".
 pub fn tell_file<'a, F: NamedFiles, W: Sink>(
     alloc: Global,
     files: &F,
     writer: &mut AnswerWriter<W>,
     path: &'a str,
 ) -> Result<(), Fault<'a>>
-    ensures { TellsFile F.NamedFiles files.now path.entry.now
+    ensures { TellsFile F.NamedFiles ⟦<F::File as BlockFile>⟧ files.now path.entry.now
         (writing_of W.Sink writer.old) (writing_of W.Sink writer.new) result }
 {
-    match files.read_totals(path) {
-        Ok(bytes) => tell_bytes(alloc, writer, path, &bytes),
+    match files.read_disk(path) {
+        Ok(totals) => tell_bytes(alloc, writer, path, totals.bytes()),
         Err(cause) => Err(Fault::Disk { path, cause }),
     }
 }

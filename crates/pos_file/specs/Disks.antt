@@ -1,11 +1,13 @@
 -- What a disk in a file asks of it.
 use Rattle.std.specs.Prelude.{◌≡◌, ◌++◌, ℕ, List, [], ◌∷◌, false, length, Option, Some, None, Result, Ok, Err}
 use Rattle.std.specs.Bool.{MatchBool}
+use Rattle.std.specs.declared.fs.locks.TryLockError.{TryLockError}
 use Rattle.pos_disk.specs.State.{Answer}
-use Rattle.pos_disk.specs.Unkept.{is_fault}
+use Rattle.pos_disk.specs.Unkept.{is_fault, unknown_state}
+use Rattle.pos_disk.specs.declared.device.Disk.{Ghosts}
 use Rattle.pos_disk.specs.declared.device.DiskFault.{DiskFault}
-use Rattle.pos_file.specs.Answers.{answer_of, synced_of}
-use Rattle.pos_file.specs.Calls.{Call, lock_call, measure_call, read_call, resize_call, sync_call, write_call}
+use Rattle.pos_file.specs.Answers.{answer_of, lock_fault, synced_of}
+use Rattle.pos_file.specs.Calls.{Call, lock_call, measure_call, read_call, resize_call, share_call, sync_call, write_call}
 use Rattle.pos_file.specs.declared.fault.DiskFileFault.{DiskFileFault}
 use Rattle.pos_file.specs.declared.fault.DiskFileFault.TheVariants as fault
 use Rattle.pos_file.specs.declared.file_disk.FileDisk.{FileDisk}
@@ -40,15 +42,46 @@ FileSyncs calls old new answer =
     ((done : Option ℕ) × Asks calls old.file new.file (sync_call done ∷ [])
     × (new ≡ record old { file = new.file; has_failed = is_fault answer }) × (answer ≡ synced_of done))
 
--- what opening a file as a disk answers: it is locked, and then measured; a refusal hands the file back
+-- what contracts see of the disks in files that have these calls
+abbrev pub file_disks : {F : Type 0} → (F → List Call) → Ghosts (FileDisk F)
+file_disks calls = record {
+  size = λ disk. disk.size;
+  fixed = λ disk. None;
+  honest = λ disk. ⊥;
+  state = λ disk. unknown_state;
+  own_read = FileReads calls;
+  own_write = FileWrites calls;
+  own_sync = FileSyncs calls;
+}
+
+-- what is made of a file's answer to a call for a lock: if it is locked, it is measured; a refusal hands it back
+abbrev pub FollowsLock : {F : Type 0} → (F → List Call) → F → Result (Unit {0}) TryLockError
+    → Result (FileDisk F) (DiskFileFault × F) → Type 0
+FollowsLock calls file (Ok u) (Ok disk) =
+    Asks calls file disk.file (measure_call (Some disk.size) ∷ []) × (disk.has_failed ≡ false)
+FollowsLock calls file (Ok u) (Err (fault.Measure cause, left)) = Asks calls file left (measure_call None ∷ [])
+FollowsLock calls file (Ok u) (Err (other, left)) = ⊥
+FollowsLock calls file (Err cause) result = result ≡ Err (lock_fault cause, file)
+
+-- what opening a file as a disk answers: it is asked for a lock, by this call, and then measured; a refusal hands the
+-- file back
+abbrev pub OpensBy : {F : Type 0} → (Option ℕ → Call) → (F → List Call) → F
+    → Result (FileDisk F) (DiskFileFault × F) → Type 0
+OpensBy lock calls file (Ok disk) =
+    Asks calls file disk.file (lock (Some 1) ∷ measure_call (Some disk.size) ∷ []) × (disk.has_failed ≡ false)
+OpensBy lock calls file (Err (fault.InUse, left)) = Asks calls file left (lock (Some 0) ∷ [])
+OpensBy lock calls file (Err (fault.Lock cause, left)) = Asks calls file left (lock None ∷ [])
+OpensBy lock calls file (Err (fault.Measure cause, left)) =
+    Asks calls file left (lock (Some 1) ∷ measure_call None ∷ [])
+OpensBy lock calls file (Err (other, left)) = ⊥
+
+-- a file is opened for this program alone
 abbrev pub Opens : {F : Type 0} → (F → List Call) → F → Result (FileDisk F) (DiskFileFault × F) → Type 0
-Opens calls file (Ok disk) =
-    Asks calls file disk.file (lock_call (Some 1) ∷ measure_call (Some disk.size) ∷ []) × (disk.has_failed ≡ false)
-Opens calls file (Err (fault.InUse, left)) = Asks calls file left (lock_call (Some 0) ∷ [])
-Opens calls file (Err (fault.Lock cause, left)) = Asks calls file left (lock_call None ∷ [])
-Opens calls file (Err (fault.Measure cause, left)) =
-    Asks calls file left (lock_call (Some 1) ∷ measure_call None ∷ [])
-Opens calls file (Err (other, left)) = ⊥
+Opens calls file result = OpensBy lock_call calls file result
+
+-- a file is opened for reading
+abbrev pub OpensShared : {F : Type 0} → (F → List Call) → F → Result (FileDisk F) (DiskFileFault × F) → Type 0
+OpensShared calls file result = OpensBy share_call calls file result
 
 -- what lengthening a disk's file answers: it has the new length, which is synced; a refusal hands the file back
 abbrev pub Lengthens : {F : Type 0} → (F → List Call) → FileDisk F → ℕ → Result (FileDisk F) (DiskFileFault × F)

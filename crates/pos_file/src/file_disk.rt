@@ -7,6 +7,7 @@ ghost use Rattle.pos_file.specs.Calls.{number_of};
 use crate::block_file::BlockFile;
 use crate::fault::DiskFileFault;
 use pos_disk::{Disk, DiskFault};
+use std::fs::TryLockError;
 use std::io;
 
 /// A disk in a file, as long as the file was when it was opened. The file is locked for this program alone, from before
@@ -35,7 +36,7 @@ fn whole(moved: io::Result<usize>, asked: usize) -> Result<(), DiskFault>
 }
 
 impl<F: BlockFile + Drop> FileDisk<F> {
-    ghost use Rattle.pos_file.specs.Disks.{Lengthens, Opens};
+    ghost use Rattle.pos_file.specs.Disks.{FollowsLock, Lengthens, Opens, OpensShared};
 
     /// The file, to be looked at.
     pub fn file(&self) -> &F
@@ -62,7 +63,31 @@ impl<F: BlockFile + Drop> FileDisk<F> {
     pub fn over(mut file: F) -> Result<FileDisk<F>, (DiskFileFault, F)>
         ensures { Opens F.calls file result }
     {
-        if let Err(cause) = file.try_lock() {
+        let lock = file.try_lock();
+        FileDisk::locked(file, lock)
+    }
+
+    /// The disk in an open file that is only read, as long as the file is now. The file is locked for reading first, so
+    /// other programs may read it too. A refusal hands it back.
+    ///
+    /// # Errors
+    ///
+    /// `InUse` if another program has locked it for itself, and nothing else was asked of it then; `Lock` and `Measure`.
+    pub fn over_shared(mut file: F) -> Result<FileDisk<F>, (DiskFileFault, F)>
+        ensures { OpensShared F.calls file result }
+    {
+        let lock = file.try_lock_shared();
+        FileDisk::locked(file, lock)
+    }
+
+    // The disk in a file that answered this to a call for a lock.
+    fn locked(
+        mut file: F,
+        lock: Result<(), TryLockError>,
+    ) -> Result<FileDisk<F>, (DiskFileFault, F)>
+        ensures { FollowsLock F.calls file lock result }
+    {
+        if let Err(cause) = lock {
             return Err((DiskFileFault::of_lock(cause), file));
         }
         match file.measure() {

@@ -67,6 +67,13 @@ impl<D: Disk> MirrorDisk<D> {
         })
     }
 
+    /// The bytes that the mirror shows.
+    pub fn bytes(&self) -> &[u8]
+        ensures { result.now ≡ self.now.memory.present.reading }
+    {
+        self.memory.bytes()
+    }
+
     /// Whether the mirror is lost.
     pub fn is_lost(&self) -> bool
         ensures { result ≡ self.now.lost }

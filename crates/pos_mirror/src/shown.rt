@@ -44,6 +44,13 @@ impl Shown {
         Shown { bytes, known }
     }
 
+    // The bytes.
+    pub(crate) fn bytes(&self) -> &[u8]
+        ensures { result.now ≡ self.now.present.reading }
+    {
+        &self.bytes
+    }
+
     // How many bytes they are.
     pub(crate) fn len(&self) -> u64
         ensures { result ≡ length self.now.present.reading }

@@ -3,3 +3,4 @@ pub mod Migrated
 mod MirroredLemmas
 pub mod Options
 pub mod Parses
+mod ReadLemmas

@@ -22,7 +22,7 @@ use Rattle.pos_mirror.specs.Mirror.{Makes, Mirror, begun, found, ignored, mirror
 use Rattle.pos_program.specs.MirroredFiles.{CutMayLeave, HasRead, IsMirrored}
 
 -- what is known of a disk that has not failed
-unfailed : (A B : Type 0) (failed : Bool) → failed ≡ false → MatchBool failed A B → B
+pub unfailed : (A B : Type 0) (failed : Bool) → failed ≡ false → MatchBool failed A B → B
 unfailed A B false sound is = is
 unfailed A B true sound is = absurd (true≢false sound)
 
@@ -36,7 +36,7 @@ is_done : (done : Bool) → Ok tt ≡ fault_unless done → done ≡ true
 is_done true is = refl
 is_done false is = cc
 
-all_moved : (size : ℕ) (moved : Option ℕ) → Ok tt ≡ answer_of size moved → moved ≡ Some size
+pub all_moved : (size : ℕ) (moved : Option ℕ) → Ok tt ≡ answer_of size moved → moved ≡ Some size
 all_moved size None is = absurd (true≢false (sym (is_done false is)))
 all_moved size (Some n) is =
     let same : (n == size) ≡ true = is_done (n == size) is in

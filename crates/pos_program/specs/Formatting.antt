@@ -9,6 +9,7 @@ use Rattle.pos_image.specs.NewDisk.{HasClosedGates, KeepsRest, no_files}
 use Rattle.pos_image.specs.Standing.{HasNewImage, is_marked}
 use Rattle.pos_image.specs.declared.layout.Layout.TheVariants.{Layout1}
 use Rattle.pos_mirror.specs.Mirror.{Mirror, mirror_state}
+use Rattle.pos_program.specs.Answers.{AnswersFor}
 use Rattle.pos_program.specs.MirroredFiles.{CutMayLeave, IsMirrored}
 use Rattle.pos_program.specs.declared.file_fault.FileFault.{FileFault}
 use Rattle.pos_program.specs.declared.file_fault.FileFault.TheVariants.{Formatted, Device}
@@ -54,15 +55,9 @@ pub record LeavesFormatted {F : Type 0} (calls : F → List Call) (totals after 
 abbrev pub FormatsTotals : {F : Type 0} → (F → List Call) → Mirror (FileDisk F) → Result (Unit {0}) FileFault → Type 0
 FormatsTotals {F} calls totals result = (after : Mirror (FileDisk F)) × LeavesFormatted calls totals after result
 
--- formatting what opening a file gave, if it gave totals
-abbrev pub FormatsOpened : {F : Type 0} → (F → List Call) → Result (Mirror (FileDisk F)) FileFault
-    → Result (Unit {0}) FileFault → Type 0
-FormatsOpened calls (Ok totals) result = FormatsTotals calls totals result
-FormatsOpened calls (Err why) result = result ≡ Err why
-
 -- formatting the totals in the file at a path: what making them answered, and what became of them
 abbrev pub FormatsFile : {F B : Type 0} → Ghosts F B → (B → List Call) → F → List ℕ → Result (Unit {0}) FileFault
     → Type 0
 FormatsFile {F} {B} files calls them path result =
     (opened : Result (Mirror (FileDisk B)) FileFault) × files.makes_disk them path opened
-    × FormatsOpened calls opened result
+    × AnswersFor (FormatsTotals calls) opened result

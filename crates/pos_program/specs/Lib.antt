@@ -1,3 +1,4 @@
+pub mod Answers
 pub mod Choices
 pub mod Faults
 pub mod Formatting
@@ -6,5 +7,4 @@ pub mod Migrating
 pub mod MirroredFiles
 pub mod Opening
 pub mod ProfileFiles
-pub mod Totals
 pub mod TotalsDisks

@@ -5,6 +5,7 @@ use Rattle.pos_disk.specs.Memory.{state_of}
 use Rattle.pos_file.specs.Calls.{Call}
 use Rattle.pos_file.specs.declared.file_disk.FileDisk.{FileDisk}
 use Rattle.pos_mirror.specs.Mirror.{Mirror, mirror_state}
+use Rattle.pos_program.specs.Answers.{AnswersFor}
 use Rattle.pos_program.specs.MirroredFiles.{CutMayLeave, IsMirrored}
 use Rattle.pos_program.specs.declared.file_fault.FileFault.{FileFault}
 use Rattle.pos_program.specs.declared.file_fault.FileFault.TheVariants as file
@@ -46,15 +47,9 @@ MigratesTotals {F} calls totals result =
     (after : Mirror (FileDisk F)) × (outcome : Result (Unit {0}) StoreFault)
     × LeavesMoved calls totals after outcome × (result ≡ told_of outcome)
 
--- moving what opening a file gave, if it gave totals
-abbrev pub MigratesOpened : {F : Type 0} → (F → List Call) → Result (Mirror (FileDisk F)) FileFault
-    → Result (Unit {0}) FileFault → Type 0
-MigratesOpened calls (Ok totals) result = MigratesTotals calls totals result
-MigratesOpened calls (Err why) result = result ≡ Err why
-
 -- moving the totals in the file at a path: what opening them answered, and what became of them
 abbrev pub MigratesFile : {F B : Type 0} → Ghosts F B → (B → List Call) → F → List ℕ → Result (Unit {0}) FileFault
     → Type 0
 MigratesFile {F} {B} files calls them path result =
     (opened : Result (Mirror (FileDisk B)) FileFault) × files.gives_disk them path opened
-    × MigratesOpened calls opened result
+    × AnswersFor (MigratesTotals calls) opened result

@@ -1,5 +1,5 @@
 -- What the bytes of a profile's file give (docs/reference/profile.md, docs/reference/console.md).
-use Rattle.std.specs.Prelude.{◌≡◌, ◌≢◌, ◌⊎◌, ◌+◌, ℕ, List, Option, Some, Result, Ok, Err, ◌==◌, count_by, take, IsUtf8, ⊤, Vec}
+use Rattle.std.specs.Prelude.{◌≡◌, ◌≢◌, ◌+◌, ℕ, List, Option, Some, Result, Ok, Err, ◌==◌, count_by, take, IsUtf8, ⊤}
 use Rattle.std.specs.IoError.{error_kind}
 use Rattle.std.specs.declared.io.Error.{Error}
 use Rattle.std.specs.declared.io.ErrorKind.TheVariants.{OutOfMemory}
@@ -11,6 +11,7 @@ use Rattle.pos_profile.specs.Mistakes.{Explains}
 use Rattle.pos_profile.specs.Profiles.{FromDocument}
 use Rattle.pos_profile.specs.declared.fault.ProfileFault.{ProfileFault}
 use Rattle.pos_profile.specs.declared.fault.ProfileFault.TheVariants as refusal
+use Rattle.pos_program.specs.declared.file_system.FileSystem.{Ghosts}
 use Rattle.pos_program.specs.declared.profile_fault.ProfileFileFault.{ProfileFileFault}
 use Rattle.pos_program.specs.declared.profile_fault.ProfileFileFault.TheVariants as fault
 
@@ -45,13 +46,12 @@ TellsRead cause (fault.Unreadable told) = (told ≡ cause) × (error_kind cause 
 TellsRead cause other = ⊥
 
 -- what reading a file gives: what its bytes give, or why it can't be read
-abbrev pub ReadsFile : {A : Type 0} → Result (Vec ℕ A) Error → Result Contents ProfileFileFault → Type 0
-ReadsFile (Ok bytes) result = ReadsBytes bytes.items result
+abbrev pub ReadsFile : Result (List ℕ) Error → Result Contents ProfileFileFault → Type 0
+ReadsFile (Ok bytes) result = ReadsBytes bytes result
 ReadsFile (Err cause) (Ok contents) = ⊥
 ReadsFile (Err cause) (Err why) = TellsRead cause why
 
--- what reading some file gives: what the bytes give that the system answered, or what its error is told as
-abbrev pub ReadsSome : Result Contents ProfileFileFault → Type 0
-ReadsSome result =
-    ((bytes : List ℕ) × ReadsBytes bytes result)
-    ⊎ ((cause : Error) × (why : ProfileFileFault) × TellsRead cause why × (result ≡ Err why))
+-- what reading the profile in the file at a path gives: what is made of what the file system answers
+abbrev pub ReadsProfile : {S F : Type 0} → Ghosts S F → S → List ℕ → Result Contents ProfileFileFault → Type 0
+ReadsProfile system them path result =
+    (answer : Result (List ℕ) Error) × system.reads them path answer × ReadsFile answer result

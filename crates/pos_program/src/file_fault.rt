@@ -62,9 +62,6 @@ pub enum FileFault {
     /// It isn't there, or can't be read.
     #[error("can't be read: {0}")]
     Unreadable(io::Error),
-    /// No two readings of it in turn were equal.
-    #[error("changes while it is read: try again when no one writes it")]
-    Changes,
     /// It is shorter than a disk.
     #[error("is shorter than a totals file, which has 327680 bytes")]
     Short,

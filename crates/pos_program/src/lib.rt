@@ -5,6 +5,7 @@
 mod choice_fault;
 mod fault;
 mod file_fault;
+mod file_system;
 mod first_paragraph;
 mod formatting;
 mod locking;
@@ -22,9 +23,9 @@ mod words;
 pub use choice_fault::ChoiceFault;
 pub use fault::{Fault, status_of};
 pub use file_fault::FileFault;
+pub use file_system::FileSystem;
 pub use first_paragraph::FirstParagraph;
 pub use formatting::{format_disk, format_file, format_totals};
-pub use locking::LockFile;
 pub use migrating::{migrate_disk, migrate_file, migrate_totals};
 pub use mirrored_file::file_is_mirrored;
 pub use named_files::{NamedFiles, SystemFiles};
@@ -32,6 +33,8 @@ pub use one_line::OneLine;
 pub use opening::open_run;
 pub use profile_fault::ProfileFileFault;
 pub use profile_file::{profile_of_bytes, profile_of_text, read_profile};
-pub use totals_disk::{TotalsDisk, disk_over, lengthened, make_totals, mirrored, open_totals};
-pub use totals_file::{read_settled, read_totals};
+pub use totals_disk::{
+    TotalsDisk, disk_over, disk_to_read, lengthened, make_totals, mirrored, open_totals,
+};
+pub use totals_file::read_totals;
 pub use words::{Task, choice, read_words};

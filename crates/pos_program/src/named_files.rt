@@ -1,23 +1,22 @@
 //! The files that the program's words name.
-ghost use Rattle.std.specs.Prelude.{◌≤◌, ℕ, IfOk, List, Result, length, ⊤};
+ghost use Rattle.std.specs.Prelude.{◌≡◌, ◌≤◌, ℕ, IfOk, List, Result, length, ⊤};
 ghost use Rattle.pos_image.specs.Layout.{disk_size};
 ghost use Rattle.pos_profile.specs.Entries.{Contents};
 ghost use Rattle.pos_file.specs.declared.file_disk.FileDisk.{FileDisk};
 ghost use Rattle.pos_mirror.specs.Mirror.{Mirror};
-ghost use Rattle.pos_program.specs.Totals.{bytes_of};
-ghost use Rattle.pos_program.specs.TotalsDisks.{IsNewMirror};
+ghost use Rattle.pos_program.specs.ProfileFiles.{ReadsProfile};
+ghost use Rattle.pos_program.specs.TotalsDisks.{AreRead, IsNewMirror, MakesTotals, OpensTotals, ReadsTotals};
 ghost use Rattle.pos_program.specs.declared.file_fault.FileFault.{FileFault};
 ghost use Rattle.pos_program.specs.declared.profile_fault.ProfileFileFault.{ProfileFileFault};
 
 use crate::file_fault::FileFault;
+use crate::file_system::FileSystem;
 use crate::profile_fault::ProfileFileFault;
 use crate::profile_file::read_profile;
 use crate::totals_disk::{TotalsDisk, make_totals, open_totals};
 use crate::totals_file::read_totals;
-use pos_file::{BlockFile, SystemFile};
+use pos_file::BlockFile;
 use pos_profile::Profile;
-use std::fs::File;
-use std::rt::Files;
 
 /// Files that the program's words name by their paths. Contracts of functions over them say what is made of what they
 /// answer; what they answer themselves is for each such type to say.
@@ -34,8 +33,8 @@ pub trait NamedFiles {
     /// What opening the disk in a file that may not be there may answer.
     ghost makes_disk: { Self → List ℕ → Result (Mirror (FileDisk Self.File)) FileFault → Type 0 } = { λ _ _ _. ⊤ };
 
-    /// What reading the totals in a file may answer, as its bytes.
-    ghost gives_totals: { Self → List ℕ → Result (List ℕ) FileFault → Type 0 } = { λ _ _ _. ⊤ };
+    /// What opening the totals in a file that is only read may answer.
+    ghost reads_disk: { Self → List ℕ → Result (Mirror (FileDisk Self.File)) FileFault → Type 0 } = { λ _ _ _. ⊤ };
 
     /// The profile in a file.
     fn read_profile(&self, path: &str) -> Result<Profile, ProfileFileFault>
@@ -53,41 +52,54 @@ pub trait NamedFiles {
         ensures new { IfOk result (λ totals. IsNewMirror totals) }
         ensures length { IfOk result (λ totals. disk_size ≤ length totals.memory.present.reading) };
 
-    /// The bytes of the totals in a file, which is only read, as `read_totals` does.
-    fn read_totals(&self, path: &str) -> Result<Vec<u8>, FileFault>
-        ensures given { gives_totals self.now path.now (bytes_of result) }
-        ensures length { IfOk result (λ bytes. length bytes.items ≤ disk_size) };
+    /// The totals in a file that is there and is only read, mirrored in memory, as `read_totals` has them.
+    fn read_disk(&self, path: &str) -> Result<TotalsDisk<Self::File>, FileFault>
+        ensures given { reads_disk self.now path.now result }
+        ensures read { IfOk result (AreRead ⟦<Self::File as BlockFile>⟧.calls) };
 }
 
-/// The files of the system. No clause can say what they hold.
+/// The files of a file system: what they answer is made of what the file system answers.
 #[derive(Drop)]
-pub struct SystemFiles<'a, R> {
-    rt: &'a R,
+pub struct SystemFiles<'a, S> {
+    system: &'a S,
 }
 
-impl<'a, R> SystemFiles<'a, R> {
-    /// Those that a handle gives.
-    pub fn of(rt: &'a R) -> SystemFiles<'a, R> {
-        SystemFiles { rt }
+impl<'a, S> SystemFiles<'a, S> {
+    /// Those of a file system.
+    pub fn of(system: &'a S) -> SystemFiles<'a, S>
+        ensures { result.system ≡ system.entry }
+    {
+        SystemFiles { system }
     }
 }
 
-impl<R: Files<File = File> + AllocGlobal> NamedFiles for SystemFiles<'_, R> {
-    type File = SystemFile;
+impl<S: FileSystem + AllocGlobal> NamedFiles for SystemFiles<'_, S> {
+    type File = S::File;
+
+    ghost gives_profile = { λ files path result. ReadsProfile S.FileSystem files.system.now path result };
+
+    ghost gives_disk = { λ files path result.
+        OpensTotals S.FileSystem ⟦<S::File as BlockFile>⟧.calls files.system.now path result };
+
+    ghost makes_disk = { λ files path result.
+        MakesTotals S.FileSystem ⟦<S::File as BlockFile>⟧.calls files.system.now path result };
+
+    ghost reads_disk = { λ files path result.
+        ReadsTotals S.FileSystem ⟦<S::File as BlockFile>⟧.calls files.system.now path result };
 
     fn read_profile(&self, path: &str) -> Result<Profile, ProfileFileFault> {
-        read_profile(self.rt, path)
+        read_profile(self.system, path)
     }
 
-    fn open_disk(&self, path: &str) -> Result<TotalsDisk<SystemFile>, FileFault> {
-        open_totals(self.rt, path)
+    fn open_disk(&self, path: &str) -> Result<TotalsDisk<S::File>, FileFault> {
+        open_totals(self.system, path)
     }
 
-    fn make_disk(&self, path: &str) -> Result<TotalsDisk<SystemFile>, FileFault> {
-        make_totals(self.rt, path)
+    fn make_disk(&self, path: &str) -> Result<TotalsDisk<S::File>, FileFault> {
+        make_totals(self.system, path)
     }
 
-    fn read_totals(&self, path: &str) -> Result<Vec<u8>, FileFault> {
-        read_totals(self.rt, path)
+    fn read_disk(&self, path: &str) -> Result<TotalsDisk<S::File>, FileFault> {
+        read_totals(self.system, path)
     }
 }

@@ -2,14 +2,15 @@
 ghost use Rattle.std.specs.Prelude.{◌≡◌, ◌≤◌, length, None, Err};
 ghost use Rattle.toml.specs.Parse.{parse_document};
 ghost use Rattle.pos_profile.specs.Mistakes.{Explains};
-ghost use Rattle.pos_program.specs.ProfileFiles.{Reads, ReadsBytes, ReadsFile, ReadsSome, TellsRead, line_at};
+ghost use Rattle.pos_program.specs.ProfileFiles.{Reads, ReadsBytes, ReadsFile, ReadsProfile, TellsRead, line_at};
+ghost use Rattle.pos_program.specs.Answers.{bytes_of};
 
+use crate::file_system::FileSystem;
 use crate::profile_fault::ProfileFileFault;
 use pos_profile::{Profile, ProfileFault, find_mistake};
 use pos_service::NoMemory;
 use std::alloc::Global;
-use std::rt::Files;
-use std::{fs, io, str};
+use std::{io, str};
 
 // The line in which a place of a text lies, counted from 1.
 fn line_at(text: &[u8], place: usize) -> usize
@@ -86,7 +87,7 @@ pub fn profile_of_bytes(alloc: Global, bytes: &[u8]) -> Result<Profile, ProfileF
 
 // The profile that was read from a file, or why it wasn't.
 fn profile_of_read(alloc: Global, read: io::Result<Vec<u8>>) -> Result<Profile, ProfileFileFault>
-    ensures { ReadsFile read result }
+    ensures { ReadsFile (bytes_of read) result }
 {
     match read {
         Ok(bytes) => profile_of_bytes(alloc, &bytes),
@@ -95,8 +96,15 @@ fn profile_of_read(alloc: Global, read: io::Result<Vec<u8>>) -> Result<Profile, 
 }
 
 /// The profile in a file.
-pub fn read_profile<R: Files + AllocGlobal>(rt: &R, path: &str) -> Result<Profile, ProfileFileFault>
-    ensures { ReadsSome result }
+///
+/// # Errors
+///
+/// `Unreadable` if the file can't be read, and those of `profile_of_bytes`.
+pub fn read_profile<S: FileSystem + AllocGlobal>(
+    files: &S,
+    path: &str,
+) -> Result<Profile, ProfileFileFault>
+    ensures { ReadsProfile S.FileSystem files.now path.now result }
 {
-    profile_of_read(rt.alloc(), fs::read(rt, path))
+    profile_of_read(files.alloc(), files.read(path))
 }

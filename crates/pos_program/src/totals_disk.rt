@@ -1,20 +1,21 @@
 //! The disk of the totals in a file, mirrored in memory.
-ghost use Rattle.std.specs.Prelude.{◌≡◌, ◌≤◌, IfOk, false, length, true};
-ghost use Rattle.std.specs.Fs.{new_options, with_create, with_read, with_write};
+ghost use Rattle.std.specs.Prelude.{◌≡◌, ◌≤◌, IfOk, false, length};
+ghost use Rattle.pos_file.specs.Calls.{lock_call, share_call};
 ghost use Rattle.pos_image.specs.Layout.{disk_size};
 ghost use Rattle.pos_program.specs.Faults.{TellsOpen};
-ghost use Rattle.pos_program.specs.TotalsDisks.{IsLongEnough, IsNewMirror, LengthensDisk, MirrorsDisk, OpensDisk, TellsDisk};
+ghost use Rattle.pos_program.specs.TotalsDisks.{IsLongEnough, IsNewMirror, LengthensDisk, MakesLong, MakesTotals, MirrorsDisk, OpensDisk};
+ghost use Rattle.pos_program.specs.TotalsDisks.{OpensFile, OpensTotals, SyncsFolder, TellsDisk, folder_of, to_write};
 
 use crate::file_fault::FileFault;
+use crate::file_system::FileSystem;
 use crate::locking::fault_of_lock;
 use pos_disk::Disk;
-use pos_file::{BlockFile, DiskFileFault, FileDisk, SystemFile};
+use pos_file::{BlockFile, DiskFileFault, FileDisk};
 use pos_mirror::{MirrorDisk, MirrorFault};
 use std::alloc::Global;
-use std::fs::{File, OpenFile, OpenOptions};
+use std::fs::{File, OpenOptions};
 use std::io;
 use std::path::Path;
-use std::rt::Files;
 
 /// How many bytes a disk of totals has. No later byte of a file is read or written.
 const LENGTH: u64 = 327_680;
@@ -24,7 +25,7 @@ pub type TotalsDisk<F> = MirrorDisk<FileDisk<F>>;
 
 // How a file is opened: for reading and writing, and made if it isn't there and may be made.
 fn options(may_make: bool) -> OpenOptions
-    ensures { result ≡ with_create (with_write (with_read new_options true) true) may_make }
+    ensures { result ≡ to_write may_make }
 {
     let mut options = File::options();
     options.read(true).write(true).create(may_make);
@@ -42,24 +43,33 @@ fn fault_of_open(cause: io::Error) -> FileFault
 }
 
 // Opens a file, and makes it if it isn't there and may be made.
-fn open_file<R: Files<File = File>>(
-    files: &R,
-    path: &str,
-    may_make: bool,
-) -> Result<SystemFile, FileFault> {
-    match options(may_make).open(files, path) {
-        Ok(file) => Ok(SystemFile::new(file)),
+fn open_file<S: FileSystem>(files: &S, path: &str, may_make: bool) -> Result<S::File, FileFault>
+    ensures { OpensFile S.FileSystem TellsOpen files.now (to_write may_make) path.now result }
+{
+    match files.open(&options(may_make), path) {
+        Ok(file) => Ok(file),
         Err(cause) => Err(fault_of_open(cause)),
     }
 }
 
+// The folder in which the file at a path lies.
+fn folder_of(path: &str) -> &str
+    ensures { result.now ≡ folder_of path.now }
+{
+    match Path::new(path).parent() {
+        Some(folder) if !folder.as_str().is_empty() => folder.as_str(),
+        _ => ".",
+    }
+}
+
 // Makes the entry of a file in its folder stay.
-fn sync_folder<R: Files>(files: &R, path: &str) -> io::Result<()> {
-    let folder = match Path::new(path).parent() {
-        Some(folder) if !folder.as_str().is_empty() => folder,
-        _ => Path::new("."),
-    };
-    File::open(files, folder)?.sync_all()
+fn sync_folder<S: FileSystem>(files: &S, path: &str) -> Result<(), FileFault>
+    ensures { SyncsFolder S.FileSystem files.now path.now result }
+{
+    match files.sync(folder_of(path)) {
+        Ok(()) => Ok(()),
+        Err(cause) => Err(FileFault::Folder(cause)),
+    }
 }
 
 // Why a file can't serve as a disk.
@@ -75,15 +85,29 @@ fn fault_of_disk(cause: DiskFileFault) -> FileFault
     }
 }
 
-/// Returns the disk in an open file, which it locks and then measures.
+/// Returns the disk in an open file, which it locks for this program alone and then measures.
 ///
 /// # Errors
 ///
 /// `InUse` if another program has locked the file; `Lock`, `Measure` and `NoMemory`.
 pub fn disk_over<F: BlockFile + Drop>(file: F) -> Result<FileDisk<F>, FileFault>
-    ensures { OpensDisk F.calls file result }
+    ensures { OpensDisk lock_call F.calls file result }
 {
     match FileDisk::over(file) {
+        Ok(disk) => Ok(disk),
+        Err((cause, _)) => Err(fault_of_disk(cause)),
+    }
+}
+
+/// Returns the disk in an open file that is only read. It locks the file for reading and then measures it.
+///
+/// # Errors
+///
+/// `InUse` if another program has locked the file for itself; `Lock`, `Measure` and `NoMemory`.
+pub fn disk_to_read<F: BlockFile + Drop>(file: F) -> Result<FileDisk<F>, FileFault>
+    ensures { OpensDisk share_call F.calls file result }
+{
+    match FileDisk::over_shared(file) {
         Ok(disk) => Ok(disk),
         Err((cause, _)) => Err(fault_of_disk(cause)),
     }
@@ -125,11 +149,12 @@ pub fn mirrored<D: Disk + Drop>(alloc: Global, disk: D) -> Result<MirrorDisk<D>,
 /// # Errors
 ///
 /// `Open`, and those of `disk_over` and `mirrored`.
-pub fn open_totals<R: Files<File = File> + AllocGlobal>(
-    files: &R,
+pub fn open_totals<S: FileSystem + AllocGlobal>(
+    files: &S,
     path: &str,
-) -> Result<TotalsDisk<SystemFile>, FileFault>
-    ensures { IfOk result (λ totals. IsNewMirror totals) }
+) -> Result<TotalsDisk<S::File>, FileFault>
+    ensures opens { OpensTotals S.FileSystem ⟦<S::File as BlockFile>⟧.calls files.now path.now result }
+    ensures new { IfOk result (λ totals. IsNewMirror totals) }
 {
     let disk = disk_over(open_file(files, path, false)?)?;
     mirrored(files.alloc(), disk)
@@ -137,18 +162,19 @@ pub fn open_totals<R: Files<File = File> + AllocGlobal>(
 
 // Returns a disk that is long enough. A shorter one is lengthened, and before that its folder is synced, so that a
 // crash leaves no disk in a file that can't be found.
-fn long_enough<R: Files<File = File>>(
-    files: &R,
+fn long_enough<S: FileSystem>(
+    files: &S,
     path: &str,
-    disk: FileDisk<SystemFile>,
-) -> Result<FileDisk<SystemFile>, FileFault>
+    disk: FileDisk<S::File>,
+) -> Result<FileDisk<S::File>, FileFault>
     requires { disk.has_failed ≡ false }
-    ensures { IfOk result (IsLongEnough disk) }
+    ensures makes { MakesLong S.FileSystem ⟦<S::File as BlockFile>⟧.calls files.now path.now disk result }
+    ensures long { IfOk result (IsLongEnough disk) }
 {
     if disk.len() >= LENGTH {
         return Ok(disk);
     }
-    sync_folder(files, path).map_err(FileFault::Folder)?;
+    sync_folder(files, path)?;
     lengthened(disk)
 }
 
@@ -158,10 +184,11 @@ fn long_enough<R: Files<File = File>>(
 /// # Errors
 ///
 /// `Folder`, those of `open_totals`, and `Lengthen` and `Sync`.
-pub fn make_totals<R: Files<File = File> + AllocGlobal>(
-    files: &R,
+pub fn make_totals<S: FileSystem + AllocGlobal>(
+    files: &S,
     path: &str,
-) -> Result<TotalsDisk<SystemFile>, FileFault>
+) -> Result<TotalsDisk<S::File>, FileFault>
+    ensures makes { MakesTotals S.FileSystem ⟦<S::File as BlockFile>⟧.calls files.now path.now result }
     ensures new { IfOk result (λ totals. IsNewMirror totals) }
     ensures length { IfOk result (λ totals. disk_size ≤ length totals.memory.present.reading) }
 {

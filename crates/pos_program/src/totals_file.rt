@@ -1,21 +1,14 @@
-//! The bytes of a totals file, which is only read.
-ghost use Rattle.std.specs.Prelude.{◌≤◌, IfOk, length, Ok};
-ghost use Rattle.pos_image.specs.Layout.{disk_size};
+//! The totals in a file that is only read.
+ghost use Rattle.std.specs.Prelude.{◌≡◌, [], IfOk};
 ghost use Rattle.pos_program.specs.Faults.{TellsUnreadable};
+ghost use Rattle.pos_program.specs.TotalsDisks.{AreRead, OpensFile, ReadsTotals, to_read};
 
 use crate::file_fault::FileFault;
-use crate::locking::{LockFile, lock_shared};
-use std::alloc::Global;
-use std::fs::File;
+use crate::file_system::FileSystem;
+use crate::totals_disk::{TotalsDisk, disk_to_read, mirrored};
+use pos_file::BlockFile;
+use std::fs::{File, OpenOptions};
 use std::io;
-use std::os::unix::fs::FileExt;
-use std::rt::Files;
-
-/// How many bytes of a file are read: as many as a disk has.
-const LENGTH: usize = 327_680;
-
-/// How often a file is read, at most.
-const MOST_READINGS: usize = 8;
 
 // Why a file can't be read.
 fn fault_of_read(cause: io::Error) -> FileFault
@@ -27,77 +20,41 @@ fn fault_of_read(cause: io::Error) -> FileFault
     FileFault::Unreadable(cause)
 }
 
+// How a file is opened: for reading alone.
+fn options() -> OpenOptions
+    ensures { result ≡ to_read }
+{
+    let mut options = File::options();
+    options.read(true);
+    options
+}
+
 // Opens a file that is there, for reading alone.
-fn open_file<R: Files>(files: &R, path: &str) -> Result<R::File, FileFault> {
-    match File::open(files, path) {
+fn open_file<S: FileSystem>(files: &S, path: &str) -> Result<S::File, FileFault>
+    ensures opens { OpensFile S.FileSystem TellsUnreadable files.now to_read path.now result }
+    ensures new { IfOk result (λ file. ⟦<S::File as BlockFile>⟧.calls file ≡ []) }
+{
+    match files.open(&options(), path) {
         Ok(file) => Ok(file),
         Err(cause) => Err(fault_of_read(cause)),
     }
 }
 
-// Reads the first bytes of a file, up to its end: how many there are.
-fn fill<F: FileExt>(file: &F, bytes: &mut [u8]) -> Result<usize, FileFault>
-    ensures { IfOk result (λ count. count ≤ length bytes.new) }
-{
-    let mut done = 0;
-    while done < bytes.len() {
-        match file.read_at(&mut bytes[done..], done as u64) {
-            Ok(0) => return Ok(done),
-            Ok(count) => done += count,
-            Err(cause) => return Err(fault_of_read(cause)),
-        }
-    }
-    Ok(done)
-}
-
-// One reading of a file.
-fn read_once<F: FileExt>(alloc: Global, file: &F) -> Result<Vec<u8>, FileFault>
-    ensures { IfOk result (λ bytes. length bytes.items ≤ disk_size) }
-{
-    let Ok(mut bytes) = vec![in alloc; 0; LENGTH] else {
-        return Err(FileFault::NoMemory);
-    };
-    let count = fill(file, &mut bytes)?;
-    bytes.truncate(count);
-    Ok(bytes)
-}
-
-/// The first 327,680 bytes of an open file, or all where it is shorter. It is read until two readings in turn are
-/// equal: of a file that changes they are what it was at some moment during the two, but for bytes that were changed
-/// and changed back.
+/// Opens the totals in a file that is there and is only read: its first 327,680 bytes, or all if it is shorter. The
+/// file is locked for reading until the totals end, so other programs may read it too. It is synced and then read
+/// once, and nothing is written to it.
 ///
 /// # Errors
 ///
-/// `Unreadable`, `Changes` where eight readings have no two in turn that are equal, and `NoMemory`.
-pub fn read_settled<F: FileExt>(alloc: Global, file: &F) -> Result<Vec<u8>, FileFault>
-    ensures { IfOk result (λ bytes. length bytes.items ≤ disk_size) }
-{
-    let mut last = read_once(alloc, file)?;
-    for _ in 1..MOST_READINGS {
-        let next = read_once(alloc, file)?;
-        if next == last {
-            return Ok(next);
-        }
-        last = next;
-    }
-    Err(FileFault::Changes)
-}
-
-/// The bytes of the totals file at a path, as `read_settled` has them. The file is opened for reading alone, and locked
-/// for reading until it has been read.
-///
-/// # Errors
-///
-/// `InUse` if another program has locked the file for itself; then nothing was read. `Lock`, and those of
-/// `read_settled`.
-pub fn read_totals<F: FileExt + LockFile + Drop, R: Files<File = F> + AllocGlobal>(
-    files: &R,
+/// `Unreadable` if it can't be opened, `InUse` if another program has locked it for itself, and nothing was read then;
+/// and those of `disk_to_read` and `mirrored`.
+pub fn read_totals<S: FileSystem + AllocGlobal>(
+    files: &S,
     path: &str,
-) -> Result<Vec<u8>, FileFault>
-    ensures length { IfOk result (λ bytes. length bytes.items ≤ disk_size) }
-    ensures locked { IfOk result (λ _. (file : F) × F.shares file (Ok tt)) }
+) -> Result<TotalsDisk<S::File>, FileFault>
+    ensures reads { ReadsTotals S.FileSystem ⟦<S::File as BlockFile>⟧.calls files.now path.now result }
+    ensures read { IfOk result (AreRead ⟦<S::File as BlockFile>⟧.calls) }
 {
-    let file = open_file(files, path)?;
-    lock_shared(&file)?;
-    read_settled(files.alloc(), &file)
+    let disk = disk_to_read(open_file(files, path)?)?;
+    mirrored(files.alloc(), disk)
 }

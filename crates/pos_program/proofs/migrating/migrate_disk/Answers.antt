@@ -1,4 +1,4 @@
-use Rattle.pos_program.proofs.Migrated.{migrated_moves, migrated_rest, moved_counts, moved_rest}
+use Rattle.pos_program.proofs.Migrated.{migrated_moves, moved_counts, moved_rest}
 use Rattle.pos_program.proofs.migrating.migrate_disk.Goals as goal
 
 pub returns-clause-moves : goal.returns-clause-moves

@@ -1,0 +1,63 @@
+-- What reading the totals in a file asked of it.
+use Rattle.std.proofs.Common.{List, [], ap, false, length, refl, ℕ, ◌++◌, ◌∷◌, ◌≡◌}
+use Rattle.std.specs.Prelude.{Option, Some, None, Result, Ok, Err, IfOk, min}
+use Rattle.pos_file.specs.Answers.{synced_of}
+use Rattle.pos_file.specs.Calls.{Call, measure_call, read_call, share_call, sync_call}
+use Rattle.pos_file.specs.Disks.{Asks, OpensBy, file_disks}
+use Rattle.pos_file.specs.declared.fault.DiskFileFault.{DiskFileFault}
+use Rattle.pos_file.specs.declared.file_disk.FileDisk.{FileDisk}
+use Rattle.pos_image.specs.Layout.{disk_size}
+use Rattle.pos_mirror.specs.Calls.{Opens as MirrorOpens}
+use Rattle.pos_mirror.specs.Mirror.{Mirror}
+use Rattle.pos_mirror.specs.declared.fault.MirrorFault.{MirrorFault}
+use Rattle.pos_program.proofs.MirroredLemmas.{all_moved, unfailed}
+use Rattle.pos_program.specs.Answers.{Passes}
+use Rattle.pos_program.specs.TotalsDisks.{AreRead, MirrorsDisk, OpensDisk, TellsDisk, TellsMirror}
+use Rattle.pos_program.specs.declared.file_fault.FileFault.{FileFault}
+
+-- a sync that succeeded
+sync_done : (done : Option ℕ) → Ok tt ≡ synced_of done → (n : ℕ) × (done ≡ Some n)
+sync_done (Some n) is = (n, refl)
+sync_done None is = cc
+
+-- one call after another
+four_calls : (none locked synced read : List Call) (lock measure sync sync' look look' : Call) → none ≡ [] → locked ≡ none ++ lock ∷ measure ∷ []
+    → synced ≡ locked ++ sync ∷ [] → read ≡ synced ++ look ∷ [] → sync ≡ sync' → look ≡ look' → read ≡ lock ∷ measure ∷ sync' ∷ look' ∷ []
+four_calls none locked synced read lock measure sync sync' look look' begins first second third same_sync same_look =
+    rw (third, second, first, begins, same_sync, same_look) refl
+
+module _ {F : Type 0} (calls : F → List Call) (file : F) (disk : FileDisk F) where
+  -- the disk is what was answered
+  opened : (answer : Result (FileDisk F) (DiskFileFault × F)) → OpensBy share_call calls file answer
+      → Passes {E = FileFault} (λ refusal. TellsDisk refusal.0) answer (Ok disk)
+      → Asks calls file disk.file (share_call (Some 1) ∷ measure_call (Some disk.size) ∷ []) × (disk.has_failed ≡ false)
+  opened (Ok other) opens is = let same : disk ≡ other = cc in rw same opens
+  opened (Err refusal) opens is = absurd is
+
+  -- and so is the mirror
+  mirrored : (totals : Mirror (FileDisk F)) (answer : Result (Mirror (FileDisk F)) (MirrorFault × FileDisk F))
+      → MirrorOpens (file_disks calls) disk (min disk.size disk_size) answer
+      → Passes {E = FileFault} (λ refusal. TellsMirror refusal.0) answer (Ok totals)
+      → MirrorOpens (file_disks calls) disk (min disk.size disk_size) (Ok totals)
+  mirrored totals (Ok other) opens is = let same : totals ≡ other = cc in rw same opens
+  mirrored totals (Err refusal) opens is = absurd is
+
+  -- the four calls
+  pub are_read : calls file ≡ [] → OpensDisk share_call calls file (Ok disk) → (result : Result (Mirror (FileDisk F)) FileFault)
+      → MirrorsDisk (file_disks calls) disk result → IfOk result (AreRead calls)
+  are_read none opens (Err why) mirrors = tt
+  are_read none opens (Ok totals) mirrors =
+      let (asked, sound) = opened opens.0 opens.1 opens.2 in
+      let (reads, long, new) = mirrored totals mirrors.0 mirrors.1 mirrors.2 in
+      let (done, asked_sync, same, is) = unfailed _ _ disk.has_failed sound reads.synced in
+      let still = ap (λ (d : FileDisk F). d.has_failed) same in
+      let (moved, asked_read, as_it_was, all) = unfailed _ _ reads.mid.has_failed still reads.read in
+      let (n, settled) = sync_done done is in
+      let whole = all_moved (length totals.memory.present.reading) moved all in record {
+        size = disk.size;
+        synced = n;
+        asked = four_calls _ _ _ _ _ _ _ _ _ _ none asked asked_sync asked_read (ap sync_call settled)
+            (ap (read_call 0 totals.memory.present.reading) whole);
+        as_long = long;
+        new = new;
+      }

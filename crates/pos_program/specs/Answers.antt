@@ -1,0 +1,18 @@
+-- What is made of answers.
+use Rattle.std.specs.Prelude.{◌≡◌, ℕ, List, Result, Ok, Err, Vec}
+
+-- what reading bytes answered, with the bytes as a list
+abbrev pub bytes_of : {A E : Type 0} → Result (Vec ℕ A) E → Result (List ℕ) E
+bytes_of (Ok bytes) = Ok bytes.items
+bytes_of (Err cause) = Err cause
+
+-- what is answered is what was, but for a fault, which is told so
+abbrev pub Passes : {A C E : Type 0} → (C → E → Type 0) → Result A C → Result A E → Type 0
+Passes Tells (Ok value) result = result ≡ Ok value
+Passes Tells (Err cause) (Ok value) = ⊥
+Passes Tells (Err cause) (Err why) = Tells cause why
+
+-- what is answered for what was opened: this, or the fault of the opening
+abbrev pub AnswersFor : {A B E : Type 0} → (A → Result B E → Type 0) → Result A E → Result B E → Type 0
+AnswersFor Answers (Ok opened) result = Answers opened result
+AnswersFor Answers (Err why) result = result ≡ Err why
