@@ -636,6 +636,9 @@ def try_profiles():
         fault = raised(opened, text)
         told(f"a profile that is refused: {text!r}", ("ProfileError", reason, line, column),
              (type(fault).__name__, str(fault), getattr(fault, "line", 0), getattr(fault, "column", 0)))
+    fault = raised(opened, "foo = 1", WORK / "refused", create=True)
+    told("a profile that is refused creates no file", ("profile: unknown key: foo", False),
+         (str(fault), (WORK / "refused").exists()))
     path = WORK / "profile.toml"
     path.write_text(display.format(8) + drawer.format("d"))
     with opened(path) as till:

@@ -135,6 +135,7 @@ done
 
 # how many runs there are of scripts: one for each, or for each of its disks
 wanted=$(python3 "$here/scripts.py" --count)
+told "there are scripts for each language" "more than 100" "$([ "$wanted" -gt 100 ] && echo "more than 100" || echo "$wanted")"
 runs "what runs scripts, without SSE2, is built" gcc -std=c99 "${strict[@]}" -U__SSE2__ -O1 -I "$abi" -I "$abi/c" \
   -o "$work/scalar" "$here/run.c" "$abi"/c/kij_*.c "${heap[@]}"
 scripts "C" "$work/run"
@@ -166,7 +167,7 @@ runs "the documentation" env RUSTDOCFLAGS="-D warnings" cargo doc -q --offline -
 cargo test --offline --manifest-path "$crate/Cargo.toml" > "$work/said" 2>&1
 told "the crate's tests" "0 failed; 0 failed; 0 failed" \
   "$(grep -o '[0-9]* failed' "$work/said" | paste -s -d';' | sed 's/;/; /g')"
-grep -o '[0-9]* passed' "$work/said" | paste -s -d' ' | sed 's/^/the crate: /'
+told "the crate's tests ran" "0 passed 9 passed 16 passed" "$(grep -o '[0-9]* passed' "$work/said" | paste -s -d' ')"
 (cd "$here/rust" && KIJOLVAR_LIB='' cargo build -q --offline > "$work/said" 2>&1)
 told "a crate without the archive says where it looked" 1 "$(grep -c 'make it by abi/build.sh' "$work/said")"
 runs "what runs scripts in Rust" cargo build -q --offline --release --manifest-path "$here/rust/Cargo.toml"

@@ -273,20 +273,29 @@ def open(profile: Profile | None = None, totals: Path | BinaryIO | None = None, 
     """
     found = library if isinstance(library, ctypes.CDLL) else _library.find(library)
     text = _text_of(profile)
-    file, owns, where = _file_of(found, totals, create)
-    try:
-        session = Session(found, text.encode(), file)
-    except BaseException as fault:
+    with contextlib.ExitStack() as undo:
+        undo.enter_context(_explaining(text))
+        file, owns, where = _file_of(found, totals, create, text.encode())
         if owns and file is not None:
-            file.close()
-        if isinstance(fault, ProfileError):
-            raise explain(text) from None
-        raise
+            undo.enter_context(file)
+        session = Session(found, text.encode(), file)
+        undo.pop_all()
     return Till(session, file, where=where, owns_totals=owns)
 
 
-def _file_of(library: ctypes.CDLL, totals: Path | BinaryIO | None, create: bool) -> tuple[BinaryIO | None, bool, str]:
-    """The file of totals, whether the till is to close it, and where the totals are, in words."""
+@contextlib.contextmanager
+def _explaining(text: str) -> Iterator[None]:
+    """Says why a profile is refused, in the place of saying only that it is."""
+    try:
+        yield
+    except ProfileError:
+        raise explain(text) from None
+
+
+def _file_of(library: ctypes.CDLL, totals: Path | BinaryIO | None, create: bool,
+             profile: bytes) -> tuple[BinaryIO | None, bool, str]:
+    """The file of totals, whether the till is to close it, and where the totals are, in words. A file is created only
+    for a profile that isn't refused."""
     if totals is None:
         return None, False, "in memory"
     if not isinstance(totals, (str, os.PathLike)):
@@ -297,7 +306,7 @@ def _file_of(library: ctypes.CDLL, totals: Path | BinaryIO | None, create: bool)
     except FileNotFoundError:
         if not create:
             raise
-        return _files.create_totals(library, totals), True, where
+        return _files.create_totals(library, totals, profile), True, where
 
 
 def create_totals(path: Path, library: Path | ctypes.CDLL | None = None) -> BinaryIO:
