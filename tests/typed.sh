@@ -151,8 +151,8 @@ watched "$work/run" "$top/crates/pos_console/scripts/totals.transactions.profile
   < "$top/crates/pos_console/scripts/totals.transactions" > "$work/said" 2> "$work/wrong"
 told "C, watched: totals.transactions" 0 "$?"
 
-ends "misuse in C" "as they should be" "$work/misuse"
-ends "misuse in C++" "as they should be" "$work/plus_misuse"
+ends "misuse in C" "as they should be" "$work/misuse" "$work/asked"
+ends "misuse in C++" "as they should be" "$work/plus_misuse" "$work/asked"
 ends "want of memory" "whole in the end, and nothing is left" "$work/memory" "$work/remembered"
 sells "the sale in C" "$work/sale"
 sells "the sale in C++" "$work/plus_sale"
@@ -167,7 +167,7 @@ runs "the documentation" env RUSTDOCFLAGS="-D warnings" cargo doc -q --offline -
 cargo test --offline --manifest-path "$crate/Cargo.toml" > "$work/said" 2>&1
 told "the crate's tests" "0 failed; 0 failed; 0 failed" \
   "$(grep -o '[0-9]* failed' "$work/said" | paste -s -d';' | sed 's/;/; /g')"
-told "the crate's tests ran" "0 passed 9 passed 16 passed" "$(grep -o '[0-9]* passed' "$work/said" | paste -s -d' ')"
+told "the crate's tests ran" "0 passed 10 passed 17 passed" "$(grep -o '[0-9]* passed' "$work/said" | paste -s -d' ')"
 (cd "$here/rust" && KIJOLVAR_LIB='' cargo build -q --offline > "$work/said" 2>&1)
 told "a crate without the archive says where it looked" 1 "$(grep -c 'make it by abi/build.sh' "$work/said")"
 runs "what runs scripts in Rust" cargo build -q --offline --release --manifest-path "$here/rust/Cargo.toml"

@@ -61,9 +61,27 @@ def create_totals(library: ctypes.CDLL, path: Path, profile: bytes = b"") -> Bin
         totals = undo.enter_context(open(unnamed, "r+b", buffering=0))
         _lock(totals)
         totals.truncate(KIJOLVAR_DISK_LENGTH)
-        Session(library, profile, totals, is_new=True).close()
+        Session(library, profile, totals, begin="kijolvar_format_file").close()
         # Given a folder, os.link follows the first path to the file that it stands for.
         os.link(f"/proc/self/fd/{totals.fileno()}", os.path.basename(name), dst_dir_fd=folder)
         os.fsync(folder)
         undo.pop_all()
         return totals
+
+
+def move_totals(library: ctypes.CDLL, path: Path) -> None:
+    """Moves the totals in a file to layout 2."""
+    with open_totals(path) as totals:
+        Session(library, b"", totals, begin="kijolvar_migrate_file").close()
+
+
+def read_totals(path: Path) -> bytes:
+    """The bytes of a file of totals that no till has open.
+
+    Raises:
+        FileNotFoundError: The file is missing.
+        BlockingIOError: A till or another program has the file open.
+    """
+    with open(path, "rb") as totals:
+        fcntl.flock(totals, fcntl.LOCK_SH | fcntl.LOCK_NB)
+        return totals.read()
