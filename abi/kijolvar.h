@@ -180,12 +180,12 @@ uint32_t kijolvar_open_file(const uint8_t *profile, size_t profile_len, const ui
 uint32_t kijolvar_format_file(const uint8_t *profile, size_t profile_len, const uint8_t *bytes, size_t bytes_len, void
     **out);
 
-/* A new till as kijolvar_open_file makes it, over a file whose totals have layout 1: they have layout 2 from then on,
-   with the same files (docs/DISK.md, "The move to layout 2"). The till's first errands are the move; a crash at any
-   moment of them leaves the files by one layout or the other, and the file may be moved again.
+/* A new till as kijolvar_open_file makes it, over a file whose totals have layout 1: they have layout 2 from then
+   on, with the same files (docs/DISK.md, "The move to layout 2"). The till's first errands are the move; a crash at
+   any moment of them leaves the files by one layout or the other, and the file may be moved again.
 
-   Answers OK, NO_MEMORY or BAD_PROFILE; TOO_SMALL or UNFORMATTED where there are no totals; DAMAGED; or MOVED where they
-   have layout 2 already. Where it isn't OK, nothing is written, and the file stays as it is. */
+   Answers OK, NO_MEMORY or BAD_PROFILE; TOO_SMALL or UNFORMATTED where there are no totals; DAMAGED; or MOVED where
+   they have layout 2 already. Where it isn't OK, nothing is written, and the file stays as it is. */
 uint32_t kijolvar_migrate_file(const uint8_t *profile, size_t profile_len, const uint8_t *bytes, size_t bytes_len, void
     **out);
 
@@ -193,9 +193,9 @@ uint32_t kijolvar_migrate_file(const uint8_t *profile, size_t profile_len, const
    feed, and to needed how many bytes it has.
 
    Answers OK where the profile isn't refused; BAD_TEXT where it isn't text, or no TOML document: at is the place in
-   its bytes where reading it stopped; BAD_PROFILE where something in the document isn't sound, and the reason names the
-   entry; or SHORT where text has less room: a front of the reason is there. Where it is OK or NO_MEMORY, nothing is
-   written. */
+   its bytes where reading it stopped; BAD_PROFILE where something in the document isn't sound, and the reason names
+   the entry; or SHORT where text has less room: a front of the reason is there. Where it is OK or NO_MEMORY, nothing
+   is written. */
 uint32_t kijolvar_profile_mistake(const uint8_t *profile, size_t profile_len, uint64_t *at, uint8_t *text, size_t
     text_len, size_t *needed);
 

@@ -135,7 +135,8 @@ done
 
 # how many runs there are of scripts: one for each, or for each of its disks
 wanted=$(python3 "$here/scripts.py" --count)
-told "there are scripts for each language" "more than 100" "$([ "$wanted" -gt 100 ] && echo "more than 100" || echo "$wanted")"
+[ "$wanted" -gt 100 ]
+told "there are more than 100 scripts for each language" 0 "$?"
 runs "what runs scripts, without SSE2, is built" gcc -std=c99 "${strict[@]}" -U__SSE2__ -O1 -I "$abi" -I "$abi/c" \
   -o "$work/scalar" "$here/run.c" "$abi"/c/kij_*.c "${heap[@]}"
 scripts "C" "$work/run"

@@ -233,21 +233,21 @@ typedef struct kij_device {
 kij_result kij_devices(const char *profile, kij_device *devices, size_t room, size_t *count);
 
 /**
- * Returns what a file of totals holds, in the lines that `pos_console files` prints (docs/CONSOLE.md, "What a totals file
- * holds"), or which rule its bytes break. The file is only read; no till may have it open.
+ * Returns what a file of totals holds, in the lines that `pos_console files` prints (docs/CONSOLE.md, "What a totals
+ * file holds"), or which rule its bytes break. The file is only read; no till may have it open.
  *
  * @param text   room for the text, which is cut if it is longer, and ends in a 0 byte; null if room is 0
  * @param room   how many bytes there is room for
  * @param needed where it is written how many bytes the text has without the 0 byte; 0 if there is no text
  * @param place  where the place is written, in bytes from the first of the file, if the code is KIJ_DAMAGED
- * @return KIJ_DAMAGED, and text is the rule; KIJ_UNFORMATTED, KIJ_TOO_SMALL, KIJ_NO_MEMORY; KIJ_SYSTEM, with EWOULDBLOCK
- * if a till has the file
+ * @return KIJ_DAMAGED, and text is the rule; KIJ_UNFORMATTED, KIJ_TOO_SMALL, KIJ_NO_MEMORY; KIJ_SYSTEM, with
+ * EWOULDBLOCK if a till has the file
  */
 kij_result kij_files(const char *path, char *text, size_t room, size_t *needed, uint64_t *place);
 
 /**
- * Moves the totals in a file to layout 2, in place: their files stay, and may be more and longer from then on. A crash at
- * any moment leaves the files by one layout or the other, and you can move the file again.
+ * Moves the totals in a file to layout 2, in place: their files stay, and may be more and longer from then on. A crash
+ * at any moment leaves the files by one layout or the other, and you can move the file again.
  *
  * @return KIJ_MOVED, KIJ_DAMAGED, KIJ_UNFORMATTED, KIJ_TOO_SMALL, KIJ_NO_MEMORY, KIJ_WRONG_VERSION, KIJ_SYSTEM, or
  * KIJ_DISK_FAILED on failure
@@ -344,8 +344,8 @@ typedef kij_reply (*kij_listener)(const kij_event *event, void *with);
  */
 kij_result kij_next_event(kij_control *control, kij_event *event);
 
-/** Delivers the next event of any control of the till, in the order in which they were made, or writes KIJ_NO_EVENT with
- * a null control. The event says whose it is. */
+/** Delivers the next event of any control of the till, in the order in which they were made, or writes KIJ_NO_EVENT
+ * with a null control. The event says whose it is. */
 kij_result kij_next_event_of_any(kij_till *till, kij_event *event);
 
 /** Delivers the control's next event, and replies to it beforehand if it is an ErrorEvent. */

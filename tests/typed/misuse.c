@@ -263,7 +263,7 @@ static void totals_files(const char *path) {
     uint64_t place = 0;
     kij_till *till;
     kij_control *totals;
-    uint64_t handle = 0;
+    int64_t handle = 0;
     remove(path);
     gives("no file", KIJ_SYSTEM, kij_files(path, text, sizeof text, &needed, &place));
     gives("no file", KIJ_SYSTEM, kij_migrate(path));

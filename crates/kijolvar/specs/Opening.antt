@@ -42,8 +42,8 @@ pub record IsFormattedOf (bytes : List ℕ) (disk : HostedDisk) : Type 0 where
 abbrev pub file_state : List ℕ → DiskState
 file_state bytes = hosted_state (hosted (fresh bytes) (Some (no_work bytes)))
 
--- The disk that a move to layout 2 makes of a file of these bytes: it has the files that it had by layout 1, and none of
--- the slots of layout 1 was written. The file is as it was; once the errands that its host has are done, it has the
+-- The disk that a move to layout 2 makes of a file of these bytes: it has the files that it had by layout 1, and none
+-- of the slots of layout 1 was written. The file is as it was; once the errands that its host has are done, it has the
 -- bytes of the disk.
 pub record IsMovedOf (bytes : List ℕ) (disk : HostedDisk) : Type 0 where
   pub moves : MovesAny (file_state bytes) (hosted_state disk) (Ok tt)
