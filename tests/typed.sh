@@ -5,6 +5,8 @@
 # - each script of crates/pos_console/scripts gives the same answers by typed calls;
 # - want of memory at each allocation in turn, and what the layer refuses;
 # - examples/sale.* print the same;
+# - examples/TypedTill.java and examples/till.mjs, which drive the program over a pipe, print the same, if a JDK or Node is
+#   there. They are reported as skipped if not, and aren't counted among the checks unless they fail;
 # - the tests of the crate and of its documentation, and clippy;
 # - what a typed call in C costs beside one by text (bench/typed.sh).
 # valgrind looks for misuse of the heap. It installs nothing, and a missing tool is a failure that names its package.
@@ -175,6 +177,30 @@ runs "what runs scripts in Rust" cargo build -q --offline --release --manifest-p
 scripts "Rust" "$work/target/release/run"
 sells "the sale in Rust" "$work/target/release/examples/sale"
 sells "the sale in Rust, watched" watched "$work/target/release/examples/sale"
+
+# pipes LANGUAGE TOOL COMMAND ..: whether a sale over a pipe prints what it has to, twice over the same file of totals
+pipes() {
+  local name=$1 tool=$2 round said wanted
+  shift 2
+  if ! command -v "$tool" > /dev/null; then
+    echo "skipped: the sale over a pipe in $name: $tool is missing"
+    return
+  fi
+  rm -rf "$work/pipe"
+  mkdir "$work/pipe"
+  for round in 1 2; do
+    said=$("$@" "$program" "$work/pipe" 2>&1)
+    wanted=$(sed "s/SALES 450, COUNT 1$/SALES $((450 * round)), COUNT $round/" "$top/examples/pipe.stdout")
+    if [ "$said" != "$wanted" ]; then
+      told "the sale over a pipe in $name, turn $round" "$wanted" "$said"
+      return
+    fi
+  done
+  echo "the sale over a pipe in $name prints what it has to, twice"
+}
+
+pipes "Java" javac java -Xshare:auto "$top/examples/TypedTill.java"
+pipes "Node" node node "$top/examples/till.mjs"
 
 "$top/bench/typed.sh" "$work" > "$work/costs" 2>&1
 told "a typed call in C costs at most 1.15 times one by text" 0 "$?"
