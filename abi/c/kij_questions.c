@@ -8,7 +8,6 @@
 #include <stdlib.h>
 #include <string.h>
 #include <sys/file.h>
-#include <sys/stat.h>
 #include <unistd.h>
 
 static kij_result plain(int code) { return kij_internal_result(code, 0, KIJ_NO_CATEGORY); }
@@ -95,24 +94,18 @@ kij_result kij_devices(const char *profile, kij_device *devices, size_t room, si
     }
 }
 
-/* Reads a file that no till has open: 0, or errno, or KIJ_NO_MEMORY with a minus. */
+/* Reads a file that no till has open, as many bytes as totals have: 0, or errno, or KIJ_NO_MEMORY with a minus. */
 static int read_file(int file, uint8_t **bytes, size_t *size) {
-    struct stat about;
-    size_t done = 0;
-    if (flock(file, LOCK_SH | LOCK_NB) != 0 || fstat(file, &about) != 0) return errno;
-    *bytes = (uint8_t *)malloc((size_t)about.st_size + 1);
+    ssize_t found = 1;
+    if (flock(file, LOCK_SH | LOCK_NB) != 0) return errno;
+    *bytes = (uint8_t *)malloc(KIJOLVAR_DISK_LENGTH);
     if (*bytes == NULL) return -KIJ_NO_MEMORY;
-    while (done < (size_t)about.st_size) {
-        ssize_t found = pread(file, *bytes + done, (size_t)about.st_size - done, (off_t)done);
-        if (found <= 0) {
-            int why = found < 0 ? errno : EIO;
-            free(*bytes);
-            return why;
-        }
-        done += (size_t)found;
-    }
-    *size = done;
-    return 0;
+    for (*size = 0; found > 0 && *size < KIJOLVAR_DISK_LENGTH; *size += found > 0 ? (size_t)found : 0)
+        found = pread(file, *bytes + *size, KIJOLVAR_DISK_LENGTH - *size, (off_t)*size);
+    if (found >= 0) return 0;
+    int why = errno;
+    free(*bytes);
+    return why;
 }
 
 /* What the library says of the bytes of a file. */

@@ -76,7 +76,7 @@ def move_totals(library: ctypes.CDLL, path: Path) -> None:
 
 
 def read_totals(path: Path) -> bytes:
-    """The bytes of a file of totals that no till has open.
+    """The bytes of a file of totals that no till has open, as many as totals have.
 
     Raises:
         FileNotFoundError: The file is missing.
@@ -84,4 +84,4 @@ def read_totals(path: Path) -> bytes:
     """
     with open(path, "rb") as totals:
         fcntl.flock(totals, fcntl.LOCK_SH | fcntl.LOCK_NB)
-        return totals.read()
+        return totals.read(KIJOLVAR_DISK_LENGTH)

@@ -77,12 +77,12 @@ pub(crate) fn open_existing(path: &Path) -> io::Result<File> {
     Ok(file)
 }
 
-/// The bytes of a file that no till has open.
+/// The bytes of a file that no till has open, as many as totals have.
 pub(crate) fn read_file(path: &Path) -> io::Result<Vec<u8>> {
-    let mut file = File::open(path)?;
+    let file = File::open(path)?;
     file.try_lock_shared()?;
     let mut bytes = Vec::new();
-    file.read_to_end(&mut bytes)?;
+    file.take(DISK_LENGTH).read_to_end(&mut bytes)?;
     Ok(bytes)
 }
 
