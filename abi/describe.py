@@ -20,7 +20,6 @@ DISPLAY = TOP / "crates/pos_display/specs"
 PRINTER = TOP / "crates/pos_printer/specs"
 SCRIPT = TOP / "crates/pos_script/specs"
 TOTALS = TOP / "crates/pos_totals/specs"
-PROFILE = TOP / "crates/pos_profile/specs"
 DESCRIPTION = TOP / "abi/description.json"
 DOCUMENTATION = TOP / "abi/documentation.toml"
 
@@ -227,26 +226,6 @@ def categories():
                "reports_power": BOOLEANS[one(rf"category\.{variant} = (\w+)", power)]}
 
 
-def profile_keys():
-    """The keys of a profile's entries: by each category's word its numbers with their ranges, and its optional keys."""
-    words = {category["variant"]: category["word"] for category in categories()}
-    numbers, options = PROFILE / "Numbers.antt", PROFILE / "OptionalKeys.antt"
-    keys, least, most_of = (dict(re.findall(rf"{name} (\w+) = (?:codes )?\"?(\w+)\"?", equations(numbers, name)))
-                            for name in ("key_of_number", "least_of", "most_of"))
-    has = re.findall(r"has_number (\w+) (\w+) = true", equations(numbers, "has_number"))
-    option = dict(re.findall(r'key_of_option (\w+) = codes "(\w+)"', equations(options, "key_of_option")))
-    shared = re.findall(r"is_shared (\w+) = true", equations(options, "is_shared"))
-    every = dict(re.findall(r"has_option (\w+) key = (true|false)", equations(options, "has_option")))
-    found = {}
-    for variant, word in words.items():
-        own = {"true": list(option), "false": []}.get(every.get(variant), shared)
-        found[word] = {
-            "numbers": [{"key": keys[number], "least": int(least[number]), "most": int(most_of[number])}
-                        for category, number in has if category == variant],
-            "optional": [option[name] for name in own]}
-    return {"categories": found, "most_orders": most(options, "most_orders", r"= (\d+)")}
-
-
 # ---- the documentation
 
 class Entries:
@@ -420,7 +399,6 @@ def describe():
         "constants": constants,
         "replies": [],
         "events": list(describe_events(documentation)),
-        "profile": profile_keys(),
         "common": {"methods": methods[None], "properties": listed[None]},
         "categories": [],
     }

@@ -52,6 +52,14 @@ enum {
     KIJOLVAR_ORDER = 12,
     /* No device of the name has orders. */
     KIJOLVAR_NO_DEVICE = 13,
+    /* The profile isn't text, or is no TOML document. */
+    KIJOLVAR_BAD_TEXT = 14,
+    /* The file isn't formatted. */
+    KIJOLVAR_UNFORMATTED = 15,
+    /* The totals in the file are damaged. */
+    KIJOLVAR_DAMAGED = 16,
+    /* The totals in the file have layout 2 already. */
+    KIJOLVAR_MOVED = 17,
 };
 
 /* The result codes of the standard, which stand in answers. */
@@ -171,6 +179,41 @@ uint32_t kijolvar_open_file(const uint8_t *profile, size_t profile_len, const ui
    is written, and the file stays as it is. */
 uint32_t kijolvar_format_file(const uint8_t *profile, size_t profile_len, const uint8_t *bytes, size_t bytes_len, void
     **out);
+
+/* A new till as kijolvar_open_file makes it, over a file whose totals have layout 1: they have layout 2 from then
+   on, with the same files (docs/reference/totals-file.md, "The move to layout 2"). The till's first errands are the
+   move; a crash at
+   any moment of them leaves the files by one layout or the other, and the file may be moved again.
+
+   Answers OK, NO_MEMORY or BAD_PROFILE; TOO_SMALL or UNFORMATTED where there are no totals; DAMAGED; or MOVED where
+   they have layout 2 already. Where it isn't OK, nothing is written, and the file stays as it is. */
+uint32_t kijolvar_migrate_file(const uint8_t *profile, size_t profile_len, const uint8_t *bytes, size_t bytes_len, void
+    **out);
+
+/* Tells why a profile is refused: writes the reason to text, as the program pos_console gives it, without a line
+   feed, and to needed how many bytes it has.
+
+   Answers OK where the profile isn't refused; BAD_TEXT where it isn't text, or no TOML document: at is the place in
+   its bytes where reading it stopped; BAD_PROFILE where something in the document isn't sound, and the reason names
+   the entry; or SHORT where text has less room: a front of the reason is there. Where it is OK or NO_MEMORY, nothing
+   is written. */
+uint32_t kijolvar_profile_mistake(const uint8_t *profile, size_t profile_len, uint64_t *at, uint8_t *text, size_t
+    text_len, size_t *needed);
+
+/* Tells the devices of a profile, in its order: writes a line for each to text, with its name, its category, and the
+   numbers of its kind behind their keys, as r1 POSPrinter chars 8 near 2, and to needed how many bytes that is.
+
+   Answers OK; or SHORT where text has less room: a front is there; or BAD_PROFILE or NO_MEMORY, and nothing is
+   written. */
+uint32_t kijolvar_devices(const uint8_t *profile, size_t profile_len, uint8_t *text, size_t text_len, size_t *needed);
+
+/* Tells what the bytes of a totals file hold: writes to text the lines that the program's files prints
+   (docs/reference/console.md, "What a totals file holds"), and to needed how many bytes they have.
+
+   Answers OK; DAMAGED where the bytes break a rule: text says which, and at where; or SHORT where text has less
+   room for either: a front is there; or UNFORMATTED, TOO_SMALL or NO_MEMORY, and nothing is written. */
+uint32_t kijolvar_survey(const uint8_t *bytes, size_t bytes_len, uint64_t *at, uint8_t *text, size_t text_len, size_t
+    *needed);
 
 /* Carries out the lines of a text, each whole before the next, and writes to text what they print, and to
    needed how many bytes that is. What stands behind the last line feed is a line too. The till is what is written

@@ -208,8 +208,9 @@ static void report(kij_till *till) {
 
 int main(int count, char **words) {
     kij_till *till;
+    kij_mistake mistake;
     if (count != 2) return fprintf(stderr, "usage: sale FILE\n"), 2;
-    if (kij_open(PROFILE("9"), NULL, KIJ_EXISTING, &till).code == KIJ_BAD_PROFILE) printf("profile: refused\n");
+    if (kij_profile_mistake(PROFILE("9"), &mistake).code == KIJ_BAD_PROFILE) printf("profile: %s\n", mistake.reason);
     need(kij_open(PROFILE("2"), words[1], KIJ_CREATE, &till));
     sell(till);
     kij_close(till);

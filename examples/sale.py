@@ -111,8 +111,8 @@ def sell(till):
 def main():
     try:
         kijolvar.open(PROFILE.replace("rows = 2", "rows = 9"))
-    except kijolvar.ProfileError:
-        print("profile: refused")
+    except kijolvar.ProfileError as fault:
+        print("profile:", fault.reason)
     with kijolvar.open(PROFILE, totals=sys.argv[1], create=True) as till:
         sell(till)
     with kijolvar.open(PROFILE, totals=sys.argv[1]) as till:

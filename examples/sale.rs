@@ -189,8 +189,10 @@ fn report(till: &Till) -> Result<(), Error> {
 fn main() -> Result<(), Box<dyn std::error::Error>> {
     let path = std::env::args().nth(1).ok_or("usage: sale FILE")?;
     if let Err(error) = Till::open(&PROFILE.replace("rows = 2", "rows = 9"), Totals::Memory) {
-        assert!(matches!(error.cause(), Cause::BadProfile));
-        println!("profile: refused");
+        let Cause::BadProfile(mistake) = error.cause() else {
+            return Err(error.into());
+        };
+        println!("profile: {mistake}");
     }
     sell(&Till::open(PROFILE, Totals::create(&path))?)?;
     report(&Till::open(PROFILE, Totals::existing(&path))?)?;

@@ -193,6 +193,10 @@ printf 'new a CashDrawer\nnew a CashDrawer\nopen a d1\n' > first
 observe 100 first "$program"
 [ "$(tr '\n' ' ' < out)" = 'memory ok ok ' ] && [ "$(grep -o l events | wc -l)" -eq 3 ] && grep -q 'lR[^l]*al' events ||
   give_up "the preloaded library refuses no growth of the first line alone"
+printf 'lmmda' > events
+is_never_late first d || give_up "a growth before a write is taken for one after it"
+printf 'lmdmalmdRalda' > events
+[ "$(is_never_late first d | grep -c 'line [12]: .*d[mR]a')" -eq 2 ] || give_up "a growth after a write isn't seen"
 printf 'call a openDrawer\ndeliver a\nget a ScanData\nget a State\nset a DeviceEnabled true\n\n# deliver\n' > first
 [ "$(quiet_of first)" = 0101000 ] || give_up 'the lines that take no memory are chosen wrongly'
 

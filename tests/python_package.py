@@ -483,7 +483,7 @@ def try_misuse():
         again = pickle.loads(pickle.dumps(fault))
         told("a fault can be pickled", (type(fault), str(fault)), (type(again), str(again)))
         others = [kijolvar.ThreadError(1, 2), kijolvar.ProfileError("a reason", 3, 4), kijolvar.DiskError(7, "a text"),
-                  kijolvar.ExchangeError("InUse"), kijolvar.LineError("bad line")]
+                  kijolvar.ExchangeError("InUse"), kijolvar.LineError("bad line"), kijolvar.DamagedError("a rule", 9)]
         again = [pickle.loads(pickle.dumps(other)) for other in others]
         told("the other faults too", [(type(other), str(other), vars(other)) for other in others],
              [(type(other), str(other), vars(other)) for other in again])
@@ -607,21 +607,93 @@ def try_totals():
         told("and no call after it", "DiskError", name_of(lambda: totals.state))
 
 
+def try_files():
+    path = WORK / "told"
+    told("no file to tell of", ("FileNotFoundError",) * 3,
+         tuple(name_of(call, path, LIBRARY) for call in (kijolvar.files, kijolvar.check, kijolvar.migrate)))
+    with opened(totals=path, create=True) as till:
+        totals = till.totals("t1")
+        for name, content in ((b"A", b"\x01\xff"), (b" b\x7f", b""), (b"C", bytes(range(256)))):
+            totals.create(name, len(content))
+            totals[name].write(0, content)
+        held = {name: totals[name].read() for name in totals}
+        told("a file that a till has", ("BlockingIOError",) * 3,
+             tuple(name_of(call, path, LIBRARY) for call in (kijolvar.files, kijolvar.check, kijolvar.migrate)))
+    found = kijolvar.files(path, LIBRARY)
+    told("what a file holds", (1, held), (found.layout, found.files))
+    text = subprocess.run([PROGRAM, "files", "--disk", path], capture_output=True, text=True, check=True).stdout
+    numbers = [line.split(" ")[1] for line in text.splitlines()[:5]]
+    told("as the program says", numbers, [str(number) for number in (found.layout, found.slot, found.sequence,
+                                                                     found.records, found.room)])
+    told("it is sound", None, kijolvar.check(path, LIBRARY))
+    before = path.read_bytes()
+    with tempfile.NamedTemporaryFile(dir=WORK) as copy:
+        copy.write(before)
+        copy.flush()
+        subprocess.run([PROGRAM, "migrate", "--disk", copy.name], check=True)
+        kijolvar.migrate(path, LIBRARY)
+        told("moved as the program moves it", True, pathlib.Path(copy.name).read_bytes() == path.read_bytes())
+    found = kijolvar.files(path, LIBRARY)
+    told("the files stay", (2, 1, held), (found.layout, found.sequence, found.files))
+    told("the slots of layout 1 stay", True, path.read_bytes()[:131072] == before[:131072])
+    told("moved already", "MovedError", name_of(kijolvar.migrate, path, LIBRARY))
+    with opened(totals=path) as till:
+        totals = till.totals("t1")
+        told("a till finds them", held, {name: totals[name].read() for name in totals})
+    disk = bytearray(path.read_bytes())
+    disk[found.slot + 9:found.slot + 17] = b"\xff" * 8
+    path.write_bytes(disk)
+    fault = raised(kijolvar.check, path, LIBRARY)
+    reason = "the length of the current body is above the longest"
+    told("damage", ("DamagedError", reason, found.slot + 9), (type(fault).__name__, fault.reason, fault.place))
+    told("what it says", f"the totals are damaged at byte {fault.place}: {reason}: keep the file, and work on a copy of it",
+         str(fault))
+    done = subprocess.run([PROGRAM, "files", "--disk", path], capture_output=True, text=True)
+    told("as the program says", True, f"its totals are damaged at byte {fault.place}: {fault.reason}" in done.stderr)
+    told("a damaged one isn't moved", "DamagedError", name_of(kijolvar.migrate, path, LIBRARY))
+    told("and stays", bytes(disk), path.read_bytes())
+    for name, content, wanted in (("short", bytes(100), "TooSmallError"),
+                                  ("zeros", bytes(KIJOLVAR_DISK_LENGTH), "UnformattedError")):
+        path.write_bytes(content)
+        told(f"a file that is {name}", (wanted,) * 3,
+             tuple(name_of(call, path, LIBRARY) for call in (kijolvar.files, kijolvar.check, kijolvar.migrate)))
+        told(f"a file that is {name} stays", content, path.read_bytes())
+
+
+def try_any_event():
+    with opened() as till:
+        told("no control has an event", None, till.next_event())
+        one, two = till.drawer("d1"), till.drawer("d1")
+        till.device("d1").drawer(is_open=True)
+        told("the next event of any control", [kijolvar.StatusUpdateEvent(one, 1), kijolvar.StatusUpdateEvent(two, 1),
+                                               None], [till.next_event() for _ in range(3)])
+        two.close()
+        till.device("d1").drawer(is_open=False)
+        told("a closed control has none", [kijolvar.StatusUpdateEvent(one, 0), None],
+             [till.next_event() for _ in range(2)])
+
+
 # ---- profiles, the library, help
+
+def said_of(text):
+    """What the program says of a profile, behind the path."""
+    path = WORK / "said.toml"
+    path.write_text(text)
+    done = subprocess.run([PROGRAM, "run", "--profile", path, "--disk", WORK / "totals"], input="", capture_output=True,
+                          text=True)
+    return done.stderr.strip().removeprefix(f"pos_console: {path}: ")
 
 def try_profiles():
     display = '[[device]]\nname = "p"\ncategory = "LineDisplay"\nrows = {}\ncolumns = 20\n'
     drawer = '[[device]]\nname = "{}"\ncategory = "CashDrawer"\n'
     refused = {
-        "x = ": ("line 1, column 5: no TOML document: invalid value", 1, 5),
-        "[[device]]\nname = 'p": ("line 2, column 10: no TOML document: expected \"'\"", 2, 10),
-        "foo = 1": ("profile: unknown key: foo", None, None),
-        "device = 1": ("profile: device must be an array of tables", None, None),
+        "foo = 1": ("unknown key: foo", None, None),
+        "device = 1": ("device must be an array of tables", None, None),
         "device = [1]": ("device 1: must be a table", None, None),
         display.format(9): ("device 1: rows must be 1 to 8", None, None),
         display.format(2) + "lines = 5": ("device 1: unknown key: lines", None, None),
         drawer.format("a_b"): ("device 1: name must be 1 to 16 letters, digits or hyphens", None, None),
-        drawer.format("d") * 2: ("device 2: another device has the name d", None, None),
+        drawer.format("d") * 2: ("two devices have the name d", None, None),
         '[[spare]]\ncategory = "HardTotals"': (
             "spare 1: category must be CashDrawer, Scanner, LineDisplay or POSPrinter", None, None),
         '[[device]]\nname = "d"': (
@@ -636,8 +708,29 @@ def try_profiles():
         fault = raised(opened, text)
         told(f"a profile that is refused: {text!r}", ("ProfileError", reason, line, column),
              (type(fault).__name__, str(fault), getattr(fault, "line", 0), getattr(fault, "column", 0)))
+        told(f"what the program says of it: {text!r}", reason, said_of(text))
+        told(f"its devices: {text!r}", str(fault), str(raised(kijolvar.devices, text, LIBRARY)))
+    for text, line, column in (("x = ", 1, 5), ("a = 1\nä = = 2", 2, 1), ("[[device]]\nname = 'p", 2, 10)):
+        fault = raised(opened, text)
+        told(f"a text that is no TOML: {text!r}", ("ProfileError", line), (type(fault).__name__, fault.line))
+        told(f"where: {text!r}", column, fault.column)
+        told(f"what the program says of it: {text!r}", f"line {line}: {fault.reason}", said_of(text))
+    fault = raised(opened, "foo = 1", WORK / "refused", create=True)
+    told("a profile that is refused creates no file", ("unknown key: foo", False),
+         (str(fault), (WORK / "refused").exists()))
     path = WORK / "profile.toml"
     path.write_text(display.format(8) + drawer.format("d"))
+    told("its devices", [kijolvar.ProfileDevice("p", "LineDisplay", 8, 20), kijolvar.ProfileDevice("d", "CashDrawer")],
+         kijolvar.devices(path, LIBRARY))
+    told("the built one's", [("d1", "CashDrawer"), ("s1", "Scanner"), ("p1", "LineDisplay"), ("r1", "POSPrinter"),
+                             ("t1", "HardTotals")],
+         [(device.name, device.category) for device in kijolvar.devices(library=LIBRARY)])
+    told("a printer's numbers", (8, 2, None), [(device.chars, device.near, device.rows) for device in
+                                               kijolvar.devices(library=LIBRARY)][3])
+    many = "".join(drawer.format(f"d{number}") for number in range(1000))
+    told("many devices", [f"d{number}" for number in range(1000)],
+         [device.name for device in kijolvar.devices(many, LIBRARY)])
+    told("none", [], kijolvar.devices("", LIBRARY))
     with opened(path) as till:
         told("a profile in a file", 8, till.display("p").rows)
     with opened("") as till:
@@ -686,7 +779,8 @@ def try_help():
            if kind.__module__.startswith("kijolvar") and not issubclass(kind, (int, Exception))]
     told("each method and property says what it does", [],
          [f"{kind.__name__}.{name}" for kind in own for name, member in members(kind) if not inspect.getdoc(member)])
-    functions = [kijolvar.open, kijolvar.load, kijolvar.create_totals, kijolvar.open_totals]
+    functions = [kijolvar.open, kijolvar.load, kijolvar.create_totals, kijolvar.open_totals, kijolvar.devices,
+                 kijolvar.files, kijolvar.check, kijolvar.migrate]
     told("each function too", [], [call.__name__ for call in functions if not call.__doc__])
     missing = []
     for part in PARTS[1:]:
@@ -741,7 +835,8 @@ def try_devices():
 def main():
     try:
         for try_it in (try_scripts, try_threads, try_closed, try_replies, try_events, try_listeners, try_claims,
-                       try_misuse, try_many_controls, try_totals, try_profiles, try_library, try_help, try_devices):
+                       try_misuse, try_many_controls, try_totals, try_files, try_any_event, try_profiles, try_library,
+                       try_help, try_devices):
             try_it()
     finally:
         shutil.rmtree(WORK)

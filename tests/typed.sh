@@ -5,6 +5,8 @@
 # - each script of crates/pos_console/scripts gives the same answers by typed calls;
 # - want of memory at each allocation in turn, and what the layer refuses;
 # - examples/sale.* print the same;
+# - examples/TypedTill.java and examples/till.mjs, which drive the program over a pipe, print the same, if a JDK or Node is
+#   there. They are reported as skipped if not, and aren't counted among the checks unless they fail;
 # - the tests of the crate and of its documentation, and clippy;
 # - what a typed call in C costs beside one by text (bench/typed.sh).
 # valgrind looks for misuse of the heap. It installs nothing, and a missing tool is a failure that names its package.
@@ -135,6 +137,8 @@ done
 
 # how many runs there are of scripts: one for each, or for each of its disks
 wanted=$(python3 "$here/scripts.py" --count)
+[ "$wanted" -gt 100 ]
+told "there are more than 100 scripts for each language" 0 "$?"
 runs "what runs scripts, without SSE2, is built" gcc -std=c99 "${strict[@]}" -U__SSE2__ -O1 -I "$abi" -I "$abi/c" \
   -o "$work/scalar" "$here/run.c" "$abi"/c/kij_*.c "${heap[@]}"
 scripts "C" "$work/run"
@@ -150,8 +154,8 @@ watched "$work/run" "$top/crates/pos_console/scripts/totals.transactions.profile
   < "$top/crates/pos_console/scripts/totals.transactions" > "$work/said" 2> "$work/wrong"
 told "C, watched: totals.transactions" 0 "$?"
 
-ends "misuse in C" "as they should be" "$work/misuse"
-ends "misuse in C++" "as they should be" "$work/plus_misuse"
+ends "misuse in C" "as they should be" "$work/misuse" "$work/asked"
+ends "misuse in C++" "as they should be" "$work/plus_misuse" "$work/asked"
 ends "want of memory" "whole in the end, and nothing is left" "$work/memory" "$work/remembered"
 sells "the sale in C" "$work/sale"
 sells "the sale in C++" "$work/plus_sale"
@@ -166,13 +170,37 @@ runs "the documentation" env RUSTDOCFLAGS="-D warnings" cargo doc -q --offline -
 cargo test --offline --manifest-path "$crate/Cargo.toml" > "$work/said" 2>&1
 told "the crate's tests" "0 failed; 0 failed; 0 failed" \
   "$(grep -o '[0-9]* failed' "$work/said" | paste -s -d';' | sed 's/;/; /g')"
-grep -o '[0-9]* passed' "$work/said" | paste -s -d' ' | sed 's/^/the crate: /'
+told "the crate's tests ran" "0 passed 10 passed 17 passed" "$(grep -o '[0-9]* passed' "$work/said" | paste -s -d' ')"
 (cd "$here/rust" && KIJOLVAR_LIB='' cargo build -q --offline > "$work/said" 2>&1)
 told "a crate without the archive says where it looked" 1 "$(grep -c 'make it by abi/build.sh' "$work/said")"
 runs "what runs scripts in Rust" cargo build -q --offline --release --manifest-path "$here/rust/Cargo.toml"
 scripts "Rust" "$work/target/release/run"
 sells "the sale in Rust" "$work/target/release/examples/sale"
 sells "the sale in Rust, watched" watched "$work/target/release/examples/sale"
+
+# pipes LANGUAGE TOOL COMMAND ..: whether a sale over a pipe prints what it has to, twice over the same file of totals
+pipes() {
+  local name=$1 tool=$2 round said wanted
+  shift 2
+  if ! command -v "$tool" > /dev/null; then
+    echo "skipped: the sale over a pipe in $name: $tool is missing"
+    return
+  fi
+  rm -rf "$work/pipe"
+  mkdir "$work/pipe"
+  for round in 1 2; do
+    said=$("$@" "$program" "$work/pipe" 2>&1)
+    wanted=$(sed "s/SALES 450, COUNT 1$/SALES $((450 * round)), COUNT $round/" "$top/examples/pipe.stdout")
+    if [ "$said" != "$wanted" ]; then
+      told "the sale over a pipe in $name, turn $round" "$wanted" "$said"
+      return
+    fi
+  done
+  echo "the sale over a pipe in $name prints what it has to, twice"
+}
+
+pipes "Java" javac java -Xshare:auto "$top/examples/TypedTill.java"
+pipes "Node" node node "$top/examples/till.mjs"
 
 "$top/bench/typed.sh" "$work" > "$work/costs" 2>&1
 told "a typed call in C costs at most 1.15 times one by text" 0 "$?"

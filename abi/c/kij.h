@@ -92,6 +92,13 @@ enum kij_code {
     KIJ_TOO_SMALL = 9,
     /** The profile has no device of the name that has orders. */
     KIJ_NO_DEVICE = 13,
+    /** The file isn't formatted: it has no totals. */
+    KIJ_UNFORMATTED = 15,
+    /** The bytes of the file break a rule of totals (docs/reference/totals-file.md): kij_files says which. Nothing was
+       written. */
+    KIJ_DAMAGED = 16,
+    /** The totals in the file have layout 2 already. Nothing was written. */
+    KIJ_MOVED = 17,
     /** The header, the typed layer and the library aren't of the same version. */
     KIJ_WRONG_VERSION = 32,
     /** The system refused a call on the file of the totals. The extended code is errno: ENOENT if the file is missing,
@@ -184,6 +191,71 @@ void kij_close(kij_till *till);
  */
 kij_result kij_carry_out(kij_till *till, const char *lines, size_t size, const char **answer);
 
+/* ---- Profiles and files of totals, without a till ---- */
+
+/** What is wrong with a profile. */
+typedef struct kij_mistake {
+    /** Where the text stops being TOML, counted from 1; 0 if it is TOML. A column counts characters. */
+    size_t line;
+    size_t column;
+    /** What is wrong, in English. The entry is named if it is in one. A longer reason is cut. */
+    char reason[256];
+} kij_mistake;
+
+/**
+ * Returns why a profile is refused.
+ *
+ * @param profile the profile's text, as kij_open takes it
+ * @param mistake where it is written what is wrong; all 0 if nothing is
+ * @return KIJ_BAD_PROFILE, and mistake says why; KIJ_OK if the profile isn't refused; KIJ_NO_MEMORY
+ */
+kij_result kij_profile_mistake(const char *profile, kij_mistake *mistake);
+
+/** A device of a profile. Numbers that its category doesn't have are 0. */
+typedef struct kij_device {
+    char name[17];
+    kij_category category;
+    /** The size of a line display. */
+    int rows;
+    int columns;
+    /** The characters of a printer's line, and how many lines of paper are left where its paper is near its end. */
+    int chars;
+    int near_end;
+} kij_device;
+
+/**
+ * Lists the devices of a profile, in its order.
+ *
+ * @param profile the profile's text, as kij_open takes it
+ * @param devices room for them; null if room is 0
+ * @param room    how many there is room for; further ones aren't written
+ * @param count   where it is written how many the profile has
+ * @return KIJ_BAD_PROFILE or KIJ_NO_MEMORY on failure
+ */
+kij_result kij_devices(const char *profile, kij_device *devices, size_t room, size_t *count);
+
+/**
+ * Returns what a file of totals holds, in the lines that `pos_console files` prints (docs/reference/console.md, "What a
+ * totals file holds"), or which rule its bytes break. The file is only read; no till may have it open.
+ *
+ * @param text   room for the text, which is cut if it is longer, and ends in a 0 byte; null if room is 0
+ * @param room   how many bytes there is room for
+ * @param needed where it is written how many bytes the text has without the 0 byte; 0 if there is no text
+ * @param place  where the place is written, in bytes from the first of the file, if the code is KIJ_DAMAGED
+ * @return KIJ_DAMAGED, and text is the rule; KIJ_UNFORMATTED, KIJ_TOO_SMALL, KIJ_NO_MEMORY; KIJ_SYSTEM, with
+ * EWOULDBLOCK if a till has the file
+ */
+kij_result kij_files(const char *path, char *text, size_t room, size_t *needed, uint64_t *place);
+
+/**
+ * Moves the totals in a file to layout 2, in place: their files stay, and may be more and longer from then on. A crash
+ * at any moment leaves the files by one layout or the other, and you can move the file again.
+ *
+ * @return KIJ_MOVED, KIJ_DAMAGED, KIJ_UNFORMATTED, KIJ_TOO_SMALL, KIJ_NO_MEMORY, KIJ_WRONG_VERSION, KIJ_SYSTEM, or
+ * KIJ_DISK_FAILED on failure
+ */
+kij_result kij_migrate(const char *path);
+
 /* ---- Controls ---- */
 
 /** Whether kij_start claims the device. */
@@ -273,6 +345,10 @@ typedef kij_reply (*kij_listener)(const kij_event *event, void *with);
  * DataEventEnabled is false.
  */
 kij_result kij_next_event(kij_control *control, kij_event *event);
+
+/** Delivers the next event of any control of the till, in the order in which they were made, or writes KIJ_NO_EVENT
+ * with a null control. The event says whose it is. */
+kij_result kij_next_event_of_any(kij_till *till, kij_event *event);
 
 /** Delivers the control's next event, and replies to it beforehand if it is an ErrorEvent. */
 kij_result kij_next_event_replied(kij_control *control, kij_reply reply, kij_event *event);

@@ -75,6 +75,18 @@ static inline kij_result deliver(kij_control *control, const kij_word *reply, ki
 
 kij_result kij_next_event(kij_control *control, kij_event *event) { return deliver(control, NULL, event); }
 
+kij_result kij_next_event_of_any(kij_till *till, kij_event *event) {
+    kij_result result = kij_internal_result(KIJ_OK, 0, KIJ_NO_CATEGORY);
+    if (till == NULL || event == NULL) return kij_internal_result(KIJ_BAD_ARGUMENT, 0, KIJ_NO_CATEGORY);
+    for (kij_control *control = till->first; control != NULL; control = control->next) {
+        if (control->is_free) continue;
+        result = deliver(control, NULL, event);
+        if (result.code != KIJ_OK || event->kind != KIJ_NO_EVENT) return result;
+    }
+    clear(event, NULL);
+    return result;
+}
+
 kij_result kij_next_event_replied(kij_control *control, kij_reply reply, kij_event *event) {
     return deliver(control, word_of(reply), event);
 }

@@ -151,16 +151,23 @@ int kij_internal_settled(kij_till *till, uint32_t code, size_t *needed);
 /* Adds arguments to the line, which goes to `*at`: a code. Four that aren't bytes have room behind the words. */
 int kij_internal_add_arguments(kij_till *till, char **at, const kij_argument *arguments, size_t count);
 
-/* Carries out lines: a code of enum kij_code, and the answer is in the till. */
-static inline int kij_internal_carry_out(kij_till *till, const char *lines, size_t size) {
+/* Carries out lines: a code of enum kij_code, and the answer is in the till, without its last line feed where `is_one`
+   and the code is KIJ_OK. */
+static inline int kij_internal_carry(kij_till *till, const char *lines, size_t size, bool is_one) {
     size_t needed = 0;
     int found = KIJ_OK;
     uint32_t code = kijolvar_carry_out(till->inner, &till->inner.at, (const uint8_t *)lines, size,
                                        (uint8_t *)till->text, till->text_room - 1, &needed);
     if (code != KIJOLVAR_OK) found = kij_internal_settled(till, code, &needed);
+    if (is_one && found == KIJ_OK && needed > 0) needed--;
     till->text_size = needed;
     till->text[needed] = 0;
     return found;
+}
+
+/* Carries out lines: a code of enum kij_code, and the answer is in the till. */
+static inline int kij_internal_carry_out(kij_till *till, const char *lines, size_t size) {
+    return kij_internal_carry(till, lines, size, false);
 }
 
 static inline char *kij_internal_put(char *at, const kij_word *word) {
@@ -178,9 +185,7 @@ static inline int kij_internal_run(kij_till *till, kij_verb verb, const kij_word
         int code = kij_internal_add_arguments(till, &at, arguments, count);
         if (code != KIJ_OK) return code;
     }
-    int code = kij_internal_carry_out(till, till->line, (size_t)(at - till->line));
-    if (code == KIJ_OK && till->text_size > 0) till->text[--till->text_size] = 0;
-    return code;
+    return kij_internal_carry(till, till->line, (size_t)(at - till->line), true);
 }
 
 /* What the answer in the till says: what is behind `ok` is written to value. */
@@ -216,6 +221,12 @@ int kij_internal_open_file(const char *path, int flags, const char *profile, int
 
 /* Opens the library's till, over the file if there is one: a code of enum kij_code. */
 int kij_internal_open_till(kij_till *till, const char *profile);
+
+/* Moves the totals in a file to layout 2: 0, or errno, or a code of enum kij_code with a minus. */
+int kij_internal_move_file(const char *path);
+
+/* What the library's code means to who opens a file or a till. */
+int kij_internal_code_of(uint32_t code);
 
 /* Does in the file what the till's disk did: KIJOLVAR_OK once all of it is there. */
 uint32_t kij_internal_settle(kij_till *till);

@@ -25,13 +25,16 @@ uint32_t kij_internal_settle(kij_till *till) {
     }
 }
 
+/* A call of the library that makes a till over a file's bytes. */
+typedef uint32_t (*begins)(const uint8_t *profile, size_t size, const uint8_t *bytes, size_t length, void **till);
+
 /* Opens the till over the file's bytes. */
-static uint32_t open_over_file(kij_till *till, const uint8_t *profile, size_t size) {
+static uint32_t open_over_file(kij_till *till, const uint8_t *profile, size_t size, begins begin) {
     till->errand = (uint8_t *)malloc(KIJOLVAR_DISK_LENGTH);
     if (till->errand == NULL) return KIJOLVAR_NO_MEMORY;
     ssize_t found = pread(till->file, till->errand, KIJOLVAR_DISK_LENGTH, 0);
     if (found < 0) return KIJOLVAR_DISK_FAILED;
-    uint32_t code = kijolvar_open_file(profile, size, till->errand, (size_t)found, &till->inner.at);
+    uint32_t code = begin(profile, size, till->errand, (size_t)found, &till->inner.at);
     if (code == KIJOLVAR_OK && (code = kij_internal_settle(till)) != KIJOLVAR_OK) {
         kijolvar_close(till->inner);
         till->inner.at = NULL;
@@ -40,12 +43,15 @@ static uint32_t open_over_file(kij_till *till, const uint8_t *profile, size_t si
 }
 
 /* What the library's code means to who opens a till. */
-static int code_of(uint32_t code) {
+int kij_internal_code_of(uint32_t code) {
     switch (code) {
     case KIJOLVAR_OK: return KIJ_OK;
     case KIJOLVAR_NO_MEMORY: return KIJ_NO_MEMORY;
     case KIJOLVAR_BAD_PROFILE: return KIJ_BAD_PROFILE;
     case KIJOLVAR_TOO_SMALL: return KIJ_TOO_SMALL;
+    case KIJOLVAR_UNFORMATTED: return KIJ_UNFORMATTED;
+    case KIJOLVAR_DAMAGED: return KIJ_DAMAGED;
+    case KIJOLVAR_MOVED: return KIJ_MOVED;
     default: return KIJ_DISK_FAILED;
     }
 }
@@ -53,7 +59,9 @@ static int code_of(uint32_t code) {
 int kij_internal_open_till(kij_till *till, const char *profile) {
     const uint8_t *text = (const uint8_t *)profile;
     size_t size = profile == NULL ? 0 : strlen(profile);
-    return code_of(till->file < 0 ? kijolvar_open(text, size, &till->inner.at) : open_over_file(till, text, size));
+    uint32_t code = till->file < 0 ? kijolvar_open(text, size, &till->inner.at)
+                                   : open_over_file(till, text, size, kijolvar_open_file);
+    return kij_internal_code_of(code);
 }
 
 /* Closes a file after an error, which it returns. */
@@ -104,7 +112,7 @@ static int format(int file, const char *profile) {
     if (till.errand == NULL) return -KIJ_NO_MEMORY;
     uint32_t code = kijolvar_format_file((const uint8_t *)profile, profile == NULL ? 0 : strlen(profile), till.errand,
                                          KIJOLVAR_DISK_LENGTH, &till.inner.at);
-    int why = code == KIJOLVAR_OK ? 0 : -code_of(code);
+    int why = code == KIJOLVAR_OK ? 0 : -kij_internal_code_of(code);
     if (code == KIJOLVAR_OK) {
         if (ftruncate(file, KIJOLVAR_DISK_LENGTH) != 0) why = errno;
         else if (kij_internal_settle(&till) != KIJOLVAR_OK) why = EIO;
@@ -145,4 +153,16 @@ int kij_internal_open_file(const char *path, int flags, const char *profile, int
     /* Another till created it in between. */
     if (why == EEXIST && flags == KIJ_CREATE) why = open_existing(path, file);
     return why;
+}
+
+int kij_internal_move_file(const char *path) {
+    kij_till till;
+    memset(&till, 0, sizeof till);
+    int why = open_existing(path, &till.file);
+    if (why != 0) return why;
+    uint32_t code = open_over_file(&till, NULL, 0, kijolvar_migrate_file);
+    if (code == KIJOLVAR_OK) kijolvar_close(till.inner);
+    free(till.errand);
+    close(till.file);
+    return -kij_internal_code_of(code);
 }

@@ -1,7 +1,8 @@
 /* Refuses each allocation in turn, over a small day with totals in memory and one with totals in a file, and a drawer of the
    host's. Each answer is a code or a line of docs/reference/console.md, the drawer's order comes if it was opened, and
    nothing is left.
-   The file opens again: it has what was acknowledged, and nothing of what was refused. */
+   The file opens again: it has what was acknowledged, and nothing of what was refused. The same of what is said without a
+   till, and of the move to layout 2: the file is as it was, or is moved. */
 #include "kijolvar.h"
 #include <stdbool.h>
 #include <stdio.h>
@@ -159,8 +160,83 @@ static long whole(bool in_file) {
     return count;
 }
 
+/* What is asked without a till. */
+struct question {
+    bool is_survey, is_list;
+    const char *given;
+    uint32_t code;
+    uint64_t at;
+    const char *told;
+};
+
+static const struct question questions[] = {
+    {false, false, "", KIJOLVAR_OK, 77, NULL},
+    {false, false, "spare = []", KIJOLVAR_OK, 77, NULL},
+    {false, false, "a = 1\n\xff", KIJOLVAR_BAD_TEXT, 6, "not UTF-8"},
+    {false, false, "a =", KIJOLVAR_BAD_TEXT, 3, "not TOML: "},
+    {false, false, "a = 1", KIJOLVAR_BAD_PROFILE, 77, "unknown key: a"},
+    {false, false, "[[spare]]\ncategory = \"POSPrinter\"\nchars = 0\nlines = 1\nnear = 1\n", KIJOLVAR_BAD_PROFILE, 77,
+     "spare 1: chars must be 1 to 255"},
+    {false, true, "", KIJOLVAR_OK, 77,
+     "d1 CashDrawer\ns1 Scanner\np1 LineDisplay rows 2 columns 4\nr1 POSPrinter chars 8 near 2\nt1 HardTotals\n"},
+    {false, true, "a = 1", KIJOLVAR_BAD_PROFILE, 77, NULL},
+    {true, false, NULL, KIJOLVAR_OK, 77, "layout 1\n"},
+};
+
+/* The code of a question; exits where its answer is amiss. */
+static uint32_t ask(const struct question *asked) {
+    uint8_t text[512];
+    size_t needed = 77, size = asked->given != NULL ? strlen(asked->given) : 0;
+    const uint8_t *given = (const uint8_t *)asked->given;
+    uint64_t at = 77;
+    uint32_t code = asked->is_survey ? kijolvar_survey(file, sizeof file, &at, text, sizeof text, &needed)
+                    : asked->is_list ? kijolvar_devices(given, size, text, sizeof text, &needed)
+                                     : kijolvar_profile_mistake(given, size, &at, text, sizeof text, &needed);
+    if (live != 0) exit(printf("%ld allocations are left\n", live));
+    if (code == KIJOLVAR_NO_MEMORY && at == 77 && needed == 77) return code;
+    if (code != asked->code || at != asked->at) exit(printf("code %u and place %lu\n", code, (unsigned long)at));
+    if (asked->told == NULL ? needed != 77 : memcmp(text, asked->told, strlen(asked->told)) != 0)
+        exit(printf("another text: %.*s\n", (int)needed, (const char *)text));
+    return code;
+}
+
+/* Asks with ever more allocations: how many it takes. */
+static long asks(const struct question *asked) {
+    long count = 0;
+    for (may_come = count; ask(asked) == KIJOLVAR_NO_MEMORY; may_come = ++count)
+        if (count == 10000) exit(printf("never answered\n"));
+    return count;
+}
+
+/* Moves the file with so many allocations: whether it is moved. Until it is, it is as it was. */
+static bool moves(long count) {
+    static uint8_t before[KIJOLVAR_DISK_LENGTH];
+    static const struct question moved = {true, false, NULL, KIJOLVAR_OK, 77, "layout 2\n"};
+    kijolvar_till till = {NULL};
+    memcpy(before, file, sizeof file);
+    may_come = count;
+    uint32_t code = kijolvar_migrate_file(NULL, 0, file, sizeof file, &till.at);
+    if (memcmp(before, file, sizeof file) != 0) exit(printf("the file is written\n"));
+    if (code == KIJOLVAR_OK) {
+        code = settle(&till);
+        kijolvar_close(till);
+        may_come = 1000000;
+        if (code != KIJOLVAR_OK || ask(&moved) != KIJOLVAR_OK) exit(printf("the file isn't moved\n"));
+        code = kijolvar_migrate_file(NULL, 0, file, sizeof file, &till.at);
+        if (code != KIJOLVAR_MOVED) exit(printf("code %u, moved again\n", code));
+    } else if (code != KIJOLVAR_NO_MEMORY || till.at != NULL) exit(printf("code %u\n", code));
+    if (live != 0) exit(printf("%ld allocations are left\n", live));
+    return code != KIJOLVAR_NO_MEMORY;
+}
+
 int main(void) {
+    long count = 0;
     printf("%ld and %ld allocations\n", whole(false), whole(true));
+    for (size_t place = 0; place < sizeof questions / sizeof questions[0]; place++)
+        printf("%ld%s", asks(&questions[place]), place + 1 < sizeof questions / sizeof questions[0] ? ", " : " without a till\n");
+    while (!moves(count))
+        if (++count == 10000) exit(printf("never moved\n"));
+    printf("%ld for the move\n", count);
     for (int place = 0; place < 3; place++)
         if (found[place] == 0) exit(printf("the file never had this: %d\n", place));
     printf("whole in the end, and nothing is left\n");

@@ -24,9 +24,9 @@ DEFAULTS = {
     ("cutPaper", "percentage"): "PTR_CP_FULLCUT",
 }
 # The classes of kijolvar/_faults.py.
-FAULTS = ["DiskError", "Error", "ExchangeError", "FormattedError", "InputError", "LibraryError", "LibraryFault",
-          "LineError", "NoDeviceError", "NoMemoryError", "ProfileError", "ThreadError", "TillClosedError",
-          "TooManyControlsError", "TooSmallError", "UposError"]
+FAULTS = ["DamagedError", "DiskError", "Error", "ExchangeError", "FormattedError", "InputError", "LibraryError",
+          "LibraryFault", "LineError", "MovedError", "NoDeviceError", "NoMemoryError", "ProfileError", "ThreadError",
+          "TillClosedError", "TooManyControlsError", "TooSmallError", "UnformattedError", "UposError"]
 # Classes of errors that are a kind of an error of Python's too.
 BASES = {"E_NOEXIST": ", LookupError"}
 
@@ -331,20 +331,6 @@ def class_of(name, base, summary, detail, chapter, constants_of, part, names):
     return "\n\n".join([f"class {name}({base}):\n{docstring([summary, *paragraphs], '    ')}", slots, *members])
 
 
-def keys(found):
-    """The keys of a profile's entries."""
-    head = HEAD.format("The keys of a profile's entries.") + "\nfrom typing import Final"
-    numbers = ["NUMBERS: Final[dict[str, dict[str, tuple[int, int]]]] = {"]
-    options = ["OPTIONS: Final[dict[str, frozenset[str]]] = {"]
-    for word, about in found["profile"]["categories"].items():
-        listed = ", ".join(f'"{key["key"]}": ({key["least"]}, {key["most"]})' for key in about["numbers"])
-        numbers.append(f'    "{word}": {{{listed}}},')
-        own = ", ".join(f'"{key}"' for key in about["optional"])
-        options.append(f'    "{word}": frozenset({"{" + own + "}" if own else ""}),')
-    most = f"MOST_ORDERS: Final = {found['profile']['most_orders']}"
-    return f"{head}\n\n" + "\n".join([*numbers, "}", *options, "}", most]) + "\n"
-
-
 def reason_line(code, when):
     line = f'        "{code}": "{" Or: ".join(when)}",'
     if len(line) <= WIDTH:
@@ -401,7 +387,7 @@ def main():
     found = json.loads((HERE.parent / "description.json").read_text())
     stale = []
     for name, write in {"_constants": constants, "errors": errors, "_events": events, "_controls": controls,
-                        "_reasons": reasons, "_keys": keys}.items():
+                        "_reasons": reasons}.items():
         path, text = PACKAGE / f"{name}.py", write(found)
         if not sys.argv[1:]:
             path.write_text(text)

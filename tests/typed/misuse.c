@@ -1,6 +1,6 @@
 /* What the typed layer refuses by itself, and what it says of each code; that a second thread is refused while a call
-   is under way; that a control that was given back is handed out again; and the replies to ErrorEvents. It is C99 and
-   C++17. */
+   is under way; that a control that was given back is handed out again; the replies to ErrorEvents; and what is said of
+   profiles and of files of totals. It is C99 and C++17. Usage: misuse FILE */
 #include "kij.h"
 #include <pthread.h>
 #include <stdio.h>
@@ -23,7 +23,7 @@ static const int codes[] = {
     KIJ_NO_MEMORY,     KIJ_BAD_PROFILE,  KIJ_NO_ANSWER,    KIJ_DISK_FAILED, KIJ_TOO_SMALL, KIJ_NO_DEVICE,
     KIJ_WRONG_VERSION, KIJ_SYSTEM,       KIJ_BAD_ARGUMENT, KIJ_WRONG_TYPE,  KIJ_IN_CALL,   KIJ_BAD_ANSWER,
     KIJ_NAME_IN_USE,   KIJ_FULL,         KIJ_BAD_DEVICE,   KIJ_BAD_INPUT,   KIJ_BAD_SPARE, KIJ_UNKNOWN,
-    KIJ_IN_USE,        KIJ_KIND_DIFFERS, KIJ_VACANT,
+    KIJ_IN_USE,        KIJ_KIND_DIFFERS, KIJ_VACANT,       KIJ_UNFORMATTED, KIJ_DAMAGED,   KIJ_MOVED,
 };
 
 /* Each code has a name and a text, which no other has. */
@@ -224,14 +224,114 @@ static void threads(kij_till *till) {
     kij_discard(two);
 }
 
-int main(void) {
+/* Why a profile is refused, and what it has. */
+static void profiles(void) {
+    kij_mistake mistake;
+    kij_device devices[4];
+    size_t count = 0;
+    succeeds("the built profile", kij_profile_mistake(NULL, &mistake));
+    wants("no mistake", mistake.line == 0 && mistake.reason[0] == 0);
+    gives("no TOML", KIJ_BAD_PROFILE, kij_profile_mistake("a = 1\n\xc3\xa4\xc3\xa4 = = 2", &mistake));
+    wants("its place", mistake.line == 2 && mistake.column > 1 && memcmp(mistake.reason, "not TOML: ", 10) == 0);
+    gives("no text", KIJ_BAD_PROFILE, kij_profile_mistake("a = 1\nb\xff", &mistake));
+    wants("where it ends", mistake.line == 2 && mistake.column == 2 && strcmp(mistake.reason, "not UTF-8") == 0);
+    const char *wide = "[[device]]\nname = \"d\"\ncategory = \"LineDisplay\"\nrows = 2\ncolumns = 81\n";
+    gives("a number", KIJ_BAD_PROFILE, kij_profile_mistake(wide, &mistake));
+    wants("its entry", mistake.line == 0 && strcmp(mistake.reason, "device 1: columns must be 1 to 80") == 0);
+    gives("its devices", KIJ_BAD_PROFILE, kij_devices(wide, devices, 4, &count));
+    succeeds("devices", kij_devices("", devices, 4, &count));
+    wants("all are counted", count == 5);
+    wants("a display", strcmp(devices[2].name, "p1") == 0 && devices[2].category == KIJ_LINE_DISPLAY &&
+                           devices[2].rows == 2 && devices[2].columns == 4 && devices[2].chars == 0);
+    wants("a printer", strcmp(devices[3].name, "r1") == 0 && devices[3].category == KIJ_POS_PRINTER &&
+                           devices[3].chars == 8 && devices[3].near_end == 2);
+    gives("no room", KIJ_BAD_ARGUMENT, kij_devices("", NULL, 1, &count));
+    succeeds("a count alone", kij_devices("[[spare]]\ncategory = \"Scanner\"\n", NULL, 0, &count));
+    wants("no devices", count == 0);
+}
+
+/* Writes a byte of a file. */
+static void writes(const char *path, long at, int byte) {
+    FILE *file = fopen(path, "r+b");
+    wants("a byte", file != NULL && fseek(file, at, SEEK_SET) == 0 && fputc(byte, file) == byte && fclose(file) == 0);
+}
+
+/* What a file of totals holds, and that it is moved to layout 2. */
+static void totals_files(const char *path) {
+    char text[4096], cut[10];
+    size_t needed = 0, again = 0;
+    uint64_t place = 0;
     kij_till *till;
+    kij_control *totals;
+    int64_t handle = 0;
+    remove(path);
+    gives("no file", KIJ_SYSTEM, kij_files(path, text, sizeof text, &needed, &place));
+    gives("no file", KIJ_SYSTEM, kij_migrate(path));
+    succeeds("a till", kij_open(NULL, path, KIJ_CREATE_NEW, &till));
+    succeeds("totals", kij_start(till, KIJ_HARD_TOTALS, "t1", KIJ_UNCLAIMED, &totals));
+    succeeds("a file", kij_totals_create(totals, "A", 1, 2, false, &handle));
+    gives("a till has it", KIJ_SYSTEM, kij_files(path, text, sizeof text, &needed, &place));
+    gives("a till has it", KIJ_SYSTEM, kij_migrate(path));
+    kij_close(till);
+    succeeds("what it holds", kij_files(path, text, sizeof text, &needed, &place));
+    wants("layout 1", memcmp(text, "layout 1\n", 9) == 0 && strlen(text) == needed);
+    wants("a file", strstr(text, "\nfiles 1\nfile 41\nname A\nsize 2\nhex 0000\ntext ..\n") != NULL);
+    succeeds("less room", kij_files(path, cut, sizeof cut, &again, &place));
+    wants("a front", again == needed && strlen(cut) == 9 && memcmp(cut, text, 9) == 0);
+    succeeds("no room", kij_files(path, NULL, 0, &again, &place));
+    succeeds("a move", kij_migrate(path));
+    succeeds("what it holds", kij_files(path, text, sizeof text, &needed, &place));
+    wants("layout 2", memcmp(text, "layout 2\n", 9) == 0 && strstr(text, "\nfiles 1\nfile 41\n") != NULL);
+    gives("again", KIJ_MOVED, kij_migrate(path));
+    unsigned long slot = strtoul(strstr(text, "\nslot ") + 6, NULL, 10);
+    for (long byte = 9; byte < 17; byte++) writes(path, (long)slot + byte, 0xff);
+    gives("damage", KIJ_DAMAGED, kij_files(path, text, sizeof text, &needed, &place));
+    wants("where", place == slot + 9 && strcmp(text, "the length of the current body is above the longest") == 0);
+    gives("damage, with no room", KIJ_DAMAGED, kij_files(path, NULL, 0, &again, &place));
+    gives("no move", KIJ_DAMAGED, kij_migrate(path));
+    FILE *file = fopen(path, "wb");
+    wants("a short file", file != NULL && fputs("short", file) >= 0 && fclose(file) == 0);
+    gives("a short file", KIJ_TOO_SMALL, kij_files(path, text, sizeof text, &needed, &place));
+    gives("a short file", KIJ_TOO_SMALL, kij_migrate(path));
+    writes(path, 327679, 0);
+    writes(path, 0, 0);
+    gives("no totals", KIJ_UNFORMATTED, kij_files(path, text, sizeof text, &needed, &place));
+    gives("no totals", KIJ_UNFORMATTED, kij_migrate(path));
+    remove(path);
+}
+
+/* The next event of any control, in the order in which they were made. */
+static void any_event(kij_till *till) {
+    kij_control *one, *two;
+    kij_event event;
+    succeeds("none", kij_next_event_of_any(till, &event));
+    wants("none", event.kind == KIJ_NO_EVENT && event.control == NULL);
+    succeeds("a drawer", kij_start(till, KIJ_CASH_DRAWER, "d1", KIJ_UNCLAIMED, &one));
+    succeeds("a drawer", kij_start(till, KIJ_CASH_DRAWER, "d1", KIJ_UNCLAIMED, &two));
+    succeeds("it is closed", kij_input_drawer(till, "d1", false));
+    for (int place = 0; place < 2; place++) {
+        succeeds("an event", kij_next_event_of_any(till, &event));
+        wants("of each in turn", event.kind == KIJ_STATUS_UPDATE_EVENT && event.control == (place == 0 ? one : two));
+    }
+    succeeds("none", kij_next_event_of_any(till, &event));
+    wants("none is left", event.kind == KIJ_NO_EVENT);
+    gives("no place", KIJ_BAD_ARGUMENT, kij_next_event_of_any(till, NULL));
+    kij_discard(one);
+    kij_discard(two);
+}
+
+int main(int count, char **words) {
+    kij_till *till;
+    if (count != 2) return 2;
     texts();
+    profiles();
+    totals_files(words[1]);
     succeeds("a till", kij_open("", NULL, KIJ_EXISTING, &till));
     arguments(till);
     lengths(till);
     replies(till);
     controls(till);
+    any_event(till);
     threads(till);
     kij_close(till);
     printf("as they should be\n");

@@ -25,6 +25,7 @@ from ._devices import (Device, DisplayView, DrawerView, Order, PrintedCut, Print
 from ._events import DataEvent, ErrorEvent, Event, OutputCompleteEvent, StatusUpdateEvent
 from ._files import open_totals
 from ._library import find as load
+from ._questions import ProfileDevice, TotalsContents, check, devices, files, migrate
 from .errors import *
 from .till import Printer, Till, create_totals, open
 from .totals import FileClaim, Totals, TotalsFile
@@ -34,8 +35,9 @@ __version__ = "2.0"
 __all__ = [
     "CashDrawer", "Claim", "Control", "DataEvent", "Device", "DisplayView", "DrawerView", "ErrorEvent", "Event",
     "FileClaim", "HardTotals", "LineDisplay", "Order", "OutputCompleteEvent", "POSPrinter", "PrintedCut", "PrintedLine",
-    "Printer", "PrinterView", "Scanner", "ScannerView", "StandardControl", "StatusUpdateEvent", "Till", "Totals",
-    "TotalsFile", "WorkDone", "WorkFailed", "create_totals", "load", "open", "open_totals",
+    "Printer", "PrinterView", "ProfileDevice", "Scanner", "ScannerView", "StandardControl", "StatusUpdateEvent", "Till",
+    "Totals", "TotalsContents", "TotalsFile", "WorkDone", "WorkFailed", "check", "create_totals", "devices", "files",
+    "load", "migrate", "open", "open_totals",
 ]
 __all__ += _constants.__all__
 __all__ += errors.__all__

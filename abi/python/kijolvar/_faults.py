@@ -3,8 +3,9 @@ from __future__ import annotations
 
 from typing import ClassVar
 
-from ._constants import (KIJOLVAR_BAD_PROFILE, KIJOLVAR_CUT, KIJOLVAR_DISK_FAILED, KIJOLVAR_FORMATTED,
-                         KIJOLVAR_NO_DEVICE, KIJOLVAR_NO_MEMORY, KIJOLVAR_TOO_SMALL)
+from ._constants import (KIJOLVAR_BAD_PROFILE, KIJOLVAR_CUT, KIJOLVAR_DAMAGED, KIJOLVAR_DISK_FAILED,
+                         KIJOLVAR_FORMATTED, KIJOLVAR_MOVED, KIJOLVAR_NO_DEVICE, KIJOLVAR_NO_MEMORY,
+                         KIJOLVAR_TOO_SMALL, KIJOLVAR_UNFORMATTED)
 
 
 class Error(Exception):
@@ -61,8 +62,8 @@ class ProfileError(LibraryFault):
     """The profile is refused (docs/reference/profile.md says what a profile may have).
 
     Attributes:
-        reason: What is wrong with it.
-        line, column: Where, counted from 1, if that is known; else None.
+        reason: What is wrong with it; the entry is named, if it is in one.
+        line, column: Where the text stops being TOML, counted from 1; None if it is TOML.
     """
 
     def __init__(self, reason: str = "the profile is refused", line: int | None = None,
@@ -78,6 +79,28 @@ class NoMemoryError(LibraryFault, MemoryError):
 
 class DiskError(LibraryFault):
     """The file of the totals failed. What the last call changed may not be in the file; the till can only be closed."""
+
+
+class DamagedError(LibraryFault):
+    """The bytes of a file of totals break a rule (docs/reference/totals-file.md). Nothing was written.
+
+    Attributes:
+        reason: The rule; "" if the call doesn't say. `kijolvar.check` does.
+        place: Where, counted in bytes from the first of the file; None if the call doesn't say.
+    """
+
+    def __init__(self, reason: str = "", place: int | None = None) -> None:
+        where = f" at byte {place}: {reason}" if place is not None else ""
+        super().__init__(KIJOLVAR_DAMAGED, f"the totals are damaged{where}: keep the file, and work on a copy of it")
+        self.args = self.reason, self.place = reason, place
+
+
+class UnformattedError(LibraryFault):
+    """The file isn't formatted: it has no totals. Nothing was written."""
+
+
+class MovedError(LibraryFault):
+    """The totals in the file have layout 2 already. Nothing was written."""
 
 
 class FormattedError(LibraryFault):
@@ -152,6 +175,8 @@ _FAULTS: dict[int, tuple[type[LibraryFault], str]] = {
     KIJOLVAR_DISK_FAILED: (DiskError, "the file of the totals failed: the till can only be closed"),
     KIJOLVAR_FORMATTED: (FormattedError, "the file has totals already"),
     KIJOLVAR_TOO_SMALL: (TooSmallError, "the file is too short for totals"),
+    KIJOLVAR_UNFORMATTED: (UnformattedError, "the file isn't formatted: it has no totals"),
+    KIJOLVAR_MOVED: (MovedError, "the totals have layout 2 already: there is nothing to do"),
     KIJOLVAR_NO_DEVICE: (NoDeviceError, "the profile has no device of the name that has orders"),
 }
 
@@ -160,5 +185,7 @@ def library_fault(code: int) -> LibraryFault:
     """The exception for a code of the library that isn't KIJOLVAR_OK."""
     if code == KIJOLVAR_BAD_PROFILE:
         return ProfileError()
+    if code == KIJOLVAR_DAMAGED:
+        return DamagedError()
     kind, text = _FAULTS.get(code, (LibraryFault, ""))
     return kind(code, text)

@@ -45,13 +45,15 @@ def open_totals(path: Path) -> BinaryIO:
         return totals
 
 
-def create_totals(library: ctypes.CDLL, path: Path) -> BinaryIO:
+def create_totals(library: ctypes.CDLL, path: Path, profile: bytes = b"") -> BinaryIO:
     """Creates a file of totals without files, and locks it against every other till.
 
-    The file gets its name only when it is whole and synced, so a crash leaves nothing or all of it.
+    The file gets its name only when it is whole and synced, so a crash leaves nothing or all of it. The profile is that
+    of the till to be opened over it, so that a refused one leaves no file.
 
     Raises:
         FileExistsError: Anything has the name already.
+        ProfileError: The profile is refused.
     """
     name = os.fspath(path)
     with contextlib.ExitStack() as undo, _folder(name) as folder:
@@ -59,9 +61,27 @@ def create_totals(library: ctypes.CDLL, path: Path) -> BinaryIO:
         totals = undo.enter_context(open(unnamed, "r+b", buffering=0))
         _lock(totals)
         totals.truncate(KIJOLVAR_DISK_LENGTH)
-        Session(library, b"", totals, is_new=True).close()
+        Session(library, profile, totals, begin="kijolvar_format_file").close()
         # Given a folder, os.link follows the first path to the file that it stands for.
         os.link(f"/proc/self/fd/{totals.fileno()}", os.path.basename(name), dst_dir_fd=folder)
         os.fsync(folder)
         undo.pop_all()
         return totals
+
+
+def move_totals(library: ctypes.CDLL, path: Path) -> None:
+    """Moves the totals in a file to layout 2."""
+    with open_totals(path) as totals:
+        Session(library, b"", totals, begin="kijolvar_migrate_file").close()
+
+
+def read_totals(path: Path) -> bytes:
+    """The bytes of a file of totals that no till has open, as many as totals have.
+
+    Raises:
+        FileNotFoundError: The file is missing.
+        BlockingIOError: A till or another program has the file open.
+    """
+    with open(path, "rb") as totals:
+        fcntl.flock(totals, fcntl.LOCK_SH | fcntl.LOCK_NB)
+        return totals.read(KIJOLVAR_DISK_LENGTH)

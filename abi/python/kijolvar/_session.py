@@ -21,11 +21,11 @@ class Session:
     """A till over a profile's text and an open file of totals, or totals in memory if there is none.
 
     Only the thread that made it may use it. A file that isn't formatted opens too: enabling its totals is E_NOHARDWARE.
-    With `is_new`, the file is formatted first, which is for a file that nobody else has.
+    `begin` is the export that makes the till over a file: another one formats the file first, or moves it to layout 2.
     """
 
     def __init__(self, library: ctypes.CDLL, profile: bytes, totals: BinaryIO | None = None, *,
-                 is_new: bool = False) -> None:
+                 begin: str = "kijolvar_open_file") -> None:
         self._thread = _identity()
         self._library, self._totals = library, totals
         self._raw = Raw()
@@ -44,8 +44,7 @@ class Session:
         else:
             kept = os.pread(totals.fileno(), KIJOLVAR_DISK_LENGTH, 0)
             self._errand: Any = ctypes.create_string_buffer(KIJOLVAR_DISK_LENGTH)
-            begin = library.kijolvar_format_file if is_new else library.kijolvar_open_file
-            code = begin(profile, len(profile), kept, len(kept), self._out)
+            code = getattr(library, begin)(profile, len(profile), kept, len(kept), self._out)
         if code != KIJOLVAR_OK:
             self._raw.at = None
             raise library_fault(code)

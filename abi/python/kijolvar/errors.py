@@ -4,9 +4,9 @@ Written by abi/python/generate.py: don't change it by hand.
 """
 from __future__ import annotations
 
-from ._faults import (DiskError, Error, ExchangeError, FormattedError, InputError, LibraryError, LibraryFault,
-                      LineError, NoDeviceError, NoMemoryError, ProfileError, ThreadError, TillClosedError,
-                      TooManyControlsError, TooSmallError, UposError, library_fault)
+from ._faults import (DamagedError, DiskError, Error, ExchangeError, FormattedError, InputError, LibraryError,
+                      LibraryFault, LineError, MovedError, NoDeviceError, NoMemoryError, ProfileError, ThreadError,
+                      TillClosedError, TooManyControlsError, TooSmallError, UnformattedError, UposError, library_fault)
 
 
 class ClosedError(UposError):
@@ -202,9 +202,10 @@ BY_EXTENDED: dict[tuple[str, int], type[UposError]] = {
 }
 
 __all__ = [
-    "BusyError", "ClaimedError", "ClosedError", "CoverOpenError", "DisabledError", "DiskError", "Error",
+    "BusyError", "ClaimedError", "ClosedError", "CoverOpenError", "DamagedError", "DisabledError", "DiskError", "Error",
     "ExchangeError", "ExistsError", "ExtendedError", "FailureError", "FormattedError", "IllegalError", "InputError",
-    "LibraryError", "LibraryFault", "LineError", "NoDeviceError", "NoExistError", "NoHardwareError", "NoMemoryError",
-    "NoRoomError", "NoServiceError", "NotClaimedError", "OfflineError", "ProfileError", "ReceiptEmptyError",
-    "ThreadError", "TillClosedError", "TimeoutError", "TooManyControlsError", "TooSmallError", "UposError",
+    "LibraryError", "LibraryFault", "LineError", "MovedError", "NoDeviceError", "NoExistError", "NoHardwareError",
+    "NoMemoryError", "NoRoomError", "NoServiceError", "NotClaimedError", "OfflineError", "ProfileError",
+    "ReceiptEmptyError", "ThreadError", "TillClosedError", "TimeoutError", "TooManyControlsError", "TooSmallError",
+    "UnformattedError", "UposError",
 ]

@@ -5,15 +5,14 @@ import contextlib
 import ctypes
 import functools
 import os
-import pathlib
 import warnings
 import weakref
 from collections import deque
 from collections.abc import Iterator
 from types import TracebackType
-from typing import BinaryIO, TypeVar, Union
+from typing import BinaryIO, TypeVar
 
-from . import _files, _library
+from . import _files
 from ._constants import PTR_S_RECEIPT, KIJOLVAR_NO_MEMORY
 from ._control import Control, Text, device_word
 from ._controls import CashDrawer, LineDisplay, POSPrinter, Scanner
@@ -21,12 +20,11 @@ from ._devices import Device, Order, read_order
 from ._events import Event
 from ._faults import Error, LineError, NoMemoryError, ProfileError, TooManyControlsError
 from ._library import Path
-from ._profile import explain
+from ._questions import Profile, explain, library_of, text_of
 from ._session import Session
 from .totals import Totals
 
 C = TypeVar("C", bound=Control)
-Profile = Union[str, "os.PathLike[str]"]
 
 
 class Printer(POSPrinter):
@@ -195,6 +193,18 @@ class Till:
                     was_any = True
                     yield event
 
+    def next_event(self) -> Event | None:
+        """Delivers the next event of any control, or returns None if none can be delivered now.
+
+        The controls are asked in the order in which they were made. `event.control` says whose event it is.
+        """
+        self._session.check()
+        for control in self.controls():
+            event = control.next_event()
+            if event is not None:
+                return event
+        return None
+
     def deliver(self) -> int:
         """Passes each event that can be delivered to its control's listener. Returns how many there were.
 
@@ -242,14 +252,6 @@ def _end_control(till: weakref.ref[Till], category: str, name: str) -> None:
             found._free.setdefault(category, deque()).append(name)
 
 
-def _text_of(profile: Profile | None) -> str:
-    """The text of a profile. To the library an empty one is the built profile; here that is None."""
-    if profile is None:
-        return ""
-    text = profile if isinstance(profile, str) else pathlib.Path(profile).read_text(encoding="utf-8")
-    return text or "\n"
-
-
 def open(profile: Profile | None = None, totals: Path | BinaryIO | None = None, *, create: bool = False,
          library: Path | ctypes.CDLL | None = None) -> Till:
     """Opens a till.
@@ -272,22 +274,30 @@ def open(profile: Profile | None = None, totals: Path | BinaryIO | None = None, 
         TooSmallError: The file is too short for totals.
         LibraryError: The library isn't found, or is of another version.
     """
-    found = library if isinstance(library, ctypes.CDLL) else _library.find(library)
-    text = _text_of(profile)
-    file, owns, where = _file_of(found, totals, create)
-    try:
-        session = Session(found, text.encode(), file)
-    except BaseException as fault:
+    found, text = library_of(library), text_of(profile)
+    with contextlib.ExitStack() as undo:
+        undo.enter_context(_explaining(found, text))
+        file, owns, where = _file_of(found, totals, create, text.encode())
         if owns and file is not None:
-            file.close()
-        if isinstance(fault, ProfileError):
-            raise explain(text) from None
-        raise
+            undo.enter_context(file)
+        session = Session(found, text.encode(), file)
+        undo.pop_all()
     return Till(session, file, where=where, owns_totals=owns)
 
 
-def _file_of(library: ctypes.CDLL, totals: Path | BinaryIO | None, create: bool) -> tuple[BinaryIO | None, bool, str]:
-    """The file of totals, whether the till is to close it, and where the totals are, in words."""
+@contextlib.contextmanager
+def _explaining(library: ctypes.CDLL, text: str) -> Iterator[None]:
+    """Says why a profile is refused, in the place of saying only that it is."""
+    try:
+        yield
+    except ProfileError:
+        raise explain(library, text) from None
+
+
+def _file_of(library: ctypes.CDLL, totals: Path | BinaryIO | None, create: bool,
+             profile: bytes) -> tuple[BinaryIO | None, bool, str]:
+    """The file of totals, whether the till is to close it, and where the totals are, in words. A file is created only
+    for a profile that isn't refused."""
     if totals is None:
         return None, False, "in memory"
     if not isinstance(totals, (str, os.PathLike)):
@@ -298,7 +308,7 @@ def _file_of(library: ctypes.CDLL, totals: Path | BinaryIO | None, create: bool)
     except FileNotFoundError:
         if not create:
             raise
-        return _files.create_totals(library, totals), True, where
+        return _files.create_totals(library, totals, profile), True, where
 
 
 def create_totals(path: Path, library: Path | ctypes.CDLL | None = None) -> BinaryIO:
@@ -309,5 +319,4 @@ def create_totals(path: Path, library: Path | ctypes.CDLL | None = None) -> Bina
     Raises:
         FileExistsError: Anything has the name already.
     """
-    found = library if isinstance(library, ctypes.CDLL) else _library.find(library)
-    return _files.create_totals(found, path)
+    return _files.create_totals(library_of(library), path)

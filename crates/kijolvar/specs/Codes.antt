@@ -57,6 +57,27 @@ order_told = 12
 abbrev pub no_device : ℕ
 no_device = 13
 
+-- the profile isn't text, or is no TOML document
+abbrev pub bad_text : ℕ
+bad_text = 14
+
+-- the file isn't formatted
+abbrev pub unformatted : ℕ
+unformatted = 15
+
+-- the totals in the file are damaged
+abbrev pub damaged : ℕ
+damaged = 16
+
+-- the totals in the file have layout 2 already
+abbrev pub moved : ℕ
+moved = 17
+
+-- the code of a text that is told, by whether the room holds it: this one, or that it doesn't
+abbrev pub told_as : ℕ → Bool → ℕ
+told_as fine true = fine
+told_as fine false = short
+
 -- the code of an answer, by whether the room holds it
 abbrev pub told : Bool → ℕ
 told true = ok

@@ -7,3 +7,7 @@ pub mod Opening
 pub mod Tills
 pub mod Profiles
 pub mod Slots
+pub mod Questions
+pub mod Mistakes
+pub mod Surveys
+pub mod DeviceTexts

@@ -46,6 +46,18 @@ pub const ORDER: u32 = 12;
 /// No device of the name has orders.
 pub const NO_DEVICE: u32 = 13;
 
+/// The profile isn't text, or is no TOML document.
+pub const BAD_TEXT: u32 = 14;
+
+/// The file isn't formatted.
+pub const UNFORMATTED: u32 = 15;
+
+/// The totals in the file are damaged.
+pub const DAMAGED: u32 = 16;
+
+/// The totals in the file have layout 2 already.
+pub const MOVED: u32 = 17;
+
 /// The code of lines that were carried out, by whether the room holds their answer.
 pub fn code_of(outcome: Result<(), WriteFault>, holds: bool) -> u32
     ensures { result ≡ carried outcome holds }

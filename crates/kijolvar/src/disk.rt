@@ -1,13 +1,17 @@
 //! The disks that tills begin with.
 ghost use Rattle.std.specs.Prelude.{◌≡◌, ◌≢◌, ◌⊎◌, MatchResult, Some};
 ghost use Rattle.kijolvar.specs.Codes.{no_memory, ok};
-ghost use Rattle.kijolvar.specs.Opening.{IsFormattedOf, format_code};
-ghost use Rattle.kijolvar.specs.TillDisks.{file_of};
+ghost use Rattle.kijolvar.specs.Opening.{IsFormattedOf, IsMovedOf, RefusesMove, format_code, move_code};
+ghost use Rattle.pos_disk.specs.Memory.{fresh};
+ghost use Rattle.kijolvar.specs.Errands.{no_work};
+ghost use Rattle.kijolvar.specs.TillDisks.{file_of, hosted};
 
-use crate::codes::{FORMATTED, NO_MEMORY, TOO_SMALL};
+use crate::codes::{DAMAGED, FORMATTED, MOVED, NO_MEMORY, TOO_SMALL, UNFORMATTED};
 use crate::settlement::Settlement;
 use crate::till_disk::TillDisk;
 use pos_image::{ImageFault, Images};
+use pos_program::migrate_disk;
+use pos_store::StoreFault;
 use std::alloc::Global;
 
 /// How many bytes the disk of the totals has.
@@ -47,5 +51,51 @@ fn format_disk(disk: TillDisk) -> Result<TillDisk, u32>
         Err((ImageFault::AlreadyFormatted, _)) => Err(FORMATTED),
         Err((ImageFault::TooSmall, _)) => Err(TOO_SMALL),
         Err((_, _)) => Err(NO_MEMORY),
+    }
+}
+
+// The code for why totals aren't moved to layout 2.
+fn move_code(why: StoreFault) -> u32
+    ensures { result ≡ move_code why }
+{
+    match why {
+        StoreFault::Unformatted => UNFORMATTED,
+        StoreFault::Damaged => DAMAGED,
+        StoreFault::AlreadyLayout2 => MOVED,
+        _ => NO_MEMORY,
+    }
+}
+
+/// The disk of a file of these bytes, whose files are by layout 2 then.
+///
+/// # Errors
+///
+/// TOO_SMALL if the file is too short, UNFORMATTED, DAMAGED, MOVED if it has layout 2 already, and NO_MEMORY.
+pub fn move_in_file(alloc: Global, bytes: &[u8]) -> Result<TillDisk, u32>
+    ensures { MatchResult result (IsMovedOf bytes.now) (RefusesMove bytes.now) }
+{
+    if bytes.len() < SIZE {
+        return Err(TOO_SMALL);
+    }
+    match TillDisk::in_file(alloc, bytes) {
+        Ok(disk) => move_disk(alloc, disk),
+        Err(_) => Err(NO_MEMORY),
+    }
+}
+
+// Moves the totals on a disk that has the bytes of its host's file, which are errands of the host then.
+fn move_disk(alloc: Global, disk: TillDisk) -> Result<TillDisk, u32>
+    ensures { let bytes = disk.memory.present.reading in disk ≡ hosted (fresh bytes) (Some (no_work bytes))
+        → MatchResult result (IsMovedOf bytes) (RefusesMove bytes) }
+{
+    let (moved, outcome) = migrate_disk(alloc, disk);
+    if let Err(why) = outcome {
+        return Err(move_code(why));
+    }
+    moved.is_in_step();
+    if moved.settlement(false) == Settlement::Owed {
+        Ok(moved)
+    } else {
+        Err(NO_MEMORY)
     }
 }

@@ -7,23 +7,30 @@ ghost use Rattle.pos_disk.specs.Memory.{fresh, state_of};
 ghost use Rattle.pos_image.specs.Standing.{HasNoFiles};
 ghost use Rattle.kijolvar.specs.Codes.{ok};
 ghost use Rattle.kijolvar.specs.Errands.{no_work};
+ghost use Rattle.kijolvar.specs.DeviceTexts.{AnswersDevices};
 ghost use Rattle.kijolvar.specs.Hosting.{IsHostCode};
-ghost use Rattle.kijolvar.specs.Opening.{AnswersOpening, IsFormattedOf, Opens, format_code, open_code};
+ghost use Rattle.kijolvar.specs.Mistakes.{AnswersMistake};
+ghost use Rattle.kijolvar.specs.Opening.{AnswersMove, AnswersOpening, IsFormattedOf, IsMovedOf, Opens};
+ghost use Rattle.kijolvar.specs.Opening.{format_code, open_code};
 ghost use Rattle.kijolvar.specs.Profiles.{GivesProfile, IsRefused, RefusesProfile};
+ghost use Rattle.kijolvar.specs.Surveys.{AnswersSurvey};
 ghost use Rattle.kijolvar.specs.Tills.{Answers, Begins, Fails, HandsOver, AnswersNextErrand, NextOrder};
 ghost use Rattle.kijolvar.specs.TillDisks.{hosted};
 
 mod codes;
 mod device;
+mod device_texts;
 mod disk;
 mod errands;
 mod host_file;
 mod hosting;
 mod kept;
 mod loose;
+mod mistakes;
 mod orders;
 mod session;
 mod settlement;
+mod surveys;
 mod telling;
 mod till;
 mod till_disk;
@@ -31,7 +38,9 @@ mod tray;
 
 use codes::{BAD_PROFILE, DISK_FAILED, NO_MEMORY, OK, TOO_SMALL, UNDONE};
 use device::Device;
-use disk::{SIZE, format_in_file};
+use device_texts::devices_text;
+use disk::{SIZE, format_in_file, move_in_file};
+use mistakes::tell_mistake;
 use pos_disk::Disk;
 use pos_image::new_disk;
 use pos_profile::{Profile, ProfileFault};
@@ -40,6 +49,8 @@ use session::Session;
 use settlement::Settlement;
 use std::alloc::Global;
 use std::str;
+use surveys::tell_survey;
+use telling::tell_text;
 use till::{Slot, Till, hold, put, take};
 use till_disk::TillDisk;
 
@@ -184,6 +195,101 @@ pub extern "C" fn kijolvar_format_file(
     };
     leave(session, out);
     OK
+}
+
+/// A new till as `kijolvar_open_file` makes it, over a file whose totals have layout 1: they have layout 2 from then
+/// on, with the same files (docs/reference/totals-file.md, "The move to layout 2"). The till's first errands are the
+/// move; a crash at any moment of them leaves the files by one layout or the other, and the file may be moved again.
+///
+/// Answers OK, NO_MEMORY or BAD_PROFILE; TOO_SMALL or UNFORMATTED where there are no totals; DAMAGED; or MOVED where
+/// they have layout 2 already. Where it isn't OK, nothing is written, and the file stays as it is.
+#[unsafe(no_mangle)]
+pub extern "C" fn kijolvar_migrate_file(
+    alloc: Global,
+    profile: &[u8],
+    bytes: &[u8],
+    out: &mut Slot,
+) -> u32
+    ensures code { AnswersMove profile.now bytes.now result }
+    ensures opened { result ≡ ok → MatchOption out.new.left ⊥ (Opens ⟦<Device as Peripheral>⟧ profile.now
+        (IsMovedOf bytes.now)) }
+    ensures refused { result ≢ ok → out.new ≡ out.old }
+{
+    let profile = match read_profile(alloc, profile) {
+        Ok(profile) => profile,
+        Err(code) => return code,
+    };
+    let disk = match move_in_file(alloc, bytes) {
+        Ok(moved) => moved,
+        Err(code) => return code,
+    };
+    let Ok(session) = begin(alloc, profile, disk) else {
+        return NO_MEMORY;
+    };
+    leave(session, out);
+    OK
+}
+
+/// Tells why a profile is refused: writes the reason to `text`, as the program `pos_console` gives it, without a line
+/// feed, and to `needed` how many bytes it has.
+///
+/// Answers OK where the profile isn't refused; BAD_TEXT where it isn't text, or no TOML document: `at` is the place in
+/// its bytes where reading it stopped; BAD_PROFILE where something in the document isn't sound, and the reason names
+/// the entry; or SHORT where `text` has less room: a front of the reason is there. Where it is OK or NO_MEMORY, nothing
+/// is written.
+#[unsafe(no_mangle)]
+pub extern "C" fn kijolvar_profile_mistake(
+    alloc: Global,
+    profile: &[u8],
+    at: &mut u64,
+    text: &mut [u8],
+    needed: &mut usize,
+) -> u32
+    ensures { AnswersMistake profile.now at.old at.new text.old text.new needed.old needed.new result }
+{
+    tell_mistake(alloc, profile, at, text, needed)
+}
+
+/// Tells the devices of a profile, in its order: writes a line for each to `text`, with its name, its category, and the
+/// numbers of its kind behind their keys, as `r1 POSPrinter chars 8 near 2`, and to `needed` how many bytes that is.
+///
+/// Answers OK; or SHORT where `text` has less room: a front is there; or BAD_PROFILE or NO_MEMORY, and nothing is
+/// written.
+#[unsafe(no_mangle)]
+pub extern "C" fn kijolvar_devices(
+    alloc: Global,
+    profile: &[u8],
+    text: &mut [u8],
+    needed: &mut usize,
+) -> u32
+    ensures { AnswersDevices profile.now text.old text.new needed.old needed.new result }
+{
+    let contents = match read_profile(alloc, profile) {
+        Ok(contents) => contents,
+        Err(code) => return code,
+    };
+    match devices_text(alloc, contents.devices()) {
+        Ok(lines) => tell_text(&lines, OK, text, needed),
+        Err(_) => NO_MEMORY,
+    }
+}
+
+/// Tells what the bytes of a totals file hold: writes to `text` the lines that the program's `files` prints
+/// (docs/reference/console.md, "What a totals file holds"), and to `needed` how many bytes they have.
+///
+/// Answers OK; DAMAGED where the bytes break a rule: `text` says which, and `at` where; or SHORT where `text` has less
+/// room for either: a front is there; or UNFORMATTED, TOO_SMALL or NO_MEMORY, and nothing is written.
+#[unsafe(no_mangle)]
+pub extern "C" fn kijolvar_survey(
+    alloc: Global,
+    bytes: &[u8],
+    at: &mut u64,
+    text: &mut [u8],
+    needed: &mut usize,
+) -> u32
+    ensures { AnswersSurvey bytes.now at.old at.new text.old text.new needed.old needed.new result }
+{
+    tell_survey(alloc, bytes, at, text, needed)
 }
 
 /// Carries out lines and hands their answer over, where no errand is left and none failed.

@@ -1,46 +1,16 @@
 //! What a totals file holds, told.
-ghost use Rattle.std.specs.Prelude.{◌≡◌, IfErr, IfOk, MatchResult};
+ghost use Rattle.std.specs.Prelude.{IfErr, IfOk, MatchResult};
 ghost use Rattle.pos_run.specs.Streams.{writing_of};
 ghost use Rattle.pos_console.specs.Program.{IsCutOff, IsWritten, TellsBytes, TellsFile};
-ghost use Rattle.pos_console.specs.Telling.{IsBroken, IsTold, TellsBreak, words_of, words_of_flaw};
+ghost use Rattle.pos_console.specs.Telling.{IsBroken, IsTold, TellsBreak};
 
-use pos_dir::Flaw;
 use pos_file::BlockFile;
 use pos_program::{Fault, FileFault, NamedFiles};
 use pos_run::AnswerWriter;
 use pos_script::write_bytes;
 use pos_streams::{Sink, WriteFault};
-use pos_survey::{Rule, Survey, SurveyFault};
+use pos_survey::{Survey, SurveyFault, words_of};
 use std::alloc::Global;
-
-/// A rule that a body breaks, in words.
-fn words_of_flaw(flaw: Flaw) -> &'static str
-    ensures { result.now ≡ words_of_flaw flaw }
-{
-    match flaw {
-        Flaw::TooManyFiles => "the current body has too many files",
-        Flaw::TooManyBytes => "the files of the current body have too many bytes",
-        Flaw::BadName => "the current body has a bad name",
-        Flaw::NameTwice => "the current body has a name twice",
-        Flaw::BytesMissing => "bytes of the current body are missing",
-        Flaw::BytesLeft => "bytes of the current body are left over",
-    }
-}
-
-/// A rule that totals break, in words.
-fn words_of(rule: Rule) -> &'static str
-    ensures { result.now ≡ words_of rule }
-{
-    match rule {
-        Rule::SameSequence => "both slots are open with the same sequence",
-        Rule::LongBody => "the length of the current body is above the longest",
-        Rule::NoFiles(flaw) => words_of_flaw(flaw),
-        Rule::LongRecord => "a record doesn't end within the log",
-        Rule::NoGroup => "a record is no group of changes",
-        Rule::EmptyGroup => "a record has no changes",
-        Rule::NotApplicable(_) => "the changes of a record don't fit the files before it",
-    }
-}
 
 /// A survey's fault, as a fault of the file.
 fn fault_of_survey(fault: SurveyFault) -> FileFault

@@ -1,3 +1,4 @@
 pub mod Damages
 pub mod Tellings
 pub mod Texts
+pub mod Words

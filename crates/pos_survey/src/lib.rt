@@ -15,6 +15,8 @@ mod opening;
 mod records;
 mod survey;
 mod text;
+mod words;
 
 pub use fault::{Rule, SurveyFault};
 pub use survey::Survey;
+pub use words::words_of;

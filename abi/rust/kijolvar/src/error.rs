@@ -1,4 +1,5 @@
 //! Why a call failed.
+use crate::questions::ProfileMistake;
 use crate::standard::{ExtendedCode, ResultCode};
 use std::fmt;
 use std::io;
@@ -22,10 +23,17 @@ pub enum Cause {
     NoMemory,
     /// The call was carried out, but there was no memory for its answer.
     NoAnswer,
-    /// The profile is refused (docs/reference/profile.md).
-    BadProfile,
+    /// The profile is refused, for this mistake.
+    BadProfile(ProfileMistake),
     /// The file is shorter than a disk of totals.
     TooSmall,
+    /// The file isn't formatted: it has no totals.
+    Unformatted,
+    /// The bytes of the file break a rule of totals (docs/reference/totals-file.md): the place, in bytes from the
+    /// first, and the rule. Only [`files`](crate::files) and [`check`](crate::check) say which.
+    Damaged(Option<(u64, String)>),
+    /// The totals in the file have layout 2 already.
+    Moved,
     /// The file of the totals couldn't be written. The last call may be in it or not, and the till can only be dropped.
     DiskFailed,
     /// The system refused the file of the totals: `NotFound` if it is missing, `AlreadyExists` if it is there already,
@@ -107,9 +115,15 @@ impl fmt::Display for Cause {
             Cause::Extended(code) => return write!(out, "E_EXTENDED, {code}"),
             Cause::System(cause) => return write!(out, "{cause}"),
             Cause::BadAnswer(text) => return write!(out, "the library answered something unknown: {text}"),
+            Cause::BadProfile(mistake) => return write!(out, "the profile is refused: {mistake}"),
+            Cause::Damaged(Some((place, rule))) => {
+                return write!(out, "the totals are damaged at byte {place}: {rule}")
+            }
+            Cause::Damaged(None) => "the totals are damaged",
+            Cause::Unformatted => "the file isn't formatted: it has no totals",
+            Cause::Moved => "the totals have layout 2 already",
             Cause::NoMemory => "there was no memory",
             Cause::NoAnswer => "there was no memory for the answer",
-            Cause::BadProfile => "the profile is refused",
             Cause::TooSmall => "the file is shorter than a disk of totals",
             Cause::DiskFailed => "the file of the totals couldn't be written",
             Cause::WrongVersion => "the library is of another version",

@@ -57,6 +57,7 @@ mod event;
 mod line;
 #[rustfmt::skip]
 mod property;
+mod questions;
 mod raw;
 #[rustfmt::skip]
 pub mod standard;
@@ -71,6 +72,7 @@ pub use devices::{Order, Work};
 pub use error::{Cause, Error};
 pub use event::{ErrorEvent, Event, Events, StatusUpdate};
 pub use property::{Property, PropertyType, Value};
+pub use questions::{check, devices, files, migrate, ProfileDevice, ProfileMistake, TotalsContents};
 pub use till::{Till, BUILT_PROFILE};
 pub use totals_file::Totals;
 pub use views::{Alignment, DisplayView, Printed, PrintedText, PrinterView};

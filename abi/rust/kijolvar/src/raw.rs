@@ -26,6 +26,36 @@ extern "C" {
         bytes_len: usize,
         out: *mut *mut c_void,
     ) -> u32;
+    pub(crate) fn kijolvar_migrate_file(
+        profile: *const u8,
+        profile_len: usize,
+        bytes: *const u8,
+        bytes_len: usize,
+        out: *mut *mut c_void,
+    ) -> u32;
+    pub(crate) fn kijolvar_profile_mistake(
+        profile: *const u8,
+        profile_len: usize,
+        at: *mut u64,
+        text: *mut u8,
+        text_len: usize,
+        needed: *mut usize,
+    ) -> u32;
+    pub(crate) fn kijolvar_devices(
+        profile: *const u8,
+        profile_len: usize,
+        text: *mut u8,
+        text_len: usize,
+        needed: *mut usize,
+    ) -> u32;
+    pub(crate) fn kijolvar_survey(
+        bytes: *const u8,
+        bytes_len: usize,
+        at: *mut u64,
+        text: *mut u8,
+        text_len: usize,
+        needed: *mut usize,
+    ) -> u32;
     pub(crate) fn kijolvar_next_errand(
         till: Raw,
         out: *mut *mut c_void,

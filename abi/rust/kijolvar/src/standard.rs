@@ -36,6 +36,14 @@ pub(crate) mod library {
     pub(crate) const ORDER: u32 = 12;
     /// No device of the name has orders.
     pub(crate) const NO_DEVICE: u32 = 13;
+    /// The profile isn't text, or is no TOML document.
+    pub(crate) const BAD_TEXT: u32 = 14;
+    /// The file isn't formatted.
+    pub(crate) const UNFORMATTED: u32 = 15;
+    /// The totals in the file are damaged.
+    pub(crate) const DAMAGED: u32 = 16;
+    /// The totals in the file have layout 2 already.
+    pub(crate) const MOVED: u32 = 17;
 }
 
 /// A result code of the standard (ErrorCode) by which a control refuses a call.

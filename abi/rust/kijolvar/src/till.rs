@@ -3,6 +3,7 @@ use crate::devices::{Order, Work};
 use crate::error::{Cause, Error};
 use crate::event::{Event, Events};
 use crate::line::{is_name, value_of, Answer, Line};
+use crate::questions::explain;
 use crate::raw::*;
 use crate::standard::{library, Category};
 use crate::totals_file::Totals;
@@ -38,12 +39,15 @@ pub(crate) struct Inner {
     names: u64,
 }
 
-/// What the library's code means to who opens a till.
-fn opening_cause(code: u32) -> Cause {
+/// What the library's code means to who opens a till of a profile.
+pub(crate) fn opening_cause(code: u32, profile: &str) -> Cause {
     match code {
         library::NO_MEMORY => Cause::NoMemory,
-        library::BAD_PROFILE => Cause::BadProfile,
+        library::BAD_PROFILE => explain(profile),
         library::TOO_SMALL => Cause::TooSmall,
+        library::UNFORMATTED => Cause::Unformatted,
+        library::DAMAGED => Cause::Damaged(None),
+        library::MOVED => Cause::Moved,
         _ => Cause::DiskFailed,
     }
 }
@@ -59,7 +63,7 @@ impl Inner {
         // SAFETY: a slice and a place, lent for the call.
         match unsafe { kijolvar_open(profile.as_ptr(), profile.len(), &mut at) } {
             library::OK => Ok(Inner::new(at, None, Vec::new())),
-            code => Err(opening_cause(code)),
+            code => Err(opening_cause(code, profile)),
         }
     }
 
@@ -69,8 +73,16 @@ impl Inner {
         // SAFETY: slices and a place, lent for the call.
         match unsafe { begin(profile.as_ptr(), profile.len(), bytes.as_ptr(), bytes.len(), &mut at) } {
             library::OK => Ok(Inner::new(at, Some(file), bytes)),
-            code => Err(opening_cause(code)),
+            code => Err(opening_cause(code, profile)),
         }
+    }
+
+    /// The bytes of a file that are a disk, or all of a shorter one.
+    pub(crate) fn bytes_of(file: &File) -> Result<Vec<u8>, Cause> {
+        let length = file.metadata().map_err(Cause::System)?.len().min(library::DISK_LENGTH);
+        let mut bytes = vec![0; length as usize];
+        file.read_exact_at(&mut bytes, 0).map_err(Cause::System)?;
+        Ok(bytes)
     }
 
     /// Ends the till, and returns the file of its totals.
@@ -236,9 +248,9 @@ impl Till {
     /// ```
     /// use kijolvar::{Cause, Till, Totals};
     ///
-    /// let refused = Till::open("[[device]]\nname = \"d1\"\n", Totals::Memory).err().unwrap();
-    /// assert!(matches!(refused.cause(), Cause::BadProfile));
-    /// assert_eq!(refused.to_string(), "Till::open: the profile is refused");
+    /// let refused = Till::open("name = \"d1\"\n", Totals::Memory).err().unwrap();
+    /// assert!(matches!(refused.cause(), Cause::BadProfile(_)));
+    /// assert_eq!(refused.to_string(), "Till::open: the profile is refused: unknown key: name");
     /// ```
     pub fn open(profile: &str, totals: Totals) -> Result<Till, Error> {
         static NUMBERS: AtomicU64 = AtomicU64::new(1);
@@ -252,9 +264,7 @@ impl Till {
             return Err(Cause::WrongVersion);
         }
         let Some(file) = totals.open(profile)? else { return Inner::in_memory(profile) };
-        let length = file.metadata().map_err(Cause::System)?.len().min(library::DISK_LENGTH);
-        let mut bytes = vec![0; length as usize];
-        file.read_exact_at(&mut bytes, 0).map_err(Cause::System)?;
+        let bytes = Inner::bytes_of(&file)?;
         let mut inner = Inner::over_file(profile, file, bytes, kijolvar_open_file)?;
         inner.settle()?;
         Ok(inner)

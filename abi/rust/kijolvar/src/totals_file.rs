@@ -5,7 +5,7 @@ use crate::standard::library::DISK_LENGTH;
 use crate::till::Inner;
 use std::ffi::CString;
 use std::fs::{File, OpenOptions};
-use std::io;
+use std::io::{self, Read};
 use std::os::fd::AsRawFd;
 use std::os::unix::ffi::OsStrExt;
 use std::os::unix::fs::OpenOptionsExt;
@@ -70,11 +70,20 @@ fn folder_of(path: &Path) -> io::Result<(&Path, CString)> {
 
 /// Opens a file that is there, and locks it. Its folder is synced too, since a creation that was killed may have named
 /// the file and not synced its name.
-fn open_existing(path: &Path) -> io::Result<File> {
+pub(crate) fn open_existing(path: &Path) -> io::Result<File> {
     let file = OpenOptions::new().read(true).write(true).open(path)?;
     file.try_lock()?;
     File::open(folder_of(path)?.0)?.sync_all()?;
     Ok(file)
+}
+
+/// The bytes of a file that no till has open, as many as totals have.
+pub(crate) fn read_file(path: &Path) -> io::Result<Vec<u8>> {
+    let file = File::open(path)?;
+    file.try_lock_shared()?;
+    let mut bytes = Vec::new();
+    file.take(DISK_LENGTH).read_to_end(&mut bytes)?;
+    Ok(bytes)
 }
 
 /// Creates a file of totals without files, and locks it. It gets its name when it is whole and synced, which never

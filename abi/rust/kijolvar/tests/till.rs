@@ -1,8 +1,8 @@
 //! What a till does: files of totals, errors, replies, keys, controls that are handed out again, and threads.
 use kijolvar::standard::{DisplayAttribute, ErrorLocus, ErrorReply, ExtendedCode, PrinterStation, ResultCode};
 use kijolvar::standard::{ScrollDirection, State, PTR_CP_FULLCUT};
+use kijolvar::{check, files, migrate, StatusUpdate, Till, Totals, Value, Work, BUILT_PROFILE};
 use kijolvar::{Actor, CashDrawer, Cause, Error, Event, HardTotals, Order, PosPrinter, Property, Scanner};
-use kijolvar::{StatusUpdate, Till, Totals, Value, Work, BUILT_PROFILE};
 use std::io::ErrorKind;
 use std::path::PathBuf;
 
@@ -54,7 +54,9 @@ fn totals_stay_in_their_file() {
     let missing = Till::open(BUILT_PROFILE, Totals::existing(place.file())).unwrap_err();
     assert_eq!(system_kind(&missing), Some(ErrorKind::NotFound));
     let refused = Till::open("nonsense", Totals::create(place.file())).unwrap_err();
-    assert!(matches!(refused.cause(), Cause::BadProfile) && !place.file().exists());
+    let Cause::BadProfile(mistake) = refused.cause() else { panic!("{refused}") };
+    assert!(mistake.reason.starts_with("not TOML: ") && mistake.place == Some((1, 9)), "{mistake}");
+    assert!(!place.file().exists());
     for round in 1..=3u8 {
         let till = Till::open(BUILT_PROFILE, Totals::create(place.file())).unwrap();
         let in_use = Till::open(BUILT_PROFILE, Totals::existing(place.file())).unwrap_err();
@@ -72,6 +74,36 @@ fn totals_stay_in_their_file() {
     std::fs::write(place.file(), "short").unwrap();
     let short = Till::open(BUILT_PROFILE, Totals::existing(place.file())).unwrap_err();
     assert!(matches!(short.cause(), Cause::TooSmall));
+}
+
+#[test]
+fn files_are_told_and_moved() {
+    let place = Place::new("told");
+    let till = Till::open(BUILT_PROFILE, Totals::create_new(place.file())).unwrap();
+    let totals = till.hard_totals("t1").unwrap().enabled().unwrap();
+    let handle = totals.create("DAY", 2, false).unwrap();
+    totals.write(handle, 0, [1, 0xff]).unwrap();
+    assert_eq!(system_kind(&files(place.file()).unwrap_err()), Some(ErrorKind::WouldBlock));
+    drop(totals);
+    drop(till);
+    let held = vec![(b"DAY".to_vec(), vec![1, 0xff])];
+    let found = files(place.file()).unwrap();
+    assert_eq!((found.layout, &found.files), (1, &held));
+    migrate(place.file()).unwrap();
+    let found = files(place.file()).unwrap();
+    assert_eq!((found.layout, found.sequence, &found.files), (2, 1, &held));
+    assert!(matches!(migrate(place.file()).unwrap_err().cause(), Cause::Moved));
+    let mut bytes = std::fs::read(place.file()).unwrap();
+    bytes[found.slot as usize + 9..found.slot as usize + 17].fill(0xff);
+    std::fs::write(place.file(), bytes).unwrap();
+    let damaged = check(place.file()).unwrap_err();
+    let Cause::Damaged(Some((at, rule))) = damaged.cause() else { panic!("{damaged}") };
+    assert_eq!((*at, rule.as_str()), (found.slot + 9, "the length of the current body is above the longest"));
+    assert!(matches!(migrate(place.file()).unwrap_err().cause(), Cause::Damaged(None)));
+    std::fs::write(place.file(), vec![0; 327_680]).unwrap();
+    assert!(matches!(check(place.file()).unwrap_err().cause(), Cause::Unformatted));
+    std::fs::write(place.file(), "short").unwrap();
+    assert!(matches!(migrate(place.file()).unwrap_err().cause(), Cause::TooSmall));
 }
 
 #[test]

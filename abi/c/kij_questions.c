@@ -1,0 +1,140 @@
+/* What the library says of a profile and of a file of totals, without a till. */
+#ifndef _GNU_SOURCE
+#define _GNU_SOURCE
+#endif
+#include "kij_internal.h"
+#include <errno.h>
+#include <fcntl.h>
+#include <stdlib.h>
+#include <string.h>
+#include <sys/file.h>
+#include <unistd.h>
+
+static kij_result plain(int code) { return kij_internal_result(code, 0, KIJ_NO_CATEGORY); }
+
+static size_t size_of(const char *profile) { return profile == NULL ? 0 : strlen(profile); }
+
+/* Writes the line and the column of a place in a text, which count from 1. */
+static void place_in(const char *text, size_t at, kij_mistake *mistake) {
+    mistake->line = mistake->column = 1;
+    for (size_t place = 0; place < at; place++) {
+        unsigned char byte = (unsigned char)text[place];
+        if (byte == '\n') {
+            mistake->line++;
+            mistake->column = 1;
+        } else if ((byte & 0xc0) != 0x80) mistake->column++;
+    }
+}
+
+kij_result kij_profile_mistake(const char *profile, kij_mistake *mistake) {
+    /* No place: the library writes one where the text stops being TOML. */
+    uint64_t at = UINT64_MAX;
+    size_t needed = 0;
+    if (mistake == NULL) return plain(KIJ_BAD_ARGUMENT);
+    memset(mistake, 0, sizeof *mistake);
+    uint32_t code = kijolvar_profile_mistake((const uint8_t *)profile, size_of(profile), &at,
+                                             (uint8_t *)mistake->reason, sizeof mistake->reason - 1, &needed);
+    if (code == KIJOLVAR_OK || code == KIJOLVAR_NO_MEMORY) return plain((int)code);
+    if (at != UINT64_MAX) place_in(profile, (size_t)at, mistake);
+    return plain(KIJ_BAD_PROFILE);
+}
+
+/* The category of a word. */
+static kij_category category_of(const char *word, size_t size) {
+    static const char *const words[] = {"CashDrawer", "Scanner", "LineDisplay", "POSPrinter", "HardTotals"};
+    for (size_t place = 0; place < sizeof words / sizeof words[0]; place++)
+        if (strlen(words[place]) == size && memcmp(words[place], word, size) == 0) return (kij_category)(place + 1);
+    return KIJ_NO_CATEGORY;
+}
+
+/* Takes the number after a key in a line, or 0 if the key isn't there. */
+static int number_at(const char *line, const char *key) {
+    const char *found = strstr(line, key);
+    return found == NULL ? 0 : (int)strtol(found + strlen(key), NULL, 10);
+}
+
+/* Reads `NAME CATEGORY KEY NUMBER ..`. */
+static void read_device(const char *line, kij_device *device) {
+    size_t name = strcspn(line, " ");
+    const char *word = line + name + 1;
+    memset(device, 0, sizeof *device);
+    memcpy(device->name, line, name < sizeof device->name ? name : sizeof device->name - 1);
+    device->category = category_of(word, strcspn(word, " "));
+    device->rows = number_at(line, " rows ");
+    device->columns = number_at(line, " columns ");
+    device->chars = number_at(line, " chars ");
+    device->near_end = number_at(line, " near ");
+}
+
+/* Reads the lines of devices, as many as there is room for, and counts all. */
+static size_t read_devices(char *text, kij_device *devices, size_t room) {
+    size_t count = 0;
+    for (char *line = text, *end; (end = strchr(line, '\n')) != NULL; line = end + 1, count++) {
+        *end = 0;
+        if (count < room) read_device(line, &devices[count]);
+    }
+    return count;
+}
+
+kij_result kij_devices(const char *profile, kij_device *devices, size_t room, size_t *count) {
+    size_t size = 4096, needed = 0;
+    if (count == NULL || (devices == NULL && room != 0)) return plain(KIJ_BAD_ARGUMENT);
+    for (;;) {
+        char *text = (char *)malloc(size);
+        if (text == NULL) return plain(KIJ_NO_MEMORY);
+        uint32_t code =
+            kijolvar_devices((const uint8_t *)profile, size_of(profile), (uint8_t *)text, size - 1, &needed);
+        if (code == KIJOLVAR_OK) {
+            text[needed] = 0;
+            *count = read_devices(text, devices, room);
+        }
+        free(text);
+        if (code != KIJOLVAR_SHORT) return plain(code == KIJOLVAR_BAD_PROFILE ? KIJ_BAD_PROFILE : (int)code);
+        size = needed + 1;
+    }
+}
+
+/* Reads a file that no till has open, as many bytes as totals have: 0, or errno, or KIJ_NO_MEMORY with a minus. */
+static int read_file(int file, uint8_t **bytes, size_t *size) {
+    ssize_t found = 1;
+    if (flock(file, LOCK_SH | LOCK_NB) != 0) return errno;
+    *bytes = (uint8_t *)malloc(KIJOLVAR_DISK_LENGTH);
+    if (*bytes == NULL) return -KIJ_NO_MEMORY;
+    for (*size = 0; found > 0 && *size < KIJOLVAR_DISK_LENGTH; *size += found > 0 ? (size_t)found : 0)
+        found = pread(file, *bytes + *size, KIJOLVAR_DISK_LENGTH - *size, (off_t)*size);
+    if (found >= 0) return 0;
+    int why = errno;
+    free(*bytes);
+    return why;
+}
+
+/* What the library says of the bytes of a file. */
+static kij_result survey(const uint8_t *bytes, size_t size, char *text, size_t room, size_t *needed, uint64_t *place) {
+    uint64_t at = UINT64_MAX;
+    *needed = 0;
+    uint32_t code = kijolvar_survey(bytes, size, &at, (uint8_t *)text, room > 0 ? room - 1 : 0, needed);
+    if (room > 0) text[*needed < room ? *needed : room - 1] = 0;
+    if (at == UINT64_MAX) return plain(code == KIJOLVAR_SHORT ? KIJ_OK : kij_internal_code_of(code));
+    *place = at;
+    return plain(KIJ_DAMAGED);
+}
+
+kij_result kij_files(const char *path, char *text, size_t room, size_t *needed, uint64_t *place) {
+    uint8_t *bytes = NULL;
+    size_t size = 0;
+    if (path == NULL || needed == NULL || place == NULL || (text == NULL && room != 0)) return plain(KIJ_BAD_ARGUMENT);
+    int file = open(path, O_RDONLY | O_CLOEXEC);
+    int why = file < 0 ? errno : read_file(file, &bytes, &size);
+    if (file >= 0) close(file);
+    if (why != 0) return why < 0 ? plain(-why) : kij_internal_result(KIJ_SYSTEM, why, KIJ_NO_CATEGORY);
+    kij_result result = survey(bytes, size, text, room, needed, place);
+    free(bytes);
+    return result;
+}
+
+kij_result kij_migrate(const char *path) {
+    if (path == NULL) return plain(KIJ_BAD_ARGUMENT);
+    if (kijolvar_version() != KIJOLVAR_VERSION) return plain(KIJ_WRONG_VERSION);
+    int why = kij_internal_move_file(path);
+    return why <= 0 ? plain(-why) : kij_internal_result(KIJ_SYSTEM, why, KIJ_NO_CATEGORY);
+}

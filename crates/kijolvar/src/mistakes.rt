@@ -1,0 +1,188 @@
+//! Why a profile is refused, in words (docs/reference/profile.md).
+ghost use Rattle.std.specs.Prelude.{◌≡◌, ◌++◌, IfOk, OnOk, codes, decimal};
+ghost use Rattle.toml.specs.Parse.{parse_document};
+ghost use Rattle.kijolvar.specs.Mistakes.{AnswersDocument, AnswersMistake, AnswersRefusal, category_reason};
+ghost use Rattle.kijolvar.specs.Mistakes.{mistake_text, number_reason, option_reason, place_text, reason_text};
+
+use crate::codes::{BAD_PROFILE, BAD_TEXT, NO_MEMORY, OK};
+use crate::telling::tell_text;
+use itoa::Buffer;
+use pos_profile::{Mistake, NumberKey, OptionalKey, Place, Reason, Role};
+use pos_program::{ProfileFileFault, profile_of_text};
+use std::alloc::{AllocError, Global};
+use std::str;
+
+// Adds a number to a text.
+fn add_number(text: &mut Vec<u8>, number: u64) -> Result<(), AllocError>
+    ensures { OnOk result (text.new.items ≡ text.old.items ++ decimal number) }
+{
+    let mut buffer = Buffer::new();
+    text.extend_from_slice(buffer.format(number).as_bytes())
+}
+
+// Two texts, one after the other.
+fn joined(alloc: Global, first: &str, second: &str) -> Result<Vec<u8>, AllocError>
+    ensures { IfOk result (λ text. text.items ≡ first.now ++ second.now) }
+{
+    let mut text = Vec::from_slice(alloc, first.as_bytes())?;
+    text.extend_from_slice(second.as_bytes())?;
+    Ok(text)
+}
+
+// Where a profile isn't sound.
+fn place_text(alloc: Global, place: Place) -> Result<Vec<u8>, AllocError>
+    ensures { IfOk result (λ text. text.items ≡ place_text place) }
+{
+    let mut text = Vec::new(alloc);
+    if let Place::Listed(role, number) = place {
+        text.extend_from_slice(role.key().as_bytes())?;
+        text.extend_from_slice(b" ")?;
+        add_number(&mut text, number as u64)?;
+        text.extend_from_slice(b": ")?;
+    }
+    Ok(text)
+}
+
+// The categories that an entry of a list may have.
+fn category_reason(role: Role) -> &'static str
+    ensures { result.now ≡ category_reason role }
+{
+    match role {
+        Role::Device => {
+            "category must be CashDrawer, Scanner, LineDisplay, POSPrinter or HardTotals"
+        }
+        Role::Spare => "category must be CashDrawer, Scanner, LineDisplay or POSPrinter",
+    }
+}
+
+// Adds the range of a number to a text.
+fn add_number_reason(text: &mut Vec<u8>, key: NumberKey) -> Result<(), AllocError>
+    ensures { OnOk result (text.new.items ≡ text.old.items ++ number_reason key) }
+{
+    text.extend_from_slice(key.key().as_bytes())?;
+    text.extend_from_slice(b" must be ")?;
+    add_number(text, key.least() as u64)?;
+    text.extend_from_slice(b" to ")?;
+    add_number(text, key.most() as u64)
+}
+
+// The values of an optional key.
+fn option_reason(key: OptionalKey) -> &'static str
+    ensures { result.now ≡ option_reason key }
+{
+    match key {
+        OptionalKey::Ring => "ring must be true or false",
+        OptionalKey::Flaky => "flaky must be an array of two numbers, each 0 to 1000000",
+        OptionalKey::Record => "record must be true or false",
+    }
+}
+
+// Adds what isn't sound to a text.
+fn add_reason(text: &mut Vec<u8>, reason: &Reason) -> Result<(), AllocError>
+    ensures { OnOk result (text.new.items ≡ text.old.items ++ reason_text reason.now) }
+{
+    match reason {
+        Reason::NotAnArray(role) => {
+            text.extend_from_slice(role.key().as_bytes())?;
+            text.extend_from_slice(b" must be an array of tables")
+        }
+        Reason::UnknownKey(key) => {
+            text.extend_from_slice(b"unknown key: ")?;
+            text.extend_from_slice(key.as_bytes())
+        }
+        Reason::NotATable => text.extend_from_slice(b"must be a table"),
+        Reason::BadCategory(role) => text.extend_from_slice(category_reason(*role).as_bytes()),
+        Reason::BadName => {
+            text.extend_from_slice(b"name must be 1 to 16 letters, digits or hyphens")
+        }
+        Reason::BadNumber(key) => add_number_reason(text, *key),
+        Reason::BadOption(key) => text.extend_from_slice(option_reason(*key).as_bytes()),
+        Reason::SecondHardTotals => {
+            text.extend_from_slice(b"a second device of category HardTotals")
+        }
+    }
+}
+
+// The first thing in a profile that isn't sound.
+fn mistake_text(alloc: Global, mistake: &Mistake) -> Result<Vec<u8>, AllocError>
+    ensures { IfOk result (λ text. text.items ≡ mistake_text mistake.now) }
+{
+    let mut text = place_text(alloc, mistake.place)?;
+    add_reason(&mut text, &mistake.reason)?;
+    Ok(text)
+}
+
+// Tells why a text is no profile. Returns BAD_TEXT, BAD_PROFILE, SHORT or NO_MEMORY.
+fn tell_refusal(
+    alloc: Global,
+    why: &ProfileFileFault,
+    at: &mut u64,
+    text: &mut [u8],
+    needed: &mut usize,
+) -> u32
+    ensures { AnswersRefusal why.now at.old at.new text.old text.new needed.old needed.new result }
+{
+    match why {
+        ProfileFileFault::NotToml { line: _, error } => {
+            let Some(span) = error.span() else {
+                return NO_MEMORY;
+            };
+            let Ok(reason) = joined(alloc, "not TOML: ", error.message()) else {
+                return NO_MEMORY;
+            };
+            *at = span.start as u64;
+            tell_text(&reason, BAD_TEXT, text, needed)
+        }
+        ProfileFileFault::Unsound(mistake) => match mistake_text(alloc, mistake) {
+            Ok(reason) => tell_text(&reason, BAD_PROFILE, text, needed),
+            Err(_) => NO_MEMORY,
+        },
+        ProfileFileFault::Duplicate(name) => {
+            match joined(alloc, "two devices have the name ", name.as_str()) {
+                Ok(reason) => tell_text(&reason, BAD_PROFILE, text, needed),
+                Err(_) => NO_MEMORY,
+            }
+        }
+        _ => NO_MEMORY,
+    }
+}
+
+// Tells whether a text is a profile, and why it isn't.
+fn tell_document(
+    alloc: Global,
+    profile: &str,
+    at: &mut u64,
+    text: &mut [u8],
+    needed: &mut usize,
+) -> u32
+    ensures { AnswersDocument (parse_document profile.now) at.old at.new text.old text.new needed.old needed.new
+        result }
+{
+    match profile_of_text(alloc, profile) {
+        Ok(_) => OK,
+        Err(why) => tell_refusal(alloc, &why, at, text, needed),
+    }
+}
+
+/// Tells why the bytes of a profile are refused, and the place where they stop being a text of TOML. Returns OK if they
+/// aren't, BAD_TEXT, BAD_PROFILE, SHORT or NO_MEMORY.
+pub fn tell_mistake(
+    alloc: Global,
+    profile: &[u8],
+    at: &mut u64,
+    text: &mut [u8],
+    needed: &mut usize,
+) -> u32
+    ensures { AnswersMistake profile.now at.old at.new text.old text.new needed.old needed.new result }
+{
+    if profile.is_empty() {
+        return OK;
+    }
+    match str::from_utf8(profile) {
+        Ok(source) => tell_document(alloc, source, at, text, needed),
+        Err(error) => {
+            *at = error.valid_up_to() as u64;
+            tell_text(b"not UTF-8", BAD_TEXT, text, needed)
+        }
+    }
+}

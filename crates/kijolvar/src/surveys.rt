@@ -1,0 +1,43 @@
+//! What the bytes of a totals file hold (docs/reference/console.md, "What a totals file holds").
+ghost use Rattle.kijolvar.specs.Surveys.{AnswersSurvey, TellsBreak};
+
+use crate::codes::{DAMAGED, NO_MEMORY, OK, TOO_SMALL, UNFORMATTED};
+use crate::telling::tell_text;
+use pos_survey::{Survey, SurveyFault, words_of};
+use std::alloc::Global;
+
+// Tells which rule bytes break, and the place. Returns DAMAGED, SHORT, TOO_SMALL, UNFORMATTED or NO_MEMORY.
+fn tell_break(why: SurveyFault, at: &mut u64, text: &mut [u8], needed: &mut usize) -> u32
+    ensures { TellsBreak why at.old at.new text.old text.new needed.old needed.new result }
+{
+    match why {
+        SurveyFault::NoMemory => NO_MEMORY,
+        SurveyFault::TooSmall => TOO_SMALL,
+        SurveyFault::Unformatted => UNFORMATTED,
+        SurveyFault::Damaged(place, rule) => {
+            *at = place;
+            tell_text(words_of(rule).as_bytes(), DAMAGED, text, needed)
+        }
+    }
+}
+
+/// Tells what the bytes of a totals file hold, or which rule they break, and the place. Returns OK, DAMAGED, SHORT,
+/// TOO_SMALL, UNFORMATTED or NO_MEMORY.
+pub fn tell_survey(
+    alloc: Global,
+    bytes: &[u8],
+    at: &mut u64,
+    text: &mut [u8],
+    needed: &mut usize,
+) -> u32
+    ensures { AnswersSurvey bytes.now at.old at.new text.old text.new needed.old needed.new result }
+{
+    let survey = match Survey::of(alloc, bytes) {
+        Ok(survey) => survey,
+        Err(why) => return tell_break(why, at, text, needed),
+    };
+    match survey.to_text(alloc) {
+        Ok(lines) => tell_text(&lines, OK, text, needed),
+        Err(_) => NO_MEMORY,
+    }
+}
