@@ -43,11 +43,11 @@ PATH=$work/bin:$PATH TOP=$top python3 - <<'PROGRAM'
 import glob, json, os, re, shutil, subprocess, sys, tempfile, urllib.request
 
 TOP = os.environ["TOP"]
-# In this order: abi/README.md makes what others use, and docs/TROUBLE.md shows the file that
+# In this order: abi/README.md makes what others use, and docs/reference/trouble.md shows the file that
 # docs/guide/getting-started.md leaves.
-FIRST = ["abi/README.md", "README.md", "docs/guide/getting-started.md", "docs/TROUBLE.md"]
+FIRST = ["abi/README.md", "README.md", "docs/guide/getting-started.md", "docs/reference/trouble.md"]
 GUIDE = sorted(os.path.relpath(path, TOP) for path in glob.glob(os.path.join(TOP, "docs/guide/*.md")))
-OTHERS = ["CONTRIBUTING.md", "docs/CONSOLE.md", "docs/PROFILE.md"]
+OTHERS = ["CONTRIBUTING.md", "docs/reference/console.md", "docs/reference/profile.md"]
 DOCUMENTS = [*FIRST, *(path for path in GUIDE if path not in FIRST), *OTHERS]
 BLOCK = re.compile(r"^```(\w*)\n(.*?)^```$|((?:^    [^\n]*\n|^\n(?=    ))+)", re.M | re.S)
 NAMED = re.compile(r"`(crates/[\w/]+\.rt)`")
@@ -271,7 +271,7 @@ def checks(document):
 passed = failed = 0
 for path in DOCUMENTS:
     for made in glob.glob("*.disk"):
-        if path != "docs/TROUBLE.md":
+        if path != "docs/reference/trouble.md":
             os.remove(made)
     with open(os.path.join(TOP, path), encoding="utf-8") as file:
         document = file.read()

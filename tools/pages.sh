@@ -1,11 +1,11 @@
 #!/usr/bin/env bash
-# Writes what is made from the sources: docs/CONTRACTS.md, the lists of docs/TRUST.md and the links of docs/RULES.md.
-# Run it after a change of a contract, a definition or a test. With --check it compares only. Usage: tools/pages.sh
-# [--check]. Its last line is 'N passed, M failed'; it ends with 0 if none failed.
+# Writes what is made from the sources: docs/proofs/contracts.md, the lists of docs/proofs/trust.md and the links of
+# docs/proofs/rules.md. Run it after a change of a contract, a definition or a test. With --check it compares only.
+# Usage: tools/pages.sh [--check]. Its last line is 'N passed, M failed'; it ends with 0 if none failed.
 set -u
 cd "$(dirname "$0")/.." || exit 1
 passed=0 failed=0
-for tool in contracts trust rules; do
+for tool in contracts calls trust lists rules; do
   said=$(python3 "tools/$tool.py" "$@")
   echo "$tool: $said"
   read -r good bad < <(tail -n 1 <<< "$said" | sed -n 's/^\([0-9]*\) passed, \([0-9]*\) failed$/\1 \2/p')
