@@ -601,7 +601,7 @@ def parts(documents):
     has("docs/contributing/testing.md", "tests crates", [ticked(cells[0])[0] for cells in rows_of(testing, "Tests crates")],
         [crate for crate in CRATES if crate.endswith("_tests")])
     added = [" ".join(pair) for pair in re.findall(r'^count(?:_median)? "([^"]+)" (\d+)', read("tests/adding.sh"), re.M)]
-    has("docs/contributing/adding.md", "what an addition takes", [f"{cells[0]} {cells[-1]}" for cells in
+    has("docs/contributing/adding.md", "what an addition takes", [f"{cells[0]} {cells[2]}" for cells in
         rows_of(documents["docs/contributing/adding.md"], "What an addition takes")], added)
     benches = [os.path.basename(ticked(cells[0])[0].split(" ")[0]) for cells in rows_of(documents["docs/contributing/measures.md"], "How they are taken")]
     there = [os.path.basename(path) for path in glob.glob("bench/*.*") if re.search(r"\.(sh|py)$", path) and os.access(path, os.X_OK)]

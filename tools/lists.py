@@ -6,6 +6,7 @@ sentence of the comment before it. A table is between two marks.
 
 Usage: tools/lists.py, or with --check to compare only. Its last line is 'N passed, M failed', a table each.
 """
+import functools
 import glob
 import os
 import re
@@ -92,11 +93,33 @@ def benches():
     return table(["Script", "What it does"], [[f"`{path}`", head_of_script(path)] for path in found])
 
 
+@functools.cache
+def counted_files():
+    """The files that tests/adding.sh looks at, with their crates and texts."""
+    found = []
+    for crate in sources.crates():
+        if not crate.endswith("_tests") and crate != "pos_till":
+            for folder, ending in (("src", "rt"), ("specs", "antt"), ("proofs", "antt")):
+                found += [(short(crate), path, sources.read(path)) for path in sources.Tree.paths(crate, folder, ending)]
+    return found
+
+
+def files_with(pattern):
+    """The files that name something, as a list by crates."""
+    found, words = {}, re.findall(r"\w{4,}", pattern.partition("(?:")[2])
+    for crate, path, text in counted_files():
+        if any(word in text for word in words) and re.search(pattern, text):
+            found.setdefault(crate, []).append(path.split("/", 2)[2].rpartition(".")[0])
+    return "; ".join(f"{crate}: {', '.join(files)}" for crate, files in found.items())
+
+
 def additions():
-    found = re.findall(r'^count(_median)? "([^"]+)" (\d+) (.*)$', sources.read("tests/adding.sh"), re.M)
-    names = {kind: "the median of the five" if median else re.findall(r"\w+", pattern.replace("\\b", ""))[0]
-             for median, kind, _, pattern in found}
-    return table(["Kind", "Counted of", "Files"], [[kind, names[kind], most] for _, kind, most, _ in found])
+    rows = []
+    for median, kind, most, words in re.findall(r'^count(_median)? "([^"]+)" (\d+) (.*)$', sources.read("tests/adding.sh"), re.M):
+        pattern = rf"\b{words.split()[2]}\b" if median else words.strip("'")
+        name = words.split()[2] if median else re.findall(r"\w+", pattern.replace("\\b", ""))[0]
+        rows.append([kind, name, most, files_with(rf"(?<!specs\.)(?<!proofs\.)(?:{pattern})")])
+    return table(["Kind", "As", "At most", "Files that name it"], rows)
 
 
 HEADER = "abi/kijolvar.h"
@@ -113,7 +136,19 @@ def library_codes():
     return table(["Code", "Number", "Meaning"], [[f"`{name}`", number, sentence(note)] for note, name, number in found])
 
 
+def file_messages():
+    """The messages of a fault of the totals' file, with their status and cause."""
+    text = sources.read("crates/pos_program/src/file_fault.rt")
+    rows = []
+    for notes, message, name in re.findall(r'((?:^    ///.*\n)+)    #\[error\("(.*)"\)\]\n    (\w+)', text, re.M):
+        cause = " ".join(re.sub(r"^ *///", "", notes, flags=re.M).split()).rstrip(".")
+        message = message.replace("{0}", "REASON").replace("{at}", "N").replace("{rule}", "RULE")
+        rows.append(["6" if name.startswith("NoMemory") else "4", f"`FILE: {message}`", cause])
+    return table(["Status", "Message", "Cause"], rows)
+
+
 LISTS = {
+    "messages": ("docs/reference/trouble.md", file_messages),
     "calls of the library": ("abi/README.md", library_calls),
     "codes of the library": ("abi/README.md", library_codes),
     "crates": ("docs/contributing/architecture.md", crates),
