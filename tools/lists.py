@@ -106,7 +106,7 @@ def counted_files():
 
 def files_with(pattern):
     """The files that name something, as a list by crates."""
-    found, words = {}, re.findall(r"\w{4,}", pattern.partition("(?:")[2])
+    found, words = {}, re.findall(r"\w{4,}", pattern.partition("(?:")[2].replace("\\b", " "))
     for crate, path, text in counted_files():
         if any(word in text for word in words) and re.search(pattern, text):
             found.setdefault(crate, []).append(path.split("/", 2)[2].rpartition(".")[0])
