@@ -39,7 +39,7 @@ MADE = {"out/pos_console", "crates/pos_console/out/pos_console", "out/libkijolva
         "abi/out", "till.disk", "till.toml", "day.py", "drawer.c", "libkijolvar.a", "libkijolvar.so"}
 # Words in backticks that are of the standard, of the system or of the checker, and so of no source here.
 OTHERS = {"checkHealth", "directIO", "transactionPrint", "paste", "diff", "strace", "dmesg", "smartctl", "libc", "LendsIf",
-          "pos_"}
+          "pos_", "RedirectStandardInput", "RedirectStandardOutput", "StandardInputEncoding"}
 # Names of files that the checker refuses, as docs/contributing/decisions.md says.
 REFUSED = {"Contracts.antt", "proofs/Formatting.antt"}
 

@@ -8,6 +8,7 @@ Usage: tools/calls.py, or with --check to compare only. Its last line is 'N pass
 import json
 import os
 import sys
+import textwrap
 
 sys.dont_write_bytecode = True
 import sources
@@ -17,7 +18,7 @@ DESCRIPTION = "abi/description.json"
 HEAD = """# Every call, property, event and code
 
 `tools/calls.py` writes this page from [abi/description.json](../../abi/description.json), and `tests/documents.sh`
-compares it. [model.md](model.md) says what the calls do together, and [console.md](console.md) how a script writes them.
+compares it. [model.md](model.md) says what the calls do together, [console.md](console.md) how a script writes them.
 
 - **Claim**: the call needs the control's own claim, or that no other control has one.
 - **Enabled**: the call needs an enabled device.
@@ -104,7 +105,8 @@ def parts(known):
     """The text of each part of the page, by its heading."""
     found = {}
     for name, group in [("Every category", known["common"]), *((it["name"], it) for it in known["categories"])]:
-        said = [cell(f"{group['summary']} {group['detail']}") + ".\n"] if "summary" in group else []
+        about = f"{group.get('summary', '')} {group.get('detail', '')}".strip()
+        said = [textwrap.fill(about, 120, break_on_hyphens=False) + "\n"] if about else []
         said += [table(CALL, map(of_call, group["methods"])), table(PROPERTY, map(of_property, group["properties"]))]
         found[name] = "\n".join(said)
     found["Events"] = table(["Event", "Carries", "Of", "Says"], [

@@ -15,8 +15,8 @@ import sources
 PAGE = "docs/proofs/contracts.md"
 HEAD = """# The contracts of all crates
 
-`tools/contracts.py` writes this page from the sources, and `tests/documents.sh` compares it. [what-is-proved.md](what-is-proved.md) is
-the short list: what the contracts say together, and what they leave out.
+`tools/contracts.py` writes this page from the sources, and `tests/documents.sh` compares it. [What is
+proved](what-is-proved.md) is the short list: what the contracts say together, and what they leave out.
 
 A heading is a crate, lowest first. A row is a function or a type:
 
