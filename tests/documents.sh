@@ -6,12 +6,13 @@
 #   comments   a document and a heading that a source, a test or a script names exist
 #   names      `crate::function`, `Type::method`, `Type::Variant` and `crate.Module.name` are declared there
 #   words      a single word in backticks that looks like a name is a word of the sources, or of the list of others below
-#   proofs     each function that a crate's users can call and that has a clause is in the crate's table of docs/CONTRACTS.md, and
+#   proofs     each function that a crate's users can call and that has a clause is in the crate's table of docs/proofs/contracts.md, and
 #              each function of a table is the crate's
-#   generated  docs/CONTRACTS.md and the lists of docs/TRUST.md are what tools/contracts.py and tools/trust.py write
+#   generated  docs/proofs/contracts.md, docs/reference/calls.md, the lists of docs/proofs/trust.md and the tables between
+#              marks are what tools/contracts.py, tools/calls.py, tools/trust.py and tools/lists.py write
 #   clauses    a clause that is named beside a function, and a field beside a definition, is there
-#   theorems   in docs/THEOREMS.md, a function is one that its crate's users can call and has the clause, and its contract
-#              leads to the relation; a quoted refusal is in docs/DECISIONS.md; a part without a function is said to be missing
+#   theorems   in docs/proofs/theorems.md, a function is one that its crate's users can call and has the clause, and its contract
+#              leads to the relation; a quoted refusal is in docs/contributing/decisions.md; a part without a function is said to be missing
 #   commits    a commit's id is one of this history
 #   kit        the kit that README names is the one that `rt version` tells
 #   crates     the crates and what they stand on are those of crates.txt
@@ -38,8 +39,8 @@ MADE = {"out/pos_console", "crates/pos_console/out/pos_console", "out/libkijolva
         "abi/out", "till.disk", "till.toml", "day.py", "drawer.c", "libkijolvar.a", "libkijolvar.so"}
 # Words in backticks that are of the standard, of the system or of the checker, and so of no source here.
 OTHERS = {"checkHealth", "directIO", "transactionPrint", "paste", "diff", "strace", "dmesg", "smartctl", "libc", "LendsIf",
-          "pos_"}
-# Names of files that the checker refuses, as docs/DECISIONS.md says.
+          "pos_", "RedirectStandardInput", "RedirectStandardOutput", "StandardInputEncoding"}
+# Names of files that the checker refuses, as docs/contributing/decisions.md says.
 REFUSED = {"Contracts.antt", "proofs/Formatting.antt"}
 
 
@@ -238,7 +239,7 @@ def comments(documents):
     for path in FILES:
         if path.endswith(".md") or not re.match(r"(crates|tests|bench|abi|\.ci)/", path) or path == "tests/documents.sh":
             continue
-        quoted = r'\b((?:docs/(?:guide/)?|abi/)[\w-]+\.md)(?:,\s+(?:(?://[/!]?|#|--|\*)\s+)?"([^"]+)")?'
+        quoted = r'\b((?:docs/(?:\w+/)?|abi/)[\w-]+\.md)(?:,\s+(?:(?://[/!]?|#|--|\*)\s+)?"([^"]+)")?'
         for name, heading in re.findall(quoted, read(path)):
             looked += 1
             heading = re.sub(r"\s*\n\s*(//[/!]?|#|--|\*)?\s*", " ", heading)
@@ -341,7 +342,7 @@ def words(documents):
 
 
 def tables_of_contracts(text):
-    """The crate of each heading of docs/CONTRACTS.md, with the functions that its table names, as (owner, name)."""
+    """The crate of each heading of docs/proofs/contracts.md, with the functions that its table names, as (owner, name)."""
     for block in re.split(r"^## ", text, flags=re.M)[1:]:
         crate, _, body = block.partition("\n")
         rows = re.findall(r"^\| \[`([\w:]+)`\]", body, re.M)
@@ -351,7 +352,7 @@ def tables_of_contracts(text):
 @rule
 def proofs(documents):
     looked, faults = 0, []
-    document = "docs/CONTRACTS.md"
+    document = "docs/proofs/contracts.md"
     headed = set()
     for crate, rows in tables_of_contracts(documents[document]):
         headed.add(crate)
@@ -378,10 +379,10 @@ def generated(documents):
     """What the tools write, by the tools' own comparison."""
     sys.dont_write_bytecode = True
     sys.path.insert(0, "tools")
-    import contracts, trust
-    looked, faults = contracts.faults(documents["docs/CONTRACTS.md"])
-    more, others = trust.faults(documents["docs/TRUST.md"], documents)
-    return looked + more, faults + others
+    import calls, contracts, lists, trust
+    found = [contracts.faults(documents["docs/proofs/contracts.md"]), calls.faults(documents["docs/reference/calls.md"]),
+             trust.faults(documents["docs/proofs/trust.md"], documents), lists.faults(documents)]
+    return sum(looked for looked, _ in found), [fault for _, faults in found for fault in faults]
 
 
 def has_clause(name, clause):
@@ -411,7 +412,7 @@ def clauses(documents):
         named = re.findall(rf"{one}, clause\s+`(\w+)`", text)
         for row in re.findall(r"^\|.*\|$", text, re.M):
             cells = [cell.strip() for cell in row.strip("|").split("|")]
-            if document == "docs/PROOFS.md" and len(cells) == 3 and re.fullmatch(r"`[\w:]+`", cells[1]):
+            if document == "docs/proofs/what-is-proved.md" and len(cells) == 3 and re.fullmatch(r"`[\w:]+`", cells[1]):
                 named += [(cells[1].strip("`"), clause) for clause in re.findall(r"`(\w+)`", cells[2])]
         parts_of = [(name, part) for part, *names in re.findall(rf"`(\w+)`\s+of\s+{one}(?:\s+and\s+of\s+{one})?", text)
                     for name in names if name and part.islower()]
@@ -422,7 +423,7 @@ def clauses(documents):
     return looked, faults
 
 
-THEOREMS = "docs/THEOREMS.md"
+THEOREMS = "docs/proofs/theorems.md"
 # What a row has in place of a function.
 NO_FUNCTION = {"missing", "every function", "every function with an error"}
 
@@ -460,7 +461,7 @@ def reached_by(function):
 
 
 def fault_of_row(function, clause, left):
-    """What is wrong with a row of docs/THEOREMS.md."""
+    """What is wrong with a row of docs/proofs/theorems.md."""
     paths = ticked(function)
     if not paths:
         if function not in NO_FUNCTION or not left:
@@ -482,7 +483,7 @@ def fault_of_row(function, clause, left):
 @rule
 def theorems(documents):
     looked, faults = 0, []
-    decisions = " ".join(documents["docs/DECISIONS.md"].split())
+    decisions = " ".join(documents["docs/contributing/decisions.md"].split())
     for table in re.findall(r"^\| Part \|.*\n\|[-|]*\n((?:^\|.*\n)+)", documents[THEOREMS], re.M):
         for row in table.strip().split("\n"):
             cells = [cell.strip() for cell in row.strip("|").split("|")]
@@ -490,7 +491,7 @@ def theorems(documents):
             fault = fault_of_row(cells[2], cells[3], cells[5]) if len(cells) == 6 else "it doesn't have six cells"
             if fault:
                 faults.append(f"{THEOREMS}: {cells[0]}: {fault}")
-            faults += [f"{THEOREMS}: {cells[0]}: docs/DECISIONS.md quotes no {quoted}"
+            faults += [f"{THEOREMS}: {cells[0]}: docs/contributing/decisions.md quotes no {quoted}"
                        for quoted in re.findall(r'"([^"]+)"', cells[-1]) if quoted not in decisions]
     return looked, faults
 
@@ -543,9 +544,9 @@ def stands_on():
 @rule
 def crates(documents):
     direct, closed = stands_on()
-    document, faults = "docs/ARCHITECTURE.md", []
+    document, faults = "docs/contributing/architecture.md", []
     rows = {}
-    for row in re.findall(r"^\|(.*)\|$", documents[document].partition("## The levels")[0], re.M):
+    for row in re.findall(r"^\|(.*)\|$", documents[document].partition("## How a call travels")[0], re.M):
         cells = [cell.strip() for cell in row.split("|")]
         if len(cells) == 3 and long_name(cells[0].split(" ")[0]) in CRATES:
             rows[long_name(cells[0].split(" ")[0])] = {long_name(word) for word in re.findall(r"\w+", cells[2])}
@@ -591,20 +592,20 @@ def parts(documents):
         if not said:
             faults.append(f"{document}: {what}: the table isn't there")
 
-    testing = documents["docs/TESTING.md"]
+    testing = documents["docs/contributing/testing.md"]
     said = [ticked(cells[0])[0] for cells in rows_of(testing, "What is tested") if ticked(cells[0])]
     listed = read("tests/expected") if os.path.exists("tests/expected") else ""
     ran = re.findall(r"^gate +\S+ +(.*?)(?: PROGRAM)?$", listed, re.M)
     ran = ran or re.findall(r'^\s*try (.*?)(?: "\$program")?$', read(".ci/run"), re.M)
-    has("docs/TESTING.md", "the parts of .ci/run", [command for command in said if command in ran], ran)
-    has("docs/TESTING.md", "tests crates", [ticked(cells[0])[0] for cells in rows_of(testing, "Tests crates")],
+    has("docs/contributing/testing.md", "the parts of .ci/run", [command for command in said if command in ran], ran)
+    has("docs/contributing/testing.md", "tests crates", [ticked(cells[0])[0] for cells in rows_of(testing, "Tests crates")],
         [crate for crate in CRATES if crate.endswith("_tests")])
     added = [" ".join(pair) for pair in re.findall(r'^count(?:_median)? "([^"]+)" (\d+)', read("tests/adding.sh"), re.M)]
-    has("docs/ARCHITECTURE.md", "what an addition takes", [f"{cells[0]} {cells[-1]}" for cells in
-        rows_of(documents["docs/ARCHITECTURE.md"], "What an addition takes")], added)
-    benches = [os.path.basename(ticked(cells[0])[0].split(" ")[0]) for cells in rows_of(documents["docs/MEASURES.md"], "How they are taken")]
+    has("docs/contributing/adding.md", "what an addition takes", [f"{cells[0]} {cells[2]}" for cells in
+        rows_of(documents["docs/contributing/adding.md"], "What an addition takes")], added)
+    benches = [os.path.basename(ticked(cells[0])[0].split(" ")[0]) for cells in rows_of(documents["docs/contributing/measures.md"], "How they are taken")]
     there = [os.path.basename(path) for path in glob.glob("bench/*.*") if re.search(r"\.(sh|py)$", path) and os.access(path, os.X_OK)]
-    has("docs/MEASURES.md", "benches", benches, there)
+    has("docs/contributing/measures.md", "benches", benches, there)
     return looked, faults
 
 
@@ -624,17 +625,18 @@ def tables(documents):
         looked += len(set(said) & set(there))
         faults.extend(compare(document, what, said, there))
 
-    model = documents["docs/MODEL.md"]
-    listed = re.search(r"^\| Property \|.*\n\|[-|]*\n((?:^\|.*\n)+)", model, re.M)
-    said = [name.strip() for row in (listed[1] if listed else "").strip().split("\n") for name in row.strip("|").split("|")[0].split(",")]
+    known = documents["docs/reference/calls.md"]
+    tables = re.findall(r"^\| Property \|.*\n\|[-|]*\n((?:^\|.*\n)+)", known, re.M)
+    said = [row.strip("|").split("|")[0].strip() for table in tables for row in table.strip().split("\n")]
     named = re.findall(r'is\(word, "(\w+)"\) => Some\(Property::', read("crates/pos_service/src/property.rt"))
-    has("docs/MODEL.md", "properties", said, named)
-    console = documents["docs/CONSOLE.md"]
-    said = [word for cells in rows_of(console, "Methods") for word in ticked(cells[0])]
-    has("docs/CONSOLE.md", "methods", said, re.findall(r'codes "(\w+)"', read("crates/pos_script/specs/Methods.antt")))
+    has("docs/reference/calls.md", "properties", said, named)
+    tables = re.findall(r"^\| Call \|.*\n\|[-|]*\n((?:^\|.*\n)+)", known, re.M)[1:]
+    said = [ticked(row)[0] for table in tables for row in table.strip().split("\n")]
+    has("docs/reference/calls.md", "methods", said, re.findall(r'codes "(\w+)"', read("crates/pos_script/specs/Methods.antt")))
+    console = documents["docs/reference/console.md"]
     said = [ticked(cells[0])[0] for cells in rows_of(console, "Lines") if ticked(cells[0])]
     verbs = re.search(r"^fn named_verb.*?^}", read("crates/pos_script/src/command.rt"), re.M | re.S)[0]
-    has("docs/CONSOLE.md", "verbs", said, re.findall(r'is\(word, "(\w+)"\)', verbs))
+    has("docs/reference/console.md", "verbs", said, re.findall(r'is\(word, "(\w+)"\)', verbs))
     header = read("abi/kijolvar.h")
     abi = documents["abi/README.md"]
     said = re.findall(r"^\| `(kijolvar_\w+)` \|", abi, re.M)
@@ -642,12 +644,12 @@ def tables(documents):
     said = [" ".join(pair) for pair in re.findall(r"^\| `(KIJOLVAR_\w+)` \| (\d+) \|", abi, re.M)]
     has("abi/README.md", "codes", said, [" ".join(pair) for pair in re.findall(r"^\s+(KIJOLVAR_\w+) = (\d+)", header, re.M)])
     numbers = dict(re.findall(r"Code::(\w+) => (\d+)", read("crates/pos_service/src/code.rt")))
-    said = re.findall(r"^\| (1\d\d)(?: \d+)? \| E_\w+ \|", documents["docs/TROUBLE.md"], re.M)
-    has("docs/TROUBLE.md", "result codes", said, [number for number in numbers.values() if number != "0"])
+    said = re.findall(r"^\| (1\d\d)(?: \d+)? \| E_\w+", known, re.M)
+    has("docs/reference/calls.md", "result codes", said, [number for number in numbers.values() if number != "0"])
     for message in re.findall(r'^\s*#\[error\("([^"]+)"\)\]', read("crates/pos_program/src/file_fault.rt"), re.M):
         looked += 1
-        if message.partition("{")[0].strip() not in documents["docs/TROUBLE.md"]:
-            faults.append(f"docs/TROUBLE.md: the message isn't there: {message}")
+        if message.partition("{")[0].strip() not in documents["docs/reference/trouble.md"]:
+            faults.append(f"docs/reference/trouble.md: the message isn't there: {message}")
     return looked, faults
 
 
@@ -661,13 +663,13 @@ def spelt(number):
 
 
 COUNTS = [
-    ("docs/DECISIONS.md", r"The (\S+) properties, whose names", lambda: len(variants("pos_service", "Property"))),
-    ("docs/DECISIONS.md", r"(\S+) functions have `requires \{ Unit \{0\} \}`",
+    ("docs/contributing/decisions.md", r"The (\S+) properties, whose names", lambda: len(variants("pos_service", "Property"))),
+    ("docs/contributing/decisions.md", r"(\S+) functions have `requires \{ Unit \{0\} \}`",
      lambda: sum(read(path).count("requires { Unit {0} }") for path in FILES if path.endswith(".rt"))),
-    ("docs/TESTING.md", r"\*\*In the gate\*\*, `crates/CRATE/must-fail/`, (\S+):", lambda: edits_in("crates/*/must-fail/*.edit")),
-    ("docs/TESTING.md", r"\*\*Outside\*\*, `tests/edits/CRATE/`, (\S+),", lambda: edits_in("tests/edits/*/*.edit")),
-    ("docs/TESTING.md", r"\*\*Outside\*\*, `tests/edits/CRATE/`, \S+, (\S+) of them of `kijolvar`", lambda: edits_in("tests/edits/kijolvar/*.edit")),
-    ("docs/TESTING.md", r"There are (\S+) scripts", lambda: len(scripts())),
+    ("docs/contributing/testing.md", r"\*\*In the gate\*\*, `crates/CRATE/must-fail/`, (\S+):", lambda: edits_in("crates/*/must-fail/*.edit")),
+    ("docs/contributing/testing.md", r"\*\*Outside\*\*, `tests/edits/CRATE/`, (\S+),", lambda: edits_in("tests/edits/*/*.edit")),
+    ("docs/contributing/testing.md", r"\*\*Outside\*\*, `tests/edits/CRATE/`, \S+, (\S+) of them of `kijolvar`", lambda: edits_in("tests/edits/kijolvar/*.edit")),
+    ("docs/contributing/testing.md", r"There are (\S+) scripts", lambda: len(scripts())),
 ]
 
 
@@ -691,14 +693,14 @@ SECTION = re.compile(r"(?:[\w, ]*\b)?(?:Propert(?:y|ies)|Methods?|Events?|\w+Eve
 
 def fault_of_group(comment, first, documents):
     """What is wrong with the comment of a group: it begins with a heading of the standard, or of a document."""
-    quoted = re.findall(r"(docs/[A-Z]+\.md), ([^:;,]+)", comment)
+    quoted = re.findall(r"(docs/[\w/-]+\.md), ([^:;,]+)", comment)
     for document, heading in quoted:
         if not os.path.exists(document) or not has_heading(document, heading, documents):
             return f"{document} has no heading {heading}"
     if quoted or comment.startswith("UnifiedPOS 1.16, "):
         return None
     begin = re.split("[:,]", comment)[0]
-    if any(begin in headings(document, documents) for document in re.findall(r"docs/[A-Z]+\.md", first)):
+    if any(begin in headings(document, documents) for document in re.findall(r"docs/[\w/-]+\.md", first)):
         return None
     return None if SECTION.match(comment.partition(":")[0]) else "no section is named"
 
@@ -708,7 +710,7 @@ def sections(documents):
     looked, faults = 0, []
     for path in SCRIPTS:
         lines = documents[path].split("\n")
-        if not re.match(r"# (UnifiedPOS 1\.16, \w|docs/[A-Z]+\.md, \w)", lines[0]):
+        if not re.match(r"# (UnifiedPOS 1\.16, \w|docs/[\w/-]+\.md, \w)", lines[0]):
             faults.append(f"{path}: its first line names no chapter")
         for number, line in enumerate(lines):
             if not line or number > 0 and lines[number - 1]:
@@ -738,30 +740,32 @@ def instead(document, pattern, text):
 
 PLANTS = [
     ("paths", behind("README.md", "See `crates/pos_counter/src/nothing.rt`.")),
-    ("paths", behind("docs/MODEL.md", "See `Nothing.antt`.")),
-    ("paths", behind("docs/TESTING.md", "Run `tests/nothing.sh [CRATE]`.")),
-    ("links", behind("README.md", "See [it](docs/NOTHING.md).")),
-    ("links", behind("docs/DISK.md", "See [MODEL.md](MODEL.md#no-such-heading).")),
-    ("links", behind("docs/DISK.md", 'See [MODEL.md](MODEL.md), "No such heading".')),
-    ("links", behind("docs/DISK.md", 'See "No such heading", above.')),
-    ("links", behind("docs/DISK.md", "See [it](../tests/rules.sh#L999).")),
-    ("comments", instead("docs/DISK.md", r"^## The layouts$", "## Layouts of the disk")),
+    ("paths", behind("docs/reference/model.md", "See `Nothing.antt`.")),
+    ("paths", behind("docs/contributing/testing.md", "Run `tests/nothing.sh [CRATE]`.")),
+    ("links", behind("README.md", "See [it](docs/nothing.md).")),
+    ("links", behind("docs/reference/totals-file.md", "See [model.md](model.md#no-such-heading).")),
+    ("links", behind("docs/reference/totals-file.md", 'See [model.md](model.md), "No such heading".')),
+    ("links", behind("docs/reference/totals-file.md", 'See "No such heading", above.')),
+    ("links", behind("docs/reference/totals-file.md", "See [it](../../tests/rules.sh#L999).")),
+    ("comments", instead("docs/reference/totals-file.md", r"^## The layouts$", "## Layouts of the disk")),
     ("comments", instead("abi/README.md", r"^## Codes$", "## Numbers")),
     ("names", behind("README.md", "So does `pos_counter::nothing`.")),
     ("names", behind("docs/guide/totals.md", "So does `Totals::nothing`.")),
     ("names", behind("README.md", "So does `pos_counter::Counter::nothing`.")),
-    ("names", behind("docs/PROOFS.md", "So does `Counter::nothing`.")),
-    ("names", behind("docs/RULES.md", "So does `pos_counter.Steps.Nothing`.")),
-    ("words", behind("docs/MODEL.md", "See `NothingOfIt`.")),
-    ("proofs", instead("docs/CONTRACTS.md", r"^(\| \[`Log::)append(`\].*)$", r"\1append\2\n\1nothing_of_it\2")),
-    ("proofs", instead("docs/CONTRACTS.md", r"^\| \[`Log::renew`\].*\n", "")),
-    ("proofs", instead("docs/CONTRACTS.md", r"^## pos_log$", "## pos_lag")),
-    ("generated", instead("docs/CONTRACTS.md", r"^(\| \[`Log::append`\].*)`appends`", r"\1`append`")),
-    ("generated", instead("docs/TRUST.md", r"`MayLeave` \d+", "`MayLeave` 99")),
-    ("generated", behind("docs/PROOFS.md", "So does `pos_dir::wider_directory`.")),
+    ("names", behind("docs/proofs/what-is-proved.md", "So does `Counter::nothing`.")),
+    ("names", behind("docs/proofs/rules.md", "So does `pos_counter.Steps.Nothing`.")),
+    ("words", behind("docs/reference/model.md", "See `NothingOfIt`.")),
+    ("proofs", instead("docs/proofs/contracts.md", r"^(\| \[`Log::)append(`\].*)$", r"\1append\2\n\1nothing_of_it\2")),
+    ("proofs", instead("docs/proofs/contracts.md", r"^\| \[`Log::renew`\].*\n", "")),
+    ("proofs", instead("docs/proofs/contracts.md", r"^## pos_log$", "## pos_lag")),
+    ("generated", instead("docs/proofs/contracts.md", r"^(\| \[`Log::append`\].*)`appends`", r"\1`append`")),
+    ("generated", instead("docs/proofs/trust.md", r"`MayLeave` \d+", "`MayLeave` 99")),
+    ("generated", behind("docs/proofs/what-is-proved.md", "So does `pos_dir::wider_directory`.")),
+    ("generated", instead("docs/reference/calls.md", r"^\| 113 \| E_BUSY", "| 113 | E_BUZZ")),
+    ("generated", instead("docs/contributing/testing.md", r"^(\| `tests/rules.sh` \|.*) \|$", r"\1 or not |")),
     ("clauses", behind("README.md", "`pos_counter::Counter::call`, clause `nothing_of_it`.")),
-    ("clauses", behind("docs/DISK.md", "This is `nothing_of_it` of `Images::publish`.")),
-    ("clauses", instead("docs/PROOFS.md", r"`pos_counter::laws::crash_prefix` \| `after` \|", "`pos_counter::laws::crash_prefix` | `afterwards` |")),
+    ("clauses", behind("docs/reference/totals-file.md", "This is `nothing_of_it` of `Images::publish`.")),
+    ("clauses", instead("docs/proofs/what-is-proved.md", r"`pos_counter::laws::crash_prefix` \| `after`", "`pos_counter::laws::crash_prefix` | `afterwards`")),
     ("theorems", instead(THEOREMS, r"`pos_store::Store::commit` \| `Commits\.crash`",
                          "`pos_store::Store::commits` | `Commits.crash`")),
     ("theorems", instead(THEOREMS, r"`pos_log::Log::append`, `pos_log::Log::open`",
@@ -771,22 +775,23 @@ PLANTS = [
     ("theorems", instead(THEOREMS, r"`Commits\.crash`", "`Commits.nothing_of_it`")),
     ("theorems", instead(THEOREMS, r'"a type … whose', '"a type … never whose')),
     ("theorems", instead(THEOREMS, r"\| missing as a clause: ", "| whole, as a clause: ")),
-    ("commits", behind("docs/MEASURES.md", "It was measured at 0123abcd.")),
+    ("commits", behind("docs/contributing/measures.md", "It was measured at 0123abcd.")),
     ("kit", instead("README.md", r"rattle-kit-\w+", "rattle-kit-0z")),
-    ("crates", instead("docs/ARCHITECTURE.md", r"^\| store \|.*\n", "")),
-    ("crates", instead("docs/ARCHITECTURE.md", r"^(\| log \|.*) \| disk, image \|$", r"\1 | disk, image, dir |")),
-    ("parts", instead("docs/TESTING.md", r"^\| `tests/rules.sh` \|.*\n", "")),
-    ("parts", instead("docs/TESTING.md", r"`tests/growths\.sh -s 7`", "`tests/growths.sh -s 9`")),
-    ("parts", instead("docs/TESTING.md", r"^\| `pos_run_tests` \|.*\n", "")),
-    ("parts", instead("docs/ARCHITECTURE.md", r"^\| a sign \| `powered` \| \d+ \|", "| a sign | `powered` | 3 |")),
-    ("parts", instead("docs/MEASURES.md", r"^\| `bench/store.sh` \|.*\n", "")),
-    ("tables", instead("docs/MODEL.md", r"^\| DrawerOpened \|.*\n", "")),
-    ("tables", instead("docs/CONSOLE.md", r"^\| `openDrawer` \| CashDrawer", "| `openTheDrawer` | CashDrawer")),
+    ("crates", instead("docs/contributing/architecture.md", r"^\| store \|.*\n", "")),
+    ("crates", instead("docs/contributing/architecture.md", r"^(\| log \|.*) \| disk, image \|$", r"\1 | disk, image, dir |")),
+    ("parts", instead("docs/contributing/testing.md", r"^\| `tests/rules.sh` \|.*\n", "")),
+    ("parts", instead("docs/contributing/testing.md", r"`tests/growths\.sh -s 7`", "`tests/growths.sh -s 9`")),
+    ("parts", instead("docs/contributing/testing.md", r"^\| `pos_run_tests` \|.*\n", "")),
+    ("parts", instead("docs/contributing/adding.md", r"^\| a sign \| powered \| \d+ \|", "| a sign | powered | 3 |")),
+    ("parts", instead("docs/contributing/measures.md", r"^\| `bench/store.sh` \|.*\n", "")),
+    ("tables", instead("docs/reference/calls.md", r"^\| DrawerOpened \|.*\n", "")),
+    ("tables", instead("docs/reference/calls.md", r"^\| `openDrawer` \|", "| `openTheDrawer` |")),
+    ("tables", instead("docs/reference/console.md", r"^\| `deliver` C \|", "| `delivers` C |")),
     ("tables", instead("abi/README.md", r"^\| `KIJOLVAR_CUT` \| 4 \|", "| `KIJOLVAR_CUT` | 3 |")),
-    ("tables", instead("docs/TROUBLE.md", r"^\| 113 \| E_BUSY \|.*\n", "")),
-    ("tables", instead("docs/TROUBLE.md", r"can't be lengthened", "can't be made longer")),
-    ("counts", instead("docs/TESTING.md", r"There are \S+ scripts", "There are 12 scripts")),
-    ("sections", instead("docs/DISK.md", r"^### The log$", "### A log")),
+    ("tables", instead("docs/reference/calls.md", r"^\| 113 \| E_BUSY \|.*\n", "")),
+    ("tables", instead("docs/reference/trouble.md", r"can't be lengthened", "can't be made longer")),
+    ("counts", instead("docs/contributing/testing.md", r"There are \S+ scripts", "There are 12 scripts")),
+    ("sections", instead("docs/reference/totals-file.md", r"^## The log$", "## A log")),
     ("sections", instead(SCRIPTS[0], r"^# UnifiedPOS 1\.16, ", "# ")),
     ("sections", instead(SCRIPTS[0], r"^# claim Method: the holder", "# The holder")),
     ("sections", behind(SCRIPTS[0], "\nget a State")),

@@ -18,8 +18,10 @@ LONGEST = 35
 RUN = 9
 # Documents whose prose isn't measured yet.
 NOT_COVERED = []
-# Written by tools/contracts.py from the contracts' names: a table.
-GENERATED = ["docs/proofs/contracts.md"]
+# Written by tools/contracts.py and tools/calls.py: tables.
+GENERATED = ["docs/proofs/contracts.md", "docs/reference/calls.md"]
+# What a tool writes into a document, between two marks.
+MARKED = re.compile(r"<!-- (.*?): tools/\w+\.py writes from here \.\. -->.*?<!-- \.\. to here: \1 -->", re.S)
 # Words that have a plainer one: `again`, `returns`, `prints`, `in total`, `so does`, `if` and the like.
 REPLACED = re.compile(
     r"\banew\b|\bof one's own\b|\bhand(?:s|ed|ing)? (?:out|on|over)\b|\b(?:is|are|was|were) told\b|\bin sum\b"
@@ -34,11 +36,11 @@ def read(path):
 
 
 def blocks_of(text):
-    """The paragraphs and list items of a document, and the cells of its tables. Code, headings and the paragraphs that
-    tools/trust.py writes are left out."""
+    """The paragraphs and list items of a document, and the cells of its tables. Code, headings and what a tool writes
+    are left out."""
+    text = MARKED.sub("", text)
     text = re.sub(r"^( *)```.*?^\1```", "\n", text, flags=re.M | re.S)
     text = re.sub(r"<!--.*?-->", "", text, flags=re.S)
-    text = re.sub(r"^\*\*\[(?:.+\n)+", "", text, flags=re.M)
     prose, cells, lines = [], [], []
 
     def end():

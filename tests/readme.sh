@@ -8,8 +8,9 @@
 #   toml     a profile, which the program takes;
 #   python   a part of a program: the parts of a document run one after another, over the library as a shared object;
 #   c        a whole program in C over the library;
-#   rust     a whole program in Rust over the library if it has `fn main()`. Else it is Rattle, and stands so in the
-#            file that is named last before it. Left out lines are `// ..`.
+#   rust     a whole program in Rust over the library if it has `fn main()`. Else it is Rattle, and is so in the
+#            file that is named last before it. Left out lines are `// ..`;
+#   csharp   which isn't run.
 # A `python`, `c` or `rust` program also prints what is in the block `text` that follows. One whose first line is a
 # comment with a file's name is put into that file, for the commands that follow it.
 # In an indented block each line is a command. It ends well, and prints nothing or what abi/sale.stdout has, the last
@@ -64,6 +65,7 @@ NOT_RUN = [
     (r"rt must-fail NAME$", "it tries the edits of a crate, which the gate does"),
     (r"rt fmt$", "it changes files; the gate refuses what isn't laid out by it"),
     (r"tests/(?:documents|rules|prose)\.sh$", "the gate runs it"),
+    (r"csharp", "no test has a compiler for it"),
 ]
 # The command that builds the archive: it has run before, or this has run it.
 BUILDS = r"\(cd crates/kijolvar && rt lib\)$"
@@ -256,6 +258,10 @@ def checks(document):
             yield compiles(kind, text, wanted)
         elif kind == "rust":
             yield stands(text, NAMED.findall(document[: block.start()])[-1])
+        elif kind == "csharp":
+            fitted.add(kind)
+            print("not run: C#: no test has a compiler for it")
+            yield "not run"
         elif indented and not re.search(r";\s*(?:/\*.*\*/)?$", indented, re.M):
             text = re.sub(r"\\\n\s*", " ", indented)
             commands = [line.strip() for line in text.split("\n") if line.strip()]

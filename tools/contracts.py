@@ -15,8 +15,8 @@ import sources
 PAGE = "docs/proofs/contracts.md"
 HEAD = """# The contracts of all crates
 
-`tools/contracts.py` writes this page from the sources, and `tests/documents.sh` compares it. [PROOFS.md](PROOFS.md) is
-the short list: what the contracts say together, and what they leave out.
+`tools/contracts.py` writes this page from the sources, and `tests/documents.sh` compares it. [What is
+proved](what-is-proved.md) is the short list: what the contracts say together, and what they leave out.
 
 A heading is a crate, lowest first. A row is a function or a type:
 
@@ -52,7 +52,7 @@ def names_of(function, kind):
 
 
 def cells_of(function):
-    name = f"[`{function.title()}`](../{function.path})"
+    name = f"[`{function.title()}`](../../{function.path})"
     return [name, summary(function.comment), names_of(function, "requires"), names_of(function, "ensures")]
 
 
@@ -65,7 +65,7 @@ def of_crate(tree, crate):
     for key, item in tree.items.items():
         if key[0] == crate and " as " in item.name and item.path.startswith(f"crates/{crate}/src/"):
             kind, trait = item.name.split(" as ")
-            name = f"[`{kind}` as `{trait}`](../{item.path})"
+            name = f"[`{kind}` as `{trait}`](../../{item.path})"
             rows.append((item.path, item.line, [name, f"Defines {ghosts_of(item)}", "", ""]))
     return ["| " + " | ".join(cells) + " |" for _, _, cells in sorted(rows)]
 

@@ -5,7 +5,7 @@
 set -u
 cd "$(dirname "$0")/.." || exit 1
 passed=0 failed=0
-for tool in contracts trust rules; do
+for tool in contracts calls trust lists rules; do
   said=$(python3 "tools/$tool.py" "$@")
   echo "$tool: $said"
   read -r good bad < <(tail -n 1 <<< "$said" | sed -n 's/^\([0-9]*\) passed, \([0-9]*\) failed$/\1 \2/p')

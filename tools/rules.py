@@ -10,7 +10,7 @@ definition, the function and the test. The text of a link says where it leads:
   `crate: name`                  a test of a tests crate
   `tests/name`                   a script of tests/
 Behind the prose stand words that are under its heading, and behind a group words of one of its lines, as in
-  [MODEL, Events](..): "wait for DataEventEnabled"
+  [model, Events](..): "wait for DataEventEnabled"
 Behind the function may stand `; body`, and the function whose body decides; it has to where the first has no body. The
 contract of the first has to lead to the definition, by the names that it uses and those that their definitions use in
 turn. With --check it also plants a wrong cell of each kind in a row, which has to be found. Its last line is 'N passed,
@@ -25,6 +25,7 @@ sys.dont_write_bytecode = True
 import sources
 
 PAGE = "docs/proofs/rules.md"
+DOCUMENTS = sorted(os.path.relpath(path, sources.TOP) for path in glob.glob(f"{sources.TOP}/docs/*/*.md"))
 SCRIPTS = "crates/pos_console/scripts"
 
 
@@ -80,11 +81,11 @@ def under(path, number):
 def prose(cell):
     text, words = parsed(cell)
     document, _, heading = text.partition(", ")
-    path = f"docs/{document}.md"
-    if not os.path.exists(os.path.join(sources.TOP, path)):
-        raise Fault(f"there is no {path}")
+    path = next((path for path in DOCUMENTS if os.path.basename(path) == f"{document}.md"), None)
+    if path is None:
+        raise Fault(f"there is no document {document}")
     number = line_of(path, rf"#+ {re.escape(heading)}$", f"heading {heading}")
-    return f"[{text}]({document}.md#{slug(heading)})" + quoted(words, under(path, number), text)
+    return f"[{text}]({os.path.relpath(path, os.path.dirname(PAGE))}#{slug(heading)})" + quoted(words, under(path, number), text)
 
 
 def definition(tree, text):
@@ -92,7 +93,7 @@ def definition(tree, text):
     item = tree.items.get((crate, module, name))
     if item is None:
         raise Fault(f"no definition {text}")
-    return f"[`{text}`](../{item.path}#L{item.line})"
+    return f"[`{text}`](../../{item.path}#L{item.line})"
 
 
 def function(tree, text):
@@ -109,7 +110,7 @@ def functions(tree, cell):
     found = [function(tree, name) for name in names]
     if found[-1].contract.rstrip().endswith(";"):
         raise Fault(f"{names[-1]} has no body")
-    return "; body ".join(f"[`{name}`](../{at.path}#L{at.line})" for name, at in zip(names, found))
+    return "; body ".join(f"[`{name}`](../../{at.path}#L{at.line})" for name, at in zip(names, found))
 
 
 def group_of(path, number):
@@ -127,18 +128,18 @@ def test(cell):
             path = os.path.relpath(path, sources.TOP)
             if re.search(rf"#\[test\]\s+fn {re.escape(rest)}\b", sources.read(path)):
                 number = line_of(path, rf"fn {re.escape(rest)}\b", f"test {rest}")
-                return f"[{text}](../{path}#L{number})"
+                return f"[{text}](../../{path}#L{number})"
         raise Fault(f"{name} has no test {rest}")
     if re.fullmatch(r"tests/[\w.]+", text):
         if not os.path.exists(os.path.join(sources.TOP, text)):
             raise Fault(f"there is no {text}")
-        return f"[{text}](../{text})"
+        return f"[{text}](../../{text})"
     path = f"{SCRIPTS}/{name}"
     if not os.path.exists(os.path.join(sources.TOP, path)):
         raise Fault(f"there is no script {name}")
     comment = rest.replace("\\|", "|")
     number = line_of(path, rf"# {re.escape(comment)}", f"group {comment!r}")
-    return f"[{text}](../{path}#L{number})" + quoted(words, group_of(path, number), "the test's group")
+    return f"[{text}](../../{path}#L{number})" + quoted(words, group_of(path, number), "the test's group")
 
 
 def written(tree, cells):

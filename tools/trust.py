@@ -14,7 +14,7 @@ sys.dont_write_bytecode = True
 import sources
 
 PAGE = "docs/proofs/trust.md"
-DOCUMENTS = {"README": "README.md", "PROOFS": "docs/proofs/what-is-proved.md"}
+DOCUMENTS = {"README": ["README.md"], "PROOFS": ["docs/proofs/what-is-proved.md", "docs/proofs/theorems.md"]}
 BY_EYE = ["crates/pos_streams/src/adapters.rt", "crates/pos_file/src/system_file.rt", "crates/pos_console/src/main.rt",
           "crates/kijolvar/src/tray.rt", "abi/heap.c", "abi/kijolvar.h"]
 TABLE = "| File | Lines | Definitions and types, with their lines |\n|---|---|---|\n"
@@ -81,7 +81,7 @@ def written(tree, functions, keys):
             parts.append(f"\n**{crate}**, {lines:,} lines\n\n{TABLE}")
         file = path.split("/", 2)[2]
         names = ", ".join(f"`{item.name}` {item.lines}" for item in items)
-        parts.append(f"| [{file}](../{path}) | {sum(item.lines for item in items)} | {names} |\n")
+        parts.append(f"| [{file}](../../{path}) | {sum(item.lines for item in items)} | {names} |\n")
     return "".join(parts)
 
 
@@ -103,15 +103,15 @@ def of_kit(tree, keys, functions):
 def by_eye():
     there = [path for path in BY_EYE if os.path.exists(os.path.join(sources.TOP, path))]
     counts = {path: sum(1 for line in sources.read(path).split("\n") if line.strip()) for path in there}
-    rows = [f"| [{path}](../{path}) | {count} |\n" for path, count in counts.items()]
+    rows = [f"| [{path}](../../{path}) | {count} |\n" for path, count in counts.items()]
     return "| File | Lines |\n|---|---|\n" + "".join(rows)
 
 
 def lists(tree, texts):
     """Each list of the page, by its name, over the texts of the documents."""
     found, seen, functions = {}, set(), {}
-    for name, document in DOCUMENTS.items():
-        named = contracts_in(tree, texts[document])
+    for name, documents in DOCUMENTS.items():
+        named = contracts_in(tree, "".join(texts[document] for document in documents))
         more = {path: function for path, function in named.items() if path not in functions}
         functions.update(more)
         start = set().union(*(tree.named_by_contract(function) for function in more.values()))
@@ -143,7 +143,7 @@ def faults(page, texts):
 
 
 def main():
-    texts = {document: sources.read(document) for document in DOCUMENTS.values()}
+    texts = {document: sources.read(document) for documents in DOCUMENTS.values() for document in documents}
     page = before = sources.read(PAGE)
     if "--check" not in sys.argv:
         for name, text in lists(sources.Tree(), texts).items():
