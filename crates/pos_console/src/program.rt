@@ -132,7 +132,7 @@ pub fn perform<F: NamedFiles, E: Eprint, S: AsStr + Drop, R: Source, W: Sink>(
     errors: &E,
     reader: &mut ScriptReader<R>,
     writer: &mut AnswerWriter<W>,
-    words: Result<Vec<S>, ChoiceFault<'_>>,
+    words: Result<Vec<S>, ChoiceFault>,
 ) -> ExitCode
     ensures { Performs F.NamedFiles ⟦<F::File as BlockFile>⟧ ⟦<TotalsDisk<F::File> as Disk>⟧ files.now S.text
         words.entry (streams_of R.Source reader.old reader.new W.Sink writer.old writer.new) (exit_status result) }

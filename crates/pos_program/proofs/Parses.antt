@@ -1,74 +1,123 @@
--- What a parse of a command's words tells of them.
-use Rattle.std.proofs.Common.{◌≡◌, ◌∙◌, [], List, Some, Err, true, map, codes, refl, sym, ap, subst, inl, inr}
-use Rattle.std.proofs.lemmas.Slice.Eq.{bytes_eq-Decides}
-use Rattle.std.specs.Prelude.{bytes_eq, ◌≢◌, ◌⊎◌, slice_get, option_map}
-use Rattle.std.proofs.lemmas.Option.{slice_get-map}
-use Rattle.clap.specs.Words.{App, HasKind, IsAmong, Kinds, Row, Text, fault_of, first_of, is_simple, is_simple_and_free, kind_of, matches_of}
+-- What a parse of the program's words tells of them.
+use Rattle.std.proofs.Common.{◌≡◌, ◌∷◌, ◌∙◌, ap₂, [], Bool, List, Some, None, Option, Err, Ok, true, false, map, codes, refl, ap, subst, inl, inr}
+use Rattle.std.specs.Prelude.{◌≢◌, ◌⊎◌, find, option_map, Result, IfOk}
+use Rattle.clap.specs.declared.parser.matches.ArgMatches.{ArgMatches}
+use Rattle.clap.specs.Words.{App, HasKind, HasMatchesOf, IsAmong, Row, Shape, Text, fault_of, is_simple, is_simple_and_free, kind_of}
+use Rattle.clap.specs.Words.{AddsSubcommand, app_of, first_value, new_app, rows_of, subcommand_rows_of, with_subcommand}
+use Rattle.clap.specs.Simple.{app_of_fields, argument_words, built, entered, label_of, names_of, on_top, rows_at}
+use Rattle.clap.specs.declared.builder.command.Command.{Command}
+use Rattle.clap.specs.declared.builder.command.Command.TheViews.{out-Command as fields_of}
+use Rattle.clap.specs.declared.parser.matches.Found.{Found}
+use Rattle.clap.proofs.WalkLemmas.{first_value-rows}
+use Rattle.clap.specs.Walk.{answers_to, stop_after}
 use Rattle.clap.specs.declared.error.Error.{Error}
-use Rattle.clap.specs.declared.error.kind.ErrorKind.TheVariants.{DisplayHelp, OutOfMemory}
+use Rattle.clap.specs.declared.error.kind.ErrorKind.TheVariants.{OutOfMemory}
 use Rattle.clap.proofs.OnLiterals.{clap_on_literals}
 use Rattle.pos_program.specs.declared.choice_fault.ChoiceFault.{ChoiceFault}
-use Rattle.pos_program.specs.declared.choice_fault.ChoiceFault.TheVariants.{Help, Unknown, Refused, NotUtf8, NoMemory}
-use Rattle.pos_program.specs.Choices.{Accepts, Chooses, HasFault, Names, NamesDisk, TellsWhy, disk_line, path_of, run_line}
+use Rattle.pos_program.specs.declared.choice_fault.ChoiceFault.TheVariants.{Words, NoMemory}
+use Rattle.pos_program.specs.declared.choice_fault.WordsFault.TheVariants.{Help, Refused, NotUtf8}
+use Rattle.pos_program.specs.Choices.{Chooses, IsCommand, IsKnown, TellsWhy, command_in, path_in, program_line}
 
--- a command line of which `clap` says when it refuses words and what it finds in them
-abbrev pub IsKnown : App → Type 0
-IsKnown line = (is_simple_and_free line ≡ true) × (is_simple line ≡ true)
-
-pub run_known : IsKnown run_line
+-- the program's is a command line of which `clap` says when it refuses words and what it finds in them
+pub program_known : (is_simple_and_free program_line ≡ true) × (is_simple program_line ≡ true)
 unfolding clap_on_literals
-run_known = (refl, refl)
+program_known = (refl, refl)
 
-pub disk_known : (command : Text) → NamesDisk command → IsKnown (disk_line command)
+-- ---- the command that is found is one of the program's
+
+abbrev IsIn : Text → List Text → Type 0
+IsIn name [] = ⊥
+IsIn name (x ∷ xs) = (name ≡ x) ⊎ IsIn name xs
+
+found_in : (subs : List Shape) (word : Text) (words : List Text) (found : Text × List Row)
+    → option_map (λ s. rows_at s words) (find (λ s. answers_to word (label_of s)) subs) ≡ Some found → IsIn found.0 (map (λ s. s.name) subs)
+found_in [] word words found is = cc
+found_in (s ∷ subs) word words found is = by (answers_to word (label_of s)) refl (λ more. found_in subs word words found more)
+  where
+    by : (answers : Bool) → answers_to word (label_of s) ≡ answers
+        → (option_map (λ s. rows_at s words) (find (λ s. answers_to word (label_of s)) subs) ≡ Some found → IsIn found.0 (map (λ s. s.name) subs))
+        → IsIn found.0 (map (λ s. s.name) (s ∷ subs))
+    by true answers rest = let first : Some (rows_at s words) ≡ Some found = rw answers at is in inl (cc)
+    by false answers rest = inr (rest (rw answers at is))
+
+entered_in : (a : App) (stop : Option (Text × List Text)) (found : Text × List Row) → entered a stop ≡ Some found → IsIn found.0 (map (λ s. s.name) a.subs)
+entered_in a None found is = cc
+entered_in a (Some p) found is = found_in a.subs p.0 p.1 found is
+
+four_names : map (λ s. s.name) (built program_line).subs ≡ codes "run" ∷ codes "format" ∷ codes "migrate" ∷ codes "files" ∷ []
 unfolding clap_on_literals
-disk_known command (inl format) = subst (λ (name : Text). IsKnown (disk_line name)) (sym format) (refl, refl)
-disk_known command (inr (inl migrate)) = subst (λ (name : Text). IsKnown (disk_line name)) (sym migrate) (refl, refl)
-disk_known command (inr (inr files)) = subst (λ (name : Text). IsKnown (disk_line name)) (sym files) (refl, refl)
+four_names = refl
 
-kind_among : (kinds : Kinds) (error : Error) → HasKind kinds error → kind_of error ≢ OutOfMemory → IsAmong (kind_of error) kinds
-kind_among kinds error (inl memory) other = absurd (other memory)
-kind_among kinds error (inr among) other = among
+one_of_four : (name : Text) → IsIn name (codes "run" ∷ codes "format" ∷ codes "migrate" ∷ codes "files" ∷ []) → IsCommand name
+one_of_four name (inl run) = inl run
+one_of_four name (inr (inl format)) = inr (inl format)
+one_of_four name (inr (inr (inl migrate))) = inr (inr (inl migrate))
+one_of_four name (inr (inr (inr (inl files)))) = inr (inr (inr files))
+one_of_four name (inr (inr (inr (inr never)))) = absurd never
 
--- an error of another kind than memory is a fault in the words
-pub refused : (app line : App) (words : List Text) (error : Error) → app ≡ line → IsKnown line
-    → (is_simple_and_free app ≡ true → HasKind (fault_of app words) error) → kind_of error ≢ OutOfMemory
-    → IsAmong (kind_of error) (fault_of line words)
-refused app line words error same known kinds other =
-    rw same at (kind_among (fault_of app words) error (kinds (ap is_simple_and_free same ∙ known.0)) other)
+known : (words : List Text) (found : Option (Text × List Row)) → command_in words ≡ found → IsKnown found
+known words None is = tt
+known words (Some found) is =
+    one_of_four found.0 (subst (λ names. IsIn found.0 names) four_names (entered_in (built program_line)
+    (stop_after (built program_line).top.rules (names_of (built program_line)) (argument_words program_line words)) found is))
 
--- matches come of words without a fault
-pub accepted : (app line : App) (words : List Text) → app ≡ line → IsKnown line → (is_simple_and_free app ≡ true → fault_of app words ≡ []) → Accepts line words
-accepted app line words same known kinds = rw same at (kinds (ap is_simple_and_free same ∙ known.0))
+pub command_known : (words : List Text) → IsKnown (command_in words)
+command_known words = known words (command_in words) refl
 
--- and hold the path of an option
-pub held : (app line : App) (words : List Text) (rows : List Row) (option path : Text) → app ≡ line → IsKnown line
-    → (is_simple app ≡ true → rows ≡ matches_of app words) → first_of option rows ≡ Some path → path_of line option words ≡ Some path
-held app line words rows option path same known found value = rw (← same, ← found (ap is_simple same ∙ known.1)) value
+-- ---- what is made of a parse
 
--- the text of the first word
-pub first_named : {X : Type 0} (text : X → Text) (words : List X) (word : X) (told name : Text) → slice_get words 0 ≡ Some word → told ≡ text word
-    → bytes_eq told name ≡ true → Names name (map text words)
-first_named text words word told name first same is =
-    slice_get-map text words 0 ∙ ap (option_map text) first ∙ ap Some (sym same ∙ (bytes_eq-Decides told name).0 is)
+module _ (app : App) (words : List Text) (same : app ≡ program_line) where
+  -- the command that was met is the one in the words
+  pub met : (m : ArgMatches) → HasMatchesOf app words m → subcommand_rows_of m ≡ command_in words
+  met m matches = rw same at (matches (rw same program_known.1)).1
 
-help_not_memory : (error : Error) → kind_of error ≡ DisplayHelp → kind_of error ≢ OutOfMemory
-help_not_memory error help = λ memory. cc
+  -- matches come of words without a fault
+  pub accepted : (is_simple_and_free app ≡ true → fault_of app words ≡ []) → fault_of program_line words ≡ []
+  accepted kinds = rw same at (kinds (rw same program_known.0))
 
--- why the words of a command ask for nothing, where `clap` finds a fault in them
-failed : (words : List Text) (error : Error) (fault : ChoiceFault)
-    → Names (codes "run") words ⊎ ((command : Text) × NamesDisk command × Names command words) → TellsWhy error fault → (kind_of error ≢ OutOfMemory
-    → HasFault words (kind_of error)) → Chooses words (Err fault)
-failed words error Help names why has = inr (rw why at (has (help_not_memory error why)))
-failed words error (Unknown first) names why has = absurd why
-failed words error (Refused told) names why has = rw why.0 (has why.1)
-failed words error NotUtf8 names why has = absurd why
-failed words error NoMemory names why has = names
+  -- an error of another kind than memory is a fault in the words
+  among : (error : Error) → (is_simple_and_free app ≡ true → HasKind (fault_of app words) error) → kind_of error ≢ OutOfMemory
+      → IsAmong (kind_of error) (fault_of program_line words)
+  among error kinds other = by (rw same at (kinds (rw same program_known.0)))
+    where
+      by : HasKind (fault_of program_line words) error → IsAmong (kind_of error) (fault_of program_line words)
+      by (inl memory) = absurd (other memory)
+      by (inr is) = is
 
-pub run_failed : (words : List Text) (error : Error) (fault : ChoiceFault) → Names (codes "run") words → TellsWhy error fault
-    → (kind_of error ≢ OutOfMemory → IsAmong (kind_of error) (fault_of run_line words)) → Chooses words (Err fault)
-run_failed words error fault names why among = failed words error fault (inl names) why (λ other. inl (names, among other))
+  pub refused : (error : Error) (fault : ChoiceFault) → (is_simple_and_free app ≡ true → HasKind (fault_of app words) error)
+      → TellsWhy error fault → Chooses words (Err fault)
+  refused error (Words Help) kinds why = rw why at (among error kinds (λ memory. cc))
+  refused error (Words (Refused told)) kinds why = rw why.0 (among error kinds why.1)
+  refused error (Words NotUtf8) kinds why = absurd why
+  refused error NoMemory kinds why = tt
 
-pub disk_failed : (command : Text) (words : List Text) (error : Error) (fault : ChoiceFault) → NamesDisk command → Names command words
-    → TellsWhy error fault → (kind_of error ≢ OutOfMemory → IsAmong (kind_of error) (fault_of (disk_line command) words)) → Chooses words (Err fault)
-disk_failed command words error fault is names why among =
-    failed words error fault (inr (command, is, names)) why (λ other. inr (command, is, names, among other))
+-- ---- the program's command line, as it is built
+
+-- its head
+pub bare : (name : Text) (new unnamed started : Command) → app_of new ≡ new_app name
+    → fields_of unnamed ≡ record (fields_of new) { no_binary_name = true }
+    → fields_of started ≡ record (fields_of unnamed) { disable_help_subcommand = true }
+    → app_of started ≡ on_top (λ s. record s { no_binary_name = true; disable_help_subcommand = true }) (new_app name)
+bare name new unnamed started is first second =
+    ap app_of_fields second
+    ∙ ap (on_top (λ s. record s { disable_help_subcommand = true }))
+    (ap app_of_fields first ∙ ap (on_top (λ s. record s { no_binary_name = true })) is)
+
+-- one command more
+pub with_command : (old sub new : Command) (before line : App) → app_of old ≡ before → app_of sub ≡ line → (fields_of sub).has_globals ≡ false
+    → AddsSubcommand old sub new → app_of new ≡ with_subcommand before line.top
+with_command old sub new before line is same local adds = adds.shape local ∙ ap₂ with_subcommand is (ap (λ (a : App). a.top) same)
+
+pub last_command : {E : Type 0} (old sub : Command) (result : Result Command E) (before line : App) → app_of old ≡ before → app_of sub ≡ line
+    → (fields_of sub).has_globals ≡ false → IfOk result (λ new. AddsSubcommand old sub new)
+    → IfOk result (λ new. app_of new ≡ with_subcommand before line.top)
+last_command old sub (Ok new) before line is same local adds = with_command old sub new before line is same local adds
+last_command old sub (Err why) before line is same local adds = tt
+
+-- ---- a path in the matches of a command
+
+pub path_there : (found : Found) (option path : Text) → Some path ≡ first_value found option → path ≡ path_in option (rows_of found)
+path_there found option path is = rw (← (is ∙ first_value-rows found option)) refl
+
+pub no_path : (found : Found) (option : Text) → None ≡ first_value found option → [] ≡ path_in option (rows_of found)
+no_path found option is = rw (← (is ∙ first_value-rows found option)) refl

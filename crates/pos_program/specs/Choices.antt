@@ -1,26 +1,21 @@
--- The program's command lines, and what words ask for (docs/reference/console.md, "The program").
-use Rattle.std.specs.Prelude.{◌≡◌, ◌≢◌, ◌⊎◌, List, [], Option, Some, Bool, true, false, ◌||◌, bytes_eq, codes, Result, Ok, Err, slice_get}
+-- The program's command line, and what words ask for (docs/reference/console.md, "The program").
+use Rattle.std.specs.Prelude.{◌≡◌, ◌≢◌, ◌⊎◌, List, [], Option, Some, None, true, codes, Result, Ok, Err, unwrap_or, ⊤}
 use Rattle.std.specs.declared.io.ErrorKind.{ErrorKind as IoKind}
 use Rattle.std.specs.declared.io.ErrorKind.TheVariants as io
-use Rattle.clap.specs.Words.{App, IsAmong, Rule, Text, fault_of, first_of, kind_of, matches_of, new_app, new_rule, with_rule}
-use Rattle.clap.specs.Built.{IsPlainArg}
+use Rattle.clap.specs.Words.{App, IsAmong, Row, Rule, Text, fault_of, first_of, kind_of, new_app, new_rule, subcommand_of, with_rule, with_subcommand}
+use Rattle.clap.specs.Simple.{on_top}
 use Rattle.clap.specs.declared.builder.ArgAction.TheVariants.{Set}
-use Rattle.clap.specs.declared.builder.arg.Arg.{Arg}
 use Rattle.clap.specs.declared.error.Error.{Error}
-use Rattle.clap.specs.declared.error.kind.ErrorKind.{ErrorKind}
 use Rattle.clap.specs.declared.error.kind.ErrorKind.TheVariants.{DisplayHelp, OutOfMemory}
 use Rattle.pos_program.specs.declared.words.Task.{Task}
 use Rattle.pos_program.specs.declared.words.Task.TheVariants.{Demo, Run, Format, Migrate, Files}
 use Rattle.pos_program.specs.declared.choice_fault.ChoiceFault.{ChoiceFault}
-use Rattle.pos_program.specs.declared.choice_fault.ChoiceFault.TheVariants.{Help, Unknown, Refused, NotUtf8, NoMemory}
+use Rattle.pos_program.specs.declared.choice_fault.ChoiceFault.TheVariants.{Words, NoMemory}
+use Rattle.pos_program.specs.declared.choice_fault.WordsFault.TheVariants.{Help, Refused, NotUtf8}
 
 -- an option `--NAME FILE` that has to be there
 abbrev pub path_rule : Text → Rule
 path_rule name = record (new_rule name) { long = Some name; required = true; action = Some Set }
-
--- nothing else in a command hangs on the option
-abbrev pub FitsAlone : Arg → Type 0
-FitsAlone option = IsPlainArg option × (option.global ≡ false)
 
 -- run --profile FILE --disk FILE
 abbrev pub run_line : App
@@ -30,84 +25,63 @@ run_line = with_rule (with_rule (new_app (codes "run")) (path_rule (codes "profi
 abbrev pub disk_line : Text → App
 disk_line command = with_rule (new_app command) (path_rule (codes "disk"))
 
--- a command that has a disk alone
-abbrev pub NamesDisk : Text → Type 0
-NamesDisk command = (command ≡ codes "format") ⊎ (command ≡ codes "migrate") ⊎ (command ≡ codes "files")
+-- the program's, which has no command yet: its name isn't among the words, and `help` is no command
+abbrev pub bare_line : App
+bare_line = on_top (λ s. record s { no_binary_name = true; disable_help_subcommand = true }) (new_app (codes "pos_console"))
 
--- the first of the words is the name of this command
-abbrev pub Names : Text → List Text → Type 0
-Names name words = slice_get words 0 ≡ Some name
+-- no words, or those of one of the four commands
+abbrev pub program_line : App
+program_line = with_subcommand (with_subcommand (with_subcommand (with_subcommand bare_line run_line.top)
+    (disk_line (codes "format")).top) (disk_line (codes "migrate")).top) (disk_line (codes "files")).top
 
--- `clap` finds no fault in the words
-abbrev pub Accepts : App → List Text → Type 0
-Accepts line words = fault_of line words ≡ []
+-- the command that `clap` finds in words, with its matches, if there is one
+abbrev pub command_in : List Text → Option (Text × List Row)
+command_in words = subcommand_of program_line words
 
--- the word of an option in `clap`'s matches of the words
-abbrev pub path_of : App → Text → List Text → Option Text
-path_of line option words = first_of option (matches_of line words)
+-- the path that the matches of a command hold of an option; empty if they held none
+abbrev pub path_in : Text → List Row → Text
+path_in option rows = unwrap_or (first_of option rows) []
 
--- The words are those of `run`, with these paths.
-pub record AsksToRun (words : List Text) (profile disk : Text) : Type 0 where
-  pub names : Names (codes "run") words
-  pub accepts : Accepts run_line words
-  pub profile_path : path_of run_line (codes "profile") words ≡ Some profile
-  pub disk_path : path_of run_line (codes "disk") words ≡ Some disk
+-- a command is one of the program's
+abbrev pub IsCommand : Text → Type 0
+IsCommand name = (name ≡ codes "run") ⊎ (name ≡ codes "format") ⊎ (name ≡ codes "migrate") ⊎ (name ≡ codes "files")
 
--- The words are those of a command that has a disk alone, with this path.
-pub record AsksAtDisk (command : Text) (words : List Text) (disk : Text) : Type 0 where
-  pub names : Names command words
-  pub accepts : Accepts (disk_line command) words
-  pub disk_path : path_of (disk_line command) (codes "disk") words ≡ Some disk
+-- the command that was found, if there is one, is one of the program's
+abbrev pub IsKnown : Option (Text × List Row) → Type 0
+IsKnown None = ⊤
+IsKnown (Some found) = IsCommand found.0
 
--- a first word that asks for help
-abbrev pub is_help : Text → Bool
-is_help word = bytes_eq word (codes "--help") || bytes_eq word (codes "-h") || bytes_eq word (codes "help")
+-- what the command that was found asks for, with the paths in its matches
+abbrev pub Asks : Option (Text × List Row) → Task → Type 0
+Asks None Demo = ⊤
+Asks (Some found) (Run profile disk) = (found.0 ≡ codes "run") × (profile.now ≡ path_in (codes "profile") found.1)
+    × (disk.now ≡ path_in (codes "disk") found.1)
+Asks (Some found) (Format disk) = (found.0 ≡ codes "format") × (disk.now ≡ path_in (codes "disk") found.1)
+Asks (Some found) (Migrate disk) = (found.0 ≡ codes "migrate") × (disk.now ≡ path_in (codes "disk") found.1)
+Asks (Some found) (Files disk) = (found.0 ≡ codes "files") × (disk.now ≡ path_in (codes "disk") found.1)
+Asks found other = ⊥
 
--- `clap` finds this kind of fault in the words of a command
-abbrev pub HasFault : List Text → ErrorKind → Type 0
-HasFault words kind = Names (codes "run") words × IsAmong kind (fault_of run_line words)
-    ⊎ ((command : Text) × NamesDisk command × Names command words × IsAmong kind (fault_of (disk_line command) words))
-
--- the first word asks for help, or one behind the name of a command does
-abbrev pub AsksForHelp : List Text → Type 0
-AsksForHelp words = ((first : Text) × Names first words × (is_help first ≡ true)) ⊎ HasFault words DisplayHelp
-
--- This is the first word, which names no command and doesn't ask for help.
-pub record NamesNothing (words : List Text) (first : Text) : Type 0 where
-  pub names : Names first words
-  pub run : first ≢ codes "run"
-  pub format : first ≢ codes "format"
-  pub migrate : first ≢ codes "migrate"
-  pub files : first ≢ codes "files"
-  pub help : is_help first ≡ false
-
--- what the words ask for, or why they ask for nothing; memory can run out over a command alone
+-- what the words ask for, in which `clap` finds no fault; or why they ask for nothing, which is a fault that it finds
 abbrev pub Chooses : List Text → Result Task ChoiceFault → Type 0
-Chooses words (Ok Demo) = words ≡ []
-Chooses words (Ok (Run profile disk)) = AsksToRun words profile.now disk.now
-Chooses words (Ok (Format disk)) = AsksAtDisk (codes "format") words disk.now
-Chooses words (Ok (Migrate disk)) = AsksAtDisk (codes "migrate") words disk.now
-Chooses words (Ok (Files disk)) = AsksAtDisk (codes "files") words disk.now
-Chooses words (Err Help) = AsksForHelp words
-Chooses words (Err (Unknown first)) = NamesNothing words first.now
-Chooses words (Err (Refused error)) = HasFault words (kind_of error)
-Chooses words (Err NotUtf8) = ⊥
-Chooses words (Err NoMemory) = Names (codes "run") words ⊎ ((command : Text) × NamesDisk command × Names command words)
+Chooses words (Ok task) = (fault_of program_line words ≡ []) × Asks (command_in words) task
+Chooses words (Err (Words Help)) = IsAmong DisplayHelp (fault_of program_line words)
+Chooses words (Err (Words (Refused error))) = IsAmong (kind_of error) (fault_of program_line words)
+Chooses words (Err (Words NotUtf8)) = ⊥
+Chooses words (Err NoMemory) = ⊤
 
 -- what an error of `clap` is told as: want of memory, a call for help, or itself
 abbrev pub TellsWhy : Error → ChoiceFault → Type 0
-TellsWhy error Help = kind_of error ≡ DisplayHelp
-TellsWhy error (Unknown first) = ⊥
-TellsWhy error (Refused told) = (told ≡ error) × (kind_of error ≢ OutOfMemory)
-TellsWhy error NotUtf8 = ⊥
+TellsWhy error (Words Help) = kind_of error ≡ DisplayHelp
+TellsWhy error (Words (Refused told)) = (told ≡ error) × (kind_of error ≢ OutOfMemory)
+TellsWhy error (Words NotUtf8) = ⊥
 TellsWhy error NoMemory = kind_of error ≡ OutOfMemory
 
 -- what an error of the system is told as that reads the words: want of memory, or that one of them is no UTF-8
 abbrev pub TellsUnread : IoKind → ChoiceFault → Type 0
-TellsUnread kind NotUtf8 = kind ≢ io.OutOfMemory
+TellsUnread kind (Words NotUtf8) = kind ≢ io.OutOfMemory
 TellsUnread kind NoMemory = kind ≡ io.OutOfMemory
 TellsUnread kind other = ⊥
 
 -- the words couldn't be read, for this reason: one is no UTF-8, or there was no memory
 abbrev pub AreUnread : ChoiceFault → Type 0
-AreUnread why = (why ≡ NotUtf8) ⊎ (why ≡ NoMemory)
+AreUnread why = (why ≡ Words NotUtf8) ⊎ (why ≡ NoMemory)

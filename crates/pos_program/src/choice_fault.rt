@@ -8,32 +8,44 @@ use std::fmt::Write;
 const USAGE: &str = "give no words, `run --profile FILE --disk FILE`, `format --disk FILE`, \
     `migrate --disk FILE` or `files --disk FILE`";
 
-/// Why the words of the command line ask for nothing.
+/// Why the program does nothing for the words of the command line.
 #[derive(Drop)]
-pub enum ChoiceFault<'a> {
-    /// They ask for help.
-    Help,
-    /// This first word names no command.
-    Unknown(&'a str),
-    /// `clap` refuses the words behind the name of a command, and says which.
-    Refused(clap::Error),
-    /// One of them is no UTF-8.
-    NotUtf8,
+pub enum ChoiceFault {
+    /// They ask for nothing that it does.
+    Words(WordsFault),
     /// There was no memory to read them.
     NoMemory,
 }
 
-impl fmt::Display for ChoiceFault<'_> {
+/// Why words ask for nothing that the program does.
+#[derive(Drop)]
+pub enum WordsFault {
+    /// They ask for help.
+    Help,
+    /// `clap` refuses them, and says why.
+    Refused(clap::Error),
+    /// One of them is no UTF-8.
+    NotUtf8,
+}
+
+impl fmt::Display for WordsFault {
     fn fmt<W: fmt::Write>(&self, f: &mut fmt::Formatter<W>) -> fmt::Result {
         match self {
-            ChoiceFault::Help => write!(f, "usage: {USAGE}"),
-            ChoiceFault::Unknown(word) => write!(f, "no command has the name {word}: {USAGE}"),
-            ChoiceFault::Refused(error) => {
+            WordsFault::Help => write!(f, "usage: {USAGE}"),
+            WordsFault::Refused(error) => {
                 let mut paragraph = FirstParagraph::over(f);
                 write!(paragraph, "{error}")?;
                 write!(f, ": {USAGE}")
             }
-            ChoiceFault::NotUtf8 => write!(f, "a word is not UTF-8: {USAGE}"),
+            WordsFault::NotUtf8 => write!(f, "a word is not UTF-8: {USAGE}"),
+        }
+    }
+}
+
+impl fmt::Display for ChoiceFault {
+    fn fmt<W: fmt::Write>(&self, f: &mut fmt::Formatter<W>) -> fmt::Result {
+        match self {
+            ChoiceFault::Words(fault) => write!(f, "{fault}"),
             ChoiceFault::NoMemory => write!(f, "no memory"),
         }
     }

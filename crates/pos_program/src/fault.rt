@@ -14,7 +14,7 @@ use std::fmt::Write;
 #[derive(Drop)]
 pub enum Fault<'a> {
     /// The words ask for nothing.
-    Words(ChoiceFault<'a>),
+    Words(ChoiceFault),
     /// The profile's file gives no profile.
     Profile {
         /// Its path, as its word stood.
@@ -38,7 +38,7 @@ pub enum Fault<'a> {
 }
 
 // The status where the words ask for nothing.
-fn choice_status(fault: &ChoiceFault<'_>) -> u8
+fn choice_status(fault: &ChoiceFault) -> u8
     ensures { result ≡ choice_status fault.now }
 {
     match fault {

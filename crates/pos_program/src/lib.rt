@@ -20,7 +20,7 @@ mod totals_disk;
 mod totals_file;
 mod words;
 
-pub use choice_fault::ChoiceFault;
+pub use choice_fault::{ChoiceFault, WordsFault};
 pub use fault::{Fault, status_of};
 pub use file_fault::FileFault;
 pub use file_system::FileSystem;

@@ -1,15 +1,15 @@
 //! What the words of the command line ask for.
-ghost use Rattle.std.specs.Prelude.{◌≡◌, Err, IfErr, IfOk, codes, map};
+ghost use Rattle.std.specs.Prelude.{◌≡◌, IfErr, IfOk, codes, false, map};
 ghost use Rattle.std.specs.IoError.{error_kind};
-ghost use Rattle.clap.specs.Words.{rule_of};
-ghost use Rattle.clap.specs.Built.{TakesValue};
-ghost use Rattle.pos_program.specs.Choices.{AreUnread, AsksAtDisk, Chooses, FitsAlone, Names, NamesDisk, TellsUnread, TellsWhy};
-ghost use Rattle.pos_program.specs.Choices.{is_help, path_rule};
+ghost use Rattle.clap.specs.Words.{app_of, found_of, rows_of, rule_of, subcommand_rows_of};
+ghost use Rattle.clap.specs.declared.builder.command.Command.TheViews.{out-Command as fields_of};
+ghost use Rattle.pos_program.specs.Choices.{AreUnread, Asks, Chooses, IsKnown, TellsUnread, TellsWhy};
+ghost use Rattle.pos_program.specs.Choices.{disk_line, path_in, path_rule, program_line, run_line};
 
-use crate::choice_fault::ChoiceFault;
+use crate::choice_fault::{ChoiceFault, WordsFault};
 use clap::error::ErrorKind;
-use clap::{Arg, ArgAction, Command};
-use std::alloc::Global;
+use clap::{Arg, ArgAction, ArgMatches, Command};
+use std::alloc::{AllocError, Global};
 use std::convert::AsStr;
 use std::rt::Env;
 use std::{env, io};
@@ -30,17 +30,21 @@ pub enum Task<'a> {
 }
 
 // Why the words can't be read.
-fn fault_of_unread<'a>(cause: &io::Error) -> ChoiceFault<'a>
+fn fault_of_unread(cause: &io::Error) -> ChoiceFault
     ensures { TellsUnread (error_kind cause.now) result }
 {
     if cause.kind() == io::ErrorKind::OutOfMemory {
         return ChoiceFault::NoMemory;
     }
-    ChoiceFault::NotUtf8
+    ChoiceFault::Words(WordsFault::NotUtf8)
 }
 
-/// The words after the program's name. Answers `NotUtf8` or `NoMemory` where they can't be read.
-pub fn read_words<'a, R: Env + AllocGlobal>(rt: &R) -> Result<Vec<String>, ChoiceFault<'a>>
+/// Returns the words after the program's name.
+///
+/// # Errors
+///
+/// `Words` if one is no UTF-8, and `NoMemory`.
+pub fn read_words<R: Env + AllocGlobal>(rt: &R) -> Result<Vec<String>, ChoiceFault>
     ensures { IfErr result AreUnread }
 {
     let words = match env::args(rt) {
@@ -56,9 +60,7 @@ pub fn read_words<'a, R: Env + AllocGlobal>(rt: &R) -> Result<Vec<String>, Choic
 // An option `--NAME FILE` that has to be there.
 fn path_option<'a>(alloc: Global, name: &'a str) -> Arg<'a>
     ensures rule { rule_of result ≡ path_rule name.entry.now }
-    ensures id { result.id ≡ name.entry }
-    ensures value { TakesValue result }
-    ensures alone { FitsAlone result }
+    ensures local { result.global ≡ false }
 {
     Arg::new(alloc, name)
         .long(name)
@@ -66,8 +68,37 @@ fn path_option<'a>(alloc: Global, name: &'a str) -> Arg<'a>
         .action(ArgAction::Set)
 }
 
+// The command line of `run`.
+fn run_line<'a>(alloc: Global) -> Result<Command<'a>, AllocError>
+    ensures app { IfOk result (λ line. app_of line ≡ run_line) }
+    ensures local { IfOk result (λ line. (fields_of line).has_globals ≡ false) }
+{
+    let started = Command::new(alloc, "run").arg(path_option(alloc, "profile"))?;
+    started.arg(path_option(alloc, "disk"))
+}
+
+// The command line of a command that has a disk alone.
+fn disk_line<'a>(alloc: Global, command: &'a str) -> Result<Command<'a>, AllocError>
+    ensures app { IfOk result (λ line. app_of line ≡ disk_line command.entry.now) }
+    ensures local { IfOk result (λ line. (fields_of line).has_globals ≡ false) }
+{
+    Command::new(alloc, command).arg(path_option(alloc, "disk"))
+}
+
+// The command line of the program.
+fn program_line<'a>(alloc: Global) -> Result<Command<'a>, AllocError>
+    ensures { IfOk result (λ line. app_of line ≡ program_line) }
+{
+    let bare = Command::new(alloc, "pos_console").no_binary_name(true);
+    let started = bare.disable_help_subcommand(true);
+    let runs = started.subcommand(run_line(alloc)?)?;
+    let formats = runs.subcommand(disk_line(alloc, "format")?)?;
+    let migrates = formats.subcommand(disk_line(alloc, "migrate")?)?;
+    migrates.subcommand(disk_line(alloc, "files")?)
+}
+
 // Why `clap` gave no matches.
-fn fault_of_error<'a>(error: clap::Error) -> ChoiceFault<'a>
+fn fault_of_error(error: clap::Error) -> ChoiceFault
     ensures { TellsWhy error result }
 {
     let kind = error.kind();
@@ -75,111 +106,57 @@ fn fault_of_error<'a>(error: clap::Error) -> ChoiceFault<'a>
         return ChoiceFault::NoMemory;
     }
     if kind == ErrorKind::DisplayHelp {
-        return ChoiceFault::Help;
+        return ChoiceFault::Words(WordsFault::Help);
     }
-    ChoiceFault::Refused(error)
+    ChoiceFault::Words(WordsFault::Refused(error))
 }
 
-// What the words of `run` ask for.
-fn run_task<'a, S: AsStr>(alloc: Global, words: &'a [S]) -> Result<Task<'a>, ChoiceFault<'a>>
-    requires { Names (codes "run") (map S.text words.now) }
-    ensures { Chooses (map S.text words.entry.now) result }
+// The path that the matches of a command hold of an option.
+fn path_in<'a>(found: &ArgMatches<'a>, option: &str) -> &'a str
+    ensures { result.now ≡ path_in option.now (rows_of (found_of found.now)) }
 {
-    let profile = path_option(alloc, "profile");
-    let disk = path_option(alloc, "disk");
-    let Ok(started) = Command::new(alloc, "run").arg(profile) else {
-        return Err(ChoiceFault::NoMemory);
-    };
-    let Ok(line) = started.arg(disk) else {
-        return Err(ChoiceFault::NoMemory);
-    };
-    let matches = match line.try_get_matches_from(words) {
-        Ok(matches) => matches,
-        Err(error) => return Err(fault_of_error(error)),
-    };
-    let Some(profile) = matches.get_str("profile") else {
-        unreachable!()
-    };
-    let Some(disk) = matches.get_str("disk") else {
-        unreachable!()
-    };
-    Ok(Task::Run { profile, disk })
+    match found.get_str(option) {
+        Some(path) => path,
+        None => "",
+    }
 }
 
-// The path in the words of a command that has a disk alone, `format`, `migrate` or `files`.
-fn disk_path<'a, S: AsStr>(
-    alloc: Global,
-    command: &'a str,
-    words: &'a [S],
-) -> Result<&'a str, ChoiceFault<'a>>
-    requires command { NamesDisk command.now }
-    requires named { Names command.now (map S.text words.now) }
-    ensures disk { IfOk result (λ disk. AsksAtDisk command.entry.now (map S.text words.entry.now) disk.now) }
-    ensures fault { IfErr result (λ why. Chooses (map S.text words.entry.now) (Err why)) }
+// What `clap`'s matches of the words ask for.
+fn task_of<'a>(matches: &ArgMatches<'a>) -> Task<'a>
+    requires { IsKnown (subcommand_rows_of matches.now) }
+    ensures { Asks (subcommand_rows_of matches.now) result }
 {
-    let disk = path_option(alloc, "disk");
-    let Ok(line) = Command::new(alloc, command).arg(disk) else {
-        return Err(ChoiceFault::NoMemory);
+    let Some((command, found)) = matches.subcommand() else {
+        return Task::Demo;
     };
-    let matches = match line.try_get_matches_from(words) {
-        Ok(matches) => matches,
-        Err(error) => return Err(fault_of_error(error)),
-    };
-    let Some(disk) = matches.get_str("disk") else {
-        unreachable!()
-    };
-    Ok(disk)
-}
-
-// What the words of a command that has a disk alone ask for.
-fn disk_task<'a, S: AsStr>(
-    alloc: Global,
-    command: &'a str,
-    words: &'a [S],
-) -> Result<Task<'a>, ChoiceFault<'a>>
-    requires command { NamesDisk command.now }
-    requires named { Names command.now (map S.text words.now) }
-    ensures { Chooses (map S.text words.entry.now) result }
-{
-    let disk = match disk_path(alloc, command, words) {
-        Ok(disk) => disk,
-        Err(fault) => return Err(fault),
-    };
+    let disk = path_in(found, "disk");
+    if command == "run" {
+        let profile = path_in(found, "profile");
+        return Task::Run { profile, disk };
+    }
     if command == "format" {
-        return Ok(Task::Format { disk });
+        return Task::Format { disk };
     }
     if command == "migrate" {
-        return Ok(Task::Migrate { disk });
+        return Task::Migrate { disk };
     }
-    Ok(Task::Files { disk })
+    Task::Files { disk }
 }
 
-// Whether a first word asks for help.
-fn is_help(word: &str) -> bool
-    ensures { result ≡ is_help word.now }
-{
-    word == "--help" || word == "-h" || word == "help"
-}
-
-/// What the words after the program's name ask for. Where they are those of no command the answer says why: `Help`
-/// where help is asked for, `Unknown` with a first word that names no command, `Refused` where `clap` refuses the words
-/// after it, as an option that is missing or repeated, or a word too many. Answers `NoMemory` where there was none to
-/// read the words of a command. docs/reference/console.md, "The program".
-pub fn choice<'a, S: AsStr>(alloc: Global, words: &'a [S]) -> Result<Task<'a>, ChoiceFault<'a>>
+/// Returns what the words after the program's name ask for, as `clap` reads them: its matches have the command, and the
+/// path of each option. docs/reference/console.md, "The program".
+///
+/// # Errors
+///
+/// `Words` if `clap` refuses the words, or they ask for help; `NoMemory` if there was none to read them.
+pub fn choice<'a, S: AsStr>(alloc: Global, words: &'a [S]) -> Result<Task<'a>, ChoiceFault>
     ensures { Chooses (map S.text words.entry.now) result }
 {
-    let Some(first) = words.first() else {
-        return Ok(Task::Demo);
+    let Ok(line) = program_line(alloc) else {
+        return Err(ChoiceFault::NoMemory);
     };
-    let name = first.as_str();
-    if name == "run" {
-        return run_task(alloc, words);
+    match line.try_get_matches_from(words) {
+        Ok(matches) => Ok(task_of(&matches)),
+        Err(error) => Err(fault_of_error(error)),
     }
-    if name == "format" || name == "migrate" || name == "files" {
-        return disk_task(alloc, name, words);
-    }
-    if is_help(name) {
-        return Err(ChoiceFault::Help);
-    }
-    Err(ChoiceFault::Unknown(name))
 }

@@ -1,14 +1,12 @@
 use pos_disk::Disk;
 use pos_file::{FileDisk, MemoryFile};
 use pos_program::{
-    FileFault, disk_over, lengthened, make_totals, mirrored, open_totals, read_settled,
+    FileFault, disk_over, disk_to_read, lengthened, make_totals, mirrored, open_totals,
 };
 use std::alloc::Global;
-use std::cell::Cell;
+use std::fs;
 use std::io::ErrorKind;
-use std::os::unix::fs::FileExt;
 use std::test::Fail;
-use std::{fs, io};
 
 /// A file of 16 bytes, each a 1.
 fn small_file(alloc: Global) -> Result<MemoryFile, Fail> {
@@ -64,53 +62,18 @@ fn files_that_are_no_totals(rt: HostRuntime) -> Result<(), Fail> {
     Ok(())
 }
 
-/// A file that has a zero byte at each place, and moves at most 4,096 bytes a call.
-#[derive(Drop)]
-struct SlowFile {}
-
-impl FileExt for SlowFile {
-    fn read_at(&self, buf: &mut [u8], _offset: u64) -> io::Result<usize> {
-        Ok(buf.len().min(4_096))
-    }
-
-    fn write_at(&self, buf: &[u8], _offset: u64) -> io::Result<usize> {
-        Ok(buf.len().min(4_096))
-    }
-}
-
-/// A file of one byte, which is the number of the reading, up to the last number.
-#[derive(Drop)]
-struct RestlessFile {
-    reading: Cell<u8>,
-    last: u8,
-}
-
-impl FileExt for RestlessFile {
-    fn read_at(&self, buf: &mut [u8], offset: u64) -> io::Result<usize> {
-        if offset > 0 || buf.is_empty() {
-            return Ok(0);
-        }
-        let reading = self.reading.get();
-        self.reading.set(reading.saturating_add(1));
-        buf[0] = reading.min(self.last);
-        Ok(1)
-    }
-
-    fn write_at(&self, _buf: &[u8], _offset: u64) -> io::Result<usize> {
-        Ok(0)
-    }
+/// Whether a file of 16 bytes in memory, each a 1, is read as it is, with this answer to the call for a lock.
+fn is_read(alloc: Global, lock_fault: Option<ErrorKind>) -> Result<bool, Fail> {
+    let mut file = small_file(alloc)?;
+    file.lock_fault = lock_fault;
+    let totals = mirrored(alloc, disk_to_read(file)?)?;
+    Ok(totals.bytes() == [1; 16].as_slice() && totals.below().file().bytes() == [1; 16].as_slice())
 }
 
 #[test]
-fn readings_that_settle(rt: HostRuntime) -> Result<(), Fail> {
-    let whole = read_settled(rt.alloc(), &SlowFile {})?;
-    assert!(rt; whole.len() == 327_680);
-    let (reading, last) = (Cell::new(1), 7);
-    let settled = read_settled(rt.alloc(), &RestlessFile { reading, last })?;
-    assert!(rt; settled.as_slice() == [7].as_slice());
-    let (reading, last) = (Cell::new(1), 8);
-    let changed = read_settled(rt.alloc(), &RestlessFile { reading, last });
-    assert!(rt; matches!(changed, Err(FileFault::Changes)));
+fn totals_that_are_only_read(rt: HostRuntime) -> Result<(), Fail> {
+    assert!(rt; is_read(rt.alloc(), None)?);
+    assert!(rt; is_read(rt.alloc(), Some(ErrorKind::WouldBlock)).is_err());
     Ok(())
 }
 

@@ -1,6 +1,6 @@
 use pos_program::{
-    ChoiceFault, Fault, FileFault, OneLine, ProfileFileFault, Task, choice, open_totals,
-    profile_of_bytes, status_of,
+    ChoiceFault, Fault, FileFault, OneLine, ProfileFileFault, Task, WordsFault, choice,
+    open_totals, profile_of_bytes, status_of,
 };
 use std::alloc::Global;
 use std::fmt::Write;
@@ -30,18 +30,23 @@ fn faults_of_words_and_of_a_run(rt: HostRuntime) -> Result<(), Fail> {
         `migrate --disk FILE` or `files --disk FILE`";
     let alloc = rt.alloc();
     let help = format!(in alloc; "usage: {usage}")?;
-    assert!(rt; ends(alloc, Fault::Words(ChoiceFault::Help), 2, &help)?);
-    let unknown = format!(in alloc; "no command has the name r\\nn: {usage}")?;
     assert!(rt;
         ends(
             alloc,
-            Fault::Words(ChoiceFault::Unknown("r\nn")),
+            Fault::Words(ChoiceFault::Words(WordsFault::Help)),
             2,
-            &unknown
+            &help
         )?
     );
     let unread = format!(in alloc; "a word is not UTF-8: {usage}")?;
-    assert!(rt; ends(alloc, Fault::Words(ChoiceFault::NotUtf8), 2, &unread)?);
+    assert!(rt;
+        ends(
+            alloc,
+            Fault::Words(ChoiceFault::Words(WordsFault::NotUtf8)),
+            2,
+            &unread
+        )?
+    );
     assert!(rt; ends(alloc, Fault::Words(ChoiceFault::NoMemory), 6, "no memory")?);
     let (path, cause) = ("d", FileFault::NoMemory);
     assert!(rt;
@@ -156,10 +161,6 @@ fn texts_of_what_is_not_told(rt: HostRuntime) -> Result<(), Fail> {
             "d: can't be read: other error",
         ),
         (
-            FileFault::Changes,
-            "d: changes while it is read: try again when no one writes it",
-        ),
-        (
             FileFault::Short,
             "d: is shorter than a totals file, which has 327680 bytes",
         ),
@@ -230,7 +231,7 @@ fn faults_of_a_profile(rt: HostRuntime) -> Result<(), Fail> {
 }
 
 /// What words ask for. Where they find no memory they are read once more.
-fn chosen<'a>(alloc: Global, words: &'a [&'a str]) -> Result<Task<'a>, ChoiceFault<'a>> {
+fn chosen<'a>(alloc: Global, words: &'a [&'a str]) -> Result<Task<'a>, ChoiceFault> {
     match choice(alloc, words) {
         Err(ChoiceFault::NoMemory) => choice(alloc, words),
         outcome => outcome,
@@ -272,10 +273,13 @@ fn words_of_each_command(rt: HostRuntime) -> Result<(), Fail> {
 #[test]
 fn words_of_no_command(rt: HostRuntime) -> Result<(), Fail> {
     for (line, told) in [
-        ("", "no command has the name : "),
-        ("Run --disk d", "no command has the name Run: "),
-        ("--version", "no command has the name --version: "),
-        ("help", "usage: "),
+        ("", "error: unrecognized subcommand '': give"),
+        ("Run --disk d", "error: unrecognized subcommand 'Run': give"),
+        (
+            "--version",
+            "error: unexpected argument '--version' found: give",
+        ),
+        ("help", "error: unrecognized subcommand 'help': give"),
         ("-h", "usage: "),
         ("run --help", "usage: "),
         ("format -h", "usage: "),
