@@ -1,6 +1,6 @@
-//! The calls of a line display (chapter Line Display).
+//! A line display: its calls, and what happens at it (chapter Line Display).
 #![tactic(auto)]
 
 mod calls;
 
-pub use calls::plan;
+pub use calls::call;

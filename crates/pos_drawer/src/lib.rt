@@ -1,6 +1,6 @@
-//! The calls of a cash drawer (chapter Cash Drawer).
+//! A cash drawer: its calls, and what happens at it (chapter Cash Drawer).
 #![tactic(auto)]
 
 mod calls;
 
-pub use calls::plan;
+pub use calls::call;

@@ -4,5 +4,5 @@
 mod calls;
 mod working;
 
-pub use calls::plan;
+pub use calls::call;
 pub use working::work;

@@ -1,6 +1,6 @@
-//! The calls of a scanner (chapter Scanner, and common chapter).
+//! A scanner: its calls, and what it reads (chapter Scanner, and common chapter).
 #![tactic(auto)]
 
 mod calls;
 
-pub use calls::plan;
+pub use calls::call;
