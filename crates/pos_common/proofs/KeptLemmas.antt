@@ -41,8 +41,12 @@ pub front_after_set : (P : KeptControl → Type 0) (hs : List KeptControl) (i : 
     → All P (take (i + 1) (set hs i g))
 front_after_set P hs i g lt p a = subst (All P) (sym (take_more_set hs i g lt)) (All-push P (take i hs) g a p)
 
+-- the control with a number that is given, as the machine sees it
+pub given_at : (hs : List KeptControl) (n : ℕ) (d : KeptControl) → n < length hs → slice_get (controls_of hs) n ≡ Some (get_or hs n d).control
+given_at hs n d lt =
+    let within : n < length (controls_of hs) = omega (arith, length-map hs (λ (g : KeptControl). g.control), lt) in
+    slice_get-get_or (controls_of hs) n d.control within ∙ ap Some (sym (control_at hs n d d.control lt))
+
 -- the control that is kept at a place, as the machine sees it
 pub kept_at : (hs : List KeptControl) (n : ℕ) (h : KeptControl) → n < length hs → h ≡ get_or hs n h → slice_get (controls_of hs) n ≡ Some h.control
-kept_at hs n h lt is =
-    let within : n < length (controls_of hs) = omega (arith, length-map hs (λ (g : KeptControl). g.control), lt) in
-    slice_get-get_or (controls_of hs) n h.control within ∙ ap Some (sym (control_at hs n h h.control lt) ∙ ap (λ (g : KeptControl). g.control) (sym is))
+kept_at hs n h lt is = given_at hs n h lt ∙ ap (λ (g : KeptControl). Some g.control) (sym is)
