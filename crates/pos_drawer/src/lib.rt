@@ -2,5 +2,7 @@
 #![tactic(auto)]
 
 mod calls;
+mod inputs;
 
 pub use calls::call;
+pub use inputs::input;

@@ -148,8 +148,8 @@ impl<P: Peripheral> Registry<P> {
         Some((place, &self.slots[place]))
     }
 
-    /// Hands out what serves the device at a place, which is vacant then; None where it is vacant.
-    fn take(&mut self, place: usize) -> Option<P>
+    /// Takes out what serves the device at a place, which is vacant then; None where it is vacant. It takes no memory.
+    pub fn take(&mut self, place: usize) -> Option<P>
         requires sound { IsRegistrySound P.Peripheral self.old }
         requires within { place < length (devices P.Peripheral self.old) }
         ensures taken { option_map P.Peripheral.state result ≡ standing_at (devices P.Peripheral self.old) place }
@@ -159,8 +159,8 @@ impl<P: Peripheral> Registry<P> {
         self.slots[place].peripheral.take()
     }
 
-    /// Has a peripheral serve the device at a vacant place.
-    fn put(&mut self, place: usize, peripheral: P)
+    /// Has a peripheral serve the device at a place, which is vacant and of its kind. It takes no memory.
+    pub fn put(&mut self, place: usize, peripheral: P)
         requires sound { IsRegistrySound P.Peripheral self.old }
         requires may_serve { MayServe (devices P.Peripheral self.old) place (P.Peripheral.state peripheral) }
         requires unparked { (P.Peripheral.state peripheral).is_parked ≡ false }
