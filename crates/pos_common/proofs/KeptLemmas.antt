@@ -1,7 +1,7 @@
 -- What a change of one control does to the machine's controls.
 use Rattle.pos_common.proofs.Common.{All, All-head, All-push, All-tail, Control, KeptControl, List, ap, arith, controls_of, drop, drop-drop, drop-set-lt}
 use Rattle.pos_common.proofs.Common.{drop_more, get_or, get_or-map, length, length-map, map, map-set, set, set-get_or, subst, sym, take, take_more_set, ℕ, ◌++◌}
-use Rattle.pos_common.proofs.Common.{◌+◌, ◌<◌, ◌∙◌, ◌≡◌}
+use Rattle.pos_common.proofs.Common.{Some, slice_get, slice_get-get_or, ◌+◌, ◌<◌, ◌∙◌, ◌≡◌}
 use Rattle.std.proofs.lemmas.List.Edits.{map_over_more}
 
 -- a held control at a place is the machine's control there
@@ -40,3 +40,13 @@ same_rest hs old i g r = drop-set-lt (i + 1) hs i g (omega arith) ∙ sym (drop-
 pub front_after_set : (P : KeptControl → Type 0) (hs : List KeptControl) (i : ℕ) (g : KeptControl) → i < length hs → P g → All P (take i hs)
     → All P (take (i + 1) (set hs i g))
 front_after_set P hs i g lt p a = subst (All P) (sym (take_more_set hs i g lt)) (All-push P (take i hs) g a p)
+
+-- the control with a number that is given, as the machine sees it
+pub given_at : (hs : List KeptControl) (n : ℕ) (d : KeptControl) → n < length hs → slice_get (controls_of hs) n ≡ Some (get_or hs n d).control
+given_at hs n d lt =
+    let within : n < length (controls_of hs) = omega (arith, length-map hs (λ (g : KeptControl). g.control), lt) in
+    slice_get-get_or (controls_of hs) n d.control within ∙ ap Some (sym (control_at hs n d d.control lt))
+
+-- the control that is kept at a place, as the machine sees it
+pub kept_at : (hs : List KeptControl) (n : ℕ) (h : KeptControl) → n < length hs → h ≡ get_or hs n h → slice_get (controls_of hs) n ≡ Some h.control
+kept_at hs n h lt is = given_at hs n h lt ∙ ap (λ (g : KeptControl). Some g.control) (sym is)

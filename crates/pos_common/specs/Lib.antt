@@ -1,3 +1,4 @@
 pub mod Checks
 pub mod DueRequests
 pub mod KeptControls
+pub mod OwnCalls

@@ -68,7 +68,7 @@ pub use Rattle.pos_totals.specs.TotalsClaims.{is_own_claim, without_control}
 pub use Rattle.pos_totals.specs.TotalsCommits.{DoesCommit}
 pub use Rattle.pos_totals.specs.TotalsFiles.{with_each}
 pub use Rattle.pos_totals.specs.Views.{IsReady, TotalsView, TurnsOff, WhenOff, plain, stored}
-pub use Rattle.pos_counter.specs.AtDevices.{CallsAt, CallsFor, IsDoneAt, MayBeCalled}
+pub use Rattle.pos_counter.specs.AtDevices.{CallsAt, IsDoneAt, MayBeCalled}
 pub use Rattle.pos_counter.specs.Counters.{IsCounterSound, IsLeftDuring, IsRun, IsStep, IsStepBeside, RunsAnyhow, RunsFrom, Serves, machine}
 pub use Rattle.pos_counter.specs.Counters.{machine as machine_of_counter}
 pub use Rattle.pos_counter.specs.Crashes.{BeginsOver, HasBegun, HasRun, KeepsPrefix, KeepsPrefixes, history_until, machine_now}

@@ -11,7 +11,6 @@ use Rattle.std.proofs.lemmas.Nat.{mod_below}
 use Rattle.pos_display.specs.DisplayCalls.{display_deed, display_rows, scrolls, shows}
 use Rattle.pos_service.specs.declared.deed.Change.TheVariants as change
 use Rattle.pos_service.specs.declared.display_text.Attribute.{Attribute}
-use Rattle.pos_counter.proofs.Lifts.{decided_none, decided_some}
 
 -- ---- tables of which no row applies
 
@@ -121,17 +120,3 @@ module _ (rows columns : ℕ) (cursor : Cursor) (tall : 1 ≤ rows) (wide : 1 �
 pub deed_called : (k : Category) (is : Kind) (c : Control) (asked : Call) (d : Deed) → serves k (Some is) ≡ true → IsInRange is
     → NoneApplies (device_rows k (Some is) c asked) → device_deed k (Some is) c asked ≡ Some d → DeedStaysOn (Some is) c.cursor.place d
 deed_called k is c asked d served range allowed e = grind (arith, display_stays)
-
--- a call that is refused by its arguments
-pub called_refused : (n place : ℕ) (asked : Call) (c : Control) (code : Code) (old : List Control) (before : Hardware) → slice_get old n ≡ Some c
-    → first_refusal (device_rows c.category (Some before.kind) c asked) ≡ Some (Refused code 0)
-    → CallsAt n asked place (Ok (Refused code 0)) old before old before
-called_refused n place asked c code old before found refused = rw found (decided_some refused refl (record { controls = refl; hardware = refl }))
-
--- one that comes to a deed
-pub called_done : (n place : ℕ) (asked : Call) (c : Control) (d : Deed) (outcome : Result Answer NoMemory) (old new : List Control)
-    (before after : Hardware) → slice_get old n ≡ Some c → first_refusal (device_rows c.category (Some before.kind) c asked) ≡ None
-    → device_deed c.category (Some before.kind) c asked ≡ Some d → MayWantFor asked d
-    → MatchResult outcome (λ result. CarriesOut d n place result old before new after)
-    (λ want. IsTrue (may_want d) × SameHardware old before new after) → CallsAt n asked place outcome old before new after
-called_done n place asked c d outcome old new before after found none is wants done = search (rules, decided_none)

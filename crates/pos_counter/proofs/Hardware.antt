@@ -1,12 +1,16 @@
 -- What is done at a device and by whom it is held, and the steps that it makes.
-use Rattle.pos_counter.proofs.Common.{◌<◌, Answer, Call, CallOf, CallsAt, CallsFor, Category, CategoryDoes, Control, Device, DeviceDoes, Does, Effect, Err}
+use Rattle.pos_counter.proofs.Common.{◌<◌, Answer, Call, CallOf, CallsAt, Category, CategoryDoes, Control, Device, DeviceDoes, Does, Effect, Err}
 use Rattle.pos_counter.proofs.Common.{FindsWork, HardTotals, Hardware, IfSome, IfSome_then, IsDoneAt, IsSome, IsSound, IsTrue, KeptControl, Kind, List, Machine}
 use Rattle.pos_counter.proofs.Common.{MatchOption-at_some, MayBeCalled, NoMemory, None, Ok, OnHardware, Option, Result, Row, SameHardware, Some, Step}
 use Rattle.pos_counter.proofs.Common.{TotalsPart, WorksAt, answered, ap, arith, category_rows, claimed, claimed_by, controls_of, device_rows, dropped}
-use Rattle.pos_counter.proofs.Common.{due_request_at, false, first_refusal, get_or_from_slice_get, has_call, holder_at, holder_in, holder_of, inl, inr}
+use Rattle.pos_counter.proofs.Common.{due_request_at, false, first_refusal, get_or_from_slice_get, holder_at, holder_in, holder_of, inl, inr}
 use Rattle.pos_counter.proofs.Common.{is_common, is_foreign, is_none, is_some, is_taken, is_totals, kind_of, length, machine_with, needs_of, own_takes_memory}
 use Rattle.pos_counter.proofs.Common.{place_of, refl, refusals, released, released_by, rules, serves, set, set-get_or, slice_get, slice_get_within, sym, table}
 use Rattle.pos_counter.proofs.Common.{takes_memory, true, with_items_is, ◌||◌, ℕ, ◌∙◌, ◌≡◌}
+use Rattle.pos_counter.proofs.Common.{ap₂, cond, device_deed, subst, Bool, Refused}
+use Rattle.pos_common.specs.OwnCalls.{OwnCall as OwnCalled, OwnDoes, own_refusals}
+use Rattle.pos_service.specs.declared.code.Code.TheVariants.{Closed}
+use Rattle.std.proofs.Common.{drop}
 use Rattle.std.specs.Prelude.{Vec}
 use Rattle.std.specs.Vec.{with_items}
 use Rattle.pos_service.specs.declared.worked.Worked.TheVariants as worked
@@ -21,13 +25,13 @@ same_device ds place d before after at is same =
     ∙ sym (get_or_from_slice_get ds place d d at)) ∙ set-get_or ds place d
 
 -- an open control's device has a peripheral, where its category serves no device without one, and may be called
-pub served_there : (m : Machine) (n : ℕ) (c : Control) (place : ℕ) (asked : Call) → IsSound m → slice_get m.controls n ≡ Some c
-    → c.device ≡ Some place → serves c.category None ≡ false → has_call c.category asked ≡ true → MayBeCalled m.devices place asked m.controls n
-served_there m n c place asked sound found is peripheral has =
+pub served_there : (m : Machine) (n : ℕ) (c : Control) (place : ℕ) → IsSound m → slice_get m.controls n ≡ Some c → c.device ≡ Some place
+    → serves c.category None ≡ false → MayBeCalled m.devices place m.controls n
+served_there m n c place sound found is peripheral =
     let x = matched (slice_get m.devices place) _ (rw is at (seated m n c sound found)) in
     record {
       attached = rw x.1 (stands x.0.kind x.0.hardware x.2.0 x.2.1);
-      may = rw found (record { own = has; served = rw x.1 x.2.0; cursor = rw x.1 x.2.2 });
+      may = rw found (record { served = rw x.1 x.2.0; cursor = rw x.1 x.2.2 });
     }
   where
     stands : (o : Option Kind) (s : Option Hardware) → serves c.category o ≡ true → IsTrue (is_none o || is_some s) → IsSome s
@@ -108,35 +112,69 @@ module _ (hs gs : List KeptControl) (ds es : List Device) (cl : List (Option ℕ
         )
       ]
 
-  -- a call of a category's own that its control may make is a step
+  -- a call of a category's own is a step
   pub device_step : (n : ℕ) (c : Control) (asked : Call) (r : Result Answer NoMemory) → is_common asked ≡ false → slice_get (controls_of hs) n ≡ Some c
-      → is_totals c.category ≡ false → c.device ≡ Some place → IsLet old n c asked → IsDoneAt ds place (CallsAt n asked place r) hs gs es
+      → is_totals c.category ≡ false → c.device ≡ Some place → IsDoneAt ds place (CallsAt n cl asked r) hs gs es
       → Step old (CallOf n asked) (answered r) new
-  device_step n c asked r own found is device lets done =
-      by_outcome r (MatchOption-at_some ⊥ (λ control. CallsFor n asked place r control (controls_of hs) done.before (controls_of gs) done.after)
+  device_step n c asked r own found is device done =
+      by_outcome r (MatchOption-at_some ⊥ (λ control. OwnCalled control.category (device_rows control.category (Some done.before.kind) control asked)
+      (device_deed control.category (Some done.before.kind) control asked) n cl asked r control (controls_of hs) done.before (controls_of gs) done.after)
       c found done.does)
     where
       rows : List Row
-      rows = device_rows c.category (Some done.before.kind) c asked
+      rows = own_refusals c.category (device_rows c.category (Some done.before.kind) c asked) n cl asked c
 
       kind : kind_of old c ≡ Some done.before.kind
       kind = rw (device, done.is_device, done.kind)
 
       unrefused : first_refusal (refusals old n c asked) ≡ first_refusal rows
-      unrefused = let_refusals old n c asked own lets ∙ rw ((of_devices c.category is).rows, kind)
+      unrefused = ap first_refusal ((own_call old n c asked own).rows ∙ same_table (holder_of old c) (holder_at cl c.device)
+          (category_rows c.category old n c asked) (device_rows c.category (Some done.before.kind) c asked)
+          ((of_devices c.category is).holds cl part.totals.area c.device)
+          ((of_devices c.category is).rows old n c asked ∙ ap (λ (at : Option Kind). device_rows c.category at c asked) kind))
+        where
+          same_table : (a b : Option ℕ) (u v : List Row) → a ≡ b → u ≡ v
+              → table n a c (needs_of c.category asked) u ≡ table n b c (needs_of c.category asked) v
+          same_table a b u v holder rest = ap₂ (λ (h : Option ℕ) (x : List Row). table n h c (needs_of c.category asked) x) holder rest
 
-      at_hardware : (result : Answer)
-          → DeviceDoes c.category (Some done.before.kind) n c asked result place (controls_of hs) done.before (controls_of gs) done.after
+      at_hardware : (result : Answer) → OwnDoes (device_deed c.category (Some done.before.kind) c asked) n result c (controls_of hs) done.before
+          (controls_of gs) done.after
           → OnHardware old c.device (DeviceDoes c.category (kind_of old c) n c asked result) new
-      at_hardware result does = on_hardware c.device (DeviceDoes c.category (kind_of old c) n c asked result) device
-          (let there = rw (← kind) at does in search (done.is_device, done.is_attached, done.kind, there, done.changed))
+      at_hardware result does =
+          let here = MatchOption-at_some ⊥ (λ place'. DeviceDoes c.category (Some done.before.kind) n c asked result place' (controls_of hs) done.before
+          (controls_of gs) done.after) place device does in
+          on_hardware c.device (DeviceDoes c.category (kind_of old c) n c asked result) device
+          (let there = rw (← kind) at here in search (done.is_device, done.is_attached, done.kind, there, done.changed))
 
-      by_outcome : (o : Result Answer NoMemory) → CallsFor n asked place o c (controls_of hs) done.before (controls_of gs) done.after
+      by_outcome : (o : Result Answer NoMemory) → OwnCalled c.category (device_rows c.category (Some done.before.kind) c asked)
+          (device_deed c.category (Some done.before.kind) c asked) n cl asked o c (controls_of hs) done.before (controls_of gs) done.after
           → Step old (CallOf n asked) (answered o) new
       by_outcome (Ok result) h =
           decided_step old new n c asked result rows _ _ found unrefused (unchanged done)
           (λ does. (own_call old n c asked own).does result new ((of_devices c.category is).does old new n c asked result (at_hardware result does))) h
       by_outcome (Err want) h = rw found ((own_call old n c asked own).takes h.0, unrefused ∙ h.1, unchanged done h.2)
+
+-- a call of a category's own on a closed control is refused
+pub closed_refuses : (m : Machine) (n : ℕ) (c : Control) (asked : Call) → is_common asked ≡ false → c.device ≡ None
+    → first_refusal (refusals m n c asked) ≡ Some (Refused Closed 0)
+closed_refuses m n c asked own closed =
+    ap first_refusal (own_call m n c asked own).rows ∙ ap (λ (none : Bool). cond none (Some (Refused Closed 0)) (first_refusal (behind m n c asked)))
+    (ap is_none closed)
+  where
+    behind : (m : Machine) (n : ℕ) (c : Control) (asked : Call) → List Row
+    behind m n c asked = drop 1 (table n (holder_of m c) c (needs_of c.category asked) (category_rows c.category m n c asked))
+
+-- a call of the crate of a control's category is one of the control's
+pub of_category : (k : Category) (n : ℕ) (claims : List (Option ℕ)) (asked : Call) (c : Control) (r : Result Answer NoMemory) (old new : List Control)
+    (before after : Hardware) → slice_get old n ≡ Some c → c.category ≡ k
+    → MatchOption (slice_get old n) ⊥ (λ control. OwnCalled k (device_rows k (Some before.kind) control asked)
+    (device_deed k (Some before.kind) control asked) n claims asked r control old before new after)
+    → CallsAt n claims asked r old before new after
+of_category k n claims asked c r old new before after found is called =
+    let here = MatchOption-at_some ⊥ (λ control. OwnCalled k (device_rows k (Some before.kind) control asked)
+    (device_deed k (Some before.kind) control asked) n claims asked r control old before new after) c found called in
+    rw found (subst (λ k. OwnCalled k (device_rows k (Some before.kind) c asked) (device_deed k (Some before.kind) c asked) n claims asked r c old
+    before new after) (sym is) here)
 
 -- ---- what holds a device
 

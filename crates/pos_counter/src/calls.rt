@@ -1,23 +1,21 @@
 //! The calls of an application.
-ghost use Rattle.std.specs.Prelude.{◌≡◌, ◌<◌, false, MatchOption, Some, length, slice_get};
+ghost use Rattle.std.specs.Prelude.{◌≡◌, ◌<◌, false, true, MatchOption, Some, length, slice_get};
 ghost use Rattle.pos_service.specs.Calls.{is_common};
-ghost use Rattle.pos_service.specs.Deeds.{DeedFits, Plans};
-ghost use Rattle.pos_service.specs.Peripherals.{IsInRange};
 ghost use Rattle.pos_service.specs.Hardware.{hardware_of, StaysInService};
 ghost use Rattle.pos_common.specs.KeptControls.{controls_of};
 ghost use Rattle.pos_counter.specs.KeptDevices.{AreDevicesSound, devices_in};
 ghost use Rattle.pos_counter.specs.AtDevices.{CallsAt, IsDoneAt, MayBeCalled, MayCall};
 ghost use Rattle.pos_counter.specs.Counters.{IsStep, IsCounterSound, Serves};
 ghost use Rattle.pos_counter.specs.Responses.{answered};
-ghost use Rattle.pos_counter.specs.Steps.{CallOf, device_deed, device_rows};
+ghost use Rattle.pos_counter.specs.Steps.{CallOf};
+ghost use Rattle.pos_counter.specs.Totals.{is_totals};
 
 use crate::counter::Counter;
 use crate::devices::Devices;
-use crate::properties::find_holder;
 use crate::totals_calls::{call_files, is_totals};
-use pos_common::{Control, carry_out};
+use pos_common::{Claims, Control};
 use pos_disk::Disk;
-use pos_service::{Answer, Call, Category, Code, Deed, Kind, NoMemory, Peripheral};
+use pos_service::{Answer, Call, Category, Code, NoMemory, Peripheral};
 use std::alloc::Global;
 
 impl<D: Disk, P: Peripheral> Counter<D, P> {
@@ -48,8 +46,8 @@ impl<D: Disk, P: Peripheral> Counter<D, P> {
         }
     }
 
-    /// A call of a category's own: its control is checked, and then the totals or what serves the control's device
-    /// answer it.
+    /// A call of a category's own, which the totals answer, or the crate of the category with what serves the control's
+    /// device.
     fn call_category(&mut self, number: usize, call: &Call) -> Result<Answer, NoMemory>
         requires in_range { number < length self.old.controls.items }
         requires own { is_common call.now ≡ false }
@@ -57,91 +55,91 @@ impl<D: Disk, P: Peripheral> Counter<D, P> {
         ensures { Serves D.Disk P.Peripheral self.old (CallOf number call.now) (answered result) self.new }
     {
         let control = &self.controls[number];
-        let holder = find_holder(control, &self.claims, self.totals.area());
-        if let Err(code) = control.check(number, holder, call.needs(control.category())) {
-            return Ok(Answer::Refused(code, 0));
-        }
         if is_totals(control) {
-            return call_files(&mut self.totals, number, call);
+            return self.call_totals(number, call);
         }
         let Some(place) = control.device() else {
-            unreachable!();
+            return Ok(Answer::Refused(Code::Closed, 0));
         };
         call_there(
             self.alloc,
             &mut self.controls,
             number,
             place,
+            &self.claims,
             &mut self.devices,
             call,
         )
     }
+
+    /// A call of a category's own on a control of Hard Totals: it is checked, and then the totals answer it.
+    fn call_totals(&mut self, number: usize, call: &Call) -> Result<Answer, NoMemory>
+        requires in_range { number < length self.old.controls.items }
+        requires totals { MatchOption (slice_get (controls_of self.old.controls.items) number) ⊥ (λ control.
+            is_totals control.category ≡ true) }
+        requires own { is_common call.now ≡ false }
+        requires sound { IsCounterSound P.Peripheral self.old }
+        ensures { Serves D.Disk P.Peripheral self.old (CallOf number call.now) (answered result) self.new }
+    {
+        let control = &self.controls[number];
+        let needs = call.needs(Category::HardTotals);
+        if let Err(code) = control.check_by(number, self.totals.area(), needs) {
+            return Ok(Answer::Refused(code, 0));
+        }
+        call_files(&mut self.totals, number, call)
+    }
 }
 
-/// A call of the control with a number, which may make it, on its device at a place, which is handed to what serves it.
+/// A call of the control with a number on its device at a place, which is handed to what serves it.
 fn call_there<P: Peripheral>(
     alloc: Global,
     controls: &mut [Control],
     number: usize,
     place: usize,
+    claims: &Claims,
     devices: &mut Devices<P>,
     call: &Call,
 ) -> Result<Answer, NoMemory>
     requires in_range { number < length controls.old }
     requires sound { AreDevicesSound P.Peripheral devices.old }
     requires may { let devices = devices_in P.Peripheral devices.old in
-        MayBeCalled devices place call.now (controls_of controls.old) number }
-    ensures done { IsDoneAt (devices_in P.Peripheral devices.old) place (CallsAt number call.now place result)
+        MayBeCalled devices place (controls_of controls.old) number }
+    ensures done { IsDoneAt (devices_in P.Peripheral devices.old) place (CallsAt number claims.now call.now result)
         controls.old controls.new (devices_in P.Peripheral devices.new) }
     ensures sound { AreDevicesSound P.Peripheral devices.new }
 {
     let peripheral = devices.registry.serving(place);
-    call_device(alloc, controls, number, place, peripheral, call)
+    call_device(alloc, controls, number, claims, peripheral, call)
 }
 
-/// A call of the control with a number, which may make it, on its device at a place, where this peripheral stands.
+/// A call of the control with a number on its device, where this peripheral stands.
 fn call_device<P: Peripheral>(
     alloc: Global,
     controls: &mut [Control],
     number: usize,
-    place: usize,
+    claims: &Claims,
     peripheral: &mut P,
     call: &Call,
 ) -> Result<Answer, NoMemory>
     requires in_range { number < length controls.old }
     requires unparked { (P.Peripheral.state peripheral.old).is_parked ≡ false }
     requires may { let kind = (P.Peripheral.state peripheral.old).kind in
-        MatchOption (slice_get (controls_of controls.old) number) ⊥ (MayCall (Some kind) call.now) }
-    ensures called { let state = P.Peripheral.state in CallsAt number call.now place result
+        MatchOption (slice_get (controls_of controls.old) number) ⊥ (MayCall (Some kind)) }
+    ensures called { let state = P.Peripheral.state in CallsAt number claims.now call.now result
         (controls_of controls.old) (hardware_of (state peripheral.old))
         (controls_of controls.new) (hardware_of (state peripheral.new)) }
     ensures in_service { let state = P.Peripheral.state in
         StaysInService (state peripheral.old) (state peripheral.new) }
 {
-    match plan(alloc, &controls[number], peripheral.kind(), call)? {
-        Ok(deed) => carry_out(controls, number, place, peripheral, deed),
-        Err(code) => Ok(Answer::Refused(code, 0)),
-    }
-}
-
-/// What a call of a control, which may make it, comes to at a device of this kind.
-fn plan(
-    alloc: Global,
-    control: &Control,
-    kind: Kind,
-    call: &Call,
-) -> Result<Result<Deed, Code>, NoMemory>
-    requires in_range { IsInRange kind }
-    requires may { MayCall (Some kind) call.now control.now.control }
-    ensures { let one = control.now.control in
-        Plans (device_rows one.category (Some kind) one call.now) (device_deed one.category (Some kind) one call.now)
-        (DeedFits kind) call.now result }
-{
-    match control.category() {
-        Category::CashDrawer => Ok(Ok(pos_drawer::plan(call))),
-        Category::Scanner => Ok(Ok(pos_scanner::plan(call))),
-        Category::LineDisplay => pos_display::plan(alloc, kind, control.cursor(), call),
-        Category::PosPrinter => pos_printer::plan(alloc, control, call),
+    match controls[number].category() {
+        Category::CashDrawer => pos_drawer::call(controls, number, claims, peripheral, call),
+        Category::Scanner => pos_scanner::call(controls, number, claims, peripheral, call),
+        Category::LineDisplay => {
+            pos_display::call(alloc, controls, number, claims, peripheral, call)
+        }
+        Category::PosPrinter => {
+            pos_printer::call(alloc, controls, number, claims, peripheral, call)
+        }
         Category::HardTotals => unreachable!(),
     }
 }

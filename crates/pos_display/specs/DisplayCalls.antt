@@ -1,5 +1,5 @@
 -- The calls of a line display (chapter Line Display).
-use Rattle.std.specs.Prelude.{ℕ, ℤ, nat_abs, Bool, false, not, List, [], ◌∷◌, Option, Some, None, is_none}
+use Rattle.std.specs.Prelude.{ℕ, ℤ, nat_abs, Bool, false, not, List, [], ◌∷◌, Option, Some, None, Result, MatchOption, is_none, slice_get}
 use Rattle.std.specs.Option.{option_map}
 use Rattle.pos_service.specs.declared.call.Call.{Call}
 use Rattle.pos_service.specs.declared.call.Call.TheVariants as call
@@ -18,6 +18,12 @@ use Rattle.pos_service.specs.Kinds.{rows_of, columns_of}
 use Rattle.pos_service.specs.Numbers.{is_index, is_up_to}
 use Rattle.pos_service.specs.Peripherals.{place_at}
 use Rattle.pos_service.specs.Refusals.{Row, when}
+use Rattle.pos_service.specs.declared.answer.Answer.{Answer}
+use Rattle.pos_service.specs.declared.category.Category.TheVariants as category
+use Rattle.pos_service.specs.declared.memory.NoMemory.{NoMemory}
+use Rattle.pos_service.specs.Hardware.{Effect}
+use Rattle.pos_common.specs.OwnCalls.{OwnCall, OwnOrders}
+use Rattle.pos_service.specs.Controls.{Control}
 
 -- a text and its attribute, in this order
 abbrev pub text_rows : List ℕ → ℤ → List Row
@@ -69,3 +75,15 @@ display_deed at cursor (call.DisplayTextAt row column text attribute) =
 display_deed at cursor call.ClearText = Some (deed.Gives order.ClearText (change.Cursor origin))
 display_deed at cursor (call.ScrollText direction units) = option_map (scrolls units) (direction_of direction)
 display_deed at cursor asked = None
+
+-- A call of the control with a number at its display, by the claims of all devices.
+abbrev pub DisplayCall : ℕ → List (Option ℕ) → Call → Result Answer NoMemory → Effect
+DisplayCall number claims asked outcome old before new after = MatchOption (slice_get old number) ⊥ (λ control.
+    OwnCall category.LineDisplay (display_rows (Some before.kind) asked) (display_deed (Some before.kind) control.cursor asked) number claims asked outcome
+    control old before new after)
+
+-- how many orders the display was given before and after it
+abbrev pub DisplayOrders : Kind → ℕ → List (Option ℕ) → Call → Result Answer NoMemory → List Control → ℕ → ℕ → Type 0
+DisplayOrders is number claims asked outcome controls old new = MatchOption (slice_get controls number) ⊥ (λ control.
+    OwnOrders category.LineDisplay (display_rows (Some is) asked) (display_deed (Some is) control.cursor asked) number claims asked outcome
+    control old new)

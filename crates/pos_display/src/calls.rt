@@ -1,29 +1,75 @@
-ghost use Rattle.std.specs.Prelude.{◌≡◌, ◌≤◌, true, Some, Ok};
+ghost use Rattle.std.specs.Prelude.{◌≡◌, ◌<◌, ◌≤◌, false, true, Some, Ok, MatchOption, length, slice_get};
 ghost use Rattle.std.specs.Option.{option_map};
 ghost use Rattle.pos_service.specs.declared.category.Category.TheVariants as category;
 ghost use Rattle.pos_service.specs.Calls.{has_call};
 ghost use Rattle.pos_service.specs.Deeds.{DeedFits, Plans};
-ghost use Rattle.pos_display.specs.DisplayCalls.{display_deed, display_rows, left_by, scroll_rows, scrolls, shows, text_rows};
+ghost use Rattle.pos_display.specs.DisplayCalls.{DisplayCall, DisplayOrders, display_deed, display_rows, left_by, scroll_rows, scrolls, shows, text_rows};
 ghost use Rattle.pos_service.specs.Displays.{attribute_of, direction_of, is_cursor_place};
 ghost use Rattle.pos_service.specs.Kinds.{is_display, rows_of, columns_of};
+ghost use Rattle.pos_service.specs.Hardware.{StaysInService, hardware_of};
+ghost use Rattle.pos_common.specs.KeptControls.{controls_of};
 
+use pos_common::{Claims, Control, carry_out};
 use pos_service::display_text::{
     Attribute, Cursor, Direction, ORIGIN, Place, is_text_of_display, place_after,
 };
 use pos_service::numbers::{to_count, to_index};
-use pos_service::{Bytes, Call, Change, Code, Deed, Kind, NoMemory, Order, columns_of, rows_of};
+use pos_service::{
+    Answer, Bytes, Call, Category, Change, Code, Deed, Kind, NoMemory, Order, Peripheral,
+    columns_of, rows_of,
+};
 use std::alloc::Global;
 
-/// What a call that displays have comes to, at a display of this kind, for a control with this cursor. Each call gives
-/// one order, once its arguments are found good and its text, if any, is copied; only when that is done, the cursor
-/// moves.
+/// A call of the control with a number on its display. Each call gives one order, once its arguments are found good, its
+/// text, if any, is copied, and there is room for the events of all controls that hear of it; only when that is done,
+/// the cursor moves. Want of memory changes nothing.
 ///
 /// `displayText` shows a text from the cursor on and leaves the cursor at its end, where CursorUpdate is true;
 /// `displayTextAt` has the cursor at a row and a column first; `clearText` blanks the display and has the cursor at the
 /// first place; `scrollText` moves what is shown, and keeps the cursor (chapter Line Display).
 ///
+/// Refused with E_CLOSED where the control is closed, E_ILLEGAL for a call that displays don't have, E_CLAIMED where
+/// another control holds the display, E_NOTCLAIMED where nobody does, E_DISABLED where the control is disabled; with
+/// E_ILLEGAL for an argument out of range; then as the display says: with E_FAILURE where its line fails, E_OFFLINE
+/// where it is off.
+pub fn call<P: Peripheral>(
+    alloc: Global,
+    controls: &mut [Control],
+    caller: usize,
+    claims: &Claims,
+    display: &mut P,
+    call: &Call,
+) -> Result<Answer, NoMemory>
+    requires caller { caller < length controls.old }
+    requires unparked { (P.Peripheral.state display.old).is_parked ≡ false }
+    requires display { is_display (P.Peripheral.state display.old).kind ≡ true }
+    requires cursor { let kind = Some (P.Peripheral.state display.old).kind in
+        MatchOption (slice_get (controls_of controls.old) caller) ⊥ (λ control.
+        is_cursor_place (rows_of kind) (columns_of kind) control.cursor.place ≡ true) }
+    ensures called { let state = P.Peripheral.state in DisplayCall caller claims.now call.now result
+        (controls_of controls.old) (hardware_of (state display.old))
+        (controls_of controls.new) (hardware_of (state display.new)) }
+    ensures orders { let state = P.Peripheral.state in DisplayOrders (state display.old).kind caller claims.now call.now result
+        (controls_of controls.old) (state display.old).orders (state display.new).orders }
+    ensures in_service { let state = P.Peripheral.state in
+        StaysInService (state display.old) (state display.new) }
+{
+    let control = &controls[caller];
+    let place = match control.check_call(caller, claims, Category::LineDisplay, call) {
+        Ok(place) => place,
+        Err(code) => return Ok(Answer::Refused(code, 0)),
+    };
+    match plan(alloc, display.kind(), control.cursor(), call)? {
+        Ok(deed) => carry_out(controls, caller, place, display, deed),
+        Err(code) => Ok(Answer::Refused(code, 0)),
+    }
+}
+
+/// What a call that displays have comes to, at a display of this kind, for a control with this cursor. Its text, if
+/// any, is copied once its arguments are found good.
+///
 /// Refused with E_ILLEGAL for an argument out of range.
-pub fn plan(
+fn plan(
     alloc: Global,
     kind: Kind,
     cursor: Cursor,

@@ -1,6 +1,8 @@
-//! The calls of a line display (chapter Line Display).
+//! A line display: its calls, and what happens at it (chapter Line Display).
 #![tactic(auto)]
 
 mod calls;
+mod inputs;
 
-pub use calls::plan;
+pub use calls::call;
+pub use inputs::input;

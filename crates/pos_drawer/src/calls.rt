@@ -1,15 +1,48 @@
-ghost use Rattle.std.specs.Prelude.{◌≡◌, true, Some};
+ghost use Rattle.std.specs.Prelude.{◌≡◌, ◌<◌, false, true, Some, length};
 ghost use Rattle.pos_service.specs.declared.category.Category.TheVariants as category;
 ghost use Rattle.pos_service.specs.declared.kind.Kind.{Kind};
 ghost use Rattle.pos_service.specs.Calls.{has_call};
 ghost use Rattle.pos_service.specs.Deeds.{DeedFits, MayWantFor};
-ghost use Rattle.pos_drawer.specs.DrawerCalls.{drawer_deed};
 ghost use Rattle.pos_service.specs.Kinds.{is_drawer};
+ghost use Rattle.pos_service.specs.Hardware.{StaysInService, hardware_of};
+ghost use Rattle.pos_common.specs.KeptControls.{controls_of};
+ghost use Rattle.pos_drawer.specs.DrawerCalls.{DrawerCall, DrawerOrders, drawer_deed};
 
-use pos_service::{Call, Change, Deed, Order};
+use pos_common::{Claims, Control, carry_out};
+use pos_service::{Answer, Call, Category, Change, Deed, NoMemory, Order, Peripheral};
+
+/// A call of the control with a number on its drawer: with `openDrawer` the drawer opens, once there is room for the
+/// events of all controls that hear of it. Want of memory changes nothing.
+///
+/// Refused with E_CLOSED where the control is closed, E_ILLEGAL for a call that drawers don't have, E_CLAIMED where
+/// another control holds the drawer, E_DISABLED where the control is disabled; then as the drawer says: with E_FAILURE
+/// where its line fails, E_OFFLINE where it is off (chapter Cash Drawer).
+pub fn call<P: Peripheral>(
+    controls: &mut [Control],
+    caller: usize,
+    claims: &Claims,
+    drawer: &mut P,
+    call: &Call,
+) -> Result<Answer, NoMemory>
+    requires caller { caller < length controls.old }
+    requires unparked { (P.Peripheral.state drawer.old).is_parked ≡ false }
+    requires drawer { is_drawer (P.Peripheral.state drawer.old).kind ≡ true }
+    ensures called { let state = P.Peripheral.state in DrawerCall caller claims.now call.now result
+        (controls_of controls.old) (hardware_of (state drawer.old))
+        (controls_of controls.new) (hardware_of (state drawer.new)) }
+    ensures orders { let state = P.Peripheral.state in DrawerOrders caller claims.now call.now result
+        (controls_of controls.old) (state drawer.old).orders (state drawer.new).orders }
+    ensures in_service { let state = P.Peripheral.state in
+        StaysInService (state drawer.old) (state drawer.new) }
+{
+    match controls[caller].check_call(caller, claims, Category::CashDrawer, call) {
+        Ok(place) => carry_out(controls, caller, place, drawer, plan(call)),
+        Err(code) => Ok(Answer::Refused(code, 0)),
+    }
+}
 
 /// What a call that drawers have comes to: with `openDrawer` the drawer opens.
-pub fn plan(call: &Call) -> Deed
+fn plan(call: &Call) -> Deed
     requires { has_call category.CashDrawer call.now ≡ true }
     ensures deed { drawer_deed call.now ≡ Some result }
     ensures fits { (is : Kind) → is_drawer is ≡ true → DeedFits is result }

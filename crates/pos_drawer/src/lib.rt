@@ -1,6 +1,8 @@
-//! The calls of a cash drawer (chapter Cash Drawer).
+//! A cash drawer: its calls, and what happens at it (chapter Cash Drawer).
 #![tactic(auto)]
 
 mod calls;
+mod inputs;
 
-pub use calls::plan;
+pub use calls::call;
+pub use inputs::input;

@@ -3,8 +3,10 @@
 use Rattle.std.specs.Prelude.{◌≡◌, ℕ, ℤ, pos, negsuc, nat_abs, Bool, false, not, ◌&&◌, ◌==◌, List, [], ◌∷◌, Option, Some, None, Result, Ok, MatchOption}
 use Rattle.std.specs.Prelude.{MatchResult, slice_get, if◌then◌else◌}
 use Rattle.std.specs.Option.{option_map, option_and_then}
+use Rattle.pos_service.specs.declared.answer.Answer.{Answer}
 use Rattle.pos_service.specs.declared.call.Call.{Call}
 use Rattle.pos_service.specs.declared.call.Call.TheVariants as call
+use Rattle.pos_service.specs.declared.category.Category.TheVariants as category
 use Rattle.pos_service.specs.declared.code.Code.TheVariants as code
 use Rattle.pos_service.specs.declared.deed.Change.TheVariants as change
 use Rattle.pos_service.specs.declared.deed.Deed.{Deed}
@@ -19,6 +21,7 @@ use Rattle.pos_service.specs.declared.worked.Worked.{Worked}
 use Rattle.pos_service.specs.declared.worked.Worked.TheVariants as worked
 use Rattle.pos_service.specs.Codes.{code_by, extended_by}
 use Rattle.pos_common.specs.DueRequests.{first_request}
+use Rattle.pos_common.specs.OwnCalls.{OwnCall, OwnOrders}
 use Rattle.pos_service.specs.Controls.{Control, completed, output_failed}
 use Rattle.pos_service.specs.Deeds.{ChangesOne, GivesOne, Ordered}
 use Rattle.pos_service.specs.Kinds.{is_printer}
@@ -71,6 +74,18 @@ printer_deed control (call.PrintImmediate station text) = Some (immediately text
 printer_deed control (call.CutPaper percentage) = Some (request_of control (order.Cut (nat_abs percentage)))
 printer_deed control call.ClearOutput = Some (deed.Changes change.Output)
 printer_deed control asked = None
+
+-- A call of the control with a number at its printer, by the claims of all devices.
+abbrev pub PrinterCall : ℕ → List (Option ℕ) → Call → Result Answer NoMemory → Effect
+PrinterCall number claims asked outcome old before new after = MatchOption (slice_get old number) ⊥ (λ control.
+    OwnCall category.PosPrinter (printer_rows control asked) (printer_deed control asked) number claims asked outcome
+    control old before new after)
+
+-- how many orders the printer was given before and after it
+abbrev pub PrinterOrders : ℕ → List (Option ℕ) → Call → Result Answer NoMemory → List Control → ℕ → ℕ → Type 0
+PrinterOrders number claims asked outcome controls old new = MatchOption (slice_get controls number) ⊥ (λ control.
+    OwnOrders category.PosPrinter (printer_rows control asked) (printer_deed control asked) number claims asked outcome
+    control old new)
 
 -- The work on output.
 

@@ -14,9 +14,9 @@ ghost use Rattle.pos_printer.specs.Requests.{HasRequest};
 use pos_common::{Claims, Control, WORK_EVENTS, hear_all, room_all};
 use pos_service::{Code, NoMemory, Peripheral, Reply, Worked};
 
-/// Works on the first request of the control that holds the printer at a place. There is nothing to do where nobody
-/// holds it, where the holder is disabled, where it has no request, and while its first one has failed (common
-/// chapter, asynchronous output).
+/// Works on the first request of the control that holds the printer at a place. There is nothing to do at a device that
+/// is no printer, where nobody holds it, where the holder is disabled, where it has no request, and while its first one
+/// has failed (common chapter, asynchronous output).
 ///
 /// The room for all events is made before the order is given. Once it is done, each control that has the printer open
 /// and enabled hears the statuses that have changed; then the request is removed, and an OutputCompleteEvent enqueued.
@@ -31,7 +31,6 @@ pub fn work<P: Peripheral>(
     printer: &mut P,
 ) -> Result<Worked, NoMemory>
     requires unparked { (P.Peripheral.state printer.old).is_parked ≡ false }
-    requires printer { is_printer (P.Peripheral.state printer.old).kind ≡ true }
     ensures worked { let state = P.Peripheral.state in
         WorksAt (holder_at claims.now (Some place)) place result
         (controls_of controls.old) (hardware_of (state printer.old))
@@ -41,6 +40,9 @@ pub fn work<P: Peripheral>(
     ensures in_service { let state = P.Peripheral.state in
         StaysInService (state printer.old) (state printer.new) }
 {
+    if !printer.kind().is_printer() {
+        return Ok(Worked::Idle);
+    }
     let Some(holder) = claims.holder(Some(place)) else {
         return Ok(Worked::Idle);
     };

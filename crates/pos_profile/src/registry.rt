@@ -152,8 +152,9 @@ impl<P: Peripheral> Registry<P> {
         Some((place, &self.slots[place]))
     }
 
-    /// Takes what serves the device at a place, which is vacant then, or `None` if it is vacant already.
-    fn take(&mut self, place: usize) -> Option<P>
+    /// Takes out what serves the device at a place, which is vacant then; `None` if it is vacant already. It takes no
+    /// memory.
+    pub fn take(&mut self, place: usize) -> Option<P>
         requires sound { IsRegistrySound P.Peripheral self.old }
         requires within { place < length (devices P.Peripheral self.old) }
         ensures taken { option_map P.Peripheral.state result ≡ standing_at (devices P.Peripheral self.old) place }
@@ -163,8 +164,8 @@ impl<P: Peripheral> Registry<P> {
         self.slots[place].peripheral.take()
     }
 
-    /// Makes a peripheral serve the device at a vacant place.
-    fn put(&mut self, place: usize, peripheral: P)
+    /// Makes a peripheral serve the device at a place, which is vacant and of its kind. It takes no memory.
+    pub fn put(&mut self, place: usize, peripheral: P)
         requires sound { IsRegistrySound P.Peripheral self.old }
         requires may_serve { MayServe (devices P.Peripheral self.old) place (P.Peripheral.state peripheral) }
         requires unparked { (P.Peripheral.state peripheral).is_parked ≡ false }

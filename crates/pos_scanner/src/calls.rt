@@ -1,16 +1,46 @@
-ghost use Rattle.std.specs.Prelude.{◌≡◌, true, Some};
+ghost use Rattle.std.specs.Prelude.{◌≡◌, ◌<◌, false, true, Some, length};
 ghost use Rattle.pos_service.specs.declared.category.Category.TheVariants as category;
 ghost use Rattle.pos_service.specs.declared.kind.Kind.{Kind};
 ghost use Rattle.pos_service.specs.Calls.{has_call};
 ghost use Rattle.pos_service.specs.Deeds.{DeedFits, MayWantFor};
-ghost use Rattle.pos_scanner.specs.ScannerCalls.{scanner_deed};
+ghost use Rattle.pos_service.specs.Hardware.{StaysInService, hardware_of};
+ghost use Rattle.pos_common.specs.KeptControls.{controls_of};
+ghost use Rattle.pos_scanner.specs.ScannerCalls.{ScannerCall, ScannerOrders, scanner_deed};
 
-use pos_service::{Call, Change, Deed};
+use pos_common::{Claims, Control, carry_out};
+use pos_service::{Answer, Call, Category, Change, Deed, NoMemory, Peripheral};
 
-/// What a call that scanners have comes to, none of which gives an order: `clearInput` deletes the caller's DataEvents
-/// and ErrorEvents of input and ends its input error state; `clearInputProperties` gives its ScanData, ScanDataLabel
-/// and ScanDataType their defaults (common chapter, chapter Scanner).
-pub fn plan(call: &Call) -> Deed
+/// A call of the control with a number on its scanner, none of which gives an order or takes memory: `clearInput`
+/// deletes the caller's DataEvents and ErrorEvents of input and ends its input error state; `clearInputProperties`
+/// gives its ScanData, ScanDataLabel and ScanDataType their defaults (common chapter, chapter Scanner).
+///
+/// Refused with E_CLOSED where the control is closed, E_ILLEGAL for a call that scanners don't have, E_CLAIMED where
+/// another control holds the scanner, E_NOTCLAIMED where nobody does.
+pub fn call<P: Peripheral>(
+    controls: &mut [Control],
+    caller: usize,
+    claims: &Claims,
+    scanner: &mut P,
+    call: &Call,
+) -> Result<Answer, NoMemory>
+    requires caller { caller < length controls.old }
+    requires unparked { (P.Peripheral.state scanner.old).is_parked ≡ false }
+    ensures called { let state = P.Peripheral.state in ScannerCall caller claims.now call.now result
+        (controls_of controls.old) (hardware_of (state scanner.old))
+        (controls_of controls.new) (hardware_of (state scanner.new)) }
+    ensures orders { let state = P.Peripheral.state in ScannerOrders caller claims.now call.now result
+        (controls_of controls.old) (state scanner.old).orders (state scanner.new).orders }
+    ensures in_service { let state = P.Peripheral.state in
+        StaysInService (state scanner.old) (state scanner.new) }
+{
+    match controls[caller].check_call(caller, claims, Category::Scanner, call) {
+        Ok(place) => carry_out(controls, caller, place, scanner, plan(call)),
+        Err(code) => Ok(Answer::Refused(code, 0)),
+    }
+}
+
+/// What a call that scanners have comes to: none gives an order.
+fn plan(call: &Call) -> Deed
     requires { has_call category.Scanner call.now ≡ true }
     ensures deed { scanner_deed call.now ≡ Some result }
     ensures fits { (is : Kind) → DeedFits is result }

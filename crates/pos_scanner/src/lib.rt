@@ -1,6 +1,8 @@
-//! The calls of a scanner (chapter Scanner, and common chapter).
+//! A scanner: its calls, and what it reads (chapter Scanner, and common chapter).
 #![tactic(auto)]
 
 mod calls;
+mod inputs;
 
-pub use calls::plan;
+pub use calls::call;
+pub use inputs::input;

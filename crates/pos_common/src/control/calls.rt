@@ -1,15 +1,17 @@
 ghost use Rattle.std.specs.Prelude.{◌≡◌, ⊤, Some};
 ghost use Rattle.pos_service.specs.Calls.{place_found, open_rows, close_rows};
-ghost use Rattle.pos_service.specs.Claims.{is_own, is_foreign, claim_rows, release_rows, after_release};
+ghost use Rattle.pos_service.specs.Claims.{holder_at, is_own, is_foreign, claim_rows, release_rows, after_release};
 ghost use Rattle.pos_service.specs.Controls.{opened, closed, stopped};
 ghost use Rattle.pos_service.specs.Refusals.{Decided};
 ghost use Rattle.pos_common.specs.Checks.{Checks};
 ghost use Rattle.pos_common.specs.KeptControls.{TurnsInto};
+ghost use Rattle.pos_common.specs.OwnCalls.{ChecksCall};
 
 use super::Control;
+use crate::claims::Claims;
 use pos_service::claims::{is_foreign, is_own, is_timeout};
 use pos_service::display_text::Cursor;
-use pos_service::{Answer, ClaimNeed, Code, Finding, Needs, Settings, Value};
+use pos_service::{Answer, Call, Category, ClaimNeed, Code, Finding, Needs, Settings, Value};
 
 impl Control {
     /// `open`: it is for the device that was found from now on (common chapter).
@@ -112,13 +114,43 @@ impl Control {
         Answer::Done(Value::Empty)
     }
 
+    /// The place of its device, for a call of a category's own, by its number and the claims of all devices (common
+    /// chapter).
+    ///
+    /// Refused as `check` says.
+    pub fn check_call(
+        &self,
+        number: usize,
+        claims: &Claims,
+        category: Category,
+        call: &Call,
+    ) -> Result<usize, Code>
+        ensures { ChecksCall category number claims.now call.now self.now.control result }
+    {
+        self.check(number, claims, call.needs(category))?;
+        match self.device {
+            Some(place) => Ok(place),
+            None => unreachable!(),
+        }
+    }
+
+    /// Whether it is as a call or a property asks it to be, by its number and the claims of all devices (common
+    /// chapter). Of Hard Totals, whose area the totals hold, `check_by` says so.
+    ///
+    /// Refused as `check_by` says.
+    pub fn check(&self, number: usize, claims: &Claims, needs: Needs) -> Result<(), Code>
+        ensures { Checks number (holder_at claims.now self.now.control.device) self.now.control needs result }
+    {
+        self.check_by(number, claims.holder(self.device), needs)
+    }
+
     /// Whether it is as a call or a property asks it to be, by its number and the number of the control that holds its
     /// device, if any (common chapter).
     ///
     /// Refused with E_CLOSED where it has to be open and isn't; with E_ILLEGAL where its category doesn't have what is
     /// asked; with E_CLAIMED where no other control may hold the device, and one does; with E_NOTCLAIMED where it has
     /// to hold the device itself, and nobody does; then with E_DISABLED where the device has to be enabled and isn't.
-    pub fn check(&self, number: usize, holder: Option<usize>, needs: Needs) -> Result<(), Code>
+    pub fn check_by(&self, number: usize, holder: Option<usize>, needs: Needs) -> Result<(), Code>
         ensures { Checks number holder self.now.control needs result }
     {
         if needs.is_open && self.device.is_none() {

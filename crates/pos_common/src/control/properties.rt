@@ -40,7 +40,7 @@ impl Control {
             SetsTo (set_rows number holder kind control property value.now) (tells_power control property value.now)
             result self.old self.new (after_set signs control property value.now) }
     {
-        match self.check(number, holder, property.needs_to_set(self.category)) {
+        match self.check_by(number, holder, property.needs_to_set(self.category)) {
             Ok(()) => self.set_value(kind, signs, property, value),
             Err(code) => Ok(Answer::Refused(code, 0)),
         }
@@ -182,7 +182,7 @@ impl Control {
         ensures { Gets (get_rows number holder self.now.control facts.now property) property
             (property_of self.now.control facts.now property) result }
     {
-        match self.check(number, holder, property.needs(self.category)) {
+        match self.check_by(number, holder, property.needs(self.category)) {
             Ok(()) => self.tell_property(property, facts),
             Err(code) => Ok(Answer::Refused(code, 0)),
         }

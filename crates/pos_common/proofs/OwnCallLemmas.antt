@@ -1,0 +1,72 @@
+-- The calls of a category's own, by what their check decides and what they come to.
+use Rattle.pos_common.proofs.Common.{Answer, Control, Err, Hardware, IsTrue, List, MatchOption, MatchResult, NoMemory, None, Ok, Option, Result}
+use Rattle.pos_common.proofs.Common.{Row, SameHardware, Some, first_refusal, refl, slice_get, ℕ, ◌≡◌}
+use Rattle.pos_common.specs.OwnCalls.{OwnCall, OwnOrders, own_refusals}
+use Rattle.pos_service.specs.Calls.{takes_memory}
+use Rattle.pos_service.specs.Deeds.{Does, MayWantFor, OrdersBy, may_want}
+use Rattle.pos_service.specs.Peripherals.{counted}
+use Rattle.pos_service.specs.declared.answer.Answer.TheVariants as answer
+use Rattle.pos_service.specs.declared.call.Call.{Call}
+use Rattle.pos_service.specs.declared.category.Category.{Category}
+use Rattle.pos_service.specs.declared.code.Code.{Code}
+use Rattle.pos_service.specs.declared.deed.Deed.{Deed}
+use Rattle.pos_service.specs.declared.deed.Deed.TheVariants as deed
+use Rattle.std.proofs.Common.{inl}
+use Rattle.std.specs.Prelude.{◌⊎◌}
+use Rattle.pos_common.proofs.CheckLemmas.{refused}
+
+module _ (k : Category) (n : ℕ) (claims : List (Option ℕ)) (asked : Call) (olds : List Control) (one : Control) (rows : Control → List Row)
+    (comes_to : Control → Option Deed) (found : slice_get olds n ≡ Some one) where
+  abbrev refusals : List Row
+  refusals = own_refusals k (rows one) n claims asked one
+
+  -- the call of the control with the number
+  abbrev pub Called : Result Answer NoMemory → Hardware → List Control → Hardware → Type 0
+  Called outcome before new after = MatchOption (slice_get olds n) ⊥
+      (λ control. OwnCall k (rows control) (comes_to control) n claims asked outcome control olds before new after)
+
+  -- the orders that it gives
+  abbrev pub Ordered : Result Answer NoMemory → ℕ → ℕ → Type 0
+  Ordered outcome old new = MatchOption (slice_get olds n) ⊥
+      (λ control. OwnOrders k (rows control) (comes_to control) n claims asked outcome control old new)
+
+  -- it is refused
+  pub refused_call : (code : Code) (at : Hardware) → first_refusal refusals ≡ Some (answer.Refused code 0)
+      → Called (Ok (answer.Refused code 0)) at olds at
+  refused_call code at refuses = rw (found)
+      (refused refusals (answer.Refused code 0) _ _ refuses (record { controls = refl; hardware = refl }))
+
+  -- then it gives no order
+  pub refused_orders : (code : Code) (orders : ℕ) → first_refusal refusals ≡ Some (answer.Refused code 0)
+      → Ordered (Ok (answer.Refused code 0)) orders orders
+  refused_orders code orders refuses = rw (found, refuses) refl
+
+  -- it finds no memory for its text
+  pub wanting_call : (want : NoMemory) (at : Hardware) → IsTrue (takes_memory asked) → first_refusal refusals ≡ None
+      → Called (Err want) at olds at
+  wanting_call want at takes none = rw found (takes, none, record { controls = refl; hardware = refl })
+
+  pub wanting_orders : (want : NoMemory) (orders : ℕ) → first_refusal refusals ≡ None → Ordered (Err want) orders orders
+  wanting_orders want orders none = rw (found, none) (inl refl)
+
+  -- it comes to a deed
+  pub done_call : (d : Deed) (place : ℕ) (outcome : Result Answer NoMemory) (new : List Control) (before after : Hardware)
+      → one.device ≡ Some place → first_refusal refusals ≡ None → comes_to one ≡ Some d → MayWantFor asked d
+      → MatchResult outcome (λ result. Does d n place result olds before new after)
+      (λ want. IsTrue (may_want d) × SameHardware olds before new after)
+      → Called outcome before new after
+  done_call d place (Ok result) new before after there none comes wants does =
+      rw found (record { outcome = rw (none, comes, there) does })
+  done_call d place (Err want) new before after there none comes wants does =
+      rw found (wants does.0, none, does.1)
+
+  -- and gives its orders
+  pub done_orders : (d : Deed) (outcome : Result Answer NoMemory) (old new : ℕ) → first_refusal refusals ≡ None → comes_to one ≡ Some d
+      → OrdersBy d outcome old new → Ordered outcome old new
+  done_orders d (Ok result) old new none comes gives = rw (found, none, comes) gives
+  done_orders d (Err want) old new none comes gives = rw (found, none) (by_deed d gives)
+    where
+      by_deed : (d : Deed) → OrdersBy {T = Answer} d (Err want) old new → (new ≡ old) ⊎ (new ≡ counted old)
+      by_deed (deed.Gives given what) gives = gives
+      by_deed (deed.Changes what) gives = inl gives
+      by_deed (deed.Queues given) gives = inl gives

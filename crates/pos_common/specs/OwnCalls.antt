@@ -1,0 +1,58 @@
+-- The calls of a category's own, at the device of the control that makes them (common chapter).
+use Rattle.std.specs.Prelude.{◌≡◌, ◌⊎◌, ℕ, true, List, Option, Some, None, Result, IsTrue, MatchOption, MatchResult}
+use Rattle.pos_service.specs.declared.answer.Answer.{Answer}
+use Rattle.pos_service.specs.declared.answer.Answer.TheVariants as answer
+use Rattle.pos_service.specs.declared.call.Call.{Call}
+use Rattle.pos_service.specs.declared.category.Category.{Category}
+use Rattle.pos_service.specs.declared.code.Code.{Code}
+use Rattle.pos_service.specs.declared.deed.Deed.{Deed}
+use Rattle.pos_service.specs.declared.memory.NoMemory.{NoMemory}
+use Rattle.pos_service.specs.Calls.{has_call, needs_of, takes_memory}
+use Rattle.pos_service.specs.Claims.{holder_at}
+use Rattle.pos_service.specs.Controls.{Control}
+use Rattle.pos_service.specs.Deeds.{Does, OrdersBy}
+use Rattle.pos_service.specs.Hardware.{Effect, SameHardware}
+use Rattle.pos_service.specs.Needs.{table}
+use Rattle.pos_service.specs.Peripherals.{counted}
+use Rattle.pos_service.specs.Refusals.{Row, Decided, first_refusal}
+
+-- the refusals of a call of a category's own on the control with a number: what it asks of the control, by the claims of
+-- all devices, and then the category's rows
+abbrev pub own_refusals : Category → List Row → ℕ → List (Option ℕ) → Call → Control → List Row
+own_refusals c rows number claims asked control =
+    table number (holder_at claims control.device) control (needs_of c asked) rows
+
+-- What the check of the control decides of such a call: the device is at this place, the category has the call, and its
+-- rows decide; or the control is refused with a code, whatever the rows.
+abbrev pub ChecksCall : Category → ℕ → List (Option ℕ) → Call → Control → Result ℕ Code → Type 0
+ChecksCall c number claims asked control outcome = MatchResult outcome
+    (λ place. (control.device ≡ Some place) × (has_call c asked ≡ true)
+    × ((rows : List Row) → first_refusal (own_refusals c rows number claims asked control) ≡ first_refusal rows))
+    (λ code. (rows : List Row) →
+    first_refusal (own_refusals c rows number claims asked control) ≡ Some (answer.Refused code 0))
+
+-- what it does at the control's device: what it comes to
+abbrev pub OwnDoes : Option Deed → ℕ → Answer → Control → Effect
+OwnDoes comes_to number result control old before new after = MatchOption control.device ⊥ (λ place.
+    MatchOption comes_to ⊥ (λ deed. Does deed number place result old before new after))
+
+-- Such a call, by the category's rows and what it comes to: it is refused by its table, which changes nothing, or it
+-- does what it comes to. Memory is wanted by a call alone that may want some and that nothing refuses, and then nothing
+-- changes.
+abbrev pub OwnCall : Category → List Row → Option Deed → ℕ → List (Option ℕ) → Call → Result Answer NoMemory → Control
+    → Effect
+OwnCall c rows comes_to number claims asked outcome control old before new after =
+    let refusals = own_refusals c rows number claims asked control in MatchResult outcome
+    (λ result. Decided refusals result (SameHardware old before new after)
+    (OwnDoes comes_to number result control old before new after))
+    (λ want. IsTrue (takes_memory asked) × (first_refusal refusals ≡ None) × SameHardware old before new after)
+
+-- how many orders the peripheral was given before and after: a call that its table refuses gives none, another those of
+-- what it comes to
+abbrev pub OwnOrders : Category → List Row → Option Deed → ℕ → List (Option ℕ) → Call → Result Answer NoMemory → Control
+    → ℕ → ℕ → Type 0
+OwnOrders c rows comes_to number claims asked outcome control old new =
+    MatchOption (first_refusal (own_refusals c rows number claims asked control))
+    (MatchResult outcome (λ result. MatchOption comes_to ⊥ (λ deed. OrdersBy deed outcome old new))
+    (λ want. (new ≡ old) ⊎ (new ≡ counted old)))
+    (λ refusal. new ≡ old)
