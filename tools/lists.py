@@ -147,6 +147,7 @@ def file_messages():
     return table(["Status", "Message", "Cause"], rows)
 
 
+FIRST = {"getting-started.md", "what-is-proved.md", "architecture.md"}
 FOLDERS = {"guide": "a till developer", "reference": "looking something up", "proofs": "a proof reader",
            "contributing": "a contributor"}
 
@@ -155,7 +156,7 @@ def documents():
     """The documents by reader, each with its first sentence."""
     rows = []
     for folder, reader in FOLDERS.items():
-        found = sorted(os.listdir(os.path.join(sources.TOP, "docs", folder)), key=lambda name: (name != "getting-started.md", name))
+        found = sorted(os.listdir(os.path.join(sources.TOP, "docs", folder)), key=lambda name: (name not in FIRST, name))
         for name in found:
             title, text = re.match(r"# (.*)\n\n((?:.+\n)+)", sources.read(f"docs/{folder}/{name}")).groups()
             text = re.sub(r"\[([^\]]*)\]\([^)]*\)", r"\1", text.replace("**", ""))
