@@ -4,9 +4,12 @@
 #   longest  no sentence has more than 35
 #   words    none of the words that this project replaces with plainer ones
 #   repeats  no nine words in a row that another document has too
+# and of docs/ as a whole:
+#   size     at most 120 KB are written by hand: prose and tables, without what a tool writes, without examples and
+#            drawings, and without the tables of names, which tests/documents.sh and tests/rules.sh check cell by cell
 # Tables, headings and code don't count as sentences. Tables do count for repeats, cell by cell. A name in backticks
 # is one word. Then it plants one fault of each kind, in memory, and its rule has to find it.
-# Usage: tests/prose.sh [-v]. -v also prints how many bytes, sentences and words a sentence each document has. Its
+# Usage: tests/prose.sh [-v]. -v also prints how many bytes by hand, sentences and words a sentence each document has. Its
 # last line is 'N passed, M failed': a rule of a document or a planted fault each. It ends with 0 if none failed.
 set -u
 cd "$(dirname "$0")/.." || exit 1
@@ -16,6 +19,9 @@ import glob, os, re, statistics, sys
 MEDIAN = 16
 LONGEST = 35
 RUN = 9
+MOST = 120 * 1024
+# Documents with tables of names.
+TABLES = ["docs/proofs/theorems.md", "docs/proofs/glossary.md", "docs/proofs/rules.md"]
 # Documents whose prose isn't measured yet.
 NOT_COVERED = []
 # Written by tools/contracts.py and tools/calls.py: tables.
@@ -74,6 +80,15 @@ def blocks_of(text):
     return prose, cells
 
 
+def by_hand(path, text):
+    """How many bytes of a document are prose and tables that a tool neither writes nor checks cell by cell."""
+    text = MARKED.sub("", text)
+    text = re.sub(r"^( *)```.*?^\1```\n", "", text, flags=re.M | re.S)
+    if path in TABLES:
+        text = re.sub(r"^\|.*\n", "", text, flags=re.M)
+    return len(text.encode())
+
+
 def plain(text):
     """A block without its links' targets and pictures."""
     text = re.sub(r"!\[[^\]]*\]\([^)]*\)", "", text)
@@ -126,6 +141,8 @@ def measure(texts):
                 repeated.append(f"{', '.join(sorted(owners[run] - {path}))} has too: {run}")
             before = here
         faults[path, "repeats"] = repeated
+    size = sum(by_hand(path, text) for path, text in texts.items() if path.startswith("docs/"))
+    faults["docs/", "size"] = [f"{size:,} bytes are written by hand, of {MOST:,}"] if size > MOST else []
     return faults
 
 
@@ -142,6 +159,7 @@ PLANTS = [
     ("longest", "README.md", lambda: "\n\n- The " + " ".join(WORDS) + "\n  " + " ".join(WORDS[:18]) + ".\n"),
     ("words", "README.md", lambda: "\n\nThe till is opened anew.\n"),
     ("repeats", "README.md", lambda: "\n\n| Till | " + " ".join(WORDS[:RUN]) + " |\n"),
+    ("size", "docs/README.md", lambda: "\n\n" + "Tills add. " * (MOST // 10)),
 ]
 ECHO = ("docs/README.md", "\n\nHere " + " ".join(WORDS[:RUN]) + ".\n")
 
@@ -168,14 +186,16 @@ def main():
     if "-v" in sys.argv:
         for path in every:
             lengths = [length(sentence) for sentence in sentences_of(blocks_of(read(path))[0])]
-            print(f"{path}: {os.path.getsize(path):,} bytes, {len(lengths)} sentences, median "
+            print(f"{path}: {by_hand(path, read(path)):,} bytes by hand, {len(lengths)} sentences, median "
                   f"{statistics.median(lengths or [0]):g}, longest {max(lengths or [0])}")
-        print(f"docs/: {sum(os.path.getsize(path) for path in every if path.startswith('docs/')):,} bytes")
+    size = sum(by_hand(path, text) for path, text in measured.items() if path.startswith("docs/"))
+    print(f"docs/: {size:,} bytes by hand, at most {MOST:,}")
     for rule, path, text in PLANTS:
         planted = {**measured, path: measured.get(path, "") + text()}
         if rule == "repeats":
             planted[ECHO[0]] = planted.get(ECHO[0], "") + ECHO[1]
-        if set(measure(planted)[path, rule]) - set(faults.get((path, rule), [])):
+        place = "docs/" if rule == "size" else path
+        if set(measure(planted)[place, rule]) - set(faults.get((place, rule), [])):
             passed += 1
         else:
             failed += 1

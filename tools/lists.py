@@ -147,7 +147,26 @@ def file_messages():
     return table(["Status", "Message", "Cause"], rows)
 
 
+FIRST = {"getting-started.md", "what-is-proved.md", "architecture.md"}
+FOLDERS = {"guide": "a till developer", "reference": "looking something up", "proofs": "a proof reader",
+           "contributing": "a contributor"}
+
+
+def documents():
+    """The documents by reader, each with its first sentence."""
+    rows = []
+    for folder, reader in FOLDERS.items():
+        found = sorted(os.listdir(os.path.join(sources.TOP, "docs", folder)), key=lambda name: (name not in FIRST, name))
+        for name in found:
+            title, text = re.match(r"# (.*)\n\n((?:.+\n)+)", sources.read(f"docs/{folder}/{name}")).groups()
+            text = re.sub(r"\[([^\]]*)\]\([^)]*\)", r"\1", text.replace("**", ""))
+            rows.append([reader, f"[{title}]({folder}/{name})", sentence(text)])
+            reader = ""
+    return table(["You are", "Document", "What it has"], rows)
+
+
 LISTS = {
+    "documents": ("docs/README.md", documents),
     "messages": ("docs/reference/trouble.md", file_messages),
     "calls of the library": ("abi/README.md", library_calls),
     "codes of the library": ("abi/README.md", library_codes),
