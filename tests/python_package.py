@@ -710,7 +710,7 @@ def try_profiles():
              (type(fault).__name__, str(fault), getattr(fault, "line", 0), getattr(fault, "column", 0)))
         told(f"what the program says of it: {text!r}", reason, said_of(text))
         told(f"its devices: {text!r}", str(fault), str(raised(kijolvar.devices, text, LIBRARY)))
-    for text, line, column in (("x = ", 1, 5), ("a = 1\nä = = 2", 2, 1), ("[[device]]\nname = 'p", 2, 10)):
+    for text, line, column in (("x = ", 1, 5), ('a = 1\n"ä" = = 2', 2, 7), ("[[device]]\nname = 'p", 2, 10)):
         fault = raised(opened, text)
         told(f"a text that is no TOML: {text!r}", ("ProfileError", line), (type(fault).__name__, fault.line))
         told(f"where: {text!r}", column, fault.column)

@@ -231,8 +231,8 @@ static void profiles(void) {
     size_t count = 0;
     succeeds("the built profile", kij_profile_mistake(NULL, &mistake));
     wants("no mistake", mistake.line == 0 && mistake.reason[0] == 0);
-    gives("no TOML", KIJ_BAD_PROFILE, kij_profile_mistake("a = 1\n\xc3\xa4\xc3\xa4 = = 2", &mistake));
-    wants("its place", mistake.line == 2 && mistake.column > 1 && memcmp(mistake.reason, "not TOML: ", 10) == 0);
+    gives("no TOML", KIJ_BAD_PROFILE, kij_profile_mistake("a = 1\n\"\xc3\xa4\" = = 2", &mistake));
+    wants("its place", mistake.line == 2 && mistake.column == 7 && memcmp(mistake.reason, "not TOML: ", 10) == 0);
     gives("no text", KIJ_BAD_PROFILE, kij_profile_mistake("a = 1\nb\xff", &mistake));
     wants("where it ends", mistake.line == 2 && mistake.column == 2 && strcmp(mistake.reason, "not UTF-8") == 0);
     const char *wide = "[[device]]\nname = \"d\"\ncategory = \"LineDisplay\"\nrows = 2\ncolumns = 81\n";

@@ -6,7 +6,6 @@ use Rattle.toml.specs.Errors.{span_start}
 use Rattle.toml.specs.Parse.{parse_document}
 use Rattle.pos_profile.specs.Entries.{Contents}
 use Rattle.pos_profile.specs.Numbers.{key_of_number, least_of, most_of}
-use Rattle.pos_profile.specs.OptionalKeys.{most_orders}
 use Rattle.pos_profile.specs.Profiles.{FromDocument}
 use Rattle.pos_profile.specs.Tables.{key_of}
 use Rattle.pos_profile.specs.declared.mistake.Mistake.{Mistake}
@@ -43,7 +42,7 @@ number_reason key =
 -- the values of an optional key
 abbrev pub option_reason : OptionalKey → List ℕ
 option_reason Ring = codes "ring must be true or false"
-option_reason Flaky = codes "flaky must be an array of two numbers, each 0 to " ++ decimal most_orders
+option_reason Flaky = codes "flaky must be an array of two numbers, each 0 to 1000000"
 option_reason Record = codes "record must be true or false"
 
 -- what isn't sound there

@@ -63,7 +63,8 @@ move_code other = no_memory
 abbrev pub RefusesMove : List ℕ → (code : ℕ) → Type 0
 RefusesMove bytes code = (code ≡ no_memory)
     ⊎ ((code ≡ too_small) × (length bytes < disk_size))
-    ⊎ ((why : StoreFault) × (new : DiskState) × MovesAny (file_state bytes) new (Err why) × (code ≡ move_code why))
+    ⊎ ((why : StoreFault) × (disk : HostedDisk) × MovesAny (file_state bytes) (hosted_state disk) (Err why)
+    × (code ≡ move_code why))
 
 -- what a call answers that moves the totals of a file and opens a till over it
 abbrev pub AnswersMove : (profile bytes : List ℕ) (code : ℕ) → Type 0

@@ -1,10 +1,11 @@
 //! The disks that tills begin with.
-ghost use Rattle.std.specs.Prelude.{◌≡◌, ◌≢◌, ◌⊎◌, MatchResult, Some};
+ghost use Rattle.std.specs.Prelude.{◌≡◌, ◌≢◌, ◌⊎◌, MatchResult, Some, false};
 ghost use Rattle.kijolvar.specs.Codes.{no_memory, ok};
 ghost use Rattle.kijolvar.specs.Opening.{IsFormattedOf, IsMovedOf, RefusesMove, format_code, move_code};
 ghost use Rattle.pos_disk.specs.Memory.{fresh};
 ghost use Rattle.kijolvar.specs.Errands.{no_work};
-ghost use Rattle.kijolvar.specs.TillDisks.{file_of, hosted};
+ghost use Rattle.kijolvar.specs.TillDisks.{IsInStep, file_of, hosted, settlement_with};
+ghost use Rattle.kijolvar.specs.declared.settlement.Settlement.TheVariants.{Owed};
 
 use crate::codes::{DAMAGED, FORMATTED, MOVED, NO_MEMORY, TOO_SMALL, UNFORMATTED};
 use crate::settlement::Settlement;
@@ -83,19 +84,28 @@ pub fn move_in_file(alloc: Global, bytes: &[u8]) -> Result<TillDisk, u32>
     }
 }
 
+// The disk, if its host has errands. One was lost where it has none, for want of memory.
+fn with_errands(disk: TillDisk) -> Result<TillDisk, u32>
+    ensures { MatchResult result
+        (λ same. (same ≡ disk) × IsInStep disk × (settlement_with disk.work false ≡ Owed))
+        (λ code. code ≡ no_memory) }
+{
+    disk.is_in_step();
+    if disk.settlement(false) == Settlement::Owed {
+        Ok(disk)
+    } else {
+        Err(NO_MEMORY)
+    }
+}
+
 // Moves the totals on a disk that has the bytes of its host's file, which are errands of the host then.
 fn move_disk(alloc: Global, disk: TillDisk) -> Result<TillDisk, u32>
     ensures { let bytes = disk.memory.present.reading in disk ≡ hosted (fresh bytes) (Some (no_work bytes))
         → MatchResult result (IsMovedOf bytes) (RefusesMove bytes) }
 {
     let (moved, outcome) = migrate_disk(alloc, disk);
-    if let Err(why) = outcome {
-        return Err(move_code(why));
-    }
-    moved.is_in_step();
-    if moved.settlement(false) == Settlement::Owed {
-        Ok(moved)
-    } else {
-        Err(NO_MEMORY)
+    match outcome {
+        Ok(()) => with_errands(moved),
+        Err(why) => Err(move_code(why)),
     }
 }

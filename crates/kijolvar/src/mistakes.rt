@@ -36,9 +36,9 @@ fn place_text(alloc: Global, place: Place) -> Result<Vec<u8>, AllocError>
     let mut text = Vec::new(alloc);
     if let Place::Listed(role, number) = place {
         text.extend_from_slice(role.key().as_bytes())?;
-        text.extend_from_slice(b" ")?;
+        text.extend_from_slice(" ".as_bytes())?;
         add_number(&mut text, number as u64)?;
-        text.extend_from_slice(b": ")?;
+        text.extend_from_slice(": ".as_bytes())?;
     }
     Ok(text)
 }
@@ -60,9 +60,9 @@ fn add_number_reason(text: &mut Vec<u8>, key: NumberKey) -> Result<(), AllocErro
     ensures { OnOk result (text.new.items ≡ text.old.items ++ number_reason key) }
 {
     text.extend_from_slice(key.key().as_bytes())?;
-    text.extend_from_slice(b" must be ")?;
+    text.extend_from_slice(" must be ".as_bytes())?;
     add_number(text, key.least() as u64)?;
-    text.extend_from_slice(b" to ")?;
+    text.extend_from_slice(" to ".as_bytes())?;
     add_number(text, key.most() as u64)
 }
 
@@ -77,29 +77,34 @@ fn option_reason(key: OptionalKey) -> &'static str
     }
 }
 
+// Adds words to a text.
+fn add_words(text: &mut Vec<u8>, words: &str) -> Result<(), AllocError>
+    ensures { OnOk result (text.new.items ≡ text.old.items ++ words.now) }
+{
+    text.extend_from_slice(words.as_bytes())
+}
+
+// Adds words to a text, and others after them.
+fn add_both(text: &mut Vec<u8>, first: &str, second: &str) -> Result<(), AllocError>
+    ensures { OnOk result (text.new.items ≡ text.old.items ++ (first.now ++ second.now)) }
+{
+    text.extend_from_slice(first.as_bytes())?;
+    text.extend_from_slice(second.as_bytes())
+}
+
 // Adds what isn't sound to a text.
 fn add_reason(text: &mut Vec<u8>, reason: &Reason) -> Result<(), AllocError>
     ensures { OnOk result (text.new.items ≡ text.old.items ++ reason_text reason.now) }
 {
     match reason {
-        Reason::NotAnArray(role) => {
-            text.extend_from_slice(role.key().as_bytes())?;
-            text.extend_from_slice(b" must be an array of tables")
-        }
-        Reason::UnknownKey(key) => {
-            text.extend_from_slice(b"unknown key: ")?;
-            text.extend_from_slice(key.as_bytes())
-        }
-        Reason::NotATable => text.extend_from_slice(b"must be a table"),
-        Reason::BadCategory(role) => text.extend_from_slice(category_reason(*role).as_bytes()),
-        Reason::BadName => {
-            text.extend_from_slice(b"name must be 1 to 16 letters, digits or hyphens")
-        }
+        Reason::NotAnArray(role) => add_both(text, role.key(), " must be an array of tables"),
+        Reason::UnknownKey(key) => add_both(text, "unknown key: ", key.as_str()),
+        Reason::NotATable => add_words(text, "must be a table"),
+        Reason::BadCategory(role) => add_words(text, category_reason(*role)),
+        Reason::BadName => add_words(text, "name must be 1 to 16 letters, digits or hyphens"),
         Reason::BadNumber(key) => add_number_reason(text, *key),
-        Reason::BadOption(key) => text.extend_from_slice(option_reason(*key).as_bytes()),
-        Reason::SecondHardTotals => {
-            text.extend_from_slice(b"a second device of category HardTotals")
-        }
+        Reason::BadOption(key) => add_words(text, option_reason(*key)),
+        Reason::SecondHardTotals => add_words(text, "a second device of category HardTotals"),
     }
 }
 
@@ -182,7 +187,7 @@ pub fn tell_mistake(
         Ok(source) => tell_document(alloc, source, at, text, needed),
         Err(error) => {
             *at = error.valid_up_to() as u64;
-            tell_text(b"not UTF-8", BAD_TEXT, text, needed)
+            tell_text("not UTF-8".as_bytes(), BAD_TEXT, text, needed)
         }
     }
 }
