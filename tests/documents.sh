@@ -666,9 +666,9 @@ COUNTS = [
     ("docs/contributing/decisions.md", r"The (\S+) properties, whose names", lambda: len(variants("pos_service", "Property"))),
     ("docs/contributing/decisions.md", r"(\S+) functions have `requires \{ Unit \{0\} \}`",
      lambda: sum(read(path).count("requires { Unit {0} }") for path in FILES if path.endswith(".rt"))),
-    ("docs/contributing/testing.md", r"\*\*In the gate\*\*, `crates/CRATE/must-fail/`, (\S+):", lambda: edits_in("crates/*/must-fail/*.edit")),
-    ("docs/contributing/testing.md", r"\*\*Outside\*\*, `tests/edits/CRATE/`, (\S+),", lambda: edits_in("tests/edits/*/*.edit")),
-    ("docs/contributing/testing.md", r"\*\*Outside\*\*, `tests/edits/CRATE/`, \S+, (\S+) of them of `kijolvar`", lambda: edits_in("tests/edits/kijolvar/*.edit")),
+    ("docs/contributing/testing.md", r"\| in the gate \| `crates/CRATE/must-fail/` \| (\S+) \|", lambda: edits_in("crates/*/must-fail/*.edit")),
+    ("docs/contributing/testing.md", r"\| outside \| `tests/edits/CRATE/` \| (\S+) \|", lambda: edits_in("tests/edits/*/*.edit")),
+    ("docs/contributing/testing.md", r"\| `tests/plant/CRATE` \| (\S+) \|", lambda: edits_in("tests/plant/*")),
     ("docs/contributing/testing.md", r"There are (\S+) scripts", lambda: len(scripts())),
 ]
 

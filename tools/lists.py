@@ -165,7 +165,25 @@ def documents():
     return table(["You are", "Document", "What it has"], rows)
 
 
+def count(pattern, root=sources.TOP):
+    return len(glob.glob(pattern, root_dir=root))
+
+
+def scripts():
+    paths = glob.glob("crates/pos_console/scripts/*", root_dir=sources.TOP)
+    return f"There are {sum(not re.search(r'[.](stdout|profile|disk|left|before)$', path) for path in paths)} scripts.\n"
+
+
+def edits():
+    return table(["Wrong bodies", "In", "How many"], [
+        ["in the gate", "`crates/CRATE/must-fail/`", f"{count('crates/*/must-fail/*.edit'):,}"],
+        ["outside", "`tests/edits/CRATE/`", f"{count('tests/edits/*/*.edit'):,}"],
+        ["crates with a list of planted bodies", "`tests/plant/CRATE`", f"{count('tests/plant/*'):,}"]])
+
+
 LISTS = {
+    "scripts": ("docs/contributing/testing.md", scripts),
+    "edits": ("docs/contributing/testing.md", edits),
     "documents": ("docs/README.md", documents),
     "messages": ("docs/reference/trouble.md", file_messages),
     "calls of the library": ("abi/README.md", library_calls),
