@@ -157,7 +157,8 @@ enum {
 uint32_t kijolvar_version(void);
 
 /* A new till over the devices of a profile, which are simulated, with totals on a formatted disk in memory. The
-   profile is TOML (docs/reference/profile.md); an empty one is the built profile. The till is what is written to out.
+   profile is TOML (docs/reference/profile.md); an empty one is the built profile. The till is what is written to
+   out.
 
    Answers OK, NO_MEMORY or BAD_PROFILE; where it isn't OK, nothing is written. */
 uint32_t kijolvar_open(const uint8_t *profile, size_t profile_len, void **out);
@@ -182,8 +183,7 @@ uint32_t kijolvar_format_file(const uint8_t *profile, size_t profile_len, const 
 
 /* A new till as kijolvar_open_file makes it, over a file whose totals have layout 1: they have layout 2 from then
    on, with the same files (docs/reference/totals-file.md, "The move to layout 2"). The till's first errands are the
-   move; a crash at
-   any moment of them leaves the files by one layout or the other, and the file may be moved again.
+   move; a crash at any moment of them leaves the files by one layout or the other, and the file may be moved again.
 
    Answers OK, NO_MEMORY or BAD_PROFILE; TOO_SMALL or UNFORMATTED where there are no totals; DAMAGED; or MOVED where
    they have layout 2 already. Where it isn't OK, nothing is written, and the file stays as it is. */
