@@ -7,10 +7,9 @@ use Rattle.pos_counter.proofs.Common.{due_request_at, false, first_refusal, get_
 use Rattle.pos_counter.proofs.Common.{is_common, is_foreign, is_none, is_some, is_taken, is_totals, kind_of, length, machine_with, needs_of, own_takes_memory}
 use Rattle.pos_counter.proofs.Common.{place_of, refl, refusals, released, released_by, rules, serves, set, set-get_or, slice_get, slice_get_within, sym, table}
 use Rattle.pos_counter.proofs.Common.{takes_memory, true, with_items_is, ◌||◌, ℕ, ◌∙◌, ◌≡◌}
-use Rattle.pos_counter.proofs.Common.{ap₂, cond, device_deed, subst, Bool, Refused}
+use Rattle.pos_counter.proofs.Common.{ap₂, device_deed, subst, MatchOption, Refused}
 use Rattle.pos_common.specs.OwnCalls.{OwnCall as OwnCalled, OwnDoes, own_refusals}
 use Rattle.pos_service.specs.declared.code.Code.TheVariants.{Closed}
-use Rattle.std.proofs.Common.{drop}
 use Rattle.std.specs.Prelude.{Vec}
 use Rattle.std.specs.Vec.{with_items}
 use Rattle.pos_service.specs.declared.worked.Worked.TheVariants as worked
@@ -157,24 +156,32 @@ module _ (hs gs : List KeptControl) (ds es : List Device) (cl : List (Option ℕ
 -- a call of a category's own on a closed control is refused
 pub closed_refuses : (m : Machine) (n : ℕ) (c : Control) (asked : Call) → is_common asked ≡ false → c.device ≡ None
     → first_refusal (refusals m n c asked) ≡ Some (Refused Closed 0)
-closed_refuses m n c asked own closed =
-    ap first_refusal (own_call m n c asked own).rows ∙ ap (λ (none : Bool). cond none (Some (Refused Closed 0)) (first_refusal (behind m n c asked)))
-    (ap is_none closed)
+closed_refuses m n c asked own closed = ap first_refusal (own_call m n c asked own).rows
+    ∙ closed_table (holder_of m c) (category_rows c.category m n c asked)
   where
-    behind : (m : Machine) (n : ℕ) (c : Control) (asked : Call) → List Row
-    behind m n c asked = drop 1 (table n (holder_of m c) c (needs_of c.category asked) (category_rows c.category m n c asked))
+    closed_table : (holder : Option ℕ) (rest : List Row)
+        → first_refusal (table n holder c (needs_of c.category asked) rest) ≡ Some (Refused Closed 0)
+    closed_table holder rest = rw closed refl
 
--- a call of the crate of a control's category is one of the control's
-pub of_category : (k : Category) (n : ℕ) (claims : List (Option ℕ)) (asked : Call) (c : Control) (r : Result Answer NoMemory) (old new : List Control)
-    (before after : Hardware) → slice_get old n ≡ Some c → c.category ≡ k
-    → MatchOption (slice_get old n) ⊥ (λ control. OwnCalled k (device_rows k (Some before.kind) control asked)
-    (device_deed k (Some before.kind) control asked) n claims asked r control old before new after)
-    → CallsAt n claims asked r old before new after
-of_category k n claims asked c r old new before after found is called =
-    let here = MatchOption-at_some ⊥ (λ control. OwnCalled k (device_rows k (Some before.kind) control asked)
-    (device_deed k (Some before.kind) control asked) n claims asked r control old before new after) c found called in
-    rw found (subst (λ k. OwnCalled k (device_rows k (Some before.kind) c asked) (device_deed k (Some before.kind) c asked) n claims asked r c old
-    before new after) (sym is) here)
+-- what the check of a control of Hard Totals refuses, the table of its call refuses
+pub totals_refuse : (m : Machine) (n : ℕ) (c : Control) (asked : Call) (refusal : Answer) → c.category ≡ HardTotals
+    → ((rest : List Row) → first_refusal (table n m.totals.totals.area c (needs_of HardTotals asked) rest) ≡ Some refusal)
+    → first_refusal (table n (holder_of m c) c (needs_of c.category asked) (category_rows c.category m n c asked)) ≡ Some refusal
+totals_refuse m n c asked refusal is refuses =
+    subst (λ k. first_refusal (table n (holder_in k m.claims m.totals.totals.area c.device) c (needs_of k asked) (category_rows k m n c asked)) ≡ Some refusal)
+    (sym is) (refuses (category_rows HardTotals m n c asked))
+
+-- what its check lets through, the rest of the table decides
+pub totals_let : (m : Machine) (n : ℕ) (c : Control) (asked : Call) → c.category ≡ HardTotals
+    → ((rest : List Row) → first_refusal (table n m.totals.totals.area c (needs_of HardTotals asked) rest) ≡ first_refusal rest) → IsLet m n c asked
+totals_let m n c asked is lets =
+    subst (λ k. (rest : List Row) → first_refusal (table n (holder_in k m.claims m.totals.totals.area c.device) c (needs_of k asked) rest) ≡ first_refusal rest)
+    (sym is) lets
+
+-- what is true of the control with a number
+pub at_number : (controls : List Control) (n : ℕ) (c : Control) (Is : Control → Type 0) → slice_get controls n ≡ Some c
+    → MatchOption (slice_get controls n) ⊥ Is → Is c
+at_number controls n c Is found is = MatchOption-at_some ⊥ Is c found is
 
 -- ---- what holds a device
 

@@ -1,6 +1,8 @@
 //! What happens at devices, and what they are physically.
-ghost use Rattle.std.specs.Prelude.{◌<◌, Some};
-ghost use Rattle.pos_service.specs.Hardware.{TakenAt};
+ghost use Rattle.std.specs.Prelude.{◌≡◌, ◌<◌, Some, false, true};
+ghost use Rattle.pos_service.specs.Hardware.{StaysInService, TakenAt, hardware_of};
+ghost use Rattle.pos_service.specs.Peripherals.{input_fits};
+ghost use Rattle.pos_common.specs.KeptControls.{controls_of};
 ghost use Rattle.pos_counter.specs.KeptDevices.{AreDevicesSound, devices_in};
 ghost use Rattle.pos_counter.specs.AtDevices.{FitsAt, IsDoneAt};
 ghost use Rattle.pos_counter.specs.Counters.{IsStepBeside, IsCounterSound};
@@ -10,9 +12,9 @@ ghost use Rattle.pos_counter.specs.Steps.{InputTo, Snapshot as SnapshotOf};
 use crate::counter::Counter;
 use crate::devices::Devices;
 use crate::faults::{InputFault, SnapshotFault};
-use pos_common::{Control, take_input};
+use pos_common::Control;
 use pos_disk::Disk;
-use pos_service::{Input, NoMemory, Peripheral, Snapshot};
+use pos_service::{Input, Kind, NoMemory, Peripheral, Snapshot};
 use std::alloc::Global;
 
 impl<D: Disk, P: Peripheral> Counter<D, P> {
@@ -75,5 +77,34 @@ fn input_there<P: Peripheral>(
     ensures sound { AreDevicesSound P.Peripheral devices.new }
 {
     let peripheral = devices.registry.serving(place);
-    take_input(alloc, controls, place, peripheral, input)
+    input_at(alloc, controls, place, peripheral, input)
+}
+
+/// Hands an input to a peripheral that it fits, by the crate of its category.
+fn input_at<P: Peripheral>(
+    alloc: Global,
+    controls: &mut [Control],
+    place: usize,
+    peripheral: &mut P,
+    input: &Input,
+) -> Result<(), NoMemory>
+    requires unparked { (P.Peripheral.state peripheral.old).is_parked ≡ false }
+    requires fits { input_fits (P.Peripheral.state peripheral.old).kind input.now ≡ true }
+    ensures taken { let state = P.Peripheral.state in TakenAt input.now place result
+        (controls_of controls.old) (hardware_of (state peripheral.old))
+        (controls_of controls.new) (hardware_of (state peripheral.new)) }
+    ensures in_service { let state = P.Peripheral.state in
+        StaysInService (state peripheral.old) (state peripheral.new) }
+{
+    match peripheral.kind() {
+        Kind::Drawer => pos_drawer::input(alloc, controls, place, peripheral, input),
+        Kind::Scanner => pos_scanner::input(alloc, controls, place, peripheral, input),
+        Kind::Display {
+            rows: _,
+            columns: _,
+        } => pos_display::input(alloc, controls, place, peripheral, input),
+        Kind::Printer { chars: _, near: _ } => {
+            pos_printer::input(alloc, controls, place, peripheral, input)
+        }
+    }
 }

@@ -1,9 +1,7 @@
 //! The work on the output that waits for devices (common chapter, asynchronous output).
-ghost use Rattle.std.specs.Prelude.{◌≡◌, Some, false};
+ghost use Rattle.std.specs.Prelude.{◌≡◌, Some};
 ghost use Rattle.pos_service.specs.Claims.{holder_at};
 ghost use Rattle.pos_printer.specs.PrinterCalls.{WorksAt};
-ghost use Rattle.pos_service.specs.Hardware.{hardware_of, StaysInService};
-ghost use Rattle.pos_common.specs.KeptControls.{controls_of};
 ghost use Rattle.pos_counter.specs.KeptDevices.{AreDevicesSound, devices_in};
 ghost use Rattle.pos_counter.specs.AtDevices.{IsAttachedAt, IsDoneAt};
 ghost use Rattle.pos_counter.specs.Counters.{IsStepBeside, IsCounterSound};
@@ -58,27 +56,5 @@ fn work_there<P: Peripheral>(
     ensures sound { AreDevicesSound P.Peripheral devices.new }
 {
     let peripheral = devices.registry.serving(place);
-    work_at(controls, place, claims, peripheral)
-}
-
-/// Works on the first request of the control that holds the device at a place. There is nothing to do at a device that
-/// is no printer. Want of memory changes nothing.
-fn work_at<P: Peripheral>(
-    controls: &mut [Control],
-    place: usize,
-    claims: &Claims,
-    peripheral: &mut P,
-) -> Result<Worked, NoMemory>
-    requires unparked { (P.Peripheral.state peripheral.old).is_parked ≡ false }
-    ensures worked { let state = P.Peripheral.state in
-        WorksAt (holder_at claims.now (Some place)) place result
-        (controls_of controls.old) (hardware_of (state peripheral.old))
-        (controls_of controls.new) (hardware_of (state peripheral.new)) }
-    ensures in_service { let state = P.Peripheral.state in
-        StaysInService (state peripheral.old) (state peripheral.new) }
-{
-    if !peripheral.kind().is_printer() {
-        return Ok(Worked::Idle);
-    }
     pos_printer::work(controls, place, claims, peripheral)
 }

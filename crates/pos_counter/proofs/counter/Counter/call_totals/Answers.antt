@@ -1,0 +1,40 @@
+use Rattle.pos_counter.proofs.Common.{HardTotals, [], controls_of, is_totals, machine, needs_of, part_with, refl, true, ◌≡◌}
+use Rattle.pos_counter.proofs.Hardware.{are_totals, at_number, own_call, totals_let, totals_refuse}
+use Rattle.pos_counter.proofs.Lifts.{decided_some, kept_at}
+use Rattle.pos_counter.proofs.Serving.{quiet_serves}
+use Rattle.pos_counter.proofs.TotalsSteps.{files_serve}
+use Rattle.pos_common.proofs.CheckLemmas.{lets_own}
+use Rattle.pos_counter.proofs.counter.Counter.call_totals.Goals as goal
+
+pub returns-in-Err : goal.returns-in-Err
+returns-in-Err g c =
+    let old = c.args.self.now in
+    let h = c.index-control.result.now in
+    let found = kept_at _ _ _ c.requires.in_range c.index-control.ensures in
+    let is = are_totals h.control.category (at_number (controls_of c.args.self.now.controls.items) c.args.number h.control
+    (λ control. is_totals control.category ≡ true) found c.requires.totals) in
+    let out = simp (c.in-Err.is, c.area.ensures, c.needs-needs.ensures) at c.check_by.ensures in
+    quiet_serves g.D.Disk g.P.Peripheral old _ _ _ old.totals.totals (g.met.D.Disk.only_now _) refl refl (λ left. refl) c.requires.sound
+    c.requires.sound.devices
+    (λ left failures so.
+    let m = machine g.P.Peripheral old (part_with old.totals.totals left failures) in
+    rw found
+    (decided_some (rw (own_call m c.args.number h.control c.args.call.now c.requires.own).rows
+    (totals_refuse m c.args.number h.control c.args.call.now _ is out)) refl refl))
+
+pub call_files-requires : goal.call_files-requires
+call_files-requires g c =
+    let one = c.index-control.result.now.control in
+    let lets = simp (c.in_default.is, c.needs-needs.ensures) at c.check_by.ensures in
+    lets_own c.args.number _ one (needs_of HardTotals c.args.call.now) (lets [])
+
+pub returns : goal.returns
+returns g c =
+    let h = c.index-control.result.now in
+    let found = kept_at _ _ _ c.requires.in_range c.index-control.ensures in
+    let lets = simp (c.in_default.is, c.area.ensures, c.needs-needs.ensures) at c.check_by.ensures in
+    let is = are_totals h.control.category (at_number (controls_of c.args.self.now.controls.items) c.args.number h.control
+    (λ control. is_totals control.category ≡ true) found c.requires.totals) in
+    files_serve g.D.Disk g.P.Peripheral c.args.self.now c.call_files.new.totals c.args.number h.control c.args.call.now c.call_files.result c.requires.own
+    found is
+    (λ left failures. totals_let (machine g.P.Peripheral c.args.self.now (part_with c.args.self.now.totals.totals left failures)) c.args.number h.control c.args.call.now is lets) (g.met.D.Disk.only_now _) c.call_files.ensures c.requires.sound
