@@ -16,8 +16,8 @@ use Rattle.pos_service.specs.Needs.{table}
 use Rattle.pos_service.specs.Peripherals.{counted}
 use Rattle.pos_service.specs.Refusals.{Row, Decided, first_refusal}
 
--- the refusals of a call of a category's own on the control with a number: what it asks of the control, by the claims of
--- all devices, and then the category's rows
+-- the refusals of a call of a category's own on the control with a number: what it asks of the control, by the claims
+-- of all devices, and then the category's rows
 abbrev pub own_refusals : Category → List Row → ℕ → List (Option ℕ) → Call → Control → List Row
 own_refusals c rows number claims asked control =
     table number (holder_at claims control.device) control (needs_of c asked) rows

@@ -21,8 +21,8 @@ IsAttachedAt devices place = IsSome (hardware_in (device_at devices (Some place)
 abbrev pub FitsAt : List Device → ℕ → Input → Type 0
 FitsAt devices place given = FindsFit (hardware_in (device_at devices (Some place))) given true
 
--- A control may call what stands at its device, which is of this kind: its category serves the kind, and its cursor is at
--- one of its places.
+-- A control may call what stands at its device, which is of this kind: its category serves the kind, and its cursor is
+-- at one of its places.
 pub record MayCall (at : Option Kind) (control : Control) : Type 0 where
   pub served : serves control.category at ≡ true
   pub cursor : IsPlaceOn at control.cursor.place

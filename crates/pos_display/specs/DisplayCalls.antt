@@ -79,11 +79,11 @@ display_deed at cursor asked = None
 -- A call of the control with a number at its display, by the claims of all devices.
 abbrev pub DisplayCall : ℕ → List (Option ℕ) → Call → Result Answer NoMemory → Effect
 DisplayCall number claims asked outcome old before new after = MatchOption (slice_get old number) ⊥ (λ control.
-    OwnCall category.LineDisplay (display_rows (Some before.kind) asked) (display_deed (Some before.kind) control.cursor asked) number claims asked outcome
-    control old before new after)
+    OwnCall category.LineDisplay (display_rows (Some before.kind) asked)
+    (display_deed (Some before.kind) control.cursor asked) number claims asked outcome control old before new after)
 
 -- how many orders the display was given before and after it
 abbrev pub DisplayOrders : Kind → ℕ → List (Option ℕ) → Call → Result Answer NoMemory → List Control → ℕ → ℕ → Type 0
 DisplayOrders is number claims asked outcome controls old new = MatchOption (slice_get controls number) ⊥ (λ control.
-    OwnOrders category.LineDisplay (display_rows (Some is) asked) (display_deed (Some is) control.cursor asked) number claims asked outcome
-    control old new)
+    OwnOrders category.LineDisplay (display_rows (Some is) asked) (display_deed (Some is) control.cursor asked)
+    number claims asked outcome control old new)

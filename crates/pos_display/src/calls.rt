@@ -20,9 +20,9 @@ use pos_service::{
 };
 use std::alloc::Global;
 
-/// A call of the control with a number on its display. Each call gives one order, once its arguments are found good, its
-/// text, if any, is copied, and there is room for the events of all controls that hear of it; only when that is done,
-/// the cursor moves. Want of memory changes nothing.
+/// A call of the control with a number on its display. Each call gives one order, once its arguments are found good,
+/// its text, if any, is copied, and there is room for the events of all controls that hear of it; only when that is
+/// done, the cursor moves. Want of memory changes nothing.
 ///
 /// `displayText` shows a text from the cursor on and leaves the cursor at its end, where CursorUpdate is true;
 /// `displayTextAt` has the cursor at a row and a column first; `clearText` blanks the display and has the cursor at the
@@ -49,7 +49,8 @@ pub fn call<P: Peripheral>(
     ensures called { let state = P.Peripheral.state in DisplayCall caller claims.now call.now result
         (controls_of controls.old) (hardware_of (state display.old))
         (controls_of controls.new) (hardware_of (state display.new)) }
-    ensures orders { let state = P.Peripheral.state in DisplayOrders (state display.old).kind caller claims.now call.now result
+    ensures orders { let state = P.Peripheral.state in
+        DisplayOrders (state display.old).kind caller claims.now call.now result
         (controls_of controls.old) (state display.old).orders (state display.new).orders }
     ensures in_service { let state = P.Peripheral.state in
         StaysInService (state display.old) (state display.new) }

@@ -8,9 +8,9 @@ use pos_common::{Control, take_input};
 use pos_service::{Input, NoMemory, Peripheral};
 use std::alloc::Global;
 
-/// Something happens at the display of the device at a place: it is switched on or off. Each control that has the device
-/// open and enabled, and is to be notified of its power, hears of it, once there is room for the events of all. Want of
-/// memory changes nothing (common chapter, device power reporting).
+/// Something happens at the display of the device at a place: it is switched on or off. Each control that has the
+/// device open and enabled, and is to be notified of its power, hears of it, once there is room for the events of all.
+/// Want of memory changes nothing (common chapter, device power reporting).
 pub fn input<P: Peripheral>(
     alloc: Global,
     controls: &mut [Control],

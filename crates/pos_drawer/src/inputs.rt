@@ -8,9 +8,9 @@ use pos_common::{Control, take_input};
 use pos_service::{Input, NoMemory, Peripheral};
 use std::alloc::Global;
 
-/// Something happens at the drawer of the device at a place: it is opened or closed, or switched on or off. Each control
-/// that has the device open and enabled hears of it, once there is room for the events of all. Want of memory changes
-/// nothing (chapter Cash Drawer).
+/// Something happens at the drawer of the device at a place: it is opened or closed, or switched on or off. Each
+/// control that has the device open and enabled hears of it, once there is room for the events of all. Want of memory
+/// changes nothing (chapter Cash Drawer).
 pub fn input<P: Peripheral>(
     alloc: Global,
     controls: &mut [Control],

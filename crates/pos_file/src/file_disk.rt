@@ -72,7 +72,8 @@ impl<F: BlockFile + Drop> FileDisk<F> {
     ///
     /// # Errors
     ///
-    /// `InUse` if another program has locked it for itself, and nothing else was asked of it then; `Lock` and `Measure`.
+    /// `InUse` if another program has locked it for itself, and nothing else was asked of it then; `Lock` and
+    /// `Measure`.
     pub fn over_shared(mut file: F) -> Result<FileDisk<F>, (DiskFileFault, F)>
         ensures { OpensShared F.calls file result }
     {

@@ -1,4 +1,5 @@
-//! A receipt printer: its calls, what happens at it, and the work on the output that waits for it (chapter POS Printer).
+//! A receipt printer: its calls, what happens at it, and the work on the output that waits for it (chapter POS
+//! Printer).
 #![tactic(auto)]
 
 mod calls;

@@ -27,7 +27,8 @@ disk_line command = with_rule (new_app command) (path_rule (codes "disk"))
 
 -- the program's, which has no command yet: its name isn't among the words, and `help` is no command
 abbrev pub bare_line : App
-bare_line = on_top (λ s. record s { no_binary_name = true; disable_help_subcommand = true }) (new_app (codes "pos_console"))
+bare_line =
+    on_top (λ s. record s { no_binary_name = true; disable_help_subcommand = true }) (new_app (codes "pos_console"))
 
 -- no words, or those of one of the four commands
 abbrev pub program_line : App
