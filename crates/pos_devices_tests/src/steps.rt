@@ -1,16 +1,15 @@
 //! Tables of steps: what happens at a simulated device, which the control with the number 0 holds. Where a step finds
 //! no memory it is taken once more: a refused growth has changed nothing, so with one refused all is as with none.
-ghost use Rattle.std.specs.Prelude.{◌≡◌, false, IfOk, Some};
-ghost use Rattle.pos_service.specs.Deeds.{DeedFits};
+ghost use Rattle.std.specs.Prelude.{◌≡◌, false, true, Some};
 ghost use Rattle.pos_service.specs.Displays.{is_cursor_place};
 ghost use Rattle.pos_service.specs.Kinds.{columns_of, rows_of};
-ghost use Rattle.pos_service.specs.Peripherals.{IsInRange};
+ghost use Rattle.pos_service.specs.Peripherals.{input_fits};
 
-use pos_common::{Claims, Control, carry_out, take_input};
+use pos_common::{Claims, Control};
 use pos_service::display_text::Place;
 use pos_service::{
-    Answer, Call, Category, Code, Deed, ErrorReply, Event, Finding, Input, Kind, NoMemory,
-    PaperLevel, Peripheral, Property, Signs, Snapshot, Value, Worked, columns_of, rows_of,
+    Answer, Call, Category, Code, ErrorReply, Event, Finding, Input, Kind, NoMemory, PaperLevel,
+    Peripheral, Property, Signs, Snapshot, Value, Worked, columns_of, rows_of,
 };
 use std::alloc::Global;
 use std::test::Fail;
@@ -120,12 +119,12 @@ fn does<P: Peripheral>(
     match step {
         _ if device.is_parked() => false,
         Step::Asked(asked) => {
-            let answer = answer(alloc, controls, device, asked);
+            let answer = answer(alloc, controls, claims, device, asked);
             matches!(answer, Ok(Answer::Done(Value::Empty)))
         }
         Step::Set(property, value) => is_set(controls, device, *property, value),
         Step::Fed(input) if input.fits(device.kind()) => {
-            take_input(alloc, controls, 0, device, input).is_ok()
+            feed(alloc, controls, device, input).is_ok()
         }
         Step::Worked if device.kind().is_printer() => {
             matches!(
@@ -154,46 +153,46 @@ fn is_set<P: Peripheral>(
     }
 }
 
-/// What a call is answered: what it comes to is carried out.
+/// What a call is answered, by the crate of the device's category.
 fn answer<P: Peripheral>(
     alloc: Global,
     controls: &mut [Control],
+    claims: &Claims,
     device: &mut P,
     asked: &Call,
 ) -> Result<Answer, NoMemory>
     requires { (P.Peripheral.state device.old).is_parked ≡ false }
 {
+    let kind = device.kind();
     if controls.is_empty() {
         return Ok(Answer::Refused(Code::Illegal, 0));
     }
-    match plan(alloc, &controls[0], device.kind(), asked)? {
-        Ok(deed) => carry_out(controls, 0, 0, device, deed),
-        Err(code) => Ok(Answer::Refused(code, 0)),
+    match kind {
+        Kind::Drawer => pos_drawer::call(controls, 0, claims, device, asked),
+        Kind::Scanner => pos_scanner::call(controls, 0, claims, device, asked),
+        Kind::Display { .. } if is_cursor_place(kind, controls[0].cursor().place) => {
+            pos_display::call(alloc, controls, 0, claims, device, asked)
+        }
+        Kind::Printer { .. } => pos_printer::call(alloc, controls, 0, claims, device, asked),
+        _ => Ok(Answer::Refused(Code::Illegal, 0)),
     }
 }
 
-/// What a call of a control comes to at a device of this kind, which its category serves.
-fn plan(
+/// Hands in an input that fits the device, by the crate of the device's category.
+fn feed<P: Peripheral>(
     alloc: Global,
-    control: &Control,
-    kind: Kind,
-    asked: &Call,
-) -> Result<Result<Deed, Code>, NoMemory>
-    requires { IsInRange kind }
-    ensures { IfOk result (λ found. IfOk found (λ deed. DeedFits kind deed)) }
+    controls: &mut [Control],
+    device: &mut P,
+    input: &Input,
+) -> Result<(), NoMemory>
+    requires unparked { (P.Peripheral.state device.old).is_parked ≡ false }
+    requires fits { input_fits (P.Peripheral.state device.old).kind input.now ≡ true }
 {
-    let category = control.category();
-    if !asked.needs(category).is_there || !category.serves(Some(kind)) {
-        return Ok(Err(Code::Illegal));
-    }
-    match category {
-        Category::CashDrawer => Ok(Ok(pos_drawer::plan(asked))),
-        Category::Scanner => Ok(Ok(pos_scanner::plan(asked))),
-        Category::LineDisplay if is_cursor_place(kind, control.cursor().place) => {
-            pos_display::plan(alloc, kind, control.cursor(), asked)
-        }
-        Category::PosPrinter => pos_printer::plan(alloc, control, asked),
-        _ => Ok(Err(Code::Illegal)),
+    match device.kind() {
+        Kind::Drawer => pos_drawer::input(alloc, controls, 0, device, input),
+        Kind::Scanner => pos_scanner::input(alloc, controls, 0, device, input),
+        Kind::Display { .. } => pos_display::input(alloc, controls, 0, device, input),
+        Kind::Printer { .. } => pos_printer::input(alloc, controls, 0, device, input),
     }
 }
 
