@@ -103,16 +103,16 @@ totals_script() {
 
 # --- words
 : > script
-nothing='no command has the name'
-refuses_words 'a misspelt command' "$nothing rum" rum --profile p --disk d
-refuses_words 'a command in capitals' "$nothing RUN" RUN --profile p --disk d
-refuses_words 'a command with a line feed' "$nothing r\nn" "$(printf 'r\nn')"
-refuses_words 'an empty word' "$nothing " ''
-refuses_words 'a version' "$nothing --version" --version
+nothing='error: unrecognized subcommand'
+refuses_words 'a misspelt command' "$nothing 'rum'" rum --profile p --disk d
+refuses_words 'a command in capitals' "$nothing 'RUN'" RUN --profile p --disk d
+refuses_words 'a command with a line feed' "$nothing 'r n'" "$(printf 'r\nn')"
+refuses_words 'an empty word' "$nothing ''" ''
+refuses_words 'a version' "error: unexpected argument '--version' found" --version
 refuses_words 'a word that is no text' 'a word is not UTF-8' "$(printf '\377')"
 refuses_words 'help' usage --help
 refuses_words 'help in short' usage -h
-refuses_words 'the word help' usage help
+refuses_words 'the word help' "$nothing 'help'" help
 refuses_words 'help of a command' usage run --help
 missing='error: the following required arguments were not provided:'
 refuses_words 'run without options' "$missing --profile <profile> --disk <disk>" run
@@ -286,10 +286,10 @@ tells 'no files of layout 2' new.disk 2 65536 0 49146 0
 head -c 400000 /dev/zero > zero.disk
 untold 'files of no file' none.disk "can't be read: No such file or directory (os error 2)"
 told 'no file is made to be told of' '' "$(ls none.disk 2> /dev/null)"
-untold 'files of a folder' . "can't be read: Is a directory (os error 21)"
+untold 'files of a folder' . "can't be read whole: check the device that it is on"
 untold 'files of a short file' abc.disk 'is shorter than a totals file, which has 327680 bytes'
 untold 'files of no totals' zero.disk "isn't formatted: format it first, which makes totals without files"
-untold 'files that change' /dev/urandom 'changes while it is read: try again when no one writes it'
+untold 'files of what has no sync' /dev/urandom "can't be synced: check the device that it is on"
 damage='its totals are damaged at byte'
 untold 'files of a body that is longer than its files' damaged.disk "$damage 15: bytes of the current body are left over"
 # broken NAME PLACE BYTES MESSAGE: whether it tells so of a disk with a file in a record, and with these bytes there
