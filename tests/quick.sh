@@ -1,5 +1,5 @@
 #!/usr/bin/env bash
-# The quick test. It proves nothing: it builds the program and two tests crates without a proof, with checks, and runs them.
+# Runs the scripts without a profile, and two tests crates, without a proof. It builds the program and the crates with checks.
 # It runs each script of crates/pos_console/scripts that has no profile, and compares what it prints byte by byte. It runs
 # the tests of the crates that are built soonest. It takes up to three minutes on four idle hardware threads, and needs rt.
 # Usage: tests/quick.sh. Its last line is 'N passed, M failed'. It fails if that is fewer than tests/expected has for it.
