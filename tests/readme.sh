@@ -55,7 +55,6 @@ NAMED = re.compile(r"`(crates/[\w/]+\.rt)`")
 FILE = re.compile(r"(?:# |/\* |// )(\w+\.(?:py|c|rs))(?: \*/)?\n")
 # Commands that aren't run here: what they begin with, and why.
 NOT_RUN = [
-    (r"cd crates/pos_console && rt run < stdin$", "it proves every crate, which the gate does"),
     (r"(?:\(cd crates/pos_console && rt run < stdin\))$", "it proves every crate, which the gate does"),
     (r"cd crates/pos_console && rt try < stdin$", "it compiles every crate; the gate runs the same stdin"),
     (r"tests/quick\.sh$", "it runs by itself; all that it tries the gate tries too"),
