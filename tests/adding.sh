@@ -1,5 +1,5 @@
 #!/usr/bin/env bash
-# Counts what an addition costs, as docs/contributing/adding.md, says: for one of each kind that is there, the files of
+# Counts what an addition costs, as docs/contributing/adding.md says: for one of each kind that is there, the files of
 # src/, specs/ and proofs/ that name it. The crates of tests and the example pos_till don't count. Usage: tests/adding.sh.
 # A kind that takes more files than its row says has failed, and so has one that no file names. Of the categories it is the
 # median. Its last line is 'N passed, M failed'.
