@@ -231,7 +231,9 @@ static bool moves(long count) {
 
 int main(void) {
     long count = 0;
-    printf("%ld and %ld allocations\n", whole(false), whole(true));
+    /* The day in the file is the last, and leaves its totals. */
+    long in_memory = whole(false), in_file = whole(true);
+    printf("%ld and %ld allocations\n", in_memory, in_file);
     for (size_t place = 0; place < sizeof questions / sizeof questions[0]; place++)
         printf("%ld%s", asks(&questions[place]), place + 1 < sizeof questions / sizeof questions[0] ? ", " : " without a till\n");
     while (!moves(count))
