@@ -135,7 +135,7 @@ pub fn perform<F: NamedFiles, E: Eprint, S: AsStr + Drop, R: Source, W: Sink>(
     words: Result<Vec<S>, ChoiceFault>,
 ) -> ExitCode
     ensures { Performs F.NamedFiles ⟦<F::File as BlockFile>⟧ ⟦<TotalsDisk<F::File> as Disk>⟧ files.now S.text
-        words.entry (streams_of R.Source reader.old reader.new W.Sink writer.old writer.new) (exit_status result) }
+        words (streams_of R.Source reader.old reader.new W.Sink writer.old writer.new) (exit_status result) }
 {
     match words {
         Ok(words) => {
