@@ -1,9 +1,11 @@
 -- What becomes of a line, by the steps of the machine that it asks; and scripts of such lines.
 use Rattle.pos_run.proofs.Common.{Counter, DiskGhosts, Err, Ghosts, Given, IsRun, IsStep, IsStepBeside, IsTrue, List, None, Ok, Option, ReadingBecomes, Request}
 use Rattle.pos_run.proofs.Common.{Response, Result, Session, Some, Writes, [], codes, gives_name, inl, inr, is_some, one_beside, one_step, rebuke, refl}
-use Rattle.pos_run.proofs.Common.{request_of, session_after, true, ◌++◌, ◌∷◌, ◌≡◌}
+use Rattle.pos_run.proofs.Common.{request_of, session_after, true, ◌++◌, ◌∙◌, ◌∷◌, ◌≡◌}
 use Rattle.pos_counter.proofs.Serving.{OnlyNow}
 use Rattle.pos_run.specs.Carried.{CarriesOutAsking, CarriesOutRead, CarriesOutReading, IsAsked}
+use Rattle.pos_run.specs.Sessions.{IsSessionSound, KeepsSession}
+use Rattle.pos_run.specs.declared.session.Session.{Session as Running}
 use Rattle.pos_run.specs.Transcript.{Outcome, ReadBecomes, asked_as}
 use Rattle.pos_script.specs.Arguments.{Reading, Reads, become, misshapen}
 use Rattle.pos_script.specs.Commands.{LineRequest}
@@ -97,3 +99,18 @@ module _ {D P E : Type 0} (bound : DiskGhosts D) (peripherals : Ghosts P) (old :
     carried = record { steps = done.carried.steps; run = done.carried.run; becomes = reads_become session make reading read _ reads done.carried.becomes };
     written = done.written;
   }
+
+-- what keeps a session twice keeps it
+pub keeps_on : {D P : Type 0} (peripherals : Ghosts P) (old mid new : Running D P) → KeepsSession peripherals old mid → KeepsSession peripherals mid new
+    → KeepsSession peripherals old new
+keeps_on peripherals old mid new first second = record {
+  sound = second.sound;
+  counter = second.counter ∙ first.counter;
+  names = second.names ∙ first.names;
+  spares = second.spares ∙ first.spares;
+}
+
+-- and so does what leaves it
+pub keeps_here : {D P : Type 0} (peripherals : Ghosts P) (session : Running D P) → IsSessionSound peripherals session
+    → KeepsSession peripherals session session
+keeps_here peripherals session sound = record { sound = sound; counter = refl; names = refl; spares = refl }

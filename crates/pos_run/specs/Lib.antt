@@ -4,4 +4,5 @@ pub mod Transcript
 pub mod Streams
 pub mod Running
 pub mod Carried
+pub mod Sessions
 pub mod Simulating

@@ -6,6 +6,7 @@ ghost use Rattle.pos_script.specs.Lines.{lines_of};
 
 use crate::names::Names;
 use crate::scripts::{carry_out_last, carry_out_piece};
+use crate::session::Session;
 use crate::spares::Spares;
 use pos_counter::Counter;
 use pos_disk::Disk;
@@ -38,8 +39,13 @@ pub fn carry_out_lines<W: Sink, D: Disk, P: Peripheral + Ends>(
     ensures spares { AreSparesSound P.Peripheral spares.new }
 {
     buffer.clear();
-    let Ok(()) = carry_out_piece(alloc, lines, buffer, writer, counter, names, spares) else {
+    let mut session = Session {
+        counter,
+        names,
+        spares,
+    };
+    let Ok(()) = carry_out_piece(alloc, lines, buffer, writer, &mut session) else {
         return Err(WriteFault);
     };
-    carry_out_last(alloc, buffer, writer, counter, names, spares)
+    carry_out_last(alloc, buffer, writer, &mut session)
 }

@@ -1,18 +1,14 @@
 //! A line of a script, from its words to what it prints. What is read by one kind of verb and answered to it doesn't go
 //! through room that is large enough for all of them: the kinds of most lines are carried out in place where they are
 //! read, the others are not.
-ghost use Rattle.pos_counter.specs.Counters.{IsCounterSound};
 ghost use Rattle.pos_script.specs.Arguments.{Reads, from_none};
 ghost use Rattle.pos_script.specs.Commands.{line_of, request_of_words};
 ghost use Rattle.pos_script.specs.Lines.{words_of};
-ghost use Rattle.pos_run.specs.Carried.{CarriesOutRead, CarriesOutReading, session_of};
-ghost use Rattle.pos_run.specs.Spares.{AreSparesSound};
+ghost use Rattle.pos_run.specs.Carried.{CarriesOutRead, CarriesOutReading};
+ghost use Rattle.pos_run.specs.Sessions.{IsSessionSound, KeepsSession, session_in};
 ghost use Rattle.pos_run.specs.Transcript.{asked_as};
 
-use crate::names::Names;
-use crate::session::Asks;
-use crate::spares::Spares;
-use pos_counter::Counter;
+use crate::session::{Asks, Session};
 use pos_disk::Disk;
 use pos_script::{
     Command, DeviceVerb, LineFault, Reply, Verb, print_fault, print_reply, read_called,
@@ -34,22 +30,18 @@ fn read_alone(by: DeviceVerb, words: &[u8]) -> Result<DeviceVerb, LineFault>
 #[tactic(auto, using(crate::proofs::Sessions::asks_nothing_unread))]
 fn carry_out_read<W: Sink, D: Disk, P: Peripheral, A: Asks<D, P>>(
     writer: &mut W,
-    counter: &mut Counter<D, P>,
-    names: &mut Names,
-    spares: &mut Spares<P>,
+    session: &mut Session<'_, D, P>,
     name: &[u8],
     read: Result<A, LineFault>,
 ) -> Result<(), WriteFault>
-    requires sound { IsCounterSound P.Peripheral counter.old }
-    requires spares { AreSparesSound P.Peripheral spares.old }
-    ensures line { CarriesOutRead D.Disk P.Peripheral counter.old (session_of P.Peripheral names.old spares.old)
+    requires sound { IsSessionSound P.Peripheral session.old }
+    ensures line { CarriesOutRead D.Disk P.Peripheral session.old.counter.now (session_in P.Peripheral session.old)
         (asked_as (A.asked name.now) read) (W.given writer.old) (W.given writer.new) result
-        (session_of P.Peripheral names.new spares.new) counter.new }
-    ensures sound { IsCounterSound P.Peripheral counter.new }
-    ensures spares { AreSparesSound P.Peripheral spares.new }
+        (session_in P.Peripheral session.new) session.new.counter.now }
+    ensures session { KeepsSession P.Peripheral session.old session.new }
 {
     match read {
-        Ok(asked) => print_reply(writer, asked.ask(name, counter, names, spares)),
+        Ok(asked) => print_reply(writer, asked.ask(name, session)),
         Err(fault) => print_fault(writer, fault),
     }
 }
@@ -58,21 +50,17 @@ fn carry_out_read<W: Sink, D: Disk, P: Peripheral, A: Asks<D, P>>(
 #[inline(never)]
 fn carry_out_rare<W: Sink, D: Disk, P: Peripheral, A: Asks<D, P>>(
     writer: &mut W,
-    counter: &mut Counter<D, P>,
-    names: &mut Names,
-    spares: &mut Spares<P>,
+    session: &mut Session<'_, D, P>,
     name: &[u8],
     read: Result<A, LineFault>,
 ) -> Result<(), WriteFault>
-    requires sound { IsCounterSound P.Peripheral counter.old }
-    requires spares { AreSparesSound P.Peripheral spares.old }
-    ensures line { CarriesOutRead D.Disk P.Peripheral counter.old (session_of P.Peripheral names.old spares.old)
+    requires sound { IsSessionSound P.Peripheral session.old }
+    ensures line { CarriesOutRead D.Disk P.Peripheral session.old.counter.now (session_in P.Peripheral session.old)
         (asked_as (A.asked name.now) read) (W.given writer.old) (W.given writer.new) result
-        (session_of P.Peripheral names.new spares.new) counter.new }
-    ensures sound { IsCounterSound P.Peripheral counter.new }
-    ensures spares { AreSparesSound P.Peripheral spares.new }
+        (session_in P.Peripheral session.new) session.new.counter.now }
+    ensures session { KeepsSession P.Peripheral session.old session.new }
 {
-    carry_out_read(writer, counter, names, spares, name, read)
+    carry_out_read(writer, session, name, read)
 }
 
 /// Carries out a line that was taken apart, and writes what it prints.
@@ -81,46 +69,42 @@ fn carry_out_rare<W: Sink, D: Disk, P: Peripheral, A: Asks<D, P>>(
 fn carry_out_command<W: Sink, D: Disk, P: Peripheral + Ends>(
     alloc: Global,
     writer: &mut W,
-    counter: &mut Counter<D, P>,
-    names: &mut Names,
-    spares: &mut Spares<P>,
+    session: &mut Session<'_, D, P>,
     command: Command<'_>,
 ) -> Result<(), WriteFault>
-    requires sound { IsCounterSound P.Peripheral counter.old }
-    requires spares { AreSparesSound P.Peripheral spares.old }
-    ensures line { CarriesOutReading D.Disk P.Peripheral counter.old (session_of P.Peripheral names.old spares.old)
+    requires sound { IsSessionSound P.Peripheral session.old }
+    ensures line { CarriesOutReading D.Disk P.Peripheral session.old.counter.now (session_in P.Peripheral session.old)
         (line_of command.entry.verb command.entry.name (words_of command.entry.words.now))
         (W.given writer.old) (W.given writer.new) result
-        (session_of P.Peripheral names.new spares.new) counter.new }
-    ensures sound { IsCounterSound P.Peripheral counter.new }
-    ensures spares { AreSparesSound P.Peripheral spares.new }
+        (session_in P.Peripheral session.new) session.new.counter.now }
+    ensures session { KeepsSession P.Peripheral session.old session.new }
 {
     let Command { verb, name, words } = command;
     let name = name.as_slice();
     match verb {
         Verb::New => {
             let category = read_category(alloc, words);
-            carry_out_rare(writer, counter, names, spares, name, category)
+            carry_out_rare(writer, session, name, category)
         }
         Verb::Call(by) => {
             let called = read_called(alloc, by, words);
-            carry_out_read(writer, counter, names, spares, name, called)
+            carry_out_read(writer, session, name, called)
         }
         Verb::Input => {
             let happening = read_happening(alloc, words);
-            carry_out_read(writer, counter, names, spares, name, happening)
+            carry_out_read(writer, session, name, happening)
         }
         Verb::Deliver => {
             let reply = read_reply(alloc, words);
-            carry_out_read(writer, counter, names, spares, name, reply)
+            carry_out_read(writer, session, name, reply)
         }
         Verb::Attach => {
             let spare = read_spare(alloc, words);
-            carry_out_rare(writer, counter, names, spares, name, spare)
+            carry_out_rare(writer, session, name, spare)
         }
         Verb::Device(by) => {
             let verb = read_alone(by, words);
-            carry_out_rare(writer, counter, names, spares, name, verb)
+            carry_out_rare(writer, session, name, verb)
         }
     }
 }
@@ -131,21 +115,17 @@ fn carry_out_command<W: Sink, D: Disk, P: Peripheral + Ends>(
 pub(crate) fn carry_out_words<W: Sink, D: Disk, P: Peripheral + Ends>(
     alloc: Global,
     writer: &mut W,
-    counter: &mut Counter<D, P>,
-    names: &mut Names,
-    spares: &mut Spares<P>,
+    session: &mut Session<'_, D, P>,
     words: &[u8],
 ) -> Result<(), WriteFault>
-    requires sound { IsCounterSound P.Peripheral counter.old }
-    requires spares { AreSparesSound P.Peripheral spares.old }
-    ensures line { CarriesOutReading D.Disk P.Peripheral counter.old (session_of P.Peripheral names.old spares.old)
+    requires sound { IsSessionSound P.Peripheral session.old }
+    ensures line { CarriesOutReading D.Disk P.Peripheral session.old.counter.now (session_in P.Peripheral session.old)
         (request_of_words (words_of words.now)) (W.given writer.old) (W.given writer.new) result
-        (session_of P.Peripheral names.new spares.new) counter.new }
-    ensures sound { IsCounterSound P.Peripheral counter.new }
-    ensures spares { AreSparesSound P.Peripheral spares.new }
+        (session_in P.Peripheral session.new) session.new.counter.now }
+    ensures session { KeepsSession P.Peripheral session.old session.new }
 {
     match read_command(words) {
-        Some(command) => carry_out_command(alloc, writer, counter, names, spares, command),
+        Some(command) => carry_out_command(alloc, writer, session, command),
         None => print_reply(writer, Reply::BadLine),
     }
 }

@@ -1,3 +1,4 @@
+//! The names of a script's controls.
 ghost use Rattle.std.specs.Prelude.{◌≡◌, ◌<◌, ◌++◌, ◌∷◌, [], None, IfOk, OnOk};
 ghost use Rattle.pos_run.specs.Names.{names_of, number_named, room_of};
 

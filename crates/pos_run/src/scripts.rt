@@ -1,3 +1,4 @@
+//! Scripts that are run.
 ghost use Rattle.std.specs.Prelude.{[]};
 ghost use Rattle.pos_counter.specs.Counters.{IsCounterSound, IsRun};
 ghost use Rattle.pos_run.specs.Carried.{CarriesOutEnd, CarriesOutLast, CarriesOutPiece, CarriesOutPrinted, CarriesOutScript, session_of};
@@ -5,13 +6,15 @@ ghost use Rattle.pos_run.specs.Names.{ControlNames};
 ghost use Rattle.pos_run.specs.Running.{RunsScript};
 ghost use Rattle.pos_script.specs.LineBuffers.{StandsFor};
 ghost use Rattle.pos_run.specs.Spares.{AreSparesSound, spares_in};
-ghost use Rattle.pos_run.specs.Streams.{answers_of, streams_of, writing_of};
+ghost use Rattle.pos_run.specs.Sessions.{IsSessionSound, KeepsSession, session_in};
+ghost use Rattle.pos_run.specs.Streams.{streams_of, writing_of};
 ghost use Rattle.pos_run.specs.Transcript.{begun_session, session_with};
 
 use crate::answers::AnswerWriter;
 use crate::lines::carry_out_words;
 use crate::names::Names;
 use crate::reading::ScriptReader;
+use crate::session::Session;
 use crate::spares::Spares;
 use pos_counter::Counter;
 use pos_disk::Disk;
@@ -43,47 +46,40 @@ fn carry_out_and_print<W: Sink, D: Disk, P: Peripheral + Ends>(
     alloc: Global,
     line: Line<'_>,
     writer: &mut W,
-    counter: &mut Counter<D, P>,
-    names: &mut Names,
-    spares: &mut Spares<P>,
+    session: &mut Session<'_, D, P>,
 ) -> Result<(), WriteFault>
-    requires sound { IsCounterSound P.Peripheral counter.old }
-    requires spares { AreSparesSound P.Peripheral spares.old }
-    ensures line { CarriesOutPrinted D.Disk P.Peripheral counter.old (session_of P.Peripheral names.old spares.old)
+    requires sound { IsSessionSound P.Peripheral session.old }
+    ensures line { CarriesOutPrinted D.Disk P.Peripheral session.old.counter.now (session_in P.Peripheral session.old)
         line.entry (W.given writer.old) (W.given writer.new) result
-        (session_of P.Peripheral names.new spares.new) counter.new }
-    ensures sound { IsCounterSound P.Peripheral counter.new }
-    ensures spares { AreSparesSound P.Peripheral spares.new }
+        (session_in P.Peripheral session.new) session.new.counter.now }
+    ensures session { KeepsSession P.Peripheral session.old session.new }
 {
     match line {
         Line::Quiet => Ok(()),
         Line::Misspelled => print_reply(writer, Reply::BadLine),
-        Line::Words(words) => carry_out_words(alloc, writer, counter, names, spares, words),
+        Line::Words(words) => carry_out_words(alloc, writer, session, words),
     }
 }
 
 /// Carries out the lines that a piece ends, each before a later one, and writes what each prints.
+#[tactic(auto, using(crate::proofs::Sessions::keeps_on))]
 pub(crate) fn carry_out_piece<W: Sink, D: Disk, P: Peripheral + Ends>(
     alloc: Global,
     piece: &[u8],
     buffer: &mut LineBuffer,
     writer: &mut W,
-    counter: &mut Counter<D, P>,
-    names: &mut Names,
-    spares: &mut Spares<P>,
+    session: &mut Session<'_, D, P>,
 ) -> Result<(), WriteFault>
-    requires sound { IsCounterSound P.Peripheral counter.old }
-    requires spares { AreSparesSound P.Peripheral spares.old }
-    ensures piece { CarriesOutPiece D.Disk P.Peripheral counter.old (session_of P.Peripheral names.old spares.old)
+    requires sound { IsSessionSound P.Peripheral session.old }
+    ensures piece { CarriesOutPiece D.Disk P.Peripheral session.old.counter.now (session_in P.Peripheral session.old)
         buffer.old piece.now (W.given writer.old) (W.given writer.new) result buffer.new
-        (session_of P.Peripheral names.new spares.new) counter.new }
-    ensures sound { IsCounterSound P.Peripheral counter.new }
-    ensures spares { AreSparesSound P.Peripheral spares.new }
+        (session_in P.Peripheral session.new) session.new.counter.now }
+    ensures session { KeepsSession P.Peripheral session.old session.new }
 {
     let mut left = piece;
     while let Some((ended, rest)) = buffer.feed(left) {
         let line = buffer.ended_line(ended);
-        let Ok(()) = carry_out_and_print(alloc, line, writer, counter, names, spares) else {
+        let Ok(()) = carry_out_and_print(alloc, line, writer, session) else {
             return Err(WriteFault);
         };
         buffer.clear();
@@ -97,22 +93,18 @@ pub(crate) fn carry_out_last<W: Sink, D: Disk, P: Peripheral + Ends>(
     alloc: Global,
     buffer: &LineBuffer,
     writer: &mut W,
-    counter: &mut Counter<D, P>,
-    names: &mut Names,
-    spares: &mut Spares<P>,
+    session: &mut Session<'_, D, P>,
 ) -> Result<(), WriteFault>
-    requires sound { IsCounterSound P.Peripheral counter.old }
-    requires spares { AreSparesSound P.Peripheral spares.old }
-    ensures last { CarriesOutLast D.Disk P.Peripheral counter.old (session_of P.Peripheral names.old spares.old)
+    requires sound { IsSessionSound P.Peripheral session.old }
+    ensures last { CarriesOutLast D.Disk P.Peripheral session.old.counter.now (session_in P.Peripheral session.old)
         buffer.now (W.given writer.old) (W.given writer.new) result
-        (session_of P.Peripheral names.new spares.new) counter.new }
-    ensures sound { IsCounterSound P.Peripheral counter.new }
-    ensures spares { AreSparesSound P.Peripheral spares.new }
+        (session_in P.Peripheral session.new) session.new.counter.now }
+    ensures session { KeepsSession P.Peripheral session.old session.new }
 {
     if buffer.is_empty() {
         return Ok(());
     }
-    carry_out_and_print(alloc, buffer.line(), writer, counter, names, spares)
+    carry_out_and_print(alloc, buffer.line(), writer, session)
 }
 
 /// Carries out the last line of a script, if there is one, and hands on and flushes all that was printed.
@@ -120,19 +112,15 @@ fn carry_out_end<W: Sink, D: Disk, P: Peripheral + Ends>(
     alloc: Global,
     buffer: &LineBuffer,
     writer: &mut AnswerWriter<W>,
-    counter: &mut Counter<D, P>,
-    names: &mut Names,
-    spares: &mut Spares<P>,
+    session: &mut Session<'_, D, P>,
 ) -> Result<(), WriteFault>
-    requires sound { IsCounterSound P.Peripheral counter.old }
-    requires spares { AreSparesSound P.Peripheral spares.old }
-    ensures end { CarriesOutEnd D.Disk P.Peripheral counter.old (session_of P.Peripheral names.old spares.old)
+    requires sound { IsSessionSound P.Peripheral session.old }
+    ensures end { CarriesOutEnd D.Disk P.Peripheral session.old.counter.now (session_in P.Peripheral session.old)
         buffer.now (writing_of W.Sink writer.old) (writing_of W.Sink writer.new) result
-        (session_of P.Peripheral names.new spares.new) counter.new }
-    ensures sound { IsCounterSound P.Peripheral counter.new }
-    ensures spares { AreSparesSound P.Peripheral spares.new }
+        (session_in P.Peripheral session.new) session.new.counter.now }
+    ensures session { KeepsSession P.Peripheral session.old session.new }
 {
-    let Ok(()) = carry_out_last(alloc, buffer, writer, counter, names, spares) else {
+    let Ok(()) = carry_out_last(alloc, buffer, writer, session) else {
         return Err(WriteFault);
     };
     writer.flush()
@@ -140,7 +128,44 @@ fn carry_out_end<W: Sink, D: Disk, P: Peripheral + Ends>(
 
 /// Carries out the lines of a script from the first to the last. All that they print is handed on and flushed before
 /// each read, and at the end.
+#[tactic(auto, using(crate::proofs::Sessions::keeps_on))]
 fn carry_out_script<R: Source, W: Sink, D: Disk, P: Peripheral + Ends>(
+    alloc: Global,
+    buffer: &mut LineBuffer,
+    reader: &mut ScriptReader<R>,
+    writer: &mut AnswerWriter<W>,
+    session: &mut Session<'_, D, P>,
+) -> Result<(), RunFault>
+    requires empty { StandsFor buffer.old [] }
+    requires sound { IsSessionSound P.Peripheral session.old }
+    ensures script { RunsScript (IsRun D.Disk P.Peripheral) session.old.counter.now
+        (session_in P.Peripheral session.old)
+        (streams_of R.Source reader.old reader.new W.Sink writer.old writer.new) result
+        (session_in P.Peripheral session.new) session.new.counter.now }
+    ensures session { KeepsSession P.Peripheral session.old session.new }
+{
+    let mut piece = [0u8; PIECE];
+    loop {
+        let Ok(()) = writer.flush() else {
+            return Err(RunFault::Write);
+        };
+        let Ok(count) = reader.read(writer, &mut piece) else {
+            return Err(RunFault::Read);
+        };
+        if count == 0 {
+            return match carry_out_end(alloc, buffer, writer, session) {
+                Ok(()) => Ok(()),
+                Err(WriteFault) => Err(RunFault::Write),
+            };
+        }
+        let Ok(()) = carry_out_piece(alloc, &piece[..count], buffer, writer, session) else {
+            return Err(RunFault::Write);
+        };
+    }
+}
+
+/// Carries out the lines of a script over a counter, with the names of its controls and its spares.
+fn run_named<R: Source, W: Sink, D: Disk, P: Peripheral + Ends>(
     alloc: Global,
     buffer: &mut LineBuffer,
     reader: &mut ScriptReader<R>,
@@ -159,32 +184,12 @@ fn carry_out_script<R: Source, W: Sink, D: Disk, P: Peripheral + Ends>(
     ensures sound { IsCounterSound P.Peripheral counter.new }
     ensures spares { AreSparesSound P.Peripheral spares.new }
 {
-    let mut piece = [0u8; PIECE];
-    loop {
-        let Ok(()) = writer.flush() else {
-            return Err(RunFault::Write);
-        };
-        let Ok(count) = reader.read(writer, &mut piece) else {
-            return Err(RunFault::Read);
-        };
-        if count == 0 {
-            return match carry_out_end(alloc, buffer, writer, counter, names, spares) {
-                Ok(()) => Ok(()),
-                Err(WriteFault) => Err(RunFault::Write),
-            };
-        }
-        let Ok(()) = carry_out_piece(
-            alloc,
-            &piece[..count],
-            buffer,
-            writer,
-            counter,
-            names,
-            spares,
-        ) else {
-            return Err(RunFault::Write);
-        };
-    }
+    let mut session = Session {
+        counter,
+        names,
+        spares,
+    };
+    carry_out_script(alloc, buffer, reader, writer, &mut session)
 }
 
 /// Carries out the lines of a script in order, and writes what each prints (docs/reference/console.md), over a counter
@@ -215,7 +220,7 @@ pub fn run<R: Source, W: Sink, D: Disk, P: Peripheral + Ends>(
         return Err(RunFault::NoMemory);
     };
     let mut names = Names::new(alloc);
-    carry_out_script(
+    run_named(
         alloc,
         &mut buffer,
         reader,

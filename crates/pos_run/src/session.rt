@@ -1,10 +1,9 @@
-//! What the lines of a script ask of a counter, by what was read of their words.
+//! What the lines of a script ask of the session that carries them out, by what was read of their words.
 ghost use Rattle.std.specs.Prelude.{List, ℕ};
-ghost use Rattle.pos_counter.specs.Counters.{IsCounterSound};
 ghost use Rattle.pos_counter.specs.Steps.{NewControl, CallOf, InputTo, Deliver, Attach};
 ghost use Rattle.pos_script.specs.Commands.{LineRequest, asked_of};
-ghost use Rattle.pos_run.specs.Carried.{CarriesOutAsking, session_of};
-ghost use Rattle.pos_run.specs.Spares.{AreSparesSound};
+ghost use Rattle.pos_run.specs.Carried.{CarriesOutAsking};
+ghost use Rattle.pos_run.specs.Sessions.{IsSessionSound, KeepsSession, session_in};
 
 use crate::names::Names;
 use crate::spares::Spares;
@@ -13,25 +12,25 @@ use pos_disk::Disk;
 use pos_script::{DeviceVerb, Reply};
 use pos_service::{Call, Category, Ends, ErrorReply, Input, Peripheral, Response};
 
-/// What is read of a line's words behind a name, by which the line asks something of a counter.
+/// What carries out the lines of a script: a counter, the names of its controls, and the spares beside it.
+#[derive(Drop)]
+pub(crate) struct Session<'a, D: Disk, P> {
+    pub(crate) counter: &'a mut Counter<D, P>,
+    pub(crate) names: &'a mut Names,
+    pub(crate) spares: &'a mut Spares<P>,
+}
+
+/// What is read of a line's words behind a name, by which the line asks something of a session.
 pub(crate) trait Asks<D: Disk, P: Peripheral>: Sized + Drop {
     ghost asked: { List ℕ → Self → LineRequest };
 
     /// Asks it, with the name of a control or a device.
-    fn ask(
-        &self,
-        name: &[u8],
-        counter: &mut Counter<D, P>,
-        names: &mut Names,
-        spares: &mut Spares<P>,
-    ) -> Reply
-        requires sound { IsCounterSound P.Peripheral counter.old }
-        requires spares { AreSparesSound P.Peripheral spares.old }
-        ensures asks { CarriesOutAsking D.Disk P.Peripheral counter.old
-            (session_of P.Peripheral names.old spares.old) (asked name.now self.now) result
-            (session_of P.Peripheral names.new spares.new) counter.new }
-        ensures sound { IsCounterSound P.Peripheral counter.new }
-        ensures spares { AreSparesSound P.Peripheral spares.new };
+    fn ask(&self, name: &[u8], session: &mut Session<'_, D, P>) -> Reply
+        requires { IsSessionSound P.Peripheral session.old }
+        ensures asks { CarriesOutAsking D.Disk P.Peripheral session.old.counter.now
+            (session_in P.Peripheral session.old) (asked name.now self.now) result
+            (session_in P.Peripheral session.new) session.new.counter.now }
+        ensures session { KeepsSession P.Peripheral session.old session.new };
 }
 
 /// A new control, under a name that no control has.
@@ -40,22 +39,16 @@ impl<D: Disk, P: Peripheral> Asks<D, P> for Category {
 
     #[tactic(auto, using(crate::proofs::Sessions::asks_none, crate::proofs::Sessions::asks_unkept))]
     #[inline(always)]
-    fn ask(
-        &self,
-        name: &[u8],
-        counter: &mut Counter<D, P>,
-        names: &mut Names,
-        _: &mut Spares<P>,
-    ) -> Reply {
-        if names.find(name).is_some() {
+    fn ask(&self, name: &[u8], session: &mut Session<'_, D, P>) -> Reply {
+        if session.names.find(name).is_some() {
             return Reply::BadControl;
         }
-        let Ok(copy) = names.make_room(name) else {
+        let Ok(copy) = session.names.make_room(name) else {
             return Reply::Memory;
         };
-        match counter.control(*self) {
+        match session.counter.control(*self) {
             Ok(number) => {
-                names.add(copy, number);
+                session.names.add(copy, number);
                 Reply::Responded(Response::Made(number))
             }
             Err(ControlFault::Full) => Reply::Responded(Response::Full),
@@ -70,17 +63,11 @@ impl<D: Disk, P: Peripheral> Asks<D, P> for Call {
 
     #[tactic(auto, using(crate::proofs::Sessions::asks_none))]
     #[inline(always)]
-    fn ask(
-        &self,
-        name: &[u8],
-        counter: &mut Counter<D, P>,
-        names: &mut Names,
-        _: &mut Spares<P>,
-    ) -> Reply {
-        let Some(number) = names.find(name) else {
+    fn ask(&self, name: &[u8], session: &mut Session<'_, D, P>) -> Reply {
+        let Some(number) = session.names.find(name) else {
             return Reply::BadControl;
         };
-        match counter.call(number, self) {
+        match session.counter.call(number, self) {
             Ok(answer) => Reply::Responded(Response::Answered(answer)),
             Err(_) => Reply::Responded(Response::OutOfMemory),
         }
@@ -93,15 +80,11 @@ impl<D: Disk, P: Peripheral> Asks<D, P> for ErrorReply {
 
     #[tactic(auto, using(crate::proofs::Sessions::asks_none))]
     #[inline(always)]
-    fn ask(
-        &self,
-        name: &[u8],
-        counter: &mut Counter<D, P>,
-        names: &mut Names,
-        _: &mut Spares<P>,
-    ) -> Reply {
-        match names.find(name) {
-            Some(number) => Reply::Responded(Response::Delivered(counter.deliver(number, *self))),
+    fn ask(&self, name: &[u8], session: &mut Session<'_, D, P>) -> Reply {
+        match session.names.find(name) {
+            Some(number) => Reply::Responded(Response::Delivered(
+                session.counter.deliver(number, *self),
+            )),
             None => Reply::BadControl,
         }
     }
@@ -112,14 +95,8 @@ impl<D: Disk, P: Peripheral> Asks<D, P> for Input {
     ghost asked = { λ name input. InputTo name input };
 
     #[inline(always)]
-    fn ask(
-        &self,
-        name: &[u8],
-        counter: &mut Counter<D, P>,
-        _: &mut Names,
-        _: &mut Spares<P>,
-    ) -> Reply {
-        match counter.input(name, self) {
+    fn ask(&self, name: &[u8], session: &mut Session<'_, D, P>) -> Reply {
+        match session.counter.input(name, self) {
             Ok(()) => Reply::Responded(Response::TakenIn),
             Err(InputFault::NoDevice) => Reply::Responded(Response::NoDevice),
             Err(InputFault::WrongInput) => Reply::Responded(Response::WrongInput),
@@ -133,20 +110,14 @@ impl<D: Disk, P: Peripheral> Asks<D, P> for u32 {
     ghost asked = { λ name number. Attach name number };
 
     #[inline(always)]
-    fn ask(
-        &self,
-        name: &[u8],
-        counter: &mut Counter<D, P>,
-        _: &mut Names,
-        spares: &mut Spares<P>,
-    ) -> Reply {
-        let Some(peripheral) = spares.take(*self) else {
+    fn ask(&self, name: &[u8], session: &mut Session<'_, D, P>) -> Reply {
+        let Some(peripheral) = session.spares.take(*self) else {
             return Reply::BadSpare;
         };
-        match counter.attach(name, peripheral) {
+        match session.counter.attach(name, peripheral) {
             Ok(()) => Reply::Responded(Response::Attached),
             Err((fault, peripheral)) => {
-                spares.put(*self, peripheral);
+                session.spares.put(*self, peripheral);
                 Reply::Responded(Response::NotAttached(fault, ()))
             }
         }
@@ -158,25 +129,19 @@ impl<D: Disk, P: Peripheral + Ends> Asks<D, P> for DeviceVerb {
     ghost asked = { λ name by. asked_of by name };
 
     #[inline(always)]
-    fn ask(
-        &self,
-        name: &[u8],
-        counter: &mut Counter<D, P>,
-        _: &mut Names,
-        _: &mut Spares<P>,
-    ) -> Reply {
+    fn ask(&self, name: &[u8], session: &mut Session<'_, D, P>) -> Reply {
         match self {
-            DeviceVerb::Show => match counter.snapshot(name) {
+            DeviceVerb::Show => match session.counter.snapshot(name) {
                 Ok(snapshot) => Reply::Responded(Response::Shown(snapshot)),
                 Err(SnapshotFault::NoDevice) => Reply::Responded(Response::NoDevice),
                 Err(SnapshotFault::NoMemory) => Reply::Responded(Response::OutOfMemory),
             },
-            DeviceVerb::Work => match counter.work(name) {
+            DeviceVerb::Work => match session.counter.work(name) {
                 Ok(worked) => Reply::Responded(Response::Worked(worked)),
                 Err(WorkFault::NoDevice) => Reply::Responded(Response::NoDevice),
                 Err(WorkFault::NoMemory) => Reply::Responded(Response::OutOfMemory),
             },
-            DeviceVerb::Detach => match counter.detach(name) {
+            DeviceVerb::Detach => match session.counter.detach(name) {
                 Ok(peripheral) => {
                     peripheral.end();
                     Reply::Responded(Response::Detached(()))

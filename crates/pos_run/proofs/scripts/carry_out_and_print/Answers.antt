@@ -1,5 +1,6 @@
-use Rattle.pos_run.proofs.Common.{Appends-nil, IsLine, None, Ok, Result, Some, [], codes, refl, session_of, subst}
+use Rattle.pos_run.proofs.Common.{Appends-nil, IsLine, None, Ok, Result, Some, [], codes, refl, subst}
 use Rattle.pos_streams.specs.declared.sink.WriteFault.{WriteFault}
+use Rattle.pos_run.specs.Sessions.{session_in}
 use Rattle.pos_run.proofs.Finishing.{one_line}
 use Rattle.pos_run.proofs.scripts.carry_out_and_print.Goals as goal
 
@@ -7,13 +8,13 @@ pub returns-in-Quiet-clause-line : goal.returns-in-Quiet-clause-line
 returns-in-Quiet-clause-line g c = λ bytes is.
     let quiet = subst (λ line. IsLine line bytes) c.in-Quiet.is is in
     let done : Result (Unit {0}) WriteFault = Ok tt in
-    let session = session_of g.P.Peripheral c.args.names.now c.args.spares.now in
+    let session = session_in g.P.Peripheral c.args.session.now in
     one_line session refl bytes None _ _ done _ _ (record { steps = []; run = refl; becomes = rw quiet refl }) (Appends-nil _)
 
 pub returns-in-Misspelled-clause-line : goal.returns-in-Misspelled-clause-line
 returns-in-Misspelled-clause-line g c = λ bytes is.
     let (loud, wrong) = subst (λ line. IsLine line bytes) c.in-Misspelled.is is in
-    let session = session_of g.P.Peripheral c.args.names.now c.args.spares.now in
+    let session = session_in g.P.Peripheral c.args.session.now in
     one_line session refl bytes (Some (codes "bad line")) _ _ _ _ _
     (record { steps = []; run = refl; becomes = rw (loud, wrong) refl }) c.print_reply.ensures
 
@@ -22,7 +23,7 @@ returns-in-Words-clause-line g c = λ bytes is.
     let (loud, spelled, same) = subst (λ line. IsLine line bytes) c.in-Words.is is in
     let line = c.carry_out_words.ensures.line in
     let carried = line.carried in
-    let session = session_of g.P.Peripheral c.args.names.now c.args.spares.now in
+    let session = session_in g.P.Peripheral c.args.session.now in
     one_line session refl bytes (Some line.reply) _ _ _ _ _
     (record { steps = carried.steps; run = carried.run; becomes = rw (loud, spelled, ← same) carried.becomes })
     line.written

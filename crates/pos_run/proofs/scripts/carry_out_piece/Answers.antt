@@ -1,21 +1,20 @@
 use Rattle.pos_run.proofs.Common.{[], append-nil, append_assoc, complete_lines, refl, runs_join, unfinished, ◌++◌, ◌∙◌, ◌∷◌}
 use Rattle.pos_script.proofs.LineLemmas.{go_on_lines}
 use Rattle.pos_run.proofs.Finishing.{finishes_join, finishes_none, stops_join, stops_more}
+use Rattle.pos_run.proofs.Sessions.{keeps_here, keeps_on}
 use Rattle.pos_run.proofs.scripts.carry_out_piece.Goals as goal
 
 pub loop-ended-init : goal.loop-ended-init
 loop-ended-init g c = (
-  c.requires.sound,
-  c.requires.spares,
+  keeps_here g.P.Peripheral c.args.session.now c.requires.sound,
   λ read stands. ([], [], refl, simp append-nil, finishes_none refl _, rw append-nil stands),
 )
 
 pub loop-ended-preserved : goal.loop-ended-preserved
 loop-ended-preserved g c = (
-  c.in-Ok.ensures.sound,
-  c.in-Ok.ensures.spares,
+  keeps_on g.P.Peripheral _ _ _ c.loop-ended.invariant.0 c.in-Ok.ensures.session,
   λ read stands.
-      let (seen, lines, split, are, done, now) = c.loop-ended.invariant.2 read stands in
+      let (seen, lines, split, are, done, now) = c.loop-ended.invariant.1 read stands in
       let (taken, cut, ended) = c.in-Some.ensures.lines (read ++ seen) now in
       let (line, ends, none, is) = ended in (
         seen ++ taken,
@@ -29,7 +28,7 @@ loop-ended-preserved g c = (
 
 pub returns-in_default-carry_out_and_print-clause-piece : goal.returns-in_default-carry_out_and_print-clause-piece
 returns-in_default-carry_out_and_print-clause-piece g c = λ read stands.
-    let (seen, lines, split, are, done, now) = c.loop-ended.invariant.2 read stands in
+    let (seen, lines, split, are, done, now) = c.loop-ended.invariant.1 read stands in
     let (taken, cut, ended) = c.in-Some.ensures.lines (read ++ seen) now in
     let (line, ends, none, is) = ended in
     let more = complete_lines (unfinished ((read ++ seen) ++ taken) ++ c.in-Some.rest.now) in (
@@ -43,6 +42,6 @@ returns-in_default-carry_out_and_print-clause-piece g c = λ read stands.
 
 pub returns-clause-piece : goal.returns-clause-piece
 returns-clause-piece g c = λ read stands.
-    let (seen, lines, split, are, done, now) = c.loop-ended.invariant.2 read stands in
+    let (seen, lines, split, are, done, now) = c.loop-ended.invariant.1 read stands in
     let (none, kept) = c.in_default.ensures.lines (read ++ seen) now in
     (lines, rw (split, ← append_assoc) (none ∙ are), done, rw (split, ← append_assoc) kept)

@@ -1,12 +1,12 @@
 use Rattle.pos_run.proofs.Common.{[], answers_of, arith, inl, inr, reading_of, refl, runs_join, take, taken_none, ◌++◌}
 use Rattle.pos_run.proofs.Finishing.{fault_join, finishes_flushed, finishes_join, finishes_none, finishes_unflushed, stops_join}
 use Rattle.pos_run.proofs.ReadLemmas.{ends, fails, goes_on, same_lines}
+use Rattle.pos_run.proofs.Sessions.{keeps_here, keeps_on}
 use Rattle.pos_run.proofs.scripts.carry_out_script.Goals as goal
 
 pub loop-reader-init : goal.loop-reader-init
 loop-reader-init g c = (
-  c.requires.sound,
-  c.requires.spares,
+  keeps_here g.P.Peripheral c.args.session.now c.requires.sound,
   [],
   taken_none _,
   c.requires.empty,
@@ -17,7 +17,7 @@ loop-reader-init g c = (
 
 pub returns-in_default-clause-script : goal.returns-in_default-clause-script
 returns-in_default-clause-script g c =
-    let (sound, kept, input, took, stands, same, failed, done) = c.loop-reader.invariant in
+    let (keeps, input, took, stands, same, failed, done) = c.loop-reader.invariant in
     record {
       input = input;
       reader = (inl took, λ broken. (failed broken).0);
@@ -26,7 +26,7 @@ returns-in_default-clause-script g c =
 
 pub returns-in_default-read-clause-script : goal.returns-in_default-read-clause-script
 returns-in_default-read-clause-script g c =
-    let (sound, kept, input, took, stands, same, failed, done) = c.loop-reader.invariant in
+    let (keeps, input, took, stands, same, failed, done) = c.loop-reader.invariant in
     let first = reading_of g.R.Source c.args.reader.now in
     let old = reading_of g.R.Source c.loop-reader.reader in
     let new = reading_of g.R.Source c.read.new.self in
@@ -43,7 +43,7 @@ returns-in_default-read-clause-script g c =
 
 pub returns-in-Ok-carry_out_end-clause-script : goal.returns-in-Ok-carry_out_end-clause-script
 returns-in-Ok-carry_out_end-clause-script g c =
-    let (sound, kept, input, took, stands, same, failed, done) = c.loop-reader.invariant in
+    let (keeps, input, took, stands, same, failed, done) = c.loop-reader.invariant in
     let end = ends (reading_of g.R.Source c.args.reader.now) (reading_of g.R.Source c.loop-reader.reader) (reading_of g.R.Source c.read.new.self) input
     c.read.new.buffer took c.in-Ok-read.count c.if-count-eq0.true c.in-Ok-read.ensures in
     let (lines, are, rest) = c.in-Ok-carry_out_end.ensures.end input stands in
@@ -55,7 +55,7 @@ returns-in-Ok-carry_out_end-clause-script g c =
 
 pub returns-in-Err-clause-script : goal.returns-in-Err-clause-script
 returns-in-Err-clause-script g c =
-    let (sound, kept, input, took, stands, same, failed, done) = c.loop-reader.invariant in
+    let (keeps, input, took, stands, same, failed, done) = c.loop-reader.invariant in
     let end = ends (reading_of g.R.Source c.args.reader.now) (reading_of g.R.Source c.loop-reader.reader) (reading_of g.R.Source c.read.new.self) input
     c.read.new.buffer took c.in-Ok-read.count c.if-count-eq0.true c.in-Ok-read.ensures in
     let (lines, are, wrong) = c.in-Err.ensures.end input stands in
@@ -67,7 +67,7 @@ returns-in-Err-clause-script g c =
 
 pub returns-in_default-carry_out_piece-clause-script : goal.returns-in_default-carry_out_piece-clause-script
 returns-in_default-carry_out_piece-clause-script g c =
-    let (sound, kept, input, took, stands, same, failed, done) = c.loop-reader.invariant in
+    let (keeps, input, took, stands, same, failed, done) = c.loop-reader.invariant in
     let piece = take c.in-Ok-read.count c.read.new.buffer in
     let more = goes_on (reading_of g.R.Source c.args.reader.now) (reading_of g.R.Source c.loop-reader.reader) (reading_of g.R.Source c.read.new.self) input
     c.read.new.buffer took c.in-Ok-read.count c.if-count-eq0.false c.in-Ok-read.ensures in
@@ -80,13 +80,12 @@ returns-in_default-carry_out_piece-clause-script g c =
 
 pub loop-reader-preserved : goal.loop-reader-preserved
 loop-reader-preserved g c =
-    let (sound, kept, input, took, stands, same, failed, done) = c.loop-reader.invariant in
+    let (keeps, input, took, stands, same, failed, done) = c.loop-reader.invariant in
     let piece = take c.in-Ok-read.count c.read.new.buffer in
     let more = goes_on (reading_of g.R.Source c.args.reader.now) (reading_of g.R.Source c.loop-reader.reader) (reading_of g.R.Source c.read.new.self) input
     c.read.new.buffer took c.in-Ok-read.count c.if-count-eq0.false c.in-Ok-read.ensures in
     let (lines, are, rest, then) = c.in-Ok-carry_out_piece.ensures.piece input stands in (
-      c.in-Ok-carry_out_piece.ensures.sound,
-      c.in-Ok-carry_out_piece.ensures.spares,
+      keeps_on g.P.Peripheral _ _ _ keeps c.in-Ok-carry_out_piece.ensures.session,
       input ++ piece,
       more.1,
       then,
