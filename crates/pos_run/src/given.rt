@@ -1,6 +1,7 @@
 //! Lines that a caller has whole.
 ghost use Rattle.pos_counter.specs.Counters.{IsCounterSound};
 ghost use Rattle.pos_run.specs.Carried.{CarriesOutLines, session_of};
+ghost use Rattle.pos_run.specs.Sessions.{IsSessionSound, KeepsSession, session_in};
 ghost use Rattle.pos_run.specs.Spares.{AreSparesSound};
 ghost use Rattle.pos_script.specs.Lines.{lines_of};
 
@@ -14,6 +15,28 @@ use pos_script::LineBuffer;
 use pos_service::{Ends, Peripheral};
 use pos_streams::{Sink, WriteFault};
 use std::alloc::Global;
+
+/// Carries out the lines of a text in a session, and writes what each prints.
+#[tactic(auto, using(crate::proofs::Sessions::keeps_on))]
+fn carry_out_text<W: Sink, D: Disk, P: Peripheral + Ends>(
+    alloc: Global,
+    lines: &[u8],
+    buffer: &mut LineBuffer,
+    writer: &mut W,
+    session: &mut Session<'_, D, P>,
+) -> Result<(), WriteFault>
+    requires sound { IsSessionSound P.Peripheral session.old }
+    ensures lines { CarriesOutLines D.Disk P.Peripheral session.old.counter.now (session_in P.Peripheral session.old)
+        (lines_of lines.now) (W.given writer.old) (W.given writer.new) result
+        (session_in P.Peripheral session.new) session.new.counter.now }
+    ensures session { KeepsSession P.Peripheral session.old session.new }
+{
+    buffer.clear();
+    let Ok(()) = carry_out_piece(alloc, lines, buffer, writer, session) else {
+        return Err(WriteFault);
+    };
+    carry_out_last(alloc, buffer, writer, session)
+}
 
 /// Carries out the lines of a text in order, each whole before the next, and writes what each prints
 /// (docs/reference/console.md). What stands behind the last line feed is a line too, where it isn't empty. What a
@@ -38,14 +61,10 @@ pub fn carry_out_lines<W: Sink, D: Disk, P: Peripheral + Ends>(
     ensures sound { IsCounterSound P.Peripheral counter.new }
     ensures spares { AreSparesSound P.Peripheral spares.new }
 {
-    buffer.clear();
     let mut session = Session {
         counter,
         names,
         spares,
     };
-    let Ok(()) = carry_out_piece(alloc, lines, buffer, writer, &mut session) else {
-        return Err(WriteFault);
-    };
-    carry_out_last(alloc, buffer, writer, &mut session)
+    carry_out_text(alloc, lines, buffer, writer, &mut session)
 }

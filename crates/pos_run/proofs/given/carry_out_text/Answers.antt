@@ -1,7 +1,7 @@
 use Rattle.pos_run.proofs.Common.{[], ap, last_line, pieces, refl, runs_join, unfinished, ◌++◌, ◌∙◌}
 use Rattle.pos_script.proofs.LineLemmas.{two_parts}
 use Rattle.pos_run.proofs.Finishing.{lines_join, stops_more}
-use Rattle.pos_run.proofs.given.carry_out_lines.Goals as goal
+use Rattle.pos_run.proofs.given.carry_out_text.Goals as goal
 
 pub returns-in_default-clause-lines : goal.returns-in_default-clause-lines
 returns-in_default-clause-lines g c =
