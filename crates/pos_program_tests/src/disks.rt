@@ -63,8 +63,11 @@ fn files_that_are_no_totals(rt: HostRuntime) -> Result<(), Fail> {
 }
 
 /// Whether a file of 16 bytes in memory, each a 1, is read as it is, with this answer to the call for a lock.
-fn is_read(alloc: Global, lock_fault: Option<ErrorKind>) -> Result<bool, Fail> {
-    let mut file = small_file(alloc)?;
+fn is_read(
+    alloc: Global,
+    mut file: MemoryFile,
+    lock_fault: Option<ErrorKind>,
+) -> Result<bool, FileFault> {
     file.lock_fault = lock_fault;
     let totals = mirrored(alloc, disk_to_read(file)?)?;
     Ok(totals.bytes() == [1; 16].as_slice() && totals.below().file().bytes() == [1; 16].as_slice())
@@ -72,8 +75,11 @@ fn is_read(alloc: Global, lock_fault: Option<ErrorKind>) -> Result<bool, Fail> {
 
 #[test]
 fn totals_that_are_only_read(rt: HostRuntime) -> Result<(), Fail> {
-    assert!(rt; is_read(rt.alloc(), None)?);
-    assert!(rt; is_read(rt.alloc(), Some(ErrorKind::WouldBlock)).is_err());
+    let file = small_file(rt.alloc())?;
+    assert!(rt; is_read(rt.alloc(), file, None)?);
+    let file = small_file(rt.alloc())?;
+    let locked = is_read(rt.alloc(), file, Some(ErrorKind::WouldBlock));
+    assert!(rt; matches!(locked, Err(FileFault::InUse)));
     Ok(())
 }
 

@@ -1,4 +1,4 @@
--- What carries out the lines of a script, as contracts see it (docs/CONSOLE.md, "Answers").
+-- What carries out the lines of a script, as contracts see it (docs/reference/console.md, "Answers").
 use Rattle.std.specs.Prelude.{◌≡◌}
 use Rattle.pos_counter.specs.Counters.{IsCounterSound}
 use Rattle.pos_service.specs.declared.peripheral.Peripheral.{Ghosts}
