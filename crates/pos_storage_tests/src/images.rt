@@ -1,6 +1,8 @@
 // Bytes of each layout, and disks that aren't of them.
-ghost use Rattle.std.specs.Prelude.{IfOk};
+ghost use Rattle.std.specs.Prelude.{◌≡◌, IfOk};
 ghost use Rattle.pos_image.specs.Images.{IsReady};
+ghost use Rattle.pos_image.specs.Layout.{layout_of};
+ghost use Rattle.pos_image.specs.declared.layout.Layout.TheVariants.{Layout1};
 
 use crate::shared_disks::{FORMATTED, FOURTH, SECOND, THIRD, bytes_of, disk_of, has};
 use pos_disk::{Disk, Fill, FuseDisk, MemDisk};
@@ -55,14 +57,22 @@ fn bytes_of_the_layout(rt: HostRuntime) -> Result<(), Fail> {
     Ok(())
 }
 
+// Makes the first image of layout 2, with this body, the current one.
+fn put_layout_2<D: Disk>(images: &mut Images<D>, body: Vec<u8>) -> Result<(), ImageFault>
+    requires ready { IsReady D.Disk images.old }
+    requires layout { layout_of images.old.slot ≡ Layout1 }
+{
+    images.prepare_layout2(body)?;
+    images.publish()
+}
+
 // Opens a disk of layout 1, moves it to layout 2 with this body, and gives it back.
 fn move_to_layout_2(alloc: Global, disk: MemDisk, body: &[u8]) -> Result<MemDisk, ImageFault> {
     let mut images = open(alloc, disk)?;
     if images.layout() == Layout::Layout2 {
         return Err(ImageFault::AlreadyFormatted);
     }
-    images.prepare_layout2(Vec::from_slice(alloc, body)?)?;
-    images.publish()?;
+    put_layout_2(&mut images, Vec::from_slice(alloc, body)?)?;
     Ok(images.into_disk())
 }
 
