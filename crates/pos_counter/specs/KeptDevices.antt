@@ -7,7 +7,7 @@ use Rattle.pos_counter.specs.declared.devices.Devices.{Devices}
 use Rattle.pos_profile.specs.declared.entry.Entry.{Entry}
 use Rattle.pos_profile.specs.declared.slot.Slot.{Slot}
 use Rattle.pos_profile.specs.Categories.{is_totals}
-use Rattle.pos_profile.specs.Registries.{Device as Registered, IsRegistrySound, devices as registered, vacant_devices}
+use Rattle.pos_profile.specs.Registries.{AreParked, Device as Registered, IsRegistrySound, devices as registered, vacant_devices}
 use Rattle.pos_service.specs.declared.peripheral.Peripheral.{Ghosts}
 
 -- a device that may have a peripheral, and what stands at it
@@ -60,4 +60,4 @@ has_kind device = is_some device.kind
 -- which is out of service.
 pub record HandsOver (machine : Machine) (handed : List Registered) : Type 0 where
   pub devices : map device_of handed ≡ filter has_kind machine.devices
-  pub parked : All (λ device. IfSome device.peripheral (λ state. state.is_parked ≡ true)) handed
+  pub parked : AreParked handed

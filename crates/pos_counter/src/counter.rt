@@ -1,6 +1,6 @@
 ghost use Rattle.std.specs.Prelude.{◌≡◌, [], length, All, IfOk, IfErr, OnErr};
 ghost use Rattle.pos_disk.specs.State.{IsAtRest};
-ghost use Rattle.pos_profile.specs.Registries.{devices_of as registered_in};
+ghost use Rattle.pos_profile.specs.Registries.{AreParked, devices_of as registered_in};
 ghost use Rattle.pos_totals.specs.Views.{WhenReady};
 ghost use Rattle.pos_counter.specs.Steps.{NewControl, Deliver, Delivered};
 ghost use Rattle.pos_counter.specs.KeptDevices.{HandsOver};
@@ -48,9 +48,9 @@ pub struct Ended<D: Disk, P> {
 }
 
 impl<D: Disk, P: Ends> Ended<D, P> {
-    /// Ends what served the devices: the disk.
+    /// Ends what served the devices, which is out of service, and returns the disk.
     pub fn end(self) -> D
-        requires { Unit {0} }
+        requires { AreParked (registered_in P.Peripheral self.entries.items) }
         ensures { result ≡ self.disk }
     {
         let Ended { disk, entries } = self;
@@ -193,6 +193,7 @@ impl<D: Disk, P: Peripheral> Counter<D, P> {
         requires sound { IsCounterSound P.Peripheral self }
         ensures disk { result.disk ≡ self.totals.disk }
         ensures at_rest { D.honest result.disk → WhenReady self.totals.totals.mode (IsAtRest (D.state result.disk)) }
+        ensures parked { AreParked (registered_in P.Peripheral result.entries.items) }
         ensures entries { (part : TotalsPart)
             → HandsOver (machine P.Peripheral self part) (registered_in P.Peripheral result.entries.items) }
     {

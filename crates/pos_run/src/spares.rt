@@ -2,7 +2,7 @@
 ghost use Rattle.std.specs.Prelude.{◌≡◌, false, None, Some, All, IfSome, option_map};
 ghost use Rattle.pos_run.specs.Spares.{AreSparesSound, IsEmptyAt, IsInService, spare_at, spares_in, states_in, with_spare};
 
-use pos_service::{Ends, Peripheral};
+use pos_service::{Ends, Peripheral, park_and_end};
 
 /// Peripherals in service that no device has, by their numbers, counted from 1. The place of one that was attached is
 /// empty. They are ended by `park_all`, or handed out by `into_peripherals`.
@@ -76,7 +76,7 @@ pub(crate) fn end_peripherals<P: Ends>(mut peripherals: Vec<Option<P>>)
 {
     while let Some(spare) = peripherals.pop() {
         if let Some(peripheral) = spare {
-            peripheral.end();
+            park_and_end(peripheral);
         }
     }
     peripherals.destroy_empty();

@@ -121,7 +121,6 @@ impl Drop for Wrapped {
 
 impl Ends for Wrapped {
     fn end(self) {
-        let mut ending = self;
-        ending.park();
+        drop(self);
     }
 }
