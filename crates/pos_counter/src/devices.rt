@@ -1,6 +1,6 @@
 //! The devices of a counter, by their names and places.
 ghost use Rattle.std.specs.Prelude.{◌≡◌, [], None, Some, IfOk, IsSome, MatchOption, length, map, slice_get};
-ghost use Rattle.pos_profile.specs.Registries.{devices as registered, devices_of as registered_in, parked};
+ghost use Rattle.pos_profile.specs.Registries.{AreParked, devices as registered, devices_of as registered_in, parked};
 ghost use Rattle.pos_service.specs.Hardware.{hardware_of, signs_in};
 ghost use Rattle.pos_counter.specs.Machine.{device_at, found_at, kind_in, place_of, hardware_in};
 ghost use Rattle.pos_counter.specs.KeptDevices.{AreDevicesSound, devices_in, profile_devices, totals_name, totals_place};
@@ -123,7 +123,8 @@ impl<P: Peripheral> Devices<P> {
     /// which are taken out of service and else as they were.
     pub(crate) fn into_entries(self) -> Vec<Slot<P>>
         requires { Unit {0} }
-        ensures { registered_in P.Peripheral result.items ≡ map parked (registered P.Peripheral self.registry) }
+        ensures entries { registered_in P.Peripheral result.items ≡ map parked (registered P.Peripheral self.registry) }
+        ensures parked { AreParked (registered_in P.Peripheral result.items) }
     {
         let Devices {
             registry,
