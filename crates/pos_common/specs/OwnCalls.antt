@@ -47,8 +47,8 @@ OwnCall c rows comes_to number claims asked outcome control old before new after
     (OwnDoes comes_to number result control old before new after))
     (λ want. IsTrue (takes_memory asked) × (first_refusal refusals ≡ None) × SameHardware old before new after)
 
--- how many orders the peripheral was given before and after: a call that its table refuses gives none, any other call
--- those of what it comes to
+-- how many orders the peripheral was given before and after: none by a call that its table refuses, otherwise those of
+-- what it comes to
 abbrev pub OwnOrders : Category → List Row → Option Deed → ℕ → List (Option ℕ) → Call → Result Answer NoMemory → Control
     → ℕ → ℕ → Type 0
 OwnOrders c rows comes_to number claims asked outcome control old new =

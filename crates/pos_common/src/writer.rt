@@ -11,8 +11,8 @@ use pos_service::{ErrorReply, Event, Locus, Order};
 use std::alloc::Global;
 use std::marker::Model;
 
-/// The requests of output that a control has still to do, each of which every printer takes, and the OutputID that it
-/// gave last (common chapter, chapter POS Printer).
+/// The requests of output that a control has still to do, and the OutputID that it gave last (common chapter, chapter
+/// POS Printer). Every printer takes each of the requests.
 #[derive(Drop)]
 pub(crate) struct Writer {
     output_id: u64,

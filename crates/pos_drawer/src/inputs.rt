@@ -10,7 +10,8 @@ use pos_service::{Input, NoMemory, Peripheral};
 use std::alloc::Global;
 
 /// Passes an input on to the drawer of the device at a place: it is opened or closed, or switched on or off. Each
-/// control that has the device open and enabled gets the StatusUpdateEvent of it (chapter Cash Drawer).
+/// control that has the device open and enabled gets the StatusUpdateEvent of it (chapter Cash Drawer; common chapter,
+/// device power reporting).
 ///
 /// # Errors
 ///

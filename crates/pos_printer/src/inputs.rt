@@ -9,8 +9,8 @@ use pos_common::{Control, take_input};
 use pos_service::{Input, NoMemory, Peripheral};
 use std::alloc::Global;
 
-/// Passes an input on to the printer of the device at a place: its cover is moved, paper is loaded, or it is switched
-/// on or off. Each control that has the device open and enabled gets the StatusUpdateEvent of it (chapter POS Printer).
+/// Passes an input on to the printer of the device at a place: a cover is moved, paper is loaded, or power is switched.
+/// Each control that has the device open and enabled gets the StatusUpdateEvent of it (chapter POS Printer).
 ///
 /// # Errors
 ///

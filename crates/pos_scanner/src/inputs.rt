@@ -8,12 +8,13 @@ use pos_common::{Control, take_input};
 use pos_service::{Input, Kind, NoMemory, Peripheral};
 use std::alloc::Global;
 
-/// Passes an input on to the scanner of the device at a place: it reads a bar code, fails to read, or is switched on or
-/// off (common chapter, data events, error handling and device power reporting; chapter Scanner). Each control that has
-/// the device open and enabled takes it:
+/// Passes an input on to the scanner of the device at a place: a scan, a scan that failed, or a change of power. Each
+/// control that has the device open and enabled takes it (common chapter, data events, error handling and device power
+/// reporting; chapter Scanner):
 ///
 /// - A scan comes in a DataEvent, with a copy of its own. With AutoDisable the control is then disabled.
 /// - A failed scan puts it into the input error state.
+/// - A change of power comes in a StatusUpdateEvent, if the control is notified of it.
 ///
 /// All copies, and the room for all events, are made before the scanner takes the input.
 ///

@@ -15,8 +15,8 @@ pub const SIGN_EVENTS: usize = 4;
 /// with EL_INPUT_DATA and EL_INPUT).
 pub const INPUT_EVENTS: usize = 4;
 
-/// The most events that the work on a request of output has: those of a change of signs, and one that it is done or has
-/// failed.
+/// The most events that the work on a request of output has: those of a change of signs, and one of its success or
+/// failure.
 pub const WORK_EVENTS: usize = 5;
 
 impl Control {

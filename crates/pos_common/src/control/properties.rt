@@ -32,8 +32,8 @@ impl Control {
     /// - E_CLOSED: the control is closed.
     /// - E_ILLEGAL: its category doesn't have the property, or it isn't writable.
     /// - E_CLAIMED or E_NOTCLAIMED: DeviceEnabled of an exclusive-use device, which another control holds, or nobody.
-    /// - E_ILLEGAL: the value is of another type or out of range, PowerNotify would change while the device is enabled,
-    ///   or it would be PN_ENABLED though power isn't reported.
+    /// - E_ILLEGAL: the value is of another type or out of range.
+    /// - E_ILLEGAL: PowerNotify would change while the device is enabled, or be PN_ENABLED though power isn't reported.
     pub fn set(
         &mut self,
         number: usize,
@@ -87,8 +87,8 @@ impl Control {
     ///
     /// # Errors
     ///
-    /// Refused with E_ILLEGAL if the number is another one, if it changes while the device is enabled, or if it is 1
-    /// and power isn't reported.
+    /// Refused with E_ILLEGAL if the number is another one, or changes while the device is enabled. So is 1 if power
+    /// isn't reported.
     fn set_power_notify(&mut self, number: i128) -> Answer
         ensures { let control = self.old.control in
             TurnsInto (when (not (is_up_to 1 number)) Code.Illegal
@@ -194,8 +194,8 @@ impl Control {
     }
 
     /// Returns the value of a property (common chapter, chapters Cash Drawer, Scanner, Line Display, POS Printer and
-    /// Hard Totals). The number is the control's, the holder is the number of the control that holds the device, and
-    /// the facts are what is known of the device. Bytes are copied.
+    /// Hard Totals). The number is the control's, and the holder is the number of the control that holds the device.
+    /// The facts are what is known of the device. Bytes are copied.
     ///
     /// # Errors
     ///
@@ -203,8 +203,8 @@ impl Control {
     ///
     /// - E_CLOSED: the control is closed, and the property isn't State.
     /// - E_ILLEGAL: its category doesn't have the property.
-    /// - E_CLAIMED, E_NOTCLAIMED: the property is for the holder of the device alone, and another control holds it, or
-    ///   nobody does.
+    /// - E_CLAIMED or E_NOTCLAIMED: the property is for the holder of the device alone, and another control holds it,
+    ///   or nobody.
     /// - E_DISABLED: the property is of an enabled device, and the device is disabled.
     /// - E_FAILURE: the property is of the files, and the totals are off.
     pub fn get(
