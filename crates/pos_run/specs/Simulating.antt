@@ -81,8 +81,8 @@ abbrev pub is_ring : Simulation → Bool
 is_ring (simulation.Ring ring) = true
 is_ring _ = false
 
--- what is simulated of a kind, physically: a closed drawer, a scanner, a blank display, or a printer that has printed
--- nothing and has this much paper
+-- what is simulated of a kind, physically: a closed drawer, a scanner, a blank display, or a printer with this much
+-- paper and no receipt
 abbrev pub new_form : Kind → ℕ → Form
 new_form kind.Drawer lines = form.Drawer false
 new_form kind.Scanner lines = form.Scanner

@@ -33,8 +33,8 @@ pub record Reading : Type 0 where
   pub reads : ℕ
   pub state : ReadState
 
--- The state of the writer of answers: all that it was given, how often its sink failed, what it holds back, and what
--- its sink was given since it was last flushed.
+-- The state of the writer of answers: all that it was given, how often its sink failed, and what it holds back. It also
+-- has what its sink was given since it was last flushed.
 pub record Writing : Type 0 where
   pub given : Given
   pub held : List ℕ
