@@ -15,7 +15,12 @@ use pos_service::{Answer, Code, Peripheral, Value};
 use pos_totals::Totals;
 
 impl<D: Disk, P: Peripheral> Counter<D, P> {
-    /// `open`, of the first device with a name (common chapter).
+    /// `open`: opens a control for the first device with a name (common chapter).
+    ///
+    /// # Errors
+    ///
+    /// Refused with E_ILLEGAL if the control is open, E_NOEXIST if its category has no such device, and E_NOSERVICE if
+    /// the device has no peripheral.
     pub(crate) fn open(&mut self, number: usize, name: &[u8]) -> Answer
         requires in_range { number < length self.old.controls.items }
         requires sound { IsCounterSound P.Peripheral self.old }
@@ -26,7 +31,11 @@ impl<D: Disk, P: Peripheral> Counter<D, P> {
         control.open(found)
     }
 
-    /// `close`: what the control holds is free again (common chapter).
+    /// `close`: closes a control, and frees what it holds (common chapter).
+    ///
+    /// # Errors
+    ///
+    /// Refused with E_CLOSED if the control is closed.
     pub(crate) fn close(&mut self, number: usize) -> Answer
         requires in_range { number < length self.old.controls.items }
         requires sound { IsCounterSound P.Peripheral self.old }
@@ -44,7 +53,13 @@ impl<D: Disk, P: Peripheral> Counter<D, P> {
         control.close()
     }
 
-    /// `claim` (common chapter).
+    /// `claim`: makes a control the holder of its device (common chapter). The timeout is in milliseconds, -1 for no
+    /// end. It never waits.
+    ///
+    /// # Errors
+    ///
+    /// Refused with E_CLOSED if the control is closed, E_ILLEGAL if the timeout is below -1, and E_TIMEOUT if another
+    /// control holds the device.
     pub(crate) fn claim(&mut self, number: usize, timeout: i128) -> Answer
         requires in_range { number < length self.old.controls.items }
         requires sound { IsCounterSound P.Peripheral self.old }
@@ -57,7 +72,11 @@ impl<D: Disk, P: Peripheral> Counter<D, P> {
         claim_device(control, &mut self.claims, number, timeout)
     }
 
-    /// `release` (common chapter).
+    /// `release`: ends a control's claim of its device (common chapter).
+    ///
+    /// # Errors
+    ///
+    /// Refused with E_CLOSED if the control is closed, and E_ILLEGAL if it doesn't hold the device.
     pub(crate) fn release(&mut self, number: usize) -> Answer
         requires in_range { number < length self.old.controls.items }
         requires sound { IsCounterSound P.Peripheral self.old }
@@ -71,7 +90,11 @@ impl<D: Disk, P: Peripheral> Counter<D, P> {
     }
 }
 
-/// `claim` of a peripheral.
+/// `claim` of a device with a peripheral.
+///
+/// # Errors
+///
+/// As of `Counter::claim`.
 fn claim_device(control: &Control, claims: &mut Claims, number: usize, timeout: i128) -> Answer
     requires { IfSome control.now.control.device (λ place. place < length claims.old) }
     ensures { let device = control.now.control.device in
@@ -91,7 +114,11 @@ fn claim_device(control: &Control, claims: &mut Claims, number: usize, timeout: 
     }
 }
 
-/// `claim` of Hard Totals: of the area, which is taken where another control holds it or a file.
+/// `claim` of Hard Totals: of the area, which is taken if another control holds it or a file.
+///
+/// # Errors
+///
+/// As of `Counter::claim`.
 fn claim_area<D: Disk>(
     control: &Control,
     totals: &mut Totals<D>,
@@ -113,7 +140,11 @@ fn claim_area<D: Disk>(
     }
 }
 
-/// `release` of a peripheral.
+/// `release` of a device with a peripheral.
+///
+/// # Errors
+///
+/// As of `Counter::release`.
 fn release_device(control: &mut Control, claims: &mut Claims, number: usize) -> Answer
     ensures { let device = control.old.control.device in
         Decided (release_rows control.old.control (is_own number (holder_at claims.old device))) result
@@ -128,7 +159,11 @@ fn release_device(control: &mut Control, claims: &mut Claims, number: usize) -> 
     answer
 }
 
-/// `release` of Hard Totals: of the area. Files that the control holds stay so.
+/// `release` of Hard Totals: of the area. The control keeps the files that it holds.
+///
+/// # Errors
+///
+/// As of `Counter::release`.
 fn release_area<D: Disk>(control: &mut Control, totals: &mut Totals<D>, number: usize) -> Answer
     ensures answer { Decided (release_rows control.old.control (is_own number totals.old.totals.area)) result
         ((control.new ≡ control.old) × (totals.new.totals ≡ totals.old.totals))

@@ -26,8 +26,8 @@ pub fn offer<D: Disk, P: Peripheral + Ends>(counter: &mut Counter<D, P>, name: &
     }
 }
 
-/// Shuts a counter down, ends what is left of it, its peripherals out of service, and returns its disk, which is at
-/// rest if the totals were ready.
+/// Shuts a counter down, ends its peripherals out of service, and returns its disk. That is at rest if the totals were
+/// ready.
 pub fn end_counter<D: Disk, P: Peripheral + Ends>(counter: Counter<D, P>) -> D
     requires { IsCounterSound P.Peripheral counter }
     ensures disk { result ≡ counter.totals.disk }
