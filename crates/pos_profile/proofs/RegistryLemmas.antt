@@ -1,6 +1,6 @@
 -- The devices of a registry, where the peripheral of one changes.
 use Rattle.pos_profile.proofs.Common.{AllByRecursion, Device, Entry, HasKindInRange, IfSome, IsInRange, IsInUse, IsIndexOf, IsNamed, IsPut, IsRegistrySound, IsServed}
-use Rattle.pos_profile.proofs.Common.{IsSoundEntry, List, MayServe, Option, PeripheralState, Planned, Some, [], ap, arith, common_steps, cons_option, device_of}
+use Rattle.pos_profile.proofs.Common.{IsSoundEntry, List, MayServe, None, Option, PeripheralState, Planned, Some, [], ap, arith, common_steps, cons_option, device_of}
 use Rattle.pos_profile.proofs.Common.{devices, devices_of, drop, get_or, get_or-map, gets, is_some, kind_of, length, length-map, map, map-set, parked}
 use Rattle.pos_profile.proofs.Common.{place_of, planned_for, planned_of, refl, set, slice_get, slice_get-map, slice_get_past, standing_at, suc, sym, take, take_more, true}
 use Rattle.pos_profile.proofs.Common.{vacant, vacant_devices, with_peripheral, zero, ℕ, ◌++◌, ◌+◌, ◌<◌, ◌∙◌, ◌∷◌, ◌≡◌, ◌≤◌}
