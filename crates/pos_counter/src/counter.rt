@@ -49,11 +49,7 @@ pub struct Ended<D: Disk, P> {
 }
 
 impl<D: Disk, P: Ends> Ended<D, P> {
-<<<<<<< HEAD
     /// Ends what served the devices, which is out of service, and returns the disk.
-=======
-    /// Ends what served the devices, and returns the disk.
->>>>>>> eee4602fed1f95d0160ac1d9cac1bf0baf0ad7fe
     pub fn end(self) -> D
         requires { AreParked (registered_in P.Peripheral self.entries.items) }
         ensures { result ≡ self.disk }

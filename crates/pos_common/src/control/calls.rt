@@ -1,7 +1,7 @@
 //! The methods that every category has, and the check before each call.
-ghost use Rattle.std.specs.Prelude.{◌≡◌, ⊤, Some};
+ghost use Rattle.std.specs.Prelude.{◌≡◌, ◌<◌, ⊤, IfSome, Some, length};
 ghost use Rattle.pos_service.specs.Calls.{place_found, open_rows, close_rows};
-ghost use Rattle.pos_service.specs.Claims.{holder_at, is_own, is_foreign, claim_rows, release_rows, after_release};
+ghost use Rattle.pos_service.specs.Claims.{holder_at, is_own, is_foreign, claim_rows, claimed_by, release_rows, released_by, after_release};
 ghost use Rattle.pos_service.specs.Controls.{opened, closed, stopped};
 ghost use Rattle.pos_service.specs.Refusals.{Decided};
 ghost use Rattle.pos_common.specs.Checks.{Checks};
@@ -75,14 +75,39 @@ impl Control {
         Answer::Done(Value::Empty)
     }
 
-    /// `claim`: returns whether it may hold its device, by its number and the number of the holder, if any (common
-    /// chapter). The timeout is in milliseconds, -1 for no end. It never waits.
+    /// `claim`: makes it the holder of its device, by its number and the claims of all devices (common chapter). The
+    /// timeout is in milliseconds, -1 for no end. It never waits.
+    ///
+    /// # Errors
+    ///
+    /// As of `claim_by`. Then nothing has changed.
+    pub fn claim(&self, number: usize, claims: &mut Claims, timeout: i128) -> Answer
+        requires { IfSome self.now.control.device (λ place. place < length claims.old) }
+        ensures { let device = self.now.control.device in
+            Decided (claim_rows self.now.control (is_foreign number (holder_at claims.old device)) timeout)
+            result (claims.new ≡ claims.old)
+            ((result ≡ Answer.Done Value.Empty) × (claims.new ≡ claimed_by claims.old device number)) }
+    {
+        let Some(place) = self.device else {
+            return Answer::Refused(Code::Closed, 0);
+        };
+        match self.claim_by(number, claims.holder(Some(place)), timeout) {
+            Answer::Done(value) => {
+                claims.claim(place, number);
+                Answer::Done(value)
+            }
+            refusal => refusal,
+        }
+    }
+
+    /// Returns whether it may hold its device, as `claim` does, by its number and the number of the holder, if any. For
+    /// Hard Totals, whose claim the totals have.
     ///
     /// # Errors
     ///
     /// Refused with E_CLOSED if it is closed, E_ILLEGAL if the timeout is below -1, and E_TIMEOUT if another control
     /// holds the device.
-    pub fn claim(&self, number: usize, holder: Option<usize>, timeout: i128) -> Answer
+    pub fn claim_by(&self, number: usize, holder: Option<usize>, timeout: i128) -> Answer
         ensures { Decided (claim_rows self.now.control (is_foreign number holder) timeout) result ⊤
             (result ≡ Answer.Done Value.Empty) }
     {
@@ -98,14 +123,34 @@ impl Control {
         Answer::Done(Value::Empty)
     }
 
-    /// `release`: changes it as its release of the device does, by its number and the number of the holder, if any
-    /// (common chapter). The control of an exclusive-use device is disabled, and its events and its output are deleted.
-    /// That of a sharable device stays as it is.
+    /// `release`: ends its claim of its device, by its number and the claims of all devices (common chapter). The control
+    /// of an exclusive-use device is disabled, and its events and its output are deleted. That of a sharable device
+    /// stays as it is.
+    ///
+    /// # Errors
+    ///
+    /// As of `release_by`. Then nothing has changed.
+    pub fn release(&mut self, number: usize, claims: &mut Claims) -> Answer
+        ensures { let device = self.old.control.device in
+            Decided (release_rows self.old.control (is_own number (holder_at claims.old device))) result
+            ((self.new ≡ self.old) × (claims.new ≡ claims.old))
+            ((result ≡ Answer.Done Value.Empty)
+            × (self.new.control ≡ after_release self.old.control.category self.old.control)
+            × (claims.new ≡ released_by claims.old device number)) }
+    {
+        let device = self.device;
+        let answer = self.release_by(number, claims.holder(device));
+        claims.release(device, number);
+        answer
+    }
+
+    /// Changes it as `release` does, by its number and the number of the holder, if any. For Hard Totals, whose claim the
+    /// totals have.
     ///
     /// # Errors
     ///
     /// Refused with E_CLOSED if it is closed, and E_ILLEGAL if it doesn't hold the device.
-    pub fn release(&mut self, number: usize, holder: Option<usize>) -> Answer
+    pub fn release_by(&mut self, number: usize, holder: Option<usize>) -> Answer
         ensures { let control = self.old.control in
             TurnsInto (release_rows control (is_own number holder)) result self.old self.new
             (after_release control.category control) }
