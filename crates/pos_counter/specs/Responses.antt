@@ -25,31 +25,31 @@ use Rattle.pos_counter.specs.declared.faults.WorkFault.{WorkFault}
 use Rattle.pos_counter.specs.declared.faults.WorkFault.TheVariants as work_fault
 
 -- what `control` answers
-abbrev pub made : Result ℕ ControlFault → machine.Response
+abbrev pub made : {P : Type 0} → Result ℕ ControlFault → Response P
 made (Ok number) = response.Made number
 made (Err control_fault.Full) = response.Full
 made (Err control_fault.NoMemory) = response.OutOfMemory
 
 -- what `call` answers
-abbrev pub answered : Result Answer NoMemory → machine.Response
+abbrev pub answered : {P : Type 0} → Result Answer NoMemory → Response P
 answered (Ok answer) = response.Answered answer
 answered (Err want) = response.OutOfMemory
 
 -- what `input` answers
-abbrev pub taken_in : Result (Unit {0}) InputFault → machine.Response
+abbrev pub taken_in : {P : Type 0} → Result (Unit {0}) InputFault → Response P
 taken_in (Ok u) = response.TakenIn
 taken_in (Err input_fault.NoDevice) = response.NoDevice
 taken_in (Err input_fault.WrongInput) = response.WrongInput
 taken_in (Err input_fault.NoMemory) = response.OutOfMemory
 
 -- what `work` answers
-abbrev pub worked : Result Worked WorkFault → machine.Response
+abbrev pub worked : {P : Type 0} → Result Worked WorkFault → Response P
 worked (Ok result) = response.Worked result
 worked (Err work_fault.NoDevice) = response.NoDevice
 worked (Err work_fault.NoMemory) = response.OutOfMemory
 
 -- what `snapshot` answers
-abbrev pub shown : Result Snapshot SnapshotFault → machine.Response
+abbrev pub shown : {P : Type 0} → Result Snapshot SnapshotFault → Response P
 shown (Ok snapshot) = response.Shown snapshot
 shown (Err snapshot_fault.NoDevice) = response.NoDevice
 shown (Err snapshot_fault.NoMemory) = response.OutOfMemory

@@ -20,7 +20,7 @@ pub mod laws;
 pub mod moves;
 mod properties;
 mod relay;
-mod responses;
+pub mod responses;
 mod totals_calls;
 mod working;
 

@@ -1,4 +1,4 @@
-//! The responses that the results of a counter's methods become.
+//! The responses that the results of a counter's methods become, for whoever carries requests out.
 ghost use Rattle.std.specs.Prelude.{◌≡◌, true, IfErr, IfOk, false};
 ghost use Rattle.pos_counter.specs.Responses.{HandsOut, attached, answered, detached, made, response_of, shown, taken_in, worked};
 
@@ -8,9 +8,9 @@ use pos_service::{
 };
 
 /// Returns the response of a result of `Counter::control`.
-pub(crate) fn of_control<P: Peripheral>(answer: Result<usize, ControlFault>) -> Response<P>
-    ensures answer { response_of P.Peripheral result ≡ made answer }
-    ensures handed_out { HandsOut P.Peripheral result }
+#[inline(always)]
+pub fn of_control<P>(answer: Result<usize, ControlFault>) -> Response<P>
+    ensures { result ≡ made answer }
 {
     match answer {
         Ok(number) => Response::Made(number),
@@ -20,9 +20,9 @@ pub(crate) fn of_control<P: Peripheral>(answer: Result<usize, ControlFault>) -> 
 }
 
 /// Returns the response of a result of `Counter::call`.
-pub(crate) fn of_call<P: Peripheral>(answer: Result<Answer, NoMemory>) -> Response<P>
-    ensures answer { response_of P.Peripheral result ≡ answered answer }
-    ensures handed_out { HandsOut P.Peripheral result }
+#[inline(always)]
+pub fn of_call<P>(answer: Result<Answer, NoMemory>) -> Response<P>
+    ensures { result ≡ answered answer }
 {
     match answer {
         Ok(answer) => Response::Answered(answer),
@@ -31,9 +31,9 @@ pub(crate) fn of_call<P: Peripheral>(answer: Result<Answer, NoMemory>) -> Respon
 }
 
 /// Returns the response of a result of `Counter::input`.
-pub(crate) fn of_input<P: Peripheral>(answer: Result<(), InputFault>) -> Response<P>
-    ensures answer { response_of P.Peripheral result ≡ taken_in answer }
-    ensures handed_out { HandsOut P.Peripheral result }
+#[inline(always)]
+pub fn of_input<P>(answer: Result<(), InputFault>) -> Response<P>
+    ensures { result ≡ taken_in answer }
 {
     match answer {
         Ok(()) => Response::TakenIn,
@@ -44,9 +44,9 @@ pub(crate) fn of_input<P: Peripheral>(answer: Result<(), InputFault>) -> Respons
 }
 
 /// Returns the response of a result of `Counter::work`.
-pub(crate) fn of_work<P: Peripheral>(answer: Result<Worked, WorkFault>) -> Response<P>
-    ensures answer { response_of P.Peripheral result ≡ worked answer }
-    ensures handed_out { HandsOut P.Peripheral result }
+#[inline(always)]
+pub fn of_work<P>(answer: Result<Worked, WorkFault>) -> Response<P>
+    ensures { result ≡ worked answer }
 {
     match answer {
         Ok(worked) => Response::Worked(worked),
@@ -56,9 +56,9 @@ pub(crate) fn of_work<P: Peripheral>(answer: Result<Worked, WorkFault>) -> Respo
 }
 
 /// Returns the response of a result of `Counter::snapshot`.
-pub(crate) fn of_snapshot<P: Peripheral>(answer: Result<Snapshot, SnapshotFault>) -> Response<P>
-    ensures answer { response_of P.Peripheral result ≡ shown answer }
-    ensures handed_out { HandsOut P.Peripheral result }
+#[inline(always)]
+pub fn of_snapshot<P>(answer: Result<Snapshot, SnapshotFault>) -> Response<P>
+    ensures { result ≡ shown answer }
 {
     match answer {
         Ok(snapshot) => Response::Shown(snapshot),

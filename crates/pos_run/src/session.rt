@@ -7,7 +7,8 @@ ghost use Rattle.pos_run.specs.Sessions.{IsSessionSound, KeepsSession, session_i
 
 use crate::names::Names;
 use crate::spares::Spares;
-use pos_counter::{ControlFault, Counter, InputFault, SnapshotFault, WorkFault};
+use pos_counter::Counter;
+use pos_counter::responses::{of_call, of_control, of_input, of_snapshot, of_work};
 use pos_disk::Disk;
 use pos_script::{DeviceVerb, Reply};
 use pos_service::{Call, Category, Ends, ErrorReply, Input, Peripheral, Response};
@@ -51,8 +52,7 @@ impl<D: Disk, P: Peripheral> Asks<D, P> for Category {
                 session.names.add(copy, number);
                 Reply::Responded(Response::Made(number))
             }
-            Err(ControlFault::Full) => Reply::Responded(Response::Full),
-            Err(ControlFault::NoMemory) => Reply::Responded(Response::OutOfMemory),
+            Err(fault) => Reply::Responded(of_control(Err(fault))),
         }
     }
 }
@@ -67,10 +67,7 @@ impl<D: Disk, P: Peripheral> Asks<D, P> for Call {
         let Some(number) = session.names.find(name) else {
             return Reply::BadControl;
         };
-        match session.counter.call(number, self) {
-            Ok(answer) => Reply::Responded(Response::Answered(answer)),
-            Err(_) => Reply::Responded(Response::OutOfMemory),
-        }
+        Reply::Responded(of_call(session.counter.call(number, self)))
     }
 }
 
@@ -96,12 +93,7 @@ impl<D: Disk, P: Peripheral> Asks<D, P> for Input {
 
     #[inline(always)]
     fn ask(&self, name: &[u8], session: &mut Session<'_, D, P>) -> Reply {
-        match session.counter.input(name, self) {
-            Ok(()) => Reply::Responded(Response::TakenIn),
-            Err(InputFault::NoDevice) => Reply::Responded(Response::NoDevice),
-            Err(InputFault::WrongInput) => Reply::Responded(Response::WrongInput),
-            Err(InputFault::NoMemory) => Reply::Responded(Response::OutOfMemory),
-        }
+        Reply::Responded(of_input(session.counter.input(name, self)))
     }
 }
 
@@ -131,16 +123,8 @@ impl<D: Disk, P: Peripheral + Ends> Asks<D, P> for DeviceVerb {
     #[inline(always)]
     fn ask(&self, name: &[u8], session: &mut Session<'_, D, P>) -> Reply {
         match self {
-            DeviceVerb::Show => match session.counter.snapshot(name) {
-                Ok(snapshot) => Reply::Responded(Response::Shown(snapshot)),
-                Err(SnapshotFault::NoDevice) => Reply::Responded(Response::NoDevice),
-                Err(SnapshotFault::NoMemory) => Reply::Responded(Response::OutOfMemory),
-            },
-            DeviceVerb::Work => match session.counter.work(name) {
-                Ok(worked) => Reply::Responded(Response::Worked(worked)),
-                Err(WorkFault::NoDevice) => Reply::Responded(Response::NoDevice),
-                Err(WorkFault::NoMemory) => Reply::Responded(Response::OutOfMemory),
-            },
+            DeviceVerb::Show => Reply::Responded(of_snapshot(session.counter.snapshot(name))),
+            DeviceVerb::Work => Reply::Responded(of_work(session.counter.work(name))),
             DeviceVerb::Detach => match session.counter.detach(name) {
                 Ok(peripheral) => {
                     peripheral.end();
