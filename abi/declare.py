@@ -85,7 +85,7 @@ def doc_before(source, at):
     while lines and (lines[-1].startswith("///") or lines[-1].startswith("#[")):
         line = lines.pop()
         if line.startswith("///"):
-            doc.insert(0, line[3:].strip())
+            doc.insert(0, line[4:].rstrip())
     return doc
 
 
@@ -113,7 +113,8 @@ def groups():
 
 
 def comment(lines):
-    text = "\n".join(("   " + line.replace("`", "")).rstrip() for line in lines).lstrip()
+    plain = [re.sub("^# (.*)", r"\1:", line.replace("`", "")) for line in lines]
+    text = "\n".join(("   " + line).rstrip() for line in plain).lstrip()
     return f"/* {text} */"
 
 

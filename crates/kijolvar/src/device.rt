@@ -9,9 +9,11 @@ use pos_service::{
     Ends, Input, Kind, NoMemory, Order, Peripheral, Reply, Signs, Snapshot, Taken, park_and_end,
 };
 
-/// A device of a till, or a spare: a simulated peripheral. Where the host has the device, the simulated one stands for
-/// it: it answers at once, and each order that it carries out is kept for the host. A spare has no name, and none of
-/// its orders is kept. It ends only parked: whoever lets it go has to show that.
+/// A device of a till, or a spare: a simulated peripheral. If the host has the hardware, the simulated one answers for
+/// it at once, and each order that it carries out is kept for the host. A spare has no name, and none of its orders is
+/// kept.
+///
+/// It ends only parked: whoever drops it must show that.
 pub struct Device {
     twin: Wrapped,
     asks: u64,

@@ -1,5 +1,5 @@
 //! The events of a control: what enqueues them, deletes them and delivers them.
-ghost use Rattle.std.specs.Prelude.{◌≡◌, ◌≤◌, ◌+◌, OnOk, OnErr};
+ghost use Rattle.std.specs.Prelude.{◌≡◌, ◌≤◌, ◌+◌, OnOk, OnErr, is_some};
 ghost use Rattle.pos_service.specs.Controls.{listens, if_listening, heard, read, failed, is_held_back, deliverable, delivered, without_input, without_scan};
 ghost use Rattle.pos_service.specs.Statuses.{changed_status, heard_signs};
 ghost use Rattle.pos_common.specs.KeptControls.{HasRoom, sign_events, scan_events, fault_events};
@@ -122,6 +122,14 @@ impl Control {
         ensures { result ≡ is_held_back self.now.control }
     {
         self.device.is_none() || self.settings.freeze_events
+    }
+
+    /// Returns whether `deliver` would return an event now. It takes no memory.
+    pub fn has_deliverable(&self) -> bool
+        ensures { result ≡ is_some (deliverable self.now.control) }
+    {
+        self.events
+            .has_deliverable(self.settings.data_event_enabled, self.is_held_back())
     }
 
     /// Takes the event that may be delivered now, and returns it (common chapter, event queue). The reply is the
