@@ -19,7 +19,7 @@ use Rattle.pos_service.specs.declared.worked.Worked.{Worked}
 use Rattle.pos_counter.specs.Steps as machine
 
 -- a response has no peripheral in it, and is the machine's
-record IsPlain {P : Type 0} (peripherals : Ghosts P) (given : Response P) (response : machine.Response) : Type 0 where
+pub record IsPlain {P : Type 0} (peripherals : Ghosts P) (given : Response P) (response : machine.Response) : Type 0 where
   pub same : response_of peripherals given ≡ response
   pub handed_out : HandsOut peripherals given
 

@@ -19,7 +19,7 @@ use Rattle.pos_service.specs.declared.request.Response.{Response as ResponseOf}
 use Rattle.pos_service.specs.declared.worked.Worked.{Worked}
 
 -- a response without a peripheral prints what the machine's prints
-abbrev PrintsAs : ResponseOf (Unit {0}) → Response → Type 0
+abbrev pub PrintsAs : ResponseOf (Unit {0}) → Response → Type 0
 PrintsAs given response = response_text given ≡ response_text response
 
 pub control_text : (answer : Result ℕ ControlFault) → PrintsAs (made answer) (made answer)
