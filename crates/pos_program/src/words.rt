@@ -90,7 +90,8 @@ fn program_line<'a>(alloc: Global) -> Result<Command<'a>, AllocError>
     ensures { IfOk result (λ line. app_of line ≡ program_line) }
 {
     let bare = Command::new(alloc, "pos_console").no_binary_name(true);
-    let started = bare.disable_help_subcommand(true);
+    let plain = bare.disable_help_subcommand(true);
+    let started = plain.subcommand_required(true);
     let runs = started.subcommand(run_line(alloc)?)?;
     let formats = runs.subcommand(disk_line(alloc, "format")?)?;
     let migrates = formats.subcommand(disk_line(alloc, "migrate")?)?;
@@ -127,7 +128,7 @@ fn task_of<'a>(matches: &ArgMatches<'a>) -> Task<'a>
     ensures { Asks (subcommand_rows_of matches.now) result }
 {
     let Some((command, found)) = matches.subcommand() else {
-        return Task::Demo;
+        unreachable!();
     };
     let disk = path_in(found, "disk");
     if command == "run" {
@@ -144,7 +145,7 @@ fn task_of<'a>(matches: &ArgMatches<'a>) -> Task<'a>
 }
 
 /// Returns what the words after the program's name ask for, as `clap` reads them: its matches have the command, and the
-/// path of each option. docs/reference/console.md, "The program".
+/// path of each option. Only no words ask for [`Task::Demo`]. docs/reference/console.md, "The program".
 ///
 /// # Errors
 ///
@@ -152,6 +153,9 @@ fn task_of<'a>(matches: &ArgMatches<'a>) -> Task<'a>
 pub fn choice<'a, S: AsStr>(alloc: Global, words: &'a [S]) -> Result<Task<'a>, ChoiceFault>
     ensures { Chooses (map S.text words.entry.now) result }
 {
+    if words.is_empty() {
+        return Ok(Task::Demo);
+    }
     let Ok(line) = program_line(alloc) else {
         return Err(ChoiceFault::NoMemory);
     };
