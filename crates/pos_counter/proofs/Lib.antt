@@ -18,3 +18,4 @@ pub mod Prefixes
 pub mod Reopening
 pub mod Errands
 mod MovesLemmas
+pub mod NextEventLemmas

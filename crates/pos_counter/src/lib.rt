@@ -18,6 +18,7 @@ mod faults;
 mod inputs;
 pub mod laws;
 pub mod moves;
+mod next_event;
 mod properties;
 mod relay;
 pub mod responses;
