@@ -1,9 +1,9 @@
 -- The devices of a machine, by the registry of a counter: what stands at their places, how they begin and end, and exchanges.
-use Rattle.pos_counter.proofs.Common.{◌+◌, ◌++◌, All, All-cons, All-map, All-nil, AllByRecursion, Attach, Attaches, Bool, Category, Detach, Detaches, Device}
-use Rattle.pos_counter.proofs.Common.{Does, Effect, Entry, Err, HardTotals, Hardware, HasItsKind, HasKindInRange, IfErr, IfSome, IsDoneAt, IsNamed, IsServed}
+use Rattle.pos_counter.proofs.Common.{◌+◌, ◌++◌, All, All-cons, All-nil, AllByRecursion, Attach, Attaches, Bool, Category, Detach, Detaches, Device}
+use Rattle.pos_counter.proofs.Common.{Does, Effect, Entry, Err, HardTotals, Hardware, HasItsKind, HasKindInRange, IfErr, IsDoneAt, IsNamed, IsServed}
 use Rattle.pos_counter.proofs.Common.{IsSome, KeptControl, List, None, Ok, Option, PeripheralState, Registered, Result, Some, Step, TotalsPart, [], ap}
 use Rattle.pos_counter.proofs.Common.{append-nil, append_assoc, arith, attached, bytes_eq, cond, cond_both, cons_option, controls_of, detached, device_at}
-use Rattle.pos_counter.proofs.Common.{device_of, devices_of, false, false≢true, filter, find, first_of, get_or, hardware_in, hardware_of, has_kind, is_open_at}
+use Rattle.pos_counter.proofs.Common.{device_of, devices_of, false, false≢true, filter, find, first_of, hardware_in, hardware_of, has_kind, is_open_at}
 use Rattle.pos_counter.proofs.Common.{kind_in, length, length-map, length_push, list_any, machine_with, map, names_of, option_and_then_some, option_map, parked}
 use Rattle.pos_counter.proofs.Common.{parked_state, place_from, place_of, planned_of, profile_devices, refl, registered_from, registered_place, rules}
 use Rattle.pos_counter.proofs.Common.{same_Some, set, slice_get, standing_at, suc, sym, take, totals_devices, totals_place, true, vacant, vacant_devices}

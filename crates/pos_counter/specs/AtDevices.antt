@@ -1,5 +1,5 @@
 -- What is done at one device of a counter.
-use Rattle.std.specs.Prelude.{◌≡◌, ℕ, true, List, Option, Some, None, Result, MatchOption, slice_get, slice_set, IsSome}
+use Rattle.std.specs.Prelude.{◌≡◌, ℕ, true, List, Option, Some, Result, MatchOption, slice_get, slice_set, IsSome}
 use Rattle.pos_service.specs.declared.answer.Answer.{Answer}
 use Rattle.pos_service.specs.declared.call.Call.{Call}
 use Rattle.pos_service.specs.declared.memory.NoMemory.{NoMemory}

@@ -1,5 +1,5 @@
 -- The devices that a counter keeps, and those that it returns at its end.
-use Rattle.std.specs.Prelude.{◌≡◌, ℕ, true, List, [], ◌∷◌, Option, Some, None, IfSome, All, map, option_map, is_some, ◌++◌, Bool, bytes_eq, if◌then◌else◌}
+use Rattle.std.specs.Prelude.{◌≡◌, ℕ, List, [], ◌∷◌, Option, Some, None, map, option_map, is_some, ◌++◌, Bool, bytes_eq, if◌then◌else◌}
 use Rattle.std.specs.List.{filter, find}
 use Rattle.pos_service.specs.Hardware.{hardware_of}
 use Rattle.pos_counter.specs.Machine.{Device, Machine}

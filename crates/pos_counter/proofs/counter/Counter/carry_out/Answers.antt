@@ -20,7 +20,8 @@ returns-in-Deliver-clause-step g c = search (c.in-Deliver.is, beside_is_step, g.
 
 pub returns-in-Snapshot-clause-step : goal.returns-in-Snapshot-clause-step
 returns-in-Snapshot-clause-step g c =
-    search (c.in-Snapshot.is, c.of_snapshot.ensures, ((plain_snapshot g.P.Peripheral c.snapshot.result).same), ← c.as_slice-in-Snapshot.ensures, beside_is_step, g.met.D.Disk.only_now)
+    rw (c.in-Snapshot.is, c.of_snapshot.ensures, (plain_snapshot g.P.Peripheral c.snapshot.result).same, ← c.as_slice-in-Snapshot.ensures)
+    (beside_is_step g.D.Disk g.P.Peripheral _ _ _ _ (g.met.D.Disk.only_now _) c.snapshot.ensures)
 
 pub attach-requires-clause-unparked : goal.attach-requires-clause-unparked
 attach-requires-clause-unparked g c = rw c.in-Attach.is at c.requires.in_service
