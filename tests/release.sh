@@ -166,8 +166,9 @@ runs() {
   local name=$1
   shift
   apart "$@" > "$work/said" 2>&1
-  told "$name" 0 "$?"
-  [ "$failed" -eq 0 ] || tail -n 5 "$work/said"
+  set -- "$?"
+  told "$name" 0 "$1"
+  [ "$1" -eq 0 ] || tail -n 5 "$work/said"
 }
 
 # ---- what the files hold
@@ -429,11 +430,13 @@ make_root() {
   shift 2
   [ ! -x "$folder/usr/bin/gcc" ] || return 0
   echo "debootstrap makes $folder"
-  debootstrap --variant=minbase "$suite" "$folder" http://deb.debian.org/debian > "$work/said" 2>&1 \
-    && cp /etc/resolv.conf "$folder/etc/resolv.conf" \
-    && chroot "$folder" apt-get update >> "$work/said" 2>&1 \
-    && chroot "$folder" env DEBIAN_FRONTEND=noninteractive apt-get install -y --no-install-recommends "$@" \
-      >> "$work/said" 2>&1
+  {
+    [ -x "$folder/usr/bin/apt-get" ] \
+      || debootstrap --variant=minbase "$suite" "$folder" http://deb.debian.org/debian
+    cp /etc/resolv.conf "$folder/etc/resolv.conf" \
+      && chroot "$folder" apt-get update \
+      && chroot "$folder" env DEBIAN_FRONTEND=noninteractive apt-get install -y --no-install-recommends "$@"
+  } > "$work/said" 2>&1
   told "the root $folder is made" 0 "$?"
 }
 
