@@ -170,7 +170,7 @@ install_pages() {
   [ -x "$tool" ] || return 0
   ask_tool "$share/man/man1/kijolvar.1" "$tool" man
   ask_tool "$share/bash-completion/completions/kijolvar" "$tool" completions bash
-  ask_tool "$share/zsh/vendor-completions/_kijolvar" "$tool" completions zsh
+  ask_tool "$share/zsh/site-functions/_kijolvar" "$tool" completions zsh
   ask_tool "$share/fish/vendor_completions.d/kijolvar.fish" "$tool" completions fish
 }
 

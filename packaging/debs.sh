@@ -22,9 +22,10 @@ lay_kijolvar() {
   take "$1" 'share/man/man1/*' "$2/usr/share/man/man1"
   gzip -9n "$2"/usr/share/man/man1/*
   rm "$2/usr/share/doc/kijolvar/CHANGELOG.md"
-  for shell in bash-completion zsh fish; do
+  for shell in bash-completion fish; do
     [ ! -d "$1/share/$shell" ] || take "$1" "share/$shell" "$2/usr/share"
   done
+  [ ! -d "$1/share/zsh" ] || take "$1" 'share/zsh/site-functions/*' "$2/usr/share/zsh/vendor-completions"
 }
 
 # lay_libkijolvar TREE TO: the shared object
