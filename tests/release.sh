@@ -340,12 +340,17 @@ try_cargo() {
 
 # try_page: the page that shows a counter is served over the shared object
 try_page() {
-  local folder=$inside/${tree##*/} python=$inside/${tree##*/}/day/venv/bin/python
-  told "the page is served" "<!doctype html>" "$(apart sh -c "$python $folder/share/kijolvar/page/serve.py \
-    $folder/lib/libkijolvar.so.$major 0 > address & server=\$!
-    for turn in 1 2 3 4 5 6 7 8 9 10; do [ -s address ] || sleep 0.5; done
-    $python -c \"import sys, urllib.request; print(urllib.request.urlopen(sys.argv[1]).readline().decode().strip().lower())\" \
-      \"\$(cat address)\"; kill \$server" 2>&1)"
+  cat > "$outside/page.sh" <<'SCRIPT'
+python=$1/day/venv/bin/python
+"$python" "$1/share/kijolvar/page/serve.py" "$1"/lib/libkijolvar.so.* 0 > address &
+for turn in 1 2 3 4 5 6 7 8 9 10; do
+  [ -s address ] || sleep 1
+done
+"$python" -c 'import sys, urllib.request; print(urllib.request.urlopen(sys.argv[1]).readline().decode().lower(), end="")' \
+  "$(cat address)"
+kill $!
+SCRIPT
+  told "the page is served" "<!doctype html>" "$(apart sh page.sh "$inside/${tree##*/}" 2>&1)"
 }
 
 # try_sdist: the sources of Python work over the shared object that KIJOLVAR_LIBRARY names
@@ -355,6 +360,14 @@ try_sdist() {
   tar -xzf "$outside/kijolvar-$version.tar.gz" -C "$outside/sdist"
   sells "the sale by the sdist" env "PYTHONPATH=sdist/kijolvar-$version" \
     "KIJOLVAR_LIBRARY=$inside/${tree##*/}/lib/libkijolvar.so.$major" python3 "$inside/${examples#"$outside/"}/sale.py"
+}
+
+# try_sdist_build: the sources of Python are built and installed, by Debian's setuptools
+try_sdist_build() {
+  runs "pip installs the sdist" sh -c "python3 -m venv --system-site-packages built && \
+    built/bin/pip install --no-index --no-build-isolation kijolvar-$version.tar.gz"
+  sells "the sale by the sdist that pip installed" env \
+    "KIJOLVAR_LIBRARY=$inside/${tree##*/}/lib/libkijolvar.so.$major" built/bin/python "${examples#"$outside/"}/sale.py"
 }
 
 # ---- Debian's packages
@@ -428,16 +441,17 @@ try_local() {
 make_root() {
   local folder=$1 suite=$2
   shift 2
-  [ ! -x "$folder/usr/bin/gcc" ] || return 0
-  echo "debootstrap makes $folder"
-  {
-    [ -x "$folder/usr/bin/apt-get" ] \
-      || debootstrap --variant=minbase "$suite" "$folder" http://deb.debian.org/debian
-    cp /etc/resolv.conf "$folder/etc/resolv.conf" \
-      && chroot "$folder" apt-get update \
-      && chroot "$folder" env DEBIAN_FRONTEND=noninteractive apt-get install -y --no-install-recommends "$@"
-  } > "$work/said" 2>&1
-  told "the root $folder is made" 0 "$?"
+  if [ ! -x "$folder/usr/bin/gcc" ]; then
+    echo "debootstrap makes $folder"
+    {
+      debootstrap --variant=minbase "$suite" "$folder" http://deb.debian.org/debian \
+        && cp /etc/resolv.conf "$folder/etc/resolv.conf" \
+        && chroot "$folder" apt-get update \
+        && chroot "$folder" env DEBIAN_FRONTEND=noninteractive apt-get install -y --no-install-recommends "$@"
+    } > "$work/said" 2>&1
+  fi
+  told "the root $folder has a compiler" "$suite 0" \
+    "$(sed -n 's/^VERSION_CODENAME=//p' "$folder/etc/os-release") $(chroot "$folder" gcc --version > /dev/null 2>&1; echo $?)"
 }
 
 # try_memory: a program over the archive under valgrind and the sanitizers
@@ -491,7 +505,8 @@ fi
 find_release "${2:-}"
 if [ "$1" != --quick ]; then
   roots=$(mkdir -p "$1" && cd "$1" && pwd)
-  make_root "$roots/bookworm" bookworm gcc libc6-dev make cmake pkg-config python3 python3-venv valgrind
+  make_root "$roots/bookworm" bookworm gcc libc6-dev make cmake pkg-config python3 python3-venv \
+    python3-setuptools python3-wheel valgrind
   make_root "$roots/bullseye" bullseye gcc libc6-dev
   [ "$failed" -eq 0 ] || { tail -n 5 "$work/said" && finish; }
   enter_root "$roots/bookworm"
@@ -509,6 +524,7 @@ if [ "$1" = --quick ]; then
   try_again
   try_refusals
 else
+  try_sdist_build
   try_debs
   try_local
   try_memory
