@@ -111,7 +111,7 @@ link_program() {
   kit=$(dirname "$(rt doc)")
   "${CC:-gcc}" "${flags[@]}" -c -o "$work/start.o" "$top/packaging/start.c"
   "${CC:-gcc}" -pie -nostartfiles -o "$2" -Wl,-u,kijolvar_build "${links[@]}" "$work/start.o" "$work/build.o" "$1" \
-    "$kit/c/libos_c.a" "$kit/c/liblibc_c.a"
+    "$kit/c/libos_c.a" "$kit/c/liblibc_c.a" -lm
   strip "$2"
 }
 

@@ -189,7 +189,8 @@ try_files() {
   told "no other name is exported" "" "$(nm -D --defined-only "$shared" | grep -v ' T \(kij_\|kijolvar_\)\| A KIJOLVAR_')"
   told "the soname" "libkijolvar.so.$major" "$(readelf -dW "$shared" | sed -n 's/.*SONAME.*\[\(.*\)\]/\1/p')"
   for file in "$tree"/bin/* "$shared"; do
-    told "${file##*/} needs libc.so.6 alone" "libc.so.6" "$(readelf -dW "$file" | sed -n 's/.*NEEDED.*\[\(.*\)\]/\1/p')"
+    told "${file##*/} needs glibc alone" "libc.so.6" \
+      "$(readelf -dW "$file" | sed -n 's/.*NEEDED.*\[\(.*\)\]/\1/p' | grep -vx libm.so.6)"
     told "${file##*/} asks for no glibc after 2.31" "GLIBC_2.31" \
       "$( (readelf -VW "$file" | grep -o 'GLIBC_[0-9.]*'; echo GLIBC_2.31) | sort -V | tail -n 1)"
     told "${file##*/} says its version and commit" "kijolvar $version, commit $(sed -n 's/^commit: //p' "$tree/MANIFEST")" \
