@@ -29,6 +29,7 @@ each_version() {
   sed -n 's/^version = "\(.*\)"$/abi\/python\/pyproject.toml \1/p' "$abi/python/pyproject.toml"
   sed -n 's/^__version__ = "\(.*\)"$/abi\/python\/kijolvar\/__init__.py \1/p' "$abi/python/kijolvar/__init__.py"
   sed -n 's/^version = "\(.*\)"$/abi\/rust\/kijolvar\/Cargo.toml \1/p' "$abi/rust/kijolvar/Cargo.toml"
+  sed -n 's/.*kijolvar-\([0-9.]*\)\(-x86_64-linux-gnu\|-py3-none\|\.crate\).*/README.md \1/p' "$top/README.md"
 }
 
 # check_versions: stops if a place has another version than CHANGELOG.md, or if the interface changed within a MAJOR
@@ -38,7 +39,7 @@ check_versions() {
     count=$((count + 1))
     [ "$found" = "$version" ] || stop "$place has version $found, and CHANGELOG.md has $version"
   done < <(each_version)
-  [ "$count" -ge 4 ] || stop "only $count places that say the version were found"
+  [ "$count" -ge 7 ] || stop "only $count places that say the version were found"
   wanted=$(sed -n "s/^$major //p" "$top/packaging/interfaces")
   found="$(sed -n 's/^#define KIJOLVAR_VERSION \([0-9]*\)u$/\1/p' "$top/abi/kijolvar.h")"
   found="$found $(sed -n 's/^#define KIJ_VERSION \([0-9]*\)$/\1/p' "$top/abi/c/kij.h")"

@@ -143,8 +143,9 @@ def crate_manifest(text, examples):
 def pack_crate(library, folder):
     manifest = read(CRATE, "Cargo.toml").decode()
     said = tomllib.loads(manifest)
+    version = said["package"]["version"]
     files = [("Cargo.toml", crate_manifest(manifest, said["example"]).encode()), ("build.rs", read(CRATE, "build.rs")),
-             ("README.md", read("packaging/rust.md"))]
+             ("README.md", read("packaging/rust.md").replace(b"@VERSION@", version.encode()))]
     for inner in ("src", "tests"):
         files += [(f"{inner}/{name}", body) for name, body in files_of(f"{CRATE}/{inner}", ".rs")]
     files += [(f"examples/{it['name']}.rs", read(CRATE, it["path"])) for it in said["example"]]
@@ -153,8 +154,7 @@ def pack_crate(library, folder):
     # A folder of vendored crates wants the checksums.
     sums = {path: hashlib.sha256(body).hexdigest() for path, body in files}
     files.append((".cargo-checksum.json", json.dumps({"files": sums, "package": None}, sort_keys=True).encode()))
-    name = f"{said['package']['name']}-{said['package']['version']}"
-    pack_sources(name, files, folder, ".crate")
+    pack_sources(f"{said['package']['name']}-{version}", files, folder, ".crate")
 
 
 def main():

@@ -288,6 +288,8 @@ try_readme() {
   told "the sale by README: C, the archive and Python" "$(printf '%s\n' "$sale" "$sale" "$sale")" \
     "$(grep -v '^Processing\|^Installing\|^Successfully' "$work/sale")"
   [ "$failed" -eq 0 ] || tail -n 5 "$work/said"
+  blocks "$tree/share/doc/kijolvar/packaging.md" "Check it" indented | sed "1a cd $folder" > "$outside/check.sh"
+  runs "the commands by which packaging.md checks a release" sh -e check.sh
 }
 
 # try_cmake: find_package with both targets, and a version that is refused
