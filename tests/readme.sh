@@ -64,6 +64,9 @@ NOT_RUN = [
     (r"rt must-fail NAME$", "it tries the edits of a crate, which the gate does"),
     (r"rt fmt$", "it changes files; the gate refuses what isn't laid out by it"),
     (r"tests/(?:documents|rules|prose)\.sh$", "the gate runs it"),
+    (r"sha256sum -c SHA256SUMS$", "tests/release.sh checks a release"),
+    (r"tar -xzf kijolvar-\S+\.tar\.gz$", "tests/release.sh unpacks a release"),
+    (r"tools/install \S+$", "tests/release.sh runs it"),
     (r"csharp", "no test has a compiler for it"),
 ]
 # The command that builds the archive: it has run before, or this has run it.

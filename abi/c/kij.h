@@ -40,7 +40,7 @@
 #define KIJ_VERSION 1
 
 /** The release of the header. kij_release() returns that of the archive. */
-#define KIJ_RELEASE "1.0.0"
+#define KIJ_RELEASE "0.1.0"
 
 /** In place of a size: the bytes are a text that ends in a 0 byte, which isn't one of them. */
 #define KIJ_ZERO_ENDED ((size_t)-1)

@@ -30,7 +30,7 @@ from .errors import *
 from .till import Printer, Till, create_totals, open
 from .totals import FileClaim, Totals, TotalsFile
 
-__version__ = "2.0"
+__version__ = "0.1.0"
 
 __all__ = [
     "CashDrawer", "Claim", "Control", "DataEvent", "Device", "DisplayView", "DrawerView", "ErrorEvent", "Event",
