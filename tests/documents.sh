@@ -773,7 +773,7 @@ PLANTS = [
     ("theorems", instead(THEOREMS, r"`any_moment`, `log`, `HasEither`", "`any_moments`, `log`, `HasEither`")),
     ("theorems", instead(THEOREMS, r"`Commits\.crash`, `LeavesBeforeOrAfter`", "`Commits.crash`, `LeavesItsFilesMoved`")),
     ("theorems", instead(THEOREMS, r"`Commits\.crash`", "`Commits.nothing_of_it`")),
-    ("theorems", instead(THEOREMS, r'"a type … whose', '"a type … never whose')),
+    ("theorems", instead(THEOREMS, r'"makes a function pointer', '"never makes a function pointer')),
     ("theorems", instead(THEOREMS, r"\| missing as a clause: ", "| whole, as a clause: ")),
     ("commits", behind("docs/contributing/measures.md", "It was measured at 0123abcd.")),
     ("kit", instead("README.md", r"rattle-kit-\w+", "rattle-kit-0z")),

@@ -123,7 +123,7 @@ impl Control {
         Answer::Done(Value::Empty)
     }
 
-    /// `release`: ends its claim of its device, by its number and the claims of all devices (common chapter). The control
+    /// `release`: ends its claim of its device, by its number and the claims of all devices (common chapter). A control
     /// of an exclusive-use device is disabled, and its events and its output are deleted. That of a sharable device
     /// stays as it is.
     ///
@@ -144,7 +144,7 @@ impl Control {
         answer
     }
 
-    /// Changes it as `release` does, by its number and the number of the holder, if any. For Hard Totals, whose claim the
+    /// Changes it as `release` does, by its number and that of the holder, if any. For Hard Totals, whose claim the
     /// totals have.
     ///
     /// # Errors
