@@ -223,7 +223,7 @@ try_again() {
   "$top/tools/install" "$work/prefix" > "$work/said" 2>&1
   told "tools/install" 0 "$?"
   for place in bin include lib share; do
-    told "tools/install lays out $place/ as the archive has it" "" "$(diff -r "$tree/$place" "$work/prefix/$place" 2>&1)"
+    told "tools/install lays out $place/ as the archive has it" "" "$(diff -r -x __pycache__ "$tree/$place" "$work/prefix/$place" 2>&1)"
   done
 }
 
@@ -341,19 +341,20 @@ try_cargo() {
   sells "the sale as the crate's example" "$crate/target/debug/examples/sale"
 }
 
-# try_page: the page that shows a counter is served over the shared object
+# try_page NAME PYTHON SHARE LIBRARY: the page that shows a counter is served over the shared object
 try_page() {
+  local name=$1
+  shift
   cat > "$outside/page.sh" <<'SCRIPT'
-python=$1/day/venv/bin/python
-"$python" "$1/share/kijolvar/page/serve.py" "$1"/lib/libkijolvar.so.* 0 > address &
+"$1" "$2/kijolvar/page/serve.py" "$3" 0 > address &
 for turn in 1 2 3 4 5 6 7 8 9 10; do
   [ -s address ] || sleep 1
 done
-"$python" -c 'import sys, urllib.request; print(urllib.request.urlopen(sys.argv[1]).readline().decode().lower(), end="")' \
+"$1" -c 'import sys, urllib.request; print(urllib.request.urlopen(sys.argv[1]).readline().decode().lower(), end="")' \
   "$(cat address)"
 kill $!
 SCRIPT
-  told "the page is served" "<!doctype html>" "$(apart sh page.sh "$inside/${tree##*/}" 2>&1)"
+  told "$name" "<!doctype html>" "$(apart sh page.sh "$@" 2>&1)"
 }
 
 # try_sdist: the sources of Python work over the shared object that KIJOLVAR_LIBRARY names
@@ -413,6 +414,7 @@ try_debs() {
   runs "CMake finds the package" sh -c 'cmake -S cmake -B cmake/system -DWANTED=0.1 && cmake --build cmake/system'
   sells "the sale by CMake from the packages" cmake/system/sale_static
   sells "the sale in Python from the packages" python3 /usr/share/doc/python3-kijolvar/examples/sale.py
+  try_page "the page is served from the packages" python3 /usr/share "/usr/lib/x86_64-linux-gnu/libkijolvar.so.$major"
   told "the day by the packages" "$(blocks "$tree/README.md" "A till's day" text)" \
     "$(apart sh -ec "mkdir other && cd other && . $inside/day.sh" 2>&1)"
   runs "dpkg purges" dpkg -P python3-kijolvar libkijolvar-dev libkijolvar kijolvar
@@ -521,7 +523,8 @@ try_files
 try_readme
 try_cmake
 try_cargo
-try_page
+folder=$inside/${tree##*/}
+try_page "the page is served" "$folder/day/venv/bin/python" "$folder/share" "$folder/lib/libkijolvar.so.$major"
 try_sdist
 if [ "$1" = --quick ]; then
   try_again
