@@ -1,13 +1,14 @@
 #!/usr/bin/env bash
-# Tries a release: what its files hold, and each way to install it where the kit isn't there. It unpacks, spends the day of
-# the archive's README, and rings up the same sale by the shared object, the archive, CMake, the wheel and the crate.
-# With --quick it does so with a clean PATH and HOME. It also builds the release again, which must give the same bytes, and
-# sees that tools/release refuses what it must. Without --quick it does so in ROOTS/bookworm, which has nothing but
-# Debian's packages, installs, upgrades and purges those of the release there, and tries the programs in ROOTS/bullseye,
-# which has glibc 2.31. A root that isn't there is made by debootstrap, over the network. It then looks for misuse of
-# memory by valgrind and the address sanitizer, runs the conformance scripts, and asks lintian.
-# Usage: tests/release.sh --quick [DIST], or tests/release.sh ROOTS [DIST]. DIST is the folder of the release. Without it,
-# it is dist/ if that is of this commit; else a trial is made from what rt ci has built. Its last line is 'N passed, M failed'.
+# Tries a release: what its files hold, and each way to install it where the kit isn't there. It unpacks, spends the day
+# of the archive's README, and rings up the same sale by the shared object, the archive, CMake, the wheel and the crate.
+# With --quick it does so with a clean PATH and HOME. It also builds the release again, which must give the same bytes,
+# and sees that tools/release refuses what it must. Without --quick it does so in ROOTS/bookworm, which has nothing but
+# Debian's packages. It installs, upgrades and purges those of the release there, and tries the programs in
+# ROOTS/bullseye, which has glibc 2.31. A root that isn't there is made by debootstrap, over the network. It then looks
+# for misuse of memory by valgrind and the sanitizers, runs the conformance scripts, and asks lintian.
+# Usage: tests/release.sh --quick [DIST], or tests/release.sh ROOTS [DIST]. DIST is the folder of the release. Without
+# it, it is dist/ if that is of this commit; else a trial is made from what rt ci has built. Its last line is
+# 'N passed, M failed'.
 set -u
 top=$(cd "$(dirname "$0")/.." && pwd)
 work=$(mktemp -d)
@@ -109,7 +110,8 @@ find_release() {
   dist=$(cd "$dist" && pwd)
 }
 
-# unpack: sets outside, a folder with the files of the release and its archive unpacked; inside is its path for what runs there
+# unpack: sets outside, a folder with the files of the release and its archive unpacked. What runs there sees it as
+# inside
 unpack() {
   outside=${root:-$work}/tmp/release
   inside=${outside#"$root"}
@@ -141,7 +143,8 @@ lay_tools() {
   fi
 }
 
-# apart COMMAND ..: runs a command without the kit, in the folder of the release: in the root, or with a clean PATH and HOME
+# apart COMMAND ..: runs a command without the kit, in the root or with a clean PATH and HOME, in the folder of the
+# release
 apart() {
   local run=(env -i "HOME=$inside/home" LC_ALL=C.UTF-8)
   if [ -n "$root" ]; then
@@ -175,39 +178,42 @@ runs() {
 
 # try_files: the checksums, the manifest, and what the binaries export and need
 try_files() {
-  local shared=$tree/lib/libkijolvar.so.$major file
+  local shared=$tree/lib/libkijolvar.so.$major sum='[0-9a-f]\{64\}' said="kijolvar $version, commit " file
+  said+=$(sed -n 's/^commit: //p' "$tree/MANIFEST")
   told "SHA256SUMS" 0 "$(cd "$dist" && sha256sum --quiet -c SHA256SUMS 2>&1; echo $?)"
-  told "each file of the release is in SHA256SUMS" "$(find "$dist" -type f ! -name SHA256SUMS -printf '%f\n' | LC_ALL=C sort)" \
+  told "each file of the release is in SHA256SUMS" \
+    "$(find "$dist" -type f ! -name SHA256SUMS -printf '%f\n' | LC_ALL=C sort)" \
     "$(sed 's/^[0-9a-f]*  //' "$dist/SHA256SUMS")"
-  told "the manifest's checksums" 0 "$(cd "$tree" && sed -n 's/^\([0-9a-f]\{64\}\) *[0-9]* \(.*\)$/\1  \2/p' MANIFEST \
+  told "the manifest's checksums" 0 "$(cd "$tree" && sed -n "s/^\($sum\) *[0-9]* \(.*\)$/\1  \2/p" MANIFEST \
     | sha256sum --quiet -c 2>&1; echo $?)"
   told "the manifest's files" \
     "$(find "$tree" -type f ! -name MANIFEST ! -name '*.whl' -printf '%P\n' | LC_ALL=C sort)" \
-    "$(sed -n 's/^[0-9a-f]\{64\} *[0-9]* //p' "$tree/MANIFEST")"
+    "$(sed -n "s/^$sum *[0-9]* //p" "$tree/MANIFEST")"
   told "the exports are the calls of the headers" "$(declared | LC_ALL=C sort -u)" \
     "$(nm -D --defined-only "$shared" | sed -n 's/^[0-9a-f]* T \(.*\)@@.*/\1/p' | LC_ALL=C sort)"
-  told "no other name is exported" "" "$(nm -D --defined-only "$shared" | grep -v ' T \(kij_\|kijolvar_\)\| A KIJOLVAR_')"
+  told "no other name is exported" "" \
+    "$(nm -D --defined-only "$shared" | grep -v ' T \(kij_\|kijolvar_\)\| A KIJOLVAR_')"
   told "the soname" "libkijolvar.so.$major" "$(readelf -dW "$shared" | sed -n 's/.*SONAME.*\[\(.*\)\]/\1/p')"
   for file in "$tree"/bin/* "$shared"; do
     told "${file##*/} needs glibc alone" "libc.so.6" \
       "$(readelf -dW "$file" | sed -n 's/.*NEEDED.*\[\(.*\)\]/\1/p' | grep -vx libm.so.6)"
     told "${file##*/} asks for no glibc after 2.31" "GLIBC_2.31" \
       "$( (readelf -VW "$file" | grep -o 'GLIBC_[0-9.]*'; echo GLIBC_2.31) | sort -V | tail -n 1)"
-    told "${file##*/} says its version and commit" "kijolvar $version, commit $(sed -n 's/^commit: //p' "$tree/MANIFEST")" \
-      "$(strings -a "$file" | grep '^kijolvar [0-9.]*, commit')"
+    told "${file##*/} says its version and commit" "$said" "$(strings -a "$file" | grep '^kijolvar [0-9.]*, commit')"
   done
   told "the wheel has the shared object" "$(sha256sum < "$shared")" \
     "$(unzip_one "$outside"/*.whl kijolvar/libkijolvar.so | sha256sum)"
   told "the crate has the archive" "$(sha256sum < "$tree/lib/libkijolvar.a")" \
     "$(tar -xOzf "$outside/kijolvar-$version.crate" "kijolvar-$version/libkijolvar.a" | sha256sum)"
   told "the sdist has no library" "" "$(tar -tzf "$outside/kijolvar-$version.tar.gz" | grep '\.so')"
-  told "the licence is left open" 4 "$(grep -l 'licence has been chosen yet\|none has been chosen yet' "$tree/README.md" \
-    "$tree/MANIFEST" "$top/packaging/python.md" "$top/packaging/rust.md" | wc -l)"
+  told "the licence is left open" 4 "$(grep -li 'licence has been chosen yet\|none has been chosen yet' \
+    "$tree/README.md" "$tree/MANIFEST" "$top/packaging/python.md" "$top/packaging/rust.md" | wc -l)"
 }
 
 # declared: the calls that the headers declare
 declared() {
-  cat "$tree"/include/*.h | gcc -fpreprocessed -dD -E -P - 2> /dev/null | grep -o '\bkij\(olvar\)\?_[a-z0-9_]*(' | tr -d '('
+  cat "$tree"/include/*.h | gcc -fpreprocessed -dD -E -P - 2> /dev/null \
+    | grep -o '\bkij\(olvar\)\?_[a-z0-9_]*(' | tr -d '('
 }
 
 # unzip_one ARCHIVE NAME: a file of a zip archive
@@ -223,7 +229,8 @@ try_again() {
   "$top/tools/install" "$work/prefix" > "$work/said" 2>&1
   told "tools/install" 0 "$?"
   for place in bin include lib share; do
-    told "tools/install lays out $place/ as the archive has it" "" "$(diff -r "$tree/$place" "$work/prefix/$place" 2>&1)"
+    told "tools/install lays out $place/ as the archive has it" "" \
+      "$(diff -r -x __pycache__ "$tree/$place" "$work/prefix/$place" 2>&1)"
   done
 }
 
@@ -341,19 +348,20 @@ try_cargo() {
   sells "the sale as the crate's example" "$crate/target/debug/examples/sale"
 }
 
-# try_page: the page that shows a counter is served over the shared object
+# try_page NAME PYTHON SHARE LIBRARY: the page that shows a counter is served over the shared object
 try_page() {
+  local name=$1
+  shift
   cat > "$outside/page.sh" <<'SCRIPT'
-python=$1/day/venv/bin/python
-"$python" "$1/share/kijolvar/page/serve.py" "$1"/lib/libkijolvar.so.* 0 > address &
+"$1" "$2/kijolvar/page/serve.py" "$3" 0 > address &
 for turn in 1 2 3 4 5 6 7 8 9 10; do
   [ -s address ] || sleep 1
 done
-"$python" -c 'import sys, urllib.request; print(urllib.request.urlopen(sys.argv[1]).readline().decode().lower(), end="")' \
+"$1" -c 'import sys, urllib.request; print(urllib.request.urlopen(sys.argv[1]).readline().decode().lower(), end="")' \
   "$(cat address)"
 kill $!
 SCRIPT
-  told "the page is served" "<!doctype html>" "$(apart sh page.sh "$inside/${tree##*/}" 2>&1)"
+  told "$name" "<!doctype html>" "$(apart sh page.sh "$@" 2>&1)"
 }
 
 # try_sdist: the sources of Python work over the shared object that KIJOLVAR_LIBRARY names
@@ -377,9 +385,8 @@ try_sdist_build() {
 
 # listing: every file of the root but those of this test, and what the system keeps of packages and loads
 listing() {
-  (cd "$root" && find . -path ./tmp -prune -o -path ./proc -prune -o -path ./opt/rust -prune -o -path ./var/lib/dpkg -prune \
-    -o -path ./var/cache -prune -o -path ./var/log -prune -o ! -type d -print -o -type d -print | grep -v '/ld.so.cache$' \
-    | LC_ALL=C sort)
+  (cd "$root" && find . \( -path ./tmp -o -path ./proc -o -path ./opt/rust -o -path ./var/lib/dpkg \
+    -o -path ./var/cache -o -path ./var/log \) -prune -o -print | grep -v '/ld.so.cache$' | LC_ALL=C sort)
 }
 
 # older DEB TO: the same package under an earlier version, with a file that the later one hasn't
@@ -413,6 +420,7 @@ try_debs() {
   runs "CMake finds the package" sh -c 'cmake -S cmake -B cmake/system -DWANTED=0.1 && cmake --build cmake/system'
   sells "the sale by CMake from the packages" cmake/system/sale_static
   sells "the sale in Python from the packages" python3 /usr/share/doc/python3-kijolvar/examples/sale.py
+  try_page "the page is served from the packages" python3 /usr/share "/usr/lib/x86_64-linux-gnu/libkijolvar.so.$major"
   told "the day by the packages" "$(blocks "$tree/README.md" "A till's day" text)" \
     "$(apart sh -ec "mkdir other && cd other && . $inside/day.sh" 2>&1)"
   runs "dpkg purges" dpkg -P python3-kijolvar libkijolvar-dev libkijolvar kijolvar
@@ -454,15 +462,16 @@ make_root() {
     } > "$work/said" 2>&1
   fi
   told "the root $folder has a compiler" "$suite 0" \
-    "$(sed -n 's/^VERSION_CODENAME=//p' "$folder/etc/os-release") $(chroot "$folder" gcc --version > /dev/null 2>&1; echo $?)"
+    "$(sed -n 's/^VERSION_CODENAME=//p' "$folder/etc/os-release") $(chroot "$folder" gcc --version > "$work/gcc"
+    echo $?)"
 }
 
 # try_memory: a program over the archive under valgrind and the sanitizers
 try_memory() {
   runs "the sale for valgrind" cc -g -o watched -I "${tree##*/}/include" "${examples#"$outside/"}/sale.c" \
     "${tree##*/}/lib/libkijolvar.a"
-  sells "the sale under valgrind" valgrind -q --error-exitcode=99 --leak-check=full --errors-for-leak-kinds=definite,possible \
-    ./watched
+  sells "the sale under valgrind" valgrind -q --error-exitcode=99 --leak-check=full \
+    --errors-for-leak-kinds=definite,possible ./watched
   runs "the sale for the sanitizers" cc -g -fsanitize=address,undefined -fno-sanitize-recover -o sanitized \
     -I "${tree##*/}/include" "${examples#"$outside/"}/sale.c" "${tree##*/}/lib/libkijolvar.a"
   sells "the sale under the sanitizers" ./sanitized
@@ -473,10 +482,11 @@ try_old_glibc() {
   enter_root "$1"
   unpack
   told "glibc 2.31" "2.31" "$(apart getconf GNU_LIBC_VERSION | sed 's/glibc //')"
+  blocks "$tree/README.md" "A till's day" sh > "$outside/day.sh"
   told "a till's day with glibc 2.31" "$(blocks "$tree/README.md" "A till's day" text)" \
-    "$(blocks "$tree/README.md" "A till's day" sh > "$outside/day.sh"; apart sh -ec "cd ${tree##*/} && . $inside/day.sh" 2>&1)"
-  runs "the sale in C is built with glibc 2.31" sh -c "cc -o sale ${examples#"$outside/"}/sale.c -I ${tree##*/}/include \
-    -L ${tree##*/}/lib -lkijolvar -Wl,-rpath,$inside/${tree##*/}/lib"
+    "$(apart sh -ec "cd ${tree##*/} && . $inside/day.sh" 2>&1)"
+  runs "the sale in C is built with glibc 2.31" sh -c "cc -o sale ${examples#"$outside/"}/sale.c \
+    -I ${tree##*/}/include -L ${tree##*/}/lib -lkijolvar -Wl,-rpath,$inside/${tree##*/}/lib"
   sells "the sale in C with glibc 2.31" ./sale
 }
 
@@ -521,7 +531,8 @@ try_files
 try_readme
 try_cmake
 try_cargo
-try_page
+folder=$inside/${tree##*/}
+try_page "the page is served" "$folder/day/venv/bin/python" "$folder/share" "$folder/lib/libkijolvar.so.$major"
 try_sdist
 if [ "$1" = --quick ]; then
   try_again
