@@ -19,6 +19,7 @@ TYPES = {
     "&[u8]": "const uint8_t *{0}, size_t {0}_len",
     "&mut [u8]": "uint8_t *{0}, size_t {0}_len",
     "&mut u64": "uint64_t *{}",
+    "usize": "size_t {}",
     "&mut usize": "size_t *{}",
     "&mut Slot": "void **{}",
 }

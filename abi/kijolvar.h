@@ -34,7 +34,7 @@ enum {
     KIJOLVAR_SHORT = 3,
     /* Memory ran out for the answer, of which a front is kept. */
     KIJOLVAR_CUT = 4,
-    /* The lines were carried out. Their answer waits until the host has done its errands. */
+    /* The lines were carried out, and their answer waits until the host has done its errands. */
     KIJOLVAR_ERRANDS = 5,
     /* Errands of earlier lines are left, so these lines were not carried out. */
     KIJOLVAR_UNDONE = 6,
@@ -60,6 +60,10 @@ enum {
     KIJOLVAR_DAMAGED = 16,
     /* The totals in the file have layout 2 already. */
     KIJOLVAR_MOVED = 17,
+    /* A control has an event to deliver. */
+    KIJOLVAR_EVENT = 18,
+    /* No control has the name. */
+    KIJOLVAR_NO_CONTROL = 19,
 };
 
 /* The result codes of the standard, which stand in answers. */
@@ -323,6 +327,23 @@ uint32_t kijolvar_host(kijolvar_till till, void **out, const uint8_t *name, size
    - SHORT if text has less room than needed says. The order stays the next one, and nothing else is written.
    - ERRANDS if errands are left, and DISK_FAILED if one failed. Then nothing is written. */
 uint32_t kijolvar_next_order(kijolvar_till till, void **out, uint8_t *text, size_t text_len, size_t *needed);
+
+/* Writes the number of the control of this name to control, and returns OK. The controls of a till are numbered from
+   0, in the order of their new lines that were answered ok. The till is what is written to out from then on.
+
+   Errors:
+
+   NO_CONTROL if no control has the name. Then nothing is written. */
+uint32_t kijolvar_control(kijolvar_till till, void **out, const uint8_t *name, size_t name_len, size_t *control);
+
+/* Writes the lowest number, from or above, of a control that has an event to deliver to control, and returns
+   EVENT; or returns OK if no such control has one. A deliver line of that control gives the event. This changes
+   nothing of the till. The till is what is written to out from then on.
+
+   Errors:
+
+   ERRANDS if errands are left, and DISK_FAILED if one failed. Then nothing is written, and neither with OK. */
+uint32_t kijolvar_next_event(kijolvar_till till, void **out, size_t from, size_t *control);
 
 /* Closes a till, its totals at rest. Errands and orders that are left are dropped. */
 void kijolvar_close(kijolvar_till till);

@@ -19,7 +19,7 @@ pub const SHORT: u32 = 3;
 /// Memory ran out for the answer, of which a front is kept.
 pub const CUT: u32 = 4;
 
-/// The lines were carried out. Their answer waits until the host has done its errands.
+/// The lines were carried out, and their answer waits until the host has done its errands.
 pub const ERRANDS: u32 = 5;
 
 /// Errands of earlier lines are left, so these lines were not carried out.
@@ -57,6 +57,12 @@ pub const DAMAGED: u32 = 16;
 
 /// The totals in the file have layout 2 already.
 pub const MOVED: u32 = 17;
+
+/// A control has an event to deliver.
+pub const EVENT: u32 = 18;
+
+/// No control has the name.
+pub const NO_CONTROL: u32 = 19;
 
 /// Returns the code of lines that were carried out: OK; SHORT if the room doesn't hold their answer; CUT if memory ran
 /// out for it.

@@ -15,7 +15,9 @@
 ghost use Rattle.std.specs.Prelude.{◌≡◌, ◌≢◌, IfOk, MatchOption, MatchResult, None, Some};
 ghost use Rattle.pos_disk.specs.Memory.{fresh, state_of};
 ghost use Rattle.pos_image.specs.Standing.{HasNoFiles};
+ghost use Rattle.pos_run.specs.Names.{names_of, number_named};
 ghost use Rattle.kijolvar.specs.Codes.{ok};
+ghost use Rattle.kijolvar.specs.Controls.{FindsNumber, NextEvent};
 ghost use Rattle.kijolvar.specs.Errands.{no_work};
 ghost use Rattle.kijolvar.specs.DeviceTexts.{AnswersDevices};
 ghost use Rattle.kijolvar.specs.Hosting.{IsHostCode};
@@ -28,6 +30,7 @@ ghost use Rattle.kijolvar.specs.Tills.{Answers, Begins, Fails, HandsOver, Answer
 ghost use Rattle.kijolvar.specs.TillDisks.{hosted};
 
 mod codes;
+mod controls;
 mod device;
 mod device_texts;
 mod disk;
@@ -493,6 +496,52 @@ pub extern "C" fn kijolvar_next_order(
 {
     let mut session = take(till);
     let code = session.next_order(text, needed);
+    leave(session, out);
+    code
+}
+
+/// Writes the number of the control of this name to `control`, and returns OK. The controls of a till are numbered from
+/// 0, in the order of their `new` lines that were answered `ok`. The till is what is written to `out` from then on.
+///
+/// # Errors
+///
+/// NO_CONTROL if no control has the name. Then nothing is written.
+#[unsafe(no_mangle)]
+pub extern "C" fn kijolvar_control(
+    till: Till,
+    out: &mut Slot,
+    name: &[u8],
+    control: &mut usize,
+) -> u32
+    ensures till { out.new.left ≡ Some till.session }
+    ensures number { FindsNumber (number_named (names_of till.session.names) name.now) control.old control.new
+        result }
+{
+    let session = take(till);
+    let code = session.find_number(name, control);
+    leave(session, out);
+    code
+}
+
+/// Writes the lowest number, `from` or above, of a control that has an event to deliver to `control`, and returns
+/// EVENT; or returns OK if no such control has one. A `deliver` line of that control gives the event. This changes
+/// nothing of the till. The till is what is written to `out` from then on.
+///
+/// # Errors
+///
+/// ERRANDS if errands are left, and DISK_FAILED if one failed. Then nothing is written, and neither with OK.
+#[unsafe(no_mangle)]
+pub extern "C" fn kijolvar_next_event(
+    till: Till,
+    out: &mut Slot,
+    from: usize,
+    control: &mut usize,
+) -> u32
+    ensures till { out.new.left ≡ Some till.session }
+    ensures event { NextEvent ⟦<Device as Peripheral>⟧ till.session from control.old control.new result }
+{
+    let session = take(till);
+    let code = session.next_event(from, control);
     leave(session, out);
     code
 }

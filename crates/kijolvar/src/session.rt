@@ -1,9 +1,12 @@
 //! What is behind a till's pointer.
 ghost use Rattle.std.specs.Prelude.{◌≡◌, IfOk};
+ghost use Rattle.pos_run.specs.Names.{names_of, number_named};
+ghost use Rattle.kijolvar.specs.Controls.{FindsNumber, NextEvent};
 ghost use Rattle.kijolvar.specs.Hosting.{IsHostCode};
 ghost use Rattle.kijolvar.specs.Tills.{Begins, CarriesOut, Fails, HandsOver, AnswersNextErrand, NextOrder, settlement_of};
 
 use crate::codes::{DISK_FAILED, ERRANDS, code_of};
+use crate::controls::{find_number, next_event};
 use crate::device::Device;
 use crate::hosting::{host_device, next_order};
 use crate::kept::Kept;
@@ -160,6 +163,29 @@ impl Session {
         ensures { NextOrder self.old text.old text.new needed.old needed.new result self.new }
     {
         next_order(&mut self.kept, &self.tray, text, needed)
+    }
+
+    /// Writes the number of the control of a name, and returns OK.
+    ///
+    /// # Errors
+    ///
+    /// NO_CONTROL if no control has the name. Then nothing is written.
+    pub fn find_number(&self, name: &[u8], control: &mut usize) -> u32
+        ensures { FindsNumber (number_named (names_of self.now.names) name.now) control.old control.new result }
+    {
+        find_number(&self.kept.names, name, control)
+    }
+
+    /// Writes the lowest number, `from` or above, of a control that has an event to deliver, and returns EVENT; or
+    /// returns OK if no such control has one.
+    ///
+    /// # Errors
+    ///
+    /// ERRANDS if errands are left, and DISK_FAILED if one failed. Then nothing is written, and neither with OK.
+    pub fn next_event(&self, from: usize, control: &mut usize) -> u32
+        ensures { NextEvent ⟦<Device as Peripheral>⟧ self.now from control.old control.new result }
+    {
+        next_event(&self.kept, from, control)
     }
 
     /// Notes that an errand failed.

@@ -18,7 +18,7 @@ pub(crate) mod library {
     pub(crate) const SHORT: u32 = 3;
     /// Memory ran out for the answer, of which a front is kept.
     pub(crate) const CUT: u32 = 4;
-    /// The lines were carried out. Their answer waits until the host has done its errands.
+    /// The lines were carried out, and their answer waits until the host has done its errands.
     pub(crate) const ERRANDS: u32 = 5;
     /// Errands of earlier lines are left, so these lines were not carried out.
     pub(crate) const UNDONE: u32 = 6;
@@ -44,6 +44,10 @@ pub(crate) mod library {
     pub(crate) const DAMAGED: u32 = 16;
     /// The totals in the file have layout 2 already.
     pub(crate) const MOVED: u32 = 17;
+    /// A control has an event to deliver.
+    pub(crate) const EVENT: u32 = 18;
+    /// No control has the name.
+    pub(crate) const NO_CONTROL: u32 = 19;
 }
 
 /// A result code of the standard (ErrorCode) by which a control refuses a call.
