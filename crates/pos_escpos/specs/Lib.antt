@@ -1,0 +1,2 @@
+pub mod PrinterBytes
+pub mod Printers

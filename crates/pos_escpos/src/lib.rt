@@ -1,0 +1,13 @@
+//! The bytes of receipt printers and customer displays, as pure functions: what the device machine does becomes bytes,
+//! and a printer's replies become inputs.
+//!
+//! - [`receipt_bytes`] writes lines and cuts for an ESC/POS printer, and [`DrawerKick::bytes`] opens its drawer.
+#![tactic(auto)]
+
+mod printer_bytes;
+mod print_fault;
+mod settings;
+
+pub use print_fault::PrintFault;
+pub use printer_bytes::receipt_bytes;
+pub use settings::{CutSettings, Cutter, DrawerKick, DrawerPin, LineSettings};
