@@ -1,2 +1,3 @@
 pub mod PrinterBytes
+pub mod PrinterCommands
 pub mod Printers

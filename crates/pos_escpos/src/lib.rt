@@ -4,10 +4,12 @@
 //! - [`receipt_bytes`] writes lines and cuts for an ESC/POS printer, and [`DrawerKick::bytes`] opens its drawer.
 #![tactic(auto)]
 
-mod printer_bytes;
 mod print_fault;
+mod printer_bytes;
+mod printer_commands;
 mod settings;
 
 pub use print_fault::PrintFault;
 pub use printer_bytes::receipt_bytes;
+pub use printer_commands::{NowStatus, OrderStatus, job_bytes, start_bytes};
 pub use settings::{CutSettings, Cutter, DrawerKick, DrawerPin, LineSettings};
