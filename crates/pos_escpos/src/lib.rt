@@ -4,12 +4,15 @@
 //! - [`receipt_bytes`] writes lines and cuts for an ESC/POS printer, and [`DrawerKick::bytes`] opens its drawer.
 #![tactic(auto)]
 
+mod begun;
 mod print_fault;
 mod printer_bytes;
 mod printer_commands;
 mod settings;
+mod statuses;
 
 pub use print_fault::PrintFault;
 pub use printer_bytes::receipt_bytes;
 pub use printer_commands::{NowStatus, OrderStatus, job_bytes, start_bytes};
+pub use statuses::{PrinterReply, Received, Status};
 pub use settings::{CutSettings, Cutter, DrawerKick, DrawerPin, LineSettings};
