@@ -80,7 +80,7 @@ impl Begun {
     }
 
     /// Returns what comes of the next byte of an automatic status.
-    fn with_status_byte(self, byte: u8) -> Next
+    pub fn with_status_byte(self, byte: u8) -> Next
         requires begun { is_begun self ≡ true }
         requires status { is_status_begun self ≡ true }
         ensures next { (reader : Reader) →
@@ -101,7 +101,7 @@ impl Begun {
     }
 
     /// Returns what comes of the next byte of an acknowledgement.
-    fn with_job_byte(self, byte: u8) -> Next
+    pub fn with_job_byte(self, byte: u8) -> Next
         requires job { is_job_begun self ≡ true }
         ensures next { (reader : Reader) →
             step_by (bytes_begun self) result reader ≡ later_received (bytes_begun self) byte reader }

@@ -8,11 +8,13 @@ mod begun;
 mod print_fault;
 mod printer_bytes;
 mod printer_commands;
+mod replies;
 mod settings;
 mod statuses;
 
 pub use print_fault::PrintFault;
 pub use printer_bytes::receipt_bytes;
 pub use printer_commands::{NowStatus, OrderStatus, job_bytes, start_bytes};
+pub use replies::ReplyReader;
 pub use statuses::{PrinterReply, Received, Status};
 pub use settings::{CutSettings, Cutter, DrawerKick, DrawerPin, LineSettings};
