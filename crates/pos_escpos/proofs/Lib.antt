@@ -1,1 +1,2 @@
 mod PrinterLemmas
+mod ReplyLemmas

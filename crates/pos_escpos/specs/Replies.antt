@@ -216,7 +216,7 @@ reading_of reader (b ∷ bytes) =
 
 -- What the reading of a stream keeps to.
 
--- one reply is read, and what had begun before it is none
+-- one reply is read, what had begun before it is none, and the reader is this one with none begun
 abbrev pub ReadsOne : Reader → PrinterReply → Reader → Reading → Type 0
 ReadsOne reader told next reading = reading ≡ record {
   replies = told ∷ [];
@@ -224,10 +224,13 @@ ReadsOne reader told next reading = reading ≡ record {
   reader = record next { begun = [] };
 }
 
--- the bytes of an automatic status
-abbrev pub is_automatic : List ℕ → Bool
-is_automatic [] = false
-is_automatic (first ∷ more) = begins_status first && length more == 3 && list_all is_plain more
+-- the bytes of an automatic status, or the acknowledgement of a job, by their first and their number: no other has
+-- bit 4 set
+abbrev pub is_long_reply : List ℕ → Bool
+is_long_reply [] = false
+is_long_reply (first ∷ more) =
+    (begins_status first || begins_job first) && length more + 1 == reply_size first
+    && list_all (λ b. not (is_first b)) more
 
 -- bytes that come of those that were sent: those marked true; behind the marks all are lost
 abbrev pub kept : List Bool → List ℕ → List ℕ
@@ -242,7 +245,20 @@ bytes_of_reply (reply.Now asked status) = 1
 bytes_of_reply (reply.InOrder asked status) = 1
 bytes_of_reply (reply.JobDone number) = 7
 
+-- the same where there may be none
+abbrev pub bytes_told : Option PrinterReply → ℕ
+bytes_told None = 0
+bytes_told (Some told) = bytes_of_reply told
+
 -- how many bytes replies have
 abbrev pub bytes_of_replies : List PrinterReply → ℕ
 bytes_of_replies [] = 0
 bytes_of_replies (told ∷ replies) = bytes_of_reply told + bytes_of_replies replies
+
+-- a reading behind another one
+abbrev pub joined : Reading → Reading → Reading
+joined first next = record {
+  replies = first.replies ++ next.replies;
+  skipped = first.skipped + next.skipped;
+  reader = next.reader;
+}

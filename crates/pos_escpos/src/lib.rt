@@ -9,6 +9,7 @@ mod print_fault;
 mod printer_bytes;
 mod printer_commands;
 mod replies;
+mod reply_laws;
 mod settings;
 mod statuses;
 
@@ -16,5 +17,6 @@ pub use print_fault::PrintFault;
 pub use printer_bytes::receipt_bytes;
 pub use printer_commands::{NowStatus, OrderStatus, job_bytes, start_bytes};
 pub use replies::ReplyReader;
+pub use reply_laws::{losses_are_seen, replies_are_found};
 pub use statuses::{PrinterReply, Received, Status};
 pub use settings::{CutSettings, Cutter, DrawerKick, DrawerPin, LineSettings};
