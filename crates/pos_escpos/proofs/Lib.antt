@@ -1,2 +1,3 @@
 mod PrinterLemmas
+mod LossLemmas
 mod ReplyLemmas

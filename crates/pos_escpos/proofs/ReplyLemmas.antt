@@ -25,7 +25,7 @@ pub plain_not_first : (b : ℕ) → is_plain b ≡ true → is_first b ≡ false
 plain_not_first b plain = rw (seen_through 144 0 b refl (eqb-true (bit_and b 144) 0 plain)) refl
 
 -- no byte begins two replies
-status_not_job : (b : ℕ) → begins_status b ≡ true → begins_job b ≡ false
+pub status_not_job : (b : ℕ) → begins_status b ≡ true → begins_job b ≡ false
 status_not_job b begins = ne_eqb b 55 (λ e.
     let bad : bit_and 55 147 ≡ 16 = subst (λ (n : ℕ). bit_and n 147 ≡ 16) e (eqb-true (bit_and b 147) 16 begins) in
     omega arith)
@@ -41,7 +41,7 @@ now_not_status b answers = ne_eqb (bit_and b 147) 16 (λ e.
     omega arith)
 
 -- a reading by its first step
-first_step : (reader : Reader) (b : ℕ) (bytes : List ℕ) (step : Step) → byte_received reader b ≡ step
+pub first_step : (reader : Reader) (b : ℕ) (bytes : List ℕ) (step : Step) → byte_received reader b ≡ step
     → reading_of reader (b ∷ bytes) ≡ after_step step (reading_of step.reader bytes)
 first_step reader b bytes step is = ap (λ (s : Step). after_step s (reading_of s.reader bytes)) is
 
@@ -49,7 +49,7 @@ first_step reader b bytes step is = ap (λ (s : Step). after_step s (reading_of 
 abbrev pub with_begun : List ℕ → Reader → Reader
 with_begun begun reader = record reader { begun = begun }
 
-status_begins : (reader : Reader) (a : ℕ) → begins_status a ≡ true
+pub status_begins : (reader : Reader) (a : ℕ) → begins_status a ≡ true
     → byte_received reader a ≡ reads_none (length reader.begun) (a ∷ []) reader
 status_begins reader a begins = rw (status_is_first a begins, begins) refl
 
@@ -107,7 +107,7 @@ reads_in_order reader asked b is none plain =
     ∙ one_reply reader next told 0 (rw none refl)
 
 -- a character of a job's number: it begins no reply
-pub IsCharacter : ℕ → Type 0
+unfoldable pub IsCharacter : ℕ → Type 0
 IsCharacter b = (is_first b ≡ false) × (is_job_character b ≡ true)
 
 pub job_character : (x : ℕ) → x < 16 → IsCharacter (64 + x)
