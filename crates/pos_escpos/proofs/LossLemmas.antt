@@ -42,11 +42,11 @@ now_accounts (Some status) begun b reader = omega arith
 
 first_accounts : (begun : List ℕ) (b : ℕ) (reader : Reader) → Accounts (length begun) (first_received begun b reader)
 first_accounts begun b reader = elim (begins_status b || begins_job b) as (λ starts. Accounts (length begun)
-    (cond starts (reads_none (length begun) (b ∷ []) reader) (cond (answers_now b) (now_received reader.now begun b reader) (skips_all begun reader)))) [
+    (cond starts (reads_none (length begun) (b ∷ []) reader) (cond (answers_now b) (now_received reader.asked_now begun b reader) (skips_all begun reader)))) [
       true ↦ omega arith
     | false ↦ elim (answers_now b) as (λ answers. Accounts (length begun)
-        (cond answers (now_received reader.now begun b reader) (skips_all begun reader))) [
-          true ↦ now_accounts reader.now begun b reader
+        (cond answers (now_received reader.asked_now begun b reader) (skips_all begun reader))) [
+          true ↦ now_accounts reader.asked_now begun b reader
         | false ↦ omega arith ] ]
 
 -- four bytes are a whole reply of four, seven one of seven
@@ -85,11 +85,11 @@ continued_accounts begun first b reader = ⊎_elim
 lone_accounts : (asked : Option OrderStatus) (b : ℕ) (reader : Reader) → Accounts 0 (lone_received asked b reader)
 lone_accounts None b reader = refl
 lone_accounts (Some status) b reader = elim (is_plain b) as (λ plain. Accounts 0
-    (cond plain (reads_reply 0 (reply.InOrder status (order_status status b)) (record reader { in_order = None })) (skips_all [] reader))) [
+    (cond plain (reads_reply 0 (reply.InOrder status (order_status status b)) (record reader { asked_in_order = None })) (skips_all [] reader))) [
       true ↦ refl | false ↦ refl ]
 
 later_accounts : (begun : List ℕ) (b : ℕ) (reader : Reader) → Accounts (length begun) (later_received begun b reader)
-later_accounts [] b reader = lone_accounts reader.in_order b reader
+later_accounts [] b reader = lone_accounts reader.asked_in_order b reader
 later_accounts (first ∷ more) b reader = elim (goes_on first (length (first ∷ more)) b) as (λ goes. Accounts (length (first ∷ more))
     (cond goes (continued (first ∷ more) first b reader) (skips_all (first ∷ more) reader))) [
       true ↦ continued_accounts (first ∷ more) first b reader | false ↦ omega arith ]
@@ -129,7 +129,7 @@ not_first : (b : ℕ) → not (is_first b) ≡ true → is_first b ≡ false
 not_first b h = elim (is_first b) as (λ t. not t ≡ true → t ≡ false) [ true ↦ (λ bad. sym bad) | false ↦ (λ _. refl) ] h
 
 -- no reply comes of bytes that begin none and are too few to end what has begun
-no_reply : (begun : List ℕ) (reader : Reader) (bytes : List ℕ) → reader.in_order ≡ None → none_first bytes ≡ true → IsShort begun bytes
+no_reply : (begun : List ℕ) (reader : Reader) (bytes : List ℕ) → reader.asked_in_order ≡ None → none_first bytes ≡ true → IsShort begun bytes
     → (reading_of (with_begun begun reader) bytes).replies ≡ []
 no_reply begun reader [] none firsts short = refl
 no_reply [] reader (b ∷ bytes) none firsts short =
@@ -177,7 +177,7 @@ long_first b h = ⊎_elim
     (cases_Bool (begins_status b))
 
 -- no reply comes of a long reply of which bytes were lost
-pub lost_gives_none : (reader : Reader) (sent : List ℕ) (which : List Bool) → reader.in_order ≡ None → reader.begun ≡ []
+pub lost_gives_none : (reader : Reader) (sent : List ℕ) (which : List Bool) → reader.asked_in_order ≡ None → reader.begun ≡ []
     → is_long_reply sent ≡ true → length (kept which sent) ≢ length sent → (reading_of reader (kept which sent)).replies ≡ []
 lost_gives_none reader [] [] none idle long lost = refl
 lost_gives_none reader [] (here ∷ which) none idle long lost = refl

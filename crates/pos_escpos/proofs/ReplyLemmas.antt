@@ -88,21 +88,21 @@ reads_automatic reader a b c d begins second third fourth =
     ∙ one_reply reader reader told (length reader.begun + 0) (omega arith)
 
 -- a reply to DLE EOT is read, where one was asked for
-pub reads_now : (reader : Reader) (asked : NowStatus) (b : ℕ) → reader.now ≡ Some asked → answers_now b ≡ true
-    → ReadsOne reader (reply.Now asked (now_status asked b)) (record reader { now = None }) (reading_of reader (b ∷ []))
+pub reads_now : (reader : Reader) (asked : NowStatus) (b : ℕ) → reader.asked_now ≡ Some asked → answers_now b ≡ true
+    → ReadsOne reader (reply.Now asked (now_status asked b)) (record reader { asked_now = None }) (reading_of reader (b ∷ []))
 reads_now reader asked b is answers =
     let told = reply.Now asked (now_status asked b) in
-    let next = record reader { now = None } in
+    let next = record reader { asked_now = None } in
     first_step reader b [] (reads_reply (length reader.begun) told next)
       (rw (now_is_first b answers, now_not_status b answers, now_not_job b answers, answers, is) refl)
     ∙ one_reply reader next told (length reader.begun + 0) (omega arith)
 
 -- a reply to GS r is read, where one was asked for
-pub reads_in_order : (reader : Reader) (asked : OrderStatus) (b : ℕ) → reader.in_order ≡ Some asked → reader.begun ≡ [] → is_plain b ≡ true
-    → ReadsOne reader (reply.InOrder asked (order_status asked b)) (record reader { in_order = None }) (reading_of reader (b ∷ []))
+pub reads_in_order : (reader : Reader) (asked : OrderStatus) (b : ℕ) → reader.asked_in_order ≡ Some asked → reader.begun ≡ [] → is_plain b ≡ true
+    → ReadsOne reader (reply.InOrder asked (order_status asked b)) (record reader { asked_in_order = None }) (reading_of reader (b ∷ []))
 reads_in_order reader asked b is none plain =
     let told = reply.InOrder asked (order_status asked b) in
-    let next = record reader { in_order = None } in
+    let next = record reader { asked_in_order = None } in
     first_step reader b [] (reads_reply 0 told next) (rw (plain_not_first b plain, none, is, plain) refl)
     ∙ one_reply reader next told 0 (rw none refl)
 

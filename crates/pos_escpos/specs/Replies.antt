@@ -103,8 +103,8 @@ job_reply number = 55 ∷ 34 ∷ job_characters number ++ 0 ∷ []
 
 -- a reader: what was asked by DLE EOT and GS r, and the bytes of a reply that has begun
 pub record Reader : Type 0 where
-  pub now : Option NowStatus
-  pub in_order : Option OrderStatus
+  pub asked_now : Option NowStatus
+  pub asked_in_order : Option OrderStatus
   pub begun : List ℕ
 
 -- what comes of a byte, and the reader then
@@ -134,20 +134,20 @@ skips_all begun reader = reads_none (length begun + 1) [] reader
 abbrev pub now_received : Option NowStatus → List ℕ → ℕ → Reader → Step
 now_received None begun b reader = skips_all begun reader
 now_received (Some status) begun b reader =
-    reads_reply (length begun) (reply.Now status (now_status status b)) (record reader { now = None })
+    reads_reply (length begun) (reply.Now status (now_status status b)) (record reader { asked_now = None })
 
 -- a byte with bit 4: what had begun before it is no reply
 abbrev pub first_received : List ℕ → ℕ → Reader → Step
 first_received begun b reader =
     if begins_status b || begins_job b then reads_none (length begun) (b ∷ []) reader
-    else (if answers_now b then now_received reader.now begun b reader else skips_all begun reader)
+    else (if answers_now b then now_received reader.asked_now begun b reader else skips_all begun reader)
 
 -- a byte alone without bit 4: a reply to GS r, where one was asked for
 abbrev pub lone_received : Option OrderStatus → ℕ → Reader → Step
 lone_received None b reader = skips_all [] reader
 lone_received (Some status) b reader =
     if is_plain b
-    then reads_reply 0 (reply.InOrder status (order_status status b)) (record reader { in_order = None })
+    then reads_reply 0 (reply.InOrder status (order_status status b)) (record reader { asked_in_order = None })
     else skips_all [] reader
 
 -- byte k, from 0, of an acknowledgement, but its first
@@ -180,7 +180,7 @@ continued begun first b reader =
 
 -- a byte without bit 4, behind what has begun
 abbrev pub later_received : List ℕ → ℕ → Reader → Step
-later_received [] b reader = lone_received reader.in_order b reader
+later_received [] b reader = lone_received reader.asked_in_order b reader
 later_received (first ∷ more) b reader =
     if goes_on first (length (first ∷ more)) b then continued (first ∷ more) first b reader
     else skips_all (first ∷ more) reader

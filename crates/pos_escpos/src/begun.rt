@@ -1,5 +1,5 @@
 //! A reply that has begun.
-ghost use Rattle.std.specs.Prelude.{◌≡◌, ◌<◌, length, true};
+ghost use Rattle.std.specs.Prelude.{◌≡◌, ◌<◌, ◌≤◌, length, true};
 ghost use Rattle.pos_escpos.specs.Replies.{Reader, is_job_character, is_plain, job_number, later_received};
 ghost use Rattle.pos_escpos.specs.BegunReplies.{bytes_begun, is_begun, is_begun_next, is_job_begun, is_status_begun, step_by};
 
@@ -66,7 +66,8 @@ fn job_number(a: u8, b: u8, c: u8, d: u8) -> u16
 impl Begun {
     /// Returns how many bytes have come.
     pub fn len(self) -> u8
-        ensures { result ≡ length (bytes_begun self) }
+        ensures count { result ≡ length (bytes_begun self) }
+        ensures most { result ≤ 6 }
     {
         match self {
             Begun::Nothing => 0,

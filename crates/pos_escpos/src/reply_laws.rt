@@ -15,11 +15,11 @@ pub fn replies_are_found()
     ensures job { (reader : Reader) (number : ℕ) → number < 2 ^ 16 →
         ReadsOne reader (reply.JobDone number) reader (reading_of reader (job_reply number)) }
     // A reply to DLE EOT, where one was asked for.
-    ensures now { (reader : Reader) (asked : NowStatus) (b : ℕ) → reader.now ≡ Some asked → answers_now b ≡ true →
-        ReadsOne reader (reply.Now asked (now_status asked b)) (record reader { now = None }) (reading_of reader (b ∷ [])) }
+    ensures now { (reader : Reader) (asked : NowStatus) (b : ℕ) → reader.asked_now ≡ Some asked → answers_now b ≡ true →
+        ReadsOne reader (reply.Now asked (now_status asked b)) (record reader { asked_now = None }) (reading_of reader (b ∷ [])) }
     // A reply to GS r, where one was asked for; it has no mark of its own, so none may have begun before it.
-    ensures in_order { (reader : Reader) (asked : OrderStatus) (b : ℕ) → reader.in_order ≡ Some asked → reader.begun ≡ [] →
-        is_plain b ≡ true → ReadsOne reader (reply.InOrder asked (order_status asked b)) (record reader { in_order = None })
+    ensures in_order { (reader : Reader) (asked : OrderStatus) (b : ℕ) → reader.asked_in_order ≡ Some asked → reader.begun ≡ [] →
+        is_plain b ≡ true → ReadsOne reader (reply.InOrder asked (order_status asked b)) (record reader { asked_in_order = None })
         (reading_of reader (b ∷ [])) }
 {
 }
@@ -35,7 +35,7 @@ pub fn losses_are_seen()
         reading.skipped + bytes_of_replies reading.replies + length reading.reader.begun
         ≡ length reader.begun + length bytes }
     // No reply comes of an automatic status or an acknowledgement of which bytes were lost, whichever they are.
-    ensures lost { (reader : Reader) (sent : List ℕ) (which : List Bool) → reader.in_order ≡ None → reader.begun ≡ [] →
+    ensures lost { (reader : Reader) (sent : List ℕ) (which : List Bool) → reader.asked_in_order ≡ None → reader.begun ≡ [] →
         is_long_reply sent ≡ true → length (kept which sent) ≢ length sent →
         (reading_of reader (kept which sent)).replies ≡ [] }
     // An acknowledgement is such a reply.
