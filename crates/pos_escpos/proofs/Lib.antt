@@ -1,3 +1,4 @@
 mod PrinterLemmas
+mod InputLemmas
 mod LossLemmas
 mod ReplyLemmas

@@ -1,4 +1,5 @@
 pub mod BegunReplies
+pub mod Inputs
 pub mod PrinterBytes
 pub mod PrinterCommands
 pub mod Printers

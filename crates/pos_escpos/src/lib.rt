@@ -5,6 +5,7 @@
 #![tactic(auto)]
 
 mod begun;
+mod inputs;
 mod print_fault;
 mod printer_bytes;
 mod printer_commands;
@@ -13,10 +14,13 @@ mod reply_laws;
 mod settings;
 mod statuses;
 
+pub use inputs::{drawer_inputs, printer_inputs};
 pub use print_fault::PrintFault;
 pub use printer_bytes::receipt_bytes;
 pub use printer_commands::{NowStatus, OrderStatus, job_bytes, start_bytes};
 pub use replies::ReplyReader;
 pub use reply_laws::{losses_are_seen, replies_are_found};
 pub use statuses::{PrinterReply, Received, Status};
-pub use settings::{CutSettings, Cutter, DrawerKick, DrawerPin, LineSettings};
+pub use settings::{
+    CutSettings, Cutter, DrawerKick, DrawerPin, LineSettings, PrinterSettings, SensorSettings,
+};
