@@ -1,4 +1,5 @@
 mod PrinterLemmas
+mod DisplayLemmas
 mod InputLemmas
 mod LossLemmas
 mod ReplyLemmas

@@ -5,8 +5,9 @@
 #![tactic(auto)]
 
 mod begun;
+mod display_bytes;
 mod inputs;
-mod print_fault;
+mod bytes_fault;
 mod printer_bytes;
 mod printer_commands;
 mod replies;
@@ -14,13 +15,14 @@ mod reply_laws;
 mod settings;
 mod statuses;
 
+pub use display_bytes::{blank_cells, display_start_bytes, rows_bytes};
 pub use inputs::{drawer_inputs, printer_inputs};
-pub use print_fault::PrintFault;
+pub use bytes_fault::BytesFault;
 pub use printer_bytes::receipt_bytes;
 pub use printer_commands::{NowStatus, OrderStatus, job_bytes, start_bytes};
 pub use replies::ReplyReader;
 pub use reply_laws::{losses_are_seen, replies_are_found};
 pub use statuses::{PrinterReply, Received, Status};
 pub use settings::{
-    CutSettings, Cutter, DrawerKick, DrawerPin, LineSettings, PrinterSettings, SensorSettings,
+    CutSettings, Cutter, DrawerKick, DrawerPin, DisplayProtocol, LineSettings, PrinterSettings, SensorSettings,
 };

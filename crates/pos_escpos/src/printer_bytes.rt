@@ -5,9 +5,9 @@ ghost use Rattle.pos_service.specs.Receipts.{items_from, Line};
 ghost use Rattle.pos_escpos.specs.Printers.{Press, IsReady, PrintsOnly, press_after};
 ghost use Rattle.pos_escpos.specs.PrinterBytes.{alignment_number_of, all_fit, all_on_paper, bold_bytes, cut_bytes, is_character, item_fits, items_bytes, line_bytes, run_bytes};
 
-ghost use Rattle.pos_escpos.specs.declared.print_fault.PrintFault.TheVariants as fault;
+ghost use Rattle.pos_escpos.specs.declared.bytes_fault.BytesFault.TheVariants as fault;
 
-use crate::print_fault::PrintFault;
+use crate::bytes_fault::BytesFault;
 use crate::settings::{CutSettings, Cutter, LineSettings};
 use pos_service::receipt_text::{Alignment, Mark, PrintedCharacter};
 use std::alloc::{AllocError, Global};
@@ -158,15 +158,15 @@ fn push_items(
 ///
 /// # Errors
 ///
-/// [`PrintFault::Misfit`] if a line has more characters than the printer's columns, or a byte that isn't 0x20 to 0x7E.
-/// [`PrintFault::NoMemory`] if memory ran out.
+/// [`BytesFault::Misfit`] if a line has more characters than the printer's columns, or a byte that isn't 0x20 to 0x7E.
+/// [`BytesFault::NoMemory`] if memory ran out.
 pub fn receipt_bytes(
     alloc: Global,
     line: LineSettings,
     cut: CutSettings,
     marks: &[Mark],
     characters: &[PrintedCharacter],
-) -> Result<Vec<u8>, PrintFault>
+) -> Result<Vec<u8>, BytesFault>
     // From any ready printer they print the items and nothing else.
     ensures prints { let items = items_from marks.now characters.now in
         IfOk result (λ bytes. (press : Press) → IsReady press →
@@ -179,7 +179,7 @@ pub fn receipt_bytes(
         all_fit line.columns (items_from marks.now characters.now) ≡ false }
 {
     if !fits(line.columns, marks, characters) {
-        return Err(PrintFault::Misfit);
+        return Err(BytesFault::Misfit);
     }
     let mut out = Vec::new(alloc);
     push_items(&mut out, cut, marks, characters)?;

@@ -1,4 +1,4 @@
-//! What a driver has to know of a printer.
+//! What a driver has to know of a printer or a display.
 ghost use Rattle.std.specs.Prelude.{◌≡◌, ◌<◌, ◌≤◌, ◌⊎◌, IfSome, IfNone};
 
 /// A printer's line.
@@ -108,4 +108,13 @@ pub struct PrinterSettings {
     pub kick: DrawerKick,
     /// What its sensors mean.
     pub sensors: SensorSettings,
+}
+
+/// The commands that a customer display has.
+#[derive(Clone, Copy, PartialEq, Eq)]
+pub enum DisplayProtocol {
+    /// CD5220.
+    Cd5220,
+    /// ESC/POS.
+    EscPos,
 }
