@@ -2,4 +2,5 @@ mod PrinterLemmas
 mod DisplayLemmas
 mod InputLemmas
 mod LossLemmas
+mod ProgressLemmas
 mod ReplyLemmas

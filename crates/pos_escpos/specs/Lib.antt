@@ -4,5 +4,6 @@ pub mod Inputs
 pub mod PrinterBytes
 pub mod PrinterCommands
 pub mod Printers
+pub mod ReceiptProgress
 pub mod Replies
 pub mod Screens

@@ -90,7 +90,7 @@ fn push_cut(out: &mut Vec<u8>, cut: CutSettings, percentage: u8) -> Result<(), A
 }
 
 /// Returns the first so many characters, or all if there are fewer, and the others.
-fn split_line(characters: &[PrintedCharacter], count: usize) -> (&[PrintedCharacter], &[PrintedCharacter])
+pub(crate) fn split_line(characters: &[PrintedCharacter], count: usize) -> (&[PrintedCharacter], &[PrintedCharacter])
     ensures line { result.0.now ≡ take count characters.now }
     ensures rest { result.1.now ≡ drop count characters.now }
 {
