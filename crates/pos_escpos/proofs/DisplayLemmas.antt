@@ -85,7 +85,7 @@ takes_row is rows columns row column front (o ∷ old) (b ∷ new) back same roo
     ap (λ cursor. fold (takes make) (takes make (shown (front ++ ((o ∷ old) ++ back)) cursor) b) new) here
     ∙ ap (λ s. fold (takes make) s new) (takes_character is rows columns row column b (front ++ ((o ∷ old) ++ back)) le)
     ∙ ap (λ characters. fold (takes make) (shown characters (cursor_in columns row (column + 1))) new)
-        (set_at front o (old ++ back) b (row * columns + column) at ∙ sym (append_assoc front (b ∷ []) (old ++ back)))
+    (set_at front o (old ++ back) b (row * columns + column) at ∙ sym (append_assoc front (b ∷ []) (old ++ back)))
     ∙ takes_row is rows columns row (column + 1) (front ++ b ∷ []) old new back (omega arith) (omega arith) (simp length-append (omega arith)) parts.1
     ∙ ap (λ characters. shown characters (cursor_in columns row columns)) (append_assoc front (b ∷ []) (new ++ back))
 
@@ -100,19 +100,22 @@ takes_one : (is : DisplayProtocol) (rows columns row : ℕ) (front back : List �
     → Shows (make_by is rows columns) (shown (front ++ (characters_of old ++ back)) cursor) (row_bytes is (row + 1) old new) (front ++ (characters_of new ++ back))
 takes_one is rows columns row front back old new cursor some within at old_size new_size fit = ⊎_elim
     (λ (alike : bytes_eq (characters_of old) (characters_of new) ≡ true).
-      let same = (bytes_eq-Decides (characters_of old) (characters_of new)).0 alike in
-      record { cursor = cursor; is = rw alike (ap (λ cs. shown (front ++ (cs ++ back)) cursor) same) })
+    let same = (bytes_eq-Decides (characters_of old) (characters_of new)).0 alike in
+    record { cursor = cursor; is = rw alike (ap (λ cs. shown (front ++ (cs ++ back)) cursor) same) })
     (λ (changed : bytes_eq (characters_of old) (characters_of new) ≡ false).
-      let make = make_by is rows columns in
-      let was = front ++ (characters_of old ++ back) in
-      let zero_column : cursor_in columns row 0 ≡ Some (record { row = row; column = 0 }) = rw (ne_eqb 0 columns (λ e. omega arith)) refl in
-      record { cursor = cursor_in columns row columns; is = rw changed
-        (fold-append (takes make) (shown was cursor) (row_start is (row + 1)) (characters_of new)
-        ∙ ap (λ s. fold (takes make) s (characters_of new)) (takes_start is rows columns row was cursor some within)
-        ∙ ap (λ c. fold (takes make) (shown was c) (characters_of new)) (sym zero_column)
-        ∙ takes_row is rows columns row 0 front (characters_of old) (characters_of new) back
-            (simp length-map (old_size ∙ sym new_size)) (simp length-map (omega arith)) (omega arith)
-            (list_all-map (λ b. nat_le 32 b && nat_le b 126) (λ (cell : DisplayCell). cell.character) new ∙ fit)) })
+    let make = make_by is rows columns in
+    let was = front ++ (characters_of old ++ back) in
+    let zero_column : cursor_in columns row 0 ≡ Some (record { row = row; column = 0 }) = rw (ne_eqb 0 columns (λ e. omega arith)) refl in
+    record {
+      cursor = cursor_in columns row columns;
+      is = rw changed
+          (fold-append (takes make) (shown was cursor) (row_start is (row + 1)) (characters_of new)
+          ∙ ap (λ s. fold (takes make) s (characters_of new)) (takes_start is rows columns row was cursor some within)
+          ∙ ap (λ c. fold (takes make) (shown was c) (characters_of new)) (sym zero_column)
+          ∙ takes_row is rows columns row 0 front (characters_of old) (characters_of new) back
+          (simp length-map (old_size ∙ sym new_size)) (simp length-map (omega arith)) (omega arith)
+          (list_all-map (λ b. nat_le 32 b && nat_le b 126) (λ (cell : DisplayCell). cell.character) new ∙ fit));
+    })
     (cases_Bool (bytes_eq (characters_of old) (characters_of new)))
 
 -- cells in two parts
@@ -134,20 +137,22 @@ takes_rows is rows columns (suc n) row front old new cursor some within at old_s
     let first_old = take columns old in let first_new = take columns new in
     let rest_old = drop columns old in let rest_new = drop columns new in
     let fits = and_parts (list_all is_character first_new) (list_all is_character rest_new)
-        (sym (list_all-append is_character first_new rest_new) ∙ ap (list_all is_character) (take-append-drop columns new) ∙ fit) in
+    (sym (list_all-append is_character first_new rest_new) ∙ ap (list_all is_character) (take-append-drop columns new) ∙ fit) in
     let one = takes_one is rows columns row front (characters_of rest_old) first_old first_new cursor some (omega arith) at
-        (length-take-le columns old (omega arith)) (length-take-le columns new (omega arith)) fits.0 in
+    (length-take-le columns old (omega arith)) (length-take-le columns new (omega arith)) fits.0 in
     let next = takes_rows is rows columns n (row + 1) (front ++ characters_of first_new) rest_old rest_new one.cursor some (omega arith)
-        (simp (length-append, length-map) (omega (arith, length-take-le columns new (omega arith))))
-        (simp length-drop (omega arith)) (simp length-drop (omega arith)) fits.1 in
+    (simp (length-append, length-map) (omega (arith, length-take-le columns new (omega arith))))
+    (simp length-drop (omega arith)) (simp length-drop (omega arith)) fits.1 in
     let rest_bytes = rows_bytes is columns (row + 1 + 1) n rest_old rest_new in
-    record { cursor = next.cursor; is =
-      ap (λ cs. screen_after make (shown (front ++ cs) cursor) (row_bytes is (row + 1) first_old first_new ++ rest_bytes)) (in_parts columns old)
-      ∙ fold-append (takes make) (shown (front ++ (characters_of first_old ++ characters_of rest_old)) cursor) (row_bytes is (row + 1) first_old first_new) rest_bytes
-      ∙ ap (λ s. fold (takes make) s rest_bytes) one.is
-      ∙ ap (λ cs. fold (takes make) (shown cs one.cursor) rest_bytes) (sym (append_assoc front (characters_of first_new) (characters_of rest_old)))
-      ∙ next.is
-      ∙ ap (λ cs. shown cs next.cursor) (append_assoc front (characters_of first_new) (characters_of rest_new) ∙ ap (λ cs. front ++ cs) (sym (in_parts columns new)));
+    record {
+      cursor = next.cursor;
+      is =
+          ap (λ cs. screen_after make (shown (front ++ cs) cursor) (row_bytes is (row + 1) first_old first_new ++ rest_bytes)) (in_parts columns old)
+          ∙ fold-append (takes make) (shown (front ++ (characters_of first_old ++ characters_of rest_old)) cursor) (row_bytes is (row + 1) first_old first_new) rest_bytes
+          ∙ ap (λ s. fold (takes make) s rest_bytes) one.is
+          ∙ ap (λ cs. fold (takes make) (shown cs one.cursor) rest_bytes) (sym (append_assoc front (characters_of first_new) (characters_of rest_old)))
+          ∙ next.is
+          ∙ ap (λ cs. shown cs next.cursor) (append_assoc front (characters_of first_new) (characters_of rest_new) ∙ ap (λ cs. front ++ cs) (sym (in_parts columns new)));
     }
 
 -- what a whole display has
@@ -171,13 +176,13 @@ becomes is old new can screen showing =
     let old_count = whole_count old sizes.1 in
     let new_count = whole_count new parts.1 in
     let old_size : length old.cells ≡ new.rows * new.columns =
-        old_count.1 ∙ ap (λ k. k * old.columns) (eqb-true old.rows new.rows same.0) ∙ ap (λ k. new.rows * k) (eqb-true old.columns new.columns same.1) in
+    old_count.1 ∙ ap (λ k. k * old.columns) (eqb-true old.rows new.rows same.0) ∙ ap (λ k. new.rows * k) (eqb-true old.columns new.columns same.1) in
     let all = takes_rows is new.rows new.columns new.rows 0 [] old.cells new.cells screen.cursor
-        new_count.0 (omega arith) (omega arith) old_size new_count.1 new_count.2 in
+    new_count.0 (omega arith) (omega arith) old_size new_count.1 new_count.2 in
     let begins : screen ≡ shown (characters_of old.cells) screen.cursor =
-        ap (λ cs. record { characters = cs; cursor = screen.cursor; is_known = screen.is_known; begun = screen.begun }) showing.shown
-        ∙ ap (λ known. record { characters = characters_of old.cells; cursor = screen.cursor; is_known = known; begun = screen.begun }) showing.known
-        ∙ ap (λ begun. record { characters = characters_of old.cells; cursor = screen.cursor; is_known = true; begun = begun }) showing.whole in
+    ap (λ cs. record { characters = cs; cursor = screen.cursor; is_known = screen.is_known; begun = screen.begun }) showing.shown
+    ∙ ap (λ known. record { characters = characters_of old.cells; cursor = screen.cursor; is_known = known; begun = screen.begun }) showing.known
+    ∙ ap (λ begun. record { characters = characters_of old.cells; cursor = screen.cursor; is_known = true; begun = begun }) showing.whole in
     let bytes = rows_bytes is new.columns 1 new.rows old.cells new.cells in
     subst (λ (s : Screen). IsShowing (characters_of new.cells) s) (sym (ap (λ s. screen_after (make_of is new) s bytes) begins ∙ all.is))
-      (record { shown = refl; known = refl; whole = refl })
+    (record { shown = refl; known = refl; whole = refl })

@@ -44,7 +44,7 @@ lines_show sensors paper.Good =
     rw (ne_eqb sensors.lines 0 (λ e. omega (arith, sensors.more)), lt-leb sensors.lines sensors.near sensors.more) refl
 lines_show sensors paper.NearEnd = ⊎_elim
     (λ (none : (sensors.near == 0) ≡ true).
-      rw (none, ne_eqb sensors.lines 0 (λ e. omega (arith, sensors.more)), lt-leb sensors.lines sensors.near sensors.more) refl)
+    rw (none, ne_eqb sensors.lines 0 (λ e. omega (arith, sensors.more)), lt-leb sensors.lines sensors.near sensors.more) refl)
     (λ (some : (sensors.near == 0) ≡ false). rw (some, some, le-leb sensors.near sensors.near (omega arith)) refl)
     (cases_Bool (sensors.near == 0))
 lines_show sensors paper.Empty = refl
@@ -94,7 +94,7 @@ paper_taken sensors r (Some level) new h =
 -- a printer shows what its sensors tell
 printer_shows : (sensors : SensorSettings) (chars : ℕ) (powered : Bool) (r : Printer) (status : Status) (new : Plant)
     → let is = kind.Printer chars sensors.near in let signs = signs_by powered is (form.Printer r) in
-      TakesAll (printer_table sensors signs status) (record { powered = powered; form = form.Printer r }) new
+    TakesAll (printer_table sensors signs status) (record { powered = powered; form = form.Printer r }) new
     → signs_of is new ≡ printer_signs_after sensors signs status
 printer_shows sensors chars powered r status new h =
     let is = kind.Printer chars sensors.near in
@@ -102,9 +102,9 @@ printer_shows sensors chars powered r status new h =
     let cover = unwrap_or status.is_cover_open r.is_cover_open in
     let moved = record r { is_cover_open = cover } in
     let two = cover_taken r.is_cover_open r status.is_cover_open h.2.0
-        (subst (λ (p : Plant). TakesMaybe (moved_input input.CoverMoved r.is_cover_open status.is_cover_open) p h.2.0) one h.2.1) in
+    (subst (λ (p : Plant). TakesMaybe (moved_input input.CoverMoved r.is_cover_open status.is_cover_open) p h.2.0) one h.2.1) in
     let three = paper_taken sensors moved status.paper h.2.2.0
-        (subst (λ (p : Plant). TakesMaybe (paper_input sensors (paper_level sensors.near r.left) status.paper) p h.2.2.0) two h.2.2.1) in
+    (subst (λ (p : Plant). TakesMaybe (paper_input sensors (paper_level sensors.near r.left) status.paper) p h.2.2.0) two h.2.2.1) in
     ap (signs_of is) (h.2.2.2 ∙ three.plant)
     ∙ ap (λ level. record { powered = true; drawer_open = false; cover_open = cover; paper = level }) three.level
 
@@ -114,16 +114,17 @@ pub printer_told : (sensors : SensorSettings) (chars : ℕ) (old : Plant) (signs
 printer_told sensors chars old signs status new fits is h =
     let kind_is = kind.Printer chars sensors.near in
     (elim old.form as (λ its. IsPlantOf kind_is (record { powered = old.powered; form = its })
-        → signs_by old.powered kind_is its ≡ signs
-        → TakesAll (printer_table sensors signs status) (record { powered = old.powered; form = its }) new
-        → signs_of kind_is new ≡ printer_signs_after sensors signs status) [
-      form.Drawer b ↦ (λ bad. absurd bad)
-    | form.Scanner ↦ (λ bad. absurd bad)
-    | form.Display d ↦ (λ bad. absurd bad)
-    | form.Printer r ↦ (λ _ e taken.
-        subst (λ (s : Signs). TakesAll (printer_table sensors s status) (record { powered = old.powered; form = form.Printer r }) new
+    → signs_by old.powered kind_is its ≡ signs
+    → TakesAll (printer_table sensors signs status) (record { powered = old.powered; form = its }) new
+    → signs_of kind_is new ≡ printer_signs_after sensors signs status) [
+      | form.Drawer b ↦ (λ bad. absurd bad)
+      | form.Scanner ↦ (λ bad. absurd bad)
+      | form.Display d ↦ (λ bad. absurd bad)
+      | form.Printer r ↦ (λ _ e taken.
+          subst (λ (s : Signs). TakesAll (printer_table sensors s status) (record { powered = old.powered; form = form.Printer r }) new
           → signs_of kind_is new ≡ printer_signs_after sensors s status) e
-          (printer_shows sensors chars old.powered r status new) taken) ])
+          (printer_shows sensors chars old.powered r status new) taken)
+    ])
     fits is h
 
 -- a drawer is as it was told then
@@ -137,13 +138,13 @@ drawer_taken false (Some false) new h = h
 
 drawer_shows : (sensors : SensorSettings) (powered was : Bool) (status : Status) (new : Plant)
     → let signs = signs_by powered kind.Drawer (form.Drawer was) in
-      TakesAll (drawer_table sensors signs status) (record { powered = powered; form = form.Drawer was }) new
+    TakesAll (drawer_table sensors signs status) (record { powered = powered; form = form.Drawer was }) new
     → signs_of kind.Drawer new ≡ drawer_signs_after sensors signs status
 drawer_shows sensors powered was status new h =
     let told = open_told sensors status.is_pin_high in
     let one = power_taken powered (form.Drawer was) h.0 h.1 in
     let two = drawer_taken was told h.2.0
-        (subst (λ (p : Plant). TakesMaybe (moved_input input.DrawerMoved was told) p h.2.0) one h.2.1) in
+    (subst (λ (p : Plant). TakesMaybe (moved_input input.DrawerMoved was told) p h.2.0) one h.2.1) in
     ap (signs_of kind.Drawer) (h.2.2 ∙ two)
 
 pub drawer_told : (sensors : SensorSettings) (old : Plant) (signs : Signs) (status : Status) (new : Plant)
@@ -151,14 +152,15 @@ pub drawer_told : (sensors : SensorSettings) (old : Plant) (signs : Signs) (stat
     → TakesAll (drawer_table sensors signs status) old new → signs_of kind.Drawer new ≡ drawer_signs_after sensors signs status
 drawer_told sensors old signs status new fits is h =
     (elim old.form as (λ its. IsPlantOf kind.Drawer (record { powered = old.powered; form = its })
-        → signs_by old.powered kind.Drawer its ≡ signs
-        → TakesAll (drawer_table sensors signs status) (record { powered = old.powered; form = its }) new
-        → signs_of kind.Drawer new ≡ drawer_signs_after sensors signs status) [
-      form.Drawer was ↦ (λ _ e taken.
-        subst (λ (s : Signs). TakesAll (drawer_table sensors s status) (record { powered = old.powered; form = form.Drawer was }) new
+    → signs_by old.powered kind.Drawer its ≡ signs
+    → TakesAll (drawer_table sensors signs status) (record { powered = old.powered; form = its }) new
+    → signs_of kind.Drawer new ≡ drawer_signs_after sensors signs status) [
+      | form.Drawer was ↦ (λ _ e taken.
+          subst (λ (s : Signs). TakesAll (drawer_table sensors s status) (record { powered = old.powered; form = form.Drawer was }) new
           → signs_of kind.Drawer new ≡ drawer_signs_after sensors s status) e
           (drawer_shows sensors old.powered was status new) taken)
-    | form.Scanner ↦ (λ bad. absurd bad)
-    | form.Display d ↦ (λ bad. absurd bad)
-    | form.Printer r ↦ (λ bad. absurd bad) ])
+      | form.Scanner ↦ (λ bad. absurd bad)
+      | form.Display d ↦ (λ bad. absurd bad)
+      | form.Printer r ↦ (λ bad. absurd bad)
+    ])
     fits is h

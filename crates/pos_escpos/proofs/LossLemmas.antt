@@ -18,7 +18,7 @@ before_append (Some one) xs ys = refl
 after_joined : (step : Step) (x y : Reading) → after_step step (joined x y) ≡ joined (after_step step x) y
 after_joined step x y =
     ap (λ replies. record { replies = replies; skipped = step.received.skipped + (x.skipped + y.skipped); reader = y.reader })
-      (before_append step.received.reply x.replies y.replies)
+    (before_append step.received.reply x.replies y.replies)
     ∙ ap (λ k. record { replies = replies_before step.received.reply x.replies ++ y.replies; skipped = k; reader = y.reader }) (omega arith)
 
 -- a stream may come in any pieces
@@ -43,11 +43,13 @@ now_accounts (Some status) begun b reader = omega arith
 first_accounts : (begun : List ℕ) (b : ℕ) (reader : Reader) → Accounts (length begun) (first_received begun b reader)
 first_accounts begun b reader = elim (begins_status b || begins_job b) as (λ starts. Accounts (length begun)
     (cond starts (reads_none (length begun) (b ∷ []) reader) (cond (answers_now b) (now_received reader.asked_now begun b reader) (skips_all begun reader)))) [
-      true ↦ omega arith
-    | false ↦ elim (answers_now b) as (λ answers. Accounts (length begun)
-        (cond answers (now_received reader.asked_now begun b reader) (skips_all begun reader))) [
-          true ↦ now_accounts reader.asked_now begun b reader
-        | false ↦ omega arith ] ]
+      | true ↦ omega arith
+      | false ↦ elim (answers_now b) as (λ answers. Accounts (length begun)
+          (cond answers (now_received reader.asked_now begun b reader) (skips_all begun reader))) [
+            | true ↦ now_accounts reader.asked_now begun b reader
+            | false ↦ omega arith
+          ]
+    ]
 
 -- four bytes are a whole reply of four, seven one of seven
 four_told : (bytes : List ℕ) → length bytes ≡ 4 → bytes_told (whole_reply bytes) ≡ 4
@@ -71,14 +73,15 @@ seven_told (a ∷ b ∷ c ∷ d ∷ e ∷ f ∷ g ∷ h ∷ more) is = let bad :
 
 size_told : (first : ℕ) (bytes : List ℕ) → length bytes ≡ reply_size first → bytes_told (whole_reply bytes) ≡ length bytes
 size_told first bytes = elim (begins_job first) as (λ is_job. length bytes ≡ cond is_job 7 4 → bytes_told (whole_reply bytes) ≡ length bytes) [
-      true ↦ (λ is. seven_told bytes is ∙ sym is)
-    | false ↦ (λ is. four_told bytes is ∙ sym is) ]
+  | true ↦ (λ is. seven_told bytes is ∙ sym is)
+  | false ↦ (λ is. four_told bytes is ∙ sym is)
+]
 
 continued_accounts : (begun : List ℕ) (first b : ℕ) (reader : Reader) → Accounts (length begun) (continued begun first b reader)
 continued_accounts begun first b reader = ⊎_elim
     (λ (whole : (length begun + 1 == reply_size first) ≡ true).
-      let size = size_told first (begun ++ b ∷ []) (simp length-append (eqb-true (length begun + 1) (reply_size first) whole)) in
-      rw whole (omega (arith, size, length-append begun (b ∷ []))))
+    let size = size_told first (begun ++ b ∷ []) (simp length-append (eqb-true (length begun + 1) (reply_size first) whole)) in
+    rw whole (omega (arith, size, length-append begun (b ∷ []))))
     (λ (more : (length begun + 1 == reply_size first) ≡ false). rw more (omega (arith, length-append begun (b ∷ []))))
     (cases_Bool (length begun + 1 == reply_size first))
 
@@ -86,19 +89,25 @@ lone_accounts : (asked : Option OrderStatus) (b : ℕ) (reader : Reader) → Acc
 lone_accounts None b reader = refl
 lone_accounts (Some status) b reader = elim (is_plain b) as (λ plain. Accounts 0
     (cond plain (reads_reply 0 (reply.InOrder status (order_status status b)) (record reader { asked_in_order = None })) (skips_all [] reader))) [
-      true ↦ refl | false ↦ refl ]
+      | true ↦ refl
+      | false ↦ refl
+    ]
 
 later_accounts : (begun : List ℕ) (b : ℕ) (reader : Reader) → Accounts (length begun) (later_received begun b reader)
 later_accounts [] b reader = lone_accounts reader.asked_in_order b reader
 later_accounts (first ∷ more) b reader = elim (goes_on first (length (first ∷ more)) b) as (λ goes. Accounts (length (first ∷ more))
     (cond goes (continued (first ∷ more) first b reader) (skips_all (first ∷ more) reader))) [
-      true ↦ continued_accounts (first ∷ more) first b reader | false ↦ omega arith ]
+      | true ↦ continued_accounts (first ∷ more) first b reader
+      | false ↦ omega arith
+    ]
 
 -- each byte is of a reply, or of none, or of one that has begun
 pub byte_accounts : (reader : Reader) (b : ℕ) → Accounts (length reader.begun) (byte_received reader b)
 byte_accounts reader b = elim (is_first b) as (λ first. Accounts (length reader.begun)
     (cond first (first_received reader.begun b reader) (later_received reader.begun b reader))) [
-      true ↦ first_accounts reader.begun b reader | false ↦ later_accounts reader.begun b reader ]
+      | true ↦ first_accounts reader.begun b reader
+      | false ↦ later_accounts reader.begun b reader
+    ]
 
 before_bytes : (told : Option PrinterReply) (replies : List PrinterReply)
     → bytes_of_replies (replies_before told replies) ≡ bytes_told told + bytes_of_replies replies
@@ -111,8 +120,12 @@ pub counts_all : (reader : Reader) (bytes : List ℕ)
 counts_all reader [] = omega arith
 counts_all reader (b ∷ bytes) =
     let step = byte_received reader b in
-    omega (arith, byte_accounts reader b, counts_all step.reader bytes,
-      before_bytes step.received.reply (reading_of step.reader bytes).replies)
+    omega (
+      arith,
+      byte_accounts reader b,
+      counts_all step.reader bytes,
+      before_bytes step.received.reply (reading_of step.reader bytes).replies,
+    )
 
 -- Bytes that were lost.
 
@@ -141,13 +154,13 @@ no_reply (first ∷ more) reader (b ∷ bytes) none firsts short =
     let begun = first ∷ more in
     ⊎_elim
     (λ (goes : goes_on first (length begun) b ≡ true).
-      ap (λ r. r.replies) (first_step (with_begun begun reader) b bytes (reads_none 0 (begun ++ b ∷ []) reader)
-        (rw (not_first b parts.0, goes, ne_eqb (length begun + 1) (reply_size first) (λ e. omega arith)) refl))
-      ∙ no_reply (begun ++ b ∷ []) reader bytes none parts.1 (omega (arith, length-append more (b ∷ []))))
+    ap (λ r. r.replies) (first_step (with_begun begun reader) b bytes (reads_none 0 (begun ++ b ∷ []) reader)
+    (rw (not_first b parts.0, goes, ne_eqb (length begun + 1) (reply_size first) (λ e. omega arith)) refl))
+    ∙ no_reply (begun ++ b ∷ []) reader bytes none parts.1 (omega (arith, length-append more (b ∷ []))))
     (λ (ends : goes_on first (length begun) b ≡ false).
-      ap (λ r. r.replies) (first_step (with_begun begun reader) b bytes (reads_none (length begun + 1) [] reader)
-        (rw (not_first b parts.0, ends) refl))
-      ∙ no_reply [] reader bytes none parts.1 tt)
+    ap (λ r. r.replies) (first_step (with_begun begun reader) b bytes (reads_none (length begun + 1) [] reader)
+    (rw (not_first b parts.0, ends) refl))
+    ∙ no_reply [] reader bytes none parts.1 tt)
     (cases_Bool (goes_on first (length begun) b))
 
 -- what comes of bytes is no more than they are
@@ -171,9 +184,9 @@ long_first : (b : ℕ) → (begins_status b || begins_job b) ≡ true → is_fir
 long_first b h = ⊎_elim
     (λ (status : begins_status b ≡ true). status_is_first b status)
     (λ (other : begins_status b ≡ false).
-      let job : begins_job b ≡ true = rw other at h in
-      let is : b ≡ 55 = eqb-true b 55 job in
-      rw is refl)
+    let job : begins_job b ≡ true = rw other at h in
+    let is : b ≡ 55 = eqb-true b 55 job in
+    rw is refl)
     (cases_Bool (begins_status b))
 
 -- no reply comes of a long reply of which bytes were lost
@@ -187,7 +200,7 @@ lost_gives_none reader (first ∷ more) (true ∷ which) none idle long lost =
     let ends = and_parts (begins_status first || begins_job first) (length more + 1 == reply_size first) parts.0 in
     let size = eqb-true (length more + 1) (reply_size first) ends.1 in
     ap (λ r. r.replies) (first_step reader first (kept which more) (reads_none (length reader.begun) (first ∷ []) reader)
-      (rw (long_first first ends.0, ends.0) refl))
+    (rw (long_first first ends.0, ends.0) refl))
     ∙ no_reply (first ∷ []) reader (kept which more) none (kept_none_first which more parts.1) (omega (arith, kept_le which more))
 lost_gives_none reader (first ∷ more) (false ∷ which) none idle long lost =
     let parts = and_parts ((begins_status first || begins_job first) && length more + 1 == reply_size first) (none_first more) long in
@@ -198,8 +211,12 @@ lost_gives_none reader (first ∷ more) (false ∷ which) none idle long lost =
 pub job_is_long : (number : ℕ) → number < 65536 → is_long_reply (job_reply number) ≡ true
 unfolding IsCharacter
 job_is_long number less =
-    rw ((job_character (number / 4096) (omega arith)).0, (job_character (number / 256 % 16) (omega arith)).0,
-        (job_character (number / 16 % 16) (omega arith)).0, (job_character (number % 16) (omega arith)).0) refl
+    rw (
+      (job_character (number / 4096) (omega arith)).0,
+      (job_character (number / 256 % 16) (omega arith)).0,
+      (job_character (number / 16 % 16) (omega arith)).0,
+      (job_character (number % 16) (omega arith)).0,
+    ) refl
 
 pub status_is_long : (a b c d : ℕ) → begins_status a ≡ true → is_plain b ≡ true → is_plain c ≡ true → is_plain d ≡ true
     → is_long_reply (a ∷ b ∷ c ∷ d ∷ []) ≡ true

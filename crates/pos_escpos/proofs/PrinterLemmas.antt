@@ -25,8 +25,14 @@ takes_character : (width b : ℕ) (press : Press) (paper : List OnPaper) (line :
     → 32 ≤ b → length line < width
     → takes width (at_line press paper line a bold) b ≡ at_line press paper (line ++ record { byte = b; is_bold = bold } ∷ []) a bold
 takes_character width b press paper line a bold le room =
-    rw (ne_eqb b 27 (λ e. omega arith), ne_eqb b 29 (λ e. omega arith), ne_eqb b 16 (λ e. omega arith), ne_eqb b 10 (λ e. omega arith),
-        le-leb 32 b le, ne_eqb (length line) width (λ e. omega arith)) refl
+    rw (
+      ne_eqb b 27 (λ e. omega arith),
+      ne_eqb b 29 (λ e. omega arith),
+      ne_eqb b 16 (λ e. omega arith),
+      ne_eqb b 10 (λ e. omega arith),
+      le-leb 32 b le,
+      ne_eqb (length line) width (λ e. omega arith),
+    ) refl
 
 -- where bold changes, it is changed
 takes_bold : (width : ℕ) (press : Press) (paper : List OnPaper) (line : List PrintedCharacter) (a : Alignment) (was now : Bool)
@@ -48,7 +54,7 @@ takes_run width press paper line a was (c ∷ cs) fit room =
     fold-append (takes width) (at_line press paper line a was) (bold_bytes was c.is_bold) (c.byte ∷ run_bytes c.is_bold cs)
     ∙ ap (λ p. fold (takes width) p (c.byte ∷ run_bytes c.is_bold cs)) (takes_bold width press paper line a was c.is_bold)
     ∙ ap (λ p. fold (takes width) p (run_bytes c.is_bold cs))
-        (takes_character width c.byte press paper line a c.is_bold (leb-true 32 c.byte bounds.0) (omega arith))
+    (takes_character width c.byte press paper line a c.is_bold (leb-true 32 c.byte bounds.0) (omega arith))
     ∙ takes_run width press paper (line ++ c ∷ []) a c.is_bold cs parts.1 (simp length-append (omega arith))
     ∙ ap (λ l. at_line press paper l a false) (append_assoc line (c ∷ []) cs)
 
@@ -116,7 +122,7 @@ takes_items width columns press paper now cut (item ∷ items) within fit =
     ∙ ap (λ p. fold (takes width) p (items_bytes cut items)) (takes_item width columns press paper now cut item within parts.0)
     ∙ takes_items width columns press (paper ++ on_paper cut item ∷ []) (alignment_after now item) cut items within parts.1
     ∙ ap (λ p. at_line press p [] (alignment_at_end (alignment_after now item) items) false)
-        (append_assoc paper (on_paper cut item ∷ []) (all_on_paper cut items))
+    (append_assoc paper (on_paper cut item ∷ []) (all_on_paper cut items))
 
 -- a ready printer is at the beginning of a line
 pub at_start : (press : Press) → IsReady press → press ≡ at_line press press.paper [] press.alignment false
@@ -131,7 +137,7 @@ pub prints_items : (width columns : ℕ) (cut : CutSettings) (items : List Item)
     → (press : Press) → IsReady press → PrintsOnly press (all_on_paper cut items) (press_after width press (items_bytes cut items))
 prints_items width columns cut items within fit press ready =
     let is = ap (λ p. press_after width p (items_bytes cut items)) (at_start press ready)
-        ∙ takes_items width columns press press.paper press.alignment cut items within fit in
+    ∙ takes_items width columns press press.paper press.alignment cut items within fit in
     subst (λ (p : Press). PrintsOnly press (all_on_paper cut items) p) (sym is) (record {
       paper = refl;
       ready = record { line = refl; not_bold = refl; whole = refl };

@@ -24,8 +24,8 @@ items_behind (mark.Line a n ∷ marks) characters (Line b line ∷ before) added
     let same : line ≡ take n characters = cc in
     let rest : items_from marks (drop n characters) ≡ before ++ added = cc in
     let dropped : drop (length line + line_characters before) characters ≡ drop (line_characters before) (drop n characters) =
-        sym (drop-drop (line_characters before) (length line) characters)
-        ∙ ap (drop (line_characters before)) (ap (λ l. drop (length l) characters) same ∙ drop_taken n characters) in
+    sym (drop-drop (line_characters before) (length line) characters)
+    ∙ ap (drop (line_characters before)) (ap (λ l. drop (length l) characters) same ∙ drop_taken n characters) in
     ap (items_from (drop (length before) marks)) dropped ∙ items_behind marks (drop n characters) before added rest
 items_behind (mark.Line a n ∷ marks) characters (CutAt m ∷ before) added is = let bad : ⊥ = cc in absurd bad
 items_behind (mark.Cut n ∷ marks) characters (Line b line ∷ before) added is = let bad : ⊥ = cc in absurd bad
@@ -67,8 +67,8 @@ behind marks characters sent added h =
       marks_within = omega (arith, many, as_many marks characters, length-append before added, h.counted.marks);
       characters_within = omega (arith, chars, no_more marks characters, characters_behind before added, h.counted.characters);
       items = ap (λ k. items_from (drop k marks) (drop sent.characters characters)) h.counted.marks
-        ∙ ap (λ k. items_from (drop (length before) marks) (drop k characters)) h.counted.characters
-        ∙ items_behind marks characters before added h.all;
+          ∙ ap (λ k. items_from (drop (length before) marks) (drop k characters)) h.counted.characters
+          ∙ items_behind marks characters before added h.all;
     }
 
 -- more was sent

@@ -80,11 +80,11 @@ reads_automatic reader a b c d begins second third fourth =
     let three = reads_none 0 (a ∷ b ∷ c ∷ []) reader in
     first_step reader a (b ∷ c ∷ d ∷ []) one (status_begins reader a begins)
     ∙ ap (after_step one)
-      (first_step (with_begun (a ∷ []) reader) b (c ∷ d ∷ []) two (status_second reader a b begins second)
-      ∙ ap (after_step two)
-        (first_step (with_begun (a ∷ b ∷ []) reader) c (d ∷ []) three (status_third reader a b c begins third)
-        ∙ ap (after_step three)
-          (first_step (with_begun (a ∷ b ∷ c ∷ []) reader) d [] (reads_reply 0 told reader) (status_fourth reader a b c d begins fourth))))
+    (first_step (with_begun (a ∷ []) reader) b (c ∷ d ∷ []) two (status_second reader a b begins second)
+    ∙ ap (after_step two)
+    (first_step (with_begun (a ∷ b ∷ []) reader) c (d ∷ []) three (status_third reader a b c begins third)
+    ∙ ap (after_step three)
+    (first_step (with_begun (a ∷ b ∷ c ∷ []) reader) d [] (reads_reply 0 told reader) (status_fourth reader a b c d begins fourth))))
     ∙ one_reply reader reader told (length reader.begun + 0) (omega arith)
 
 -- a reply to DLE EOT is read, where one was asked for
@@ -94,7 +94,7 @@ reads_now reader asked b is answers =
     let told = reply.Now asked (now_status asked b) in
     let next = record reader { asked_now = None } in
     first_step reader b [] (reads_reply (length reader.begun) told next)
-      (rw (now_is_first b answers, now_not_status b answers, now_not_job b answers, answers, is) refl)
+    (rw (now_is_first b answers, now_not_status b answers, now_not_job b answers, answers, is) refl)
     ∙ one_reply reader next told (length reader.begun + 0) (omega arith)
 
 -- a reply to GS r is read, where one was asked for
@@ -129,13 +129,13 @@ reads_characters reader a b c d first second third fourth =
     let five = reads_none 0 (55 ∷ 34 ∷ a ∷ b ∷ c ∷ []) reader in
     let six = reads_none 0 (55 ∷ 34 ∷ a ∷ b ∷ c ∷ d ∷ []) reader in
     ap (after_step one) (ap (after_step two)
-      (first_step (with_begun (55 ∷ 34 ∷ []) reader) a (b ∷ c ∷ d ∷ 0 ∷ []) three (rw (first.0, first.1) refl)
-      ∙ ap (after_step three)
-        (first_step (with_begun (55 ∷ 34 ∷ a ∷ []) reader) b (c ∷ d ∷ 0 ∷ []) four (rw (second.0, second.1) refl)
-        ∙ ap (after_step four)
-          (first_step (with_begun (55 ∷ 34 ∷ a ∷ b ∷ []) reader) c (d ∷ 0 ∷ []) five (rw (third.0, third.1) refl)
-          ∙ ap (after_step five)
-            (first_step (with_begun (55 ∷ 34 ∷ a ∷ b ∷ c ∷ []) reader) d (0 ∷ []) six (rw (fourth.0, fourth.1) refl))))))
+    (first_step (with_begun (55 ∷ 34 ∷ []) reader) a (b ∷ c ∷ d ∷ 0 ∷ []) three (rw (first.0, first.1) refl)
+    ∙ ap (after_step three)
+    (first_step (with_begun (55 ∷ 34 ∷ a ∷ []) reader) b (c ∷ d ∷ 0 ∷ []) four (rw (second.0, second.1) refl)
+    ∙ ap (after_step four)
+    (first_step (with_begun (55 ∷ 34 ∷ a ∷ b ∷ []) reader) c (d ∷ 0 ∷ []) five (rw (third.0, third.1) refl)
+    ∙ ap (after_step five)
+    (first_step (with_begun (55 ∷ 34 ∷ a ∷ b ∷ c ∷ []) reader) d (0 ∷ []) six (rw (fourth.0, fourth.1) refl))))))
     ∙ one_reply reader reader told (length reader.begun + 0) (omega arith)
 
 pub reads_job : (reader : Reader) (number : ℕ) → number < 65536
@@ -143,6 +143,6 @@ pub reads_job : (reader : Reader) (number : ℕ) → number < 65536
 reads_job reader number less =
     let same : job_number (64 + number / 4096) (64 + number / 256 % 16) (64 + number / 16 % 16) (64 + number % 16) ≡ number = omega arith in
     reads_characters reader (64 + number / 4096) (64 + number / 256 % 16) (64 + number / 16 % 16) (64 + number % 16)
-      (job_character (number / 4096) (omega arith)) (job_character (number / 256 % 16) (omega arith))
-      (job_character (number / 16 % 16) (omega arith)) (job_character (number % 16) (omega arith))
+    (job_character (number / 4096) (omega arith)) (job_character (number / 256 % 16) (omega arith))
+    (job_character (number / 16 % 16) (omega arith)) (job_character (number % 16) (omega arith))
     ∙ ap (λ n. record { replies = reply.JobDone n ∷ []; skipped = length reader.begun; reader = with_begun [] reader }) same

@@ -37,7 +37,9 @@ pub fn blank_cells(alloc: Global, rows: u32, columns: u32) -> Result<DisplayCell
 fn are_characters(cells: &[DisplayCell]) -> bool
     ensures { result ≡ list_all is_character cells.now }
 {
-    cells.iter().all(|cell| 32 <= cell.character && cell.character <= 126)
+    cells
+        .iter()
+        .all(|cell| 32 <= cell.character && cell.character <= 126)
 }
 
 /// Returns whether cells have a character for each place, and rows with numbers of one byte.
@@ -166,6 +168,13 @@ pub fn rows_bytes(
     }
     let (rows, columns) = (after.rows() as u8, after.columns() as usize);
     let mut out = Vec::new(alloc);
-    push_rows(&mut out, protocol, rows, columns, before.as_slice(), after.as_slice())?;
+    push_rows(
+        &mut out,
+        protocol,
+        rows,
+        columns,
+        before.as_slice(),
+        after.as_slice(),
+    )?;
     Ok(out)
 }

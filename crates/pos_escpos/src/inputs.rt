@@ -14,7 +14,11 @@ use pos_service::{Input, PaperLevel, Signs};
 fn power_input(powered: bool) -> Option<Input>
     ensures { result ≡ power_input powered }
 {
-    if powered { None } else { Some(Input::PowerMoved(true)) }
+    if powered {
+        None
+    } else {
+        Some(Input::PowerMoved(true))
+    }
 }
 
 /// Returns what a sensor tells of a printer's cover, if the device shows another thing.
@@ -64,7 +68,11 @@ fn level_input(sensors: SensorSettings, shown: PaperLevel, level: PaperLevel) ->
 }
 
 /// Returns the paper to load by what a sensor tells.
-fn paper_input(sensors: SensorSettings, shown: PaperLevel, told: Option<PaperLevel>) -> Option<Input>
+fn paper_input(
+    sensors: SensorSettings,
+    shown: PaperLevel,
+    told: Option<PaperLevel>,
+) -> Option<Input>
     ensures { result ≡ paper_input sensors shown told }
 {
     match told {

@@ -5,9 +5,9 @@
 #![tactic(auto)]
 
 mod begun;
+mod bytes_fault;
 mod display_bytes;
 mod inputs;
-mod bytes_fault;
 mod printer_bytes;
 mod printer_commands;
 mod receipt_progress;
@@ -15,16 +15,19 @@ mod replies;
 mod reply_laws;
 mod settings;
 mod statuses;
+#[cfg(test)]
+mod tests;
 
+pub use bytes_fault::BytesFault;
 pub use display_bytes::{blank_cells, display_start_bytes, rows_bytes};
 pub use inputs::{drawer_inputs, printer_inputs};
-pub use bytes_fault::BytesFault;
 pub use printer_bytes::receipt_bytes;
 pub use printer_commands::{NowStatus, OrderStatus, job_bytes, start_bytes};
 pub use receipt_progress::SentReceipt;
 pub use replies::ReplyReader;
 pub use reply_laws::{losses_are_seen, replies_are_found};
-pub use statuses::{PrinterReply, Received, Status};
 pub use settings::{
-    CutSettings, Cutter, DrawerKick, DrawerPin, DisplayProtocol, LineSettings, PrinterSettings, SensorSettings,
+    CutSettings, Cutter, DisplayProtocol, DrawerKick, DrawerPin, LineSettings, PrinterSettings,
+    SensorSettings,
 };
+pub use statuses::{PrinterReply, Received, Status};

@@ -4,7 +4,6 @@ ghost use Rattle.std.specs.List.{list_all};
 ghost use Rattle.pos_service.specs.Receipts.{items_from, Line};
 ghost use Rattle.pos_escpos.specs.Printers.{Press, IsReady, PrintsOnly, press_after};
 ghost use Rattle.pos_escpos.specs.PrinterBytes.{alignment_number_of, all_fit, all_on_paper, bold_bytes, cut_bytes, is_character, item_fits, items_bytes, line_bytes, run_bytes};
-
 ghost use Rattle.pos_escpos.specs.declared.bytes_fault.BytesFault.TheVariants as fault;
 
 use crate::bytes_fault::BytesFault;
@@ -90,7 +89,10 @@ fn push_cut(out: &mut Vec<u8>, cut: CutSettings, percentage: u8) -> Result<(), A
 }
 
 /// Returns the first so many characters, or all if there are fewer, and the others.
-pub(crate) fn split_line(characters: &[PrintedCharacter], count: usize) -> (&[PrintedCharacter], &[PrintedCharacter])
+pub(crate) fn split_line(
+    characters: &[PrintedCharacter],
+    count: usize,
+) -> (&[PrintedCharacter], &[PrintedCharacter])
     ensures line { result.0.now ≡ take count characters.now }
     ensures rest { result.1.now ≡ drop count characters.now }
 {
@@ -101,7 +103,9 @@ pub(crate) fn split_line(characters: &[PrintedCharacter], count: usize) -> (&[Pr
 fn are_characters(characters: &[PrintedCharacter]) -> bool
     ensures { result ≡ list_all is_character characters.now }
 {
-    characters.iter().all(|character| 32 <= character.byte && character.byte <= 126)
+    characters
+        .iter()
+        .all(|character| 32 <= character.byte && character.byte <= 126)
 }
 
 /// Returns whether a line fits a printer.

@@ -92,5 +92,17 @@ pub fn job_bytes(number: u16) -> [u8; 11]
 {
     let [high, low] = number.to_be_bytes();
     let (a, b, c, d) = (high / 16, high % 16, low / 16, low % 16);
-    [0x1D, b'(', b'H', 6, 0, b'0', b'0', b'@' + a, b'@' + b, b'@' + c, b'@' + d]
+    [
+        0x1D,
+        b'(',
+        b'H',
+        6,
+        0,
+        b'0',
+        b'0',
+        b'@' + a,
+        b'@' + b,
+        b'@' + c,
+        b'@' + d,
+    ]
 }

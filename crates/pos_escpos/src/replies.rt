@@ -1,6 +1,5 @@
 //! The replies of a printer, read byte by byte.
 ghost use Rattle.std.specs.Prelude.{◌≡◌, ℕ, List, ◌++◌, ◌+◌, ◌<◌, ◌≤◌, ◌^◌, ◌∷◌, [], length, vec_len, true, Some, None, IfOk, OnOk, OnErr};
-
 ghost use Rattle.std.specs.Vec.{vec_capacity};
 ghost use Rattle.pos_escpos.specs.Replies.{replies_before};
 
@@ -40,7 +39,9 @@ fn add_reply(replies: &mut Vec<PrinterReply>, reply: Option<PrinterReply>)
     ensures room { vec_len replies.new ≤ vec_len replies.old + 1 }
     ensures capacity { vec_capacity replies.old ≤ vec_capacity replies.new }
 {
-    if let Some(reply) = reply && replies.push(reply).is_err() {
+    if let Some(reply) = reply
+        && replies.push(reply).is_err()
+    {
         unreachable!();
     }
 }
@@ -159,7 +160,9 @@ impl ReplyReader {
         requires { self.old.begun ≡ [] }
         ensures { record { received = result; reader = self.new } ≡ lone_received self.old.asked_in_order byte self.old }
     {
-        if let Some(asked) = self.asked_in_order && is_plain(byte) {
+        if let Some(asked) = self.asked_in_order
+            && is_plain(byte)
+        {
             self.asked_in_order = None;
             return Received {
                 skipped: 0,

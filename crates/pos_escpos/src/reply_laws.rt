@@ -21,8 +21,7 @@ pub fn replies_are_found()
     ensures in_order { (reader : Reader) (asked : OrderStatus) (b : ℕ) → reader.asked_in_order ≡ Some asked → reader.begun ≡ [] →
         is_plain b ≡ true → ReadsOne reader (reply.InOrder asked (order_status asked b)) (record reader { asked_in_order = None })
         (reading_of reader (b ∷ [])) }
-{
-}
+{}
 
 /// Proves that the cuts of a stream don't matter, that no byte is passed over in silence, and that a reply of which bytes
 /// were lost gives none.
@@ -43,5 +42,4 @@ pub fn losses_are_seen()
     // An automatic status is one.
     ensures statuses { (a b c d : ℕ) → begins_status a ≡ true → is_plain b ≡ true → is_plain c ≡ true → is_plain d ≡ true →
         is_long_reply (a ∷ b ∷ c ∷ d ∷ []) ≡ true }
-{
-}
+{}

@@ -80,7 +80,11 @@ fn paper_by(is_end: bool, is_near: bool) -> PaperLevel
 fn paper_if_empty(is_end: bool) -> Option<PaperLevel>
     ensures { result ≡ paper_if_empty is_end }
 {
-    if is_end { Some(PaperLevel::Empty) } else { None }
+    if is_end {
+        Some(PaperLevel::Empty)
+    } else {
+        None
+    }
 }
 
 /// What a reply tells that tells nothing.

@@ -12,4 +12,4 @@ returns-clause-shows c screen showing =
     let sent : c.push_rows.new.out.items ≡ rows_bytes is new.columns 1 new.rows old.cells new.cells = search rules in
     let can : can_become old new ≡ true = search rules in
     subst (λ (bytes : List ℕ). IsShowing (characters_of new.cells) (screen_after (make_of is new) screen bytes))
-      (sym sent) (becomes is old new can screen showing)
+    (sym sent) (becomes is old new can screen showing)
