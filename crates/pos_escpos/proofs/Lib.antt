@@ -1,3 +1,4 @@
+mod OrderLemmas
 mod PrinterLemmas
 mod DisplayLemmas
 mod InputLemmas

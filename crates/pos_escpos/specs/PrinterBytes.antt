@@ -4,7 +4,7 @@ use Rattle.std.specs.List.{flat_map, list_all}
 use Rattle.pos_service.specs.declared.receipt_text.Alignment.{Alignment}
 use Rattle.pos_service.specs.declared.receipt_text.Alignment.TheVariants as alignment
 use Rattle.pos_service.specs.declared.receipt_text.PrintedCharacter.{PrintedCharacter}
-use Rattle.pos_service.specs.Receipts.{Item, Line, CutAt}
+use Rattle.pos_service.specs.Receipts.{Item, Line, CutAt, Printout}
 use Rattle.pos_escpos.specs.declared.settings.Cutter.{Cutter}
 use Rattle.pos_escpos.specs.declared.settings.Cutter.TheVariants as cutter
 use Rattle.pos_escpos.specs.declared.settings.CutSettings.{CutSettings}
@@ -40,6 +40,11 @@ item_fits columns (CutAt n) = true
 -- each item fits
 abbrev pub all_fit : ℕ → List Item → Bool
 all_fit columns items = list_all (item_fits columns) items
+
+-- what a request makes fits a printer, and its line buffer has characters alone
+pub record FitsPrinter (columns : ℕ) (made : Printout) : Type 0 where
+  pub items : all_fit columns made.items ≡ true
+  pub buffer : list_all is_character made.buffer ≡ true
 
 -- the number of an alignment in ESC a
 abbrev pub alignment_number_of : Alignment → ℕ
