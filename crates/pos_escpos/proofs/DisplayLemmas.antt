@@ -1,5 +1,5 @@
 -- How a display shows what is sent to it.
-use Rattle.std.proofs.Common.{◌≡◌, ◌≢◌, ℕ, zero, suc, ◌+◌, ◌-◌, ◌*◌, ◌<◌, ◌≤◌, Bool, true, false, List, [], ◌∷◌, ◌++◌, length, map, take, drop, refl, ap, sym, ◌∙◌, append_assoc, length-append, length-drop, arith, subst, Option, Some, None, ◌==◌, ◌&&◌, bytes_eq, nat_le, if◌then◌else◌, inl, inr, ⊎_elim}
+use Rattle.std.proofs.Common.{◌≡◌, ℕ, zero, suc, ◌+◌, ◌*◌, ◌<◌, ◌≤◌, Bool, true, false, List, [], ◌∷◌, ◌++◌, length, take, drop, refl, ap, sym, ◌∙◌, append_assoc, length-append, length-drop, arith, subst, Option, Some, None, ◌==◌, ◌&&◌, bytes_eq, nat_le, if◌then◌else◌, ⊎_elim}
 use Rattle.std.specs.Prelude.{slice_set}
 use Rattle.std.proofs.lemmas.Bool.{ne_eqb, le-leb, and_parts, leb-true, cases_Bool, eqb-true}
 use Rattle.std.proofs.lemmas.List.{length-map, length-take-le, map-append, set_at, take-append-drop}

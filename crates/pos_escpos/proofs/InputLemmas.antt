@@ -1,6 +1,6 @@
 -- What a device shows once it has taken the inputs of a status.
-use Rattle.std.proofs.Common.{◌≡◌, ℕ, ◌<◌, ◌≤◌, Bool, true, false, refl, ap, sym, ◌∙◌, arith, Option, Some, None, ◌==◌, unwrap_or, subst, inl, inr, ⊎_elim}
-use Rattle.std.proofs.lemmas.Bool.{ne_eqb, cases_Bool, le-leb, lt-leb, eqb-false}
+use Rattle.std.proofs.Common.{◌≡◌, ℕ, Bool, true, false, refl, ap, ◌∙◌, arith, Option, Some, None, ◌==◌, unwrap_or, subst, ⊎_elim}
+use Rattle.std.proofs.lemmas.Bool.{ne_eqb, cases_Bool, le-leb, lt-leb}
 use Rattle.pos_service.specs.declared.input.Input.TheVariants as input
 use Rattle.pos_service.specs.declared.kind.Kind.TheVariants as kind
 use Rattle.pos_service.specs.declared.plant.Form.{Form}

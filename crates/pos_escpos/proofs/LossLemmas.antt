@@ -1,5 +1,5 @@
 -- Pieces of a stream of replies, the count of its bytes, and bytes that were lost.
-use Rattle.std.proofs.Common.{◌≡◌, ◌≢◌, ℕ, ◌+◌, ◌<◌, ◌≤◌, ◌/◌, ◌%◌, Bool, true, false, not, List, [], ◌∷◌, ◌++◌, length, refl, ap, sym, ◌∙◌, append_assoc, length-append, arith, cond, subst, Option, Some, None, ◌==◌, ◌||◌, ◌&&◌, inl, inr, ⊎_elim}
+use Rattle.std.proofs.Common.{◌≡◌, ◌≢◌, ℕ, ◌+◌, ◌<◌, ◌≤◌, ◌/◌, ◌%◌, Bool, true, false, not, List, [], ◌∷◌, ◌++◌, length, refl, ap, sym, ◌∙◌, length-append, arith, cond, Option, Some, None, ◌==◌, ◌||◌, ◌&&◌, ⊎_elim}
 use Rattle.std.proofs.lemmas.Bool.{ne_eqb, and_parts, eqb-true, cases_Bool}
 use Rattle.std.specs.List.{list_all}
 use Rattle.pos_escpos.specs.declared.printer_commands.OrderStatus.{OrderStatus}

@@ -1,7 +1,7 @@
 -- What an order adds to a receipt fits its printer.
-use Rattle.std.proofs.Common.{◌≡◌, ℕ, zero, suc, ◌+◌, ◌<◌, ◌≤◌, Bool, true, false, not, List, [], ◌∷◌, ◌++◌, length, map, take, drop, replicate, refl, ap, sym, ◌∙◌, length-append, length-drop, arith, cond, subst, ◌==◌, ◌&&◌, ◌||◌, nat_le, inl, inr, ⊎_elim, bytes_eq}
+use Rattle.std.proofs.Common.{◌≡◌, ℕ, zero, suc, ◌+◌, ◌≤◌, Bool, true, false, List, [], ◌∷◌, ◌++◌, length, take, drop, replicate, refl, ap, sym, ◌∙◌, length-drop, arith, cond, ◌==◌, ◌&&◌, nat_le, ⊎_elim, bytes_eq}
 use Rattle.std.specs.Prelude.{codes}
-use Rattle.std.proofs.lemmas.Bool.{ne_eqb, le-leb, and_parts, leb-true, cases_Bool, eqb-true, lt-leb}
+use Rattle.std.proofs.lemmas.Bool.{le-leb, and_parts, leb-true, cases_Bool}
 use Rattle.std.proofs.lemmas.List.{length-map, length-take, take-append-drop}
 use Rattle.std.proofs.lemmas.List.Folds.{list_all-append, list_all-map}
 use Rattle.std.specs.List.{list_all, prefix_len}
@@ -10,7 +10,7 @@ use Rattle.pos_service.specs.declared.receipt_text.Alignment.TheVariants as alig
 use Rattle.pos_service.specs.declared.receipt_text.Piece.{Piece}
 use Rattle.pos_service.specs.declared.receipt_text.Piece.TheVariants as piece
 use Rattle.pos_service.specs.declared.receipt_text.PrintedCharacter.{PrintedCharacter}
-use Rattle.pos_service.specs.Receipts.{Item, Line, CutAt, Printout, Reading, SegmentCharacter, Style, after_items, begun_segment, characters_of, chunks_of, cut_pieces, escape_sequence, first_alignment, in_chunks, in_style, is_printable_byte, is_digit, is_inner, is_in_range, is_printable_text, is_upper, line_end_pieces, lines_if_begun, lines_of, numbered_pieces, number_or, overflowed, pieces, pieces_past, plain, printed_by, printed_from, reading_after_escape, reading_at, return_pieces, sequence_pieces, starts_with}
+use Rattle.pos_service.specs.Receipts.{Item, Line, CutAt, Printout, Reading, SegmentCharacter, Style, after_items, begun_segment, characters_of, chunks_of, cut_pieces, escape_sequence, first_alignment, in_chunks, in_style, is_printable_byte, is_digit, is_inner, is_in_range, is_printable_text, is_upper, line_end_pieces, lines_if_begun, lines_of, numbered_pieces, number_or, pieces, pieces_past, plain, printed_by, printed_from, reading_after_escape, reading_at, sequence_pieces, starts_with}
 use Rattle.pos_escpos.specs.PrinterBytes.{FitsPrinter, all_fit, is_character, item_fits}
 
 -- a piece that is no character, or one that a printer prints
@@ -61,27 +61,31 @@ escape_plain : (bs : List ℕ) → are_plain (escape_sequence bs).pieces ≡ tru
 escape_plain bs = elim (starts_with is_upper (drop (prefix_len is_inner bs) bs)) as (λ ends. are_plain (cond {A = Reading} ends
     (record { pieces = sequence_pieces (take (prefix_len is_inner bs + 1) bs); more = prefix_len is_inner bs + 2 })
     (record { pieces = []; more = 1 })).pieces ≡ true) [
-      true ↦ sequence_plain (take (prefix_len is_inner bs + 1) bs) | false ↦ refl ]
+      | true ↦ sequence_plain (take (prefix_len is_inner bs + 1) bs)
+      | false ↦ refl
+    ]
 
 after_escape_plain : (bs : List ℕ) → are_plain (reading_after_escape bs).pieces ≡ true
 after_escape_plain [] = refl
 after_escape_plain (b ∷ bs) = elim (b == 124) as (λ bar. are_plain (cond {A = Reading} bar (escape_sequence bs) (record { pieces = []; more = 0 })).pieces ≡ true) [
-    true ↦ escape_plain bs | false ↦ refl ]
+  | true ↦ escape_plain bs
+  | false ↦ refl
+]
 
 -- what a byte of a text stands for is plain
 byte_plain : (b : ℕ) (bs : List ℕ) → is_printable_byte b ≡ true → are_plain (reading_at b bs).pieces ≡ true
 byte_plain b bs ok = ⊎_elim
     (λ (esc : (b == 27) ≡ true). rw esc (after_escape_plain bs))
     (λ (no_esc : (b == 27) ≡ false). ⊎_elim
-      (λ (feed : (b == 10) ≡ true). rw (no_esc, feed) refl)
-      (λ (no_feed : (b == 10) ≡ false). ⊎_elim
-        (λ (return : (b == 13) ≡ true).
-          rw (no_esc, no_feed, return) (either (starts_with (λ next. next == 10) bs) [] (piece.Return ∷ []) refl refl))
-        (λ (no_return : (b == 13) ≡ false).
-          let within : (nat_le 32 b && nat_le b 126) ≡ true = rw (no_feed, no_return, no_esc) at ok in
-          rw (no_esc, no_feed, no_return, within) refl)
-        (cases_Bool (b == 13)))
-      (cases_Bool (b == 10)))
+    (λ (feed : (b == 10) ≡ true). rw (no_esc, feed) refl)
+    (λ (no_feed : (b == 10) ≡ false). ⊎_elim
+    (λ (return : (b == 13) ≡ true).
+    rw (no_esc, no_feed, return) (either (starts_with (λ next. next == 10) bs) [] (piece.Return ∷ []) refl refl))
+    (λ (no_return : (b == 13) ≡ false).
+    let within : (nat_le 32 b && nat_le b 126) ≡ true = rw (no_feed, no_return, no_esc) at ok in
+    rw (no_esc, no_feed, no_return, within) refl)
+    (cases_Bool (b == 13)))
+    (cases_Bool (b == 10)))
     (cases_Bool (b == 27))
 
 -- what a text stands for is plain
@@ -118,7 +122,7 @@ parts_plain : (n : ℕ) (segment : List SegmentCharacter) → is_plain_segment s
 parts_plain n segment fine =
     let test = λ (s : SegmentCharacter). is_character s.character in
     and_parts (is_plain_segment (take n segment)) (is_plain_segment (drop n segment))
-      (sym (list_all-append test (take n segment) (drop n segment)) ∙ ap is_plain_segment (take-append-drop n segment) ∙ fine)
+    (sym (list_all-append test (take n segment) (drop n segment)) ∙ ap is_plain_segment (take-append-drop n segment) ∙ fine)
 
 chunks_fit : (most chars columns : ℕ) (segment : List SegmentCharacter) → length segment ≤ most → 1 ≤ chars → chars ≤ columns
     → is_plain_segment segment ≡ true → FitsChunks chars columns (in_chunks most chars segment)
@@ -132,19 +136,19 @@ chunks_fit (suc most) chars columns segment le some within fine = ⊎_elim
       short = simp length-map (leb-true (length segment) chars all);
     }))
     (λ (more : nat_le (length segment) chars ≡ false).
-      let parts = parts_plain chars segment fine in
-      let rest = chunks_fit most chars columns (drop chars segment) (simp length-drop (omega arith)) some within parts.1 in
-      let front = characters_of (take chars segment) in
-      let a = first_alignment (drop chars segment) in
-      rw more (record {
-        fits = record {
-          items = both_fit columns (Line a front ∷ []) (in_chunks most chars (drop chars segment)).items
+    let parts = parts_plain chars segment fine in
+    let rest = chunks_fit most chars columns (drop chars segment) (simp length-drop (omega arith)) some within parts.1 in
+    let front = characters_of (take chars segment) in
+    let a = first_alignment (drop chars segment) in
+    rw more (record {
+      fits = record {
+        items = both_fit columns (Line a front ∷ []) (in_chunks most chars (drop chars segment)).items
             (line_fits columns a front (characters_plain (take chars segment) parts.0) (simp (length-map, length-take) (omega arith)))
             rest.fits.items;
-          buffer = rest.fits.buffer;
-        };
-        short = rest.short;
-      }))
+        buffer = rest.fits.buffer;
+      };
+      short = rest.short;
+    }))
     (cases_Bool (nat_le (length segment) chars))
 
 lines_fit : (chars columns : ℕ) (at_end : Alignment) (segment : List SegmentCharacter) → 1 ≤ chars → chars ≤ columns
@@ -152,7 +156,7 @@ lines_fit : (chars columns : ℕ) (at_end : Alignment) (segment : List SegmentCh
 lines_fit chars columns at_end segment some within fine =
     let chunks = chunks_fit (length segment) chars columns segment (omega arith) some within fine in
     both_fit columns (chunks_of chars segment).items (Line at_end (chunks_of chars segment).buffer ∷ []) chunks.fits.items
-      (line_fits columns at_end (chunks_of chars segment).buffer chunks.fits.buffer (omega (arith, chunks.short)))
+    (line_fits columns at_end (chunks_of chars segment).buffer chunks.fits.buffer (omega (arith, chunks.short)))
 
 begun_fit : (chars columns : ℕ) (at_end : Alignment) (segment : List SegmentCharacter) → 1 ≤ chars → chars ≤ columns
     → is_plain_segment segment ≡ true → all_fit columns (lines_if_begun chars at_end segment) ≡ true
@@ -181,14 +185,14 @@ pieces_fit chars columns style segment (piece.Character byte ∷ ps) some within
     pieces_fit chars columns style (segment ++ in_style style byte ∷ []) ps some within (segment_push style segment byte fine parts.0) parts.1
 pieces_fit chars columns style segment (piece.LineEnd ∷ ps) some within fine ok =
     after_fit columns (lines_of chars style.alignment segment) (printed_from chars style [] ps)
-      (lines_fit chars columns style.alignment segment some within fine) (pieces_fit chars columns style [] ps some within refl ok)
+    (lines_fit chars columns style.alignment segment some within fine) (pieces_fit chars columns style [] ps some within refl ok)
 pieces_fit chars columns style segment (piece.Return ∷ ps) some within fine ok =
     after_fit columns (lines_if_begun chars style.alignment segment) (printed_from chars style [] ps)
-      (begun_fit chars columns style.alignment segment some within fine) (pieces_fit chars columns style [] ps some within refl ok)
+    (begun_fit chars columns style.alignment segment some within fine) (pieces_fit chars columns style [] ps some within refl ok)
 pieces_fit chars columns style segment (piece.Cut n ∷ ps) some within fine ok =
     after_fit columns (lines_if_begun chars style.alignment segment ++ CutAt n ∷ []) (printed_from chars style [] ps)
-      (both_fit columns (lines_if_begun chars style.alignment segment) (CutAt n ∷ []) (begun_fit chars columns style.alignment segment some within fine) refl)
-      (pieces_fit chars columns style [] ps some within refl ok)
+    (both_fit columns (lines_if_begun chars style.alignment segment) (CutAt n ∷ []) (begun_fit chars columns style.alignment segment some within fine) refl)
+    (pieces_fit chars columns style [] ps some within refl ok)
 pieces_fit chars columns style segment (piece.Bold ∷ ps) some within fine ok =
     pieces_fit chars columns (record style { is_bold = true }) segment ps some within fine ok
 pieces_fit chars columns style segment (piece.Align to ∷ ps) some within fine ok =
@@ -203,8 +207,8 @@ pub request_fits : (chars columns : ℕ) (buffer : List PrintedCharacter) (ps : 
     → list_all is_character buffer ≡ true → are_plain ps ≡ true → FitsPrinter columns (printed_by chars buffer ps)
 request_fits chars columns buffer ps some within fine ok =
     pieces_fit chars columns neutral (begun_segment buffer) ps some within
-      (list_all-map (λ (s : SegmentCharacter). is_character s.character)
-        (λ (c : PrintedCharacter). record { character = c; alignment = alignment.Left }) buffer ∙ fine) ok
+    (list_all-map (λ (s : SegmentCharacter). is_character s.character)
+    (λ (c : PrintedCharacter). record { character = c; alignment = alignment.Left }) buffer ∙ fine) ok
 
 -- a text that a printer takes, and a cut, are plain
 pub text_fits : (chars columns : ℕ) (buffer : List PrintedCharacter) (bytes : List ℕ) → 1 ≤ chars → chars ≤ columns

@@ -1,10 +1,10 @@
 -- How a printer obeys what is sent to it.
-use Rattle.std.proofs.Common.{◌≡◌, ℕ, ◌+◌, ◌<◌, ◌≤◌, Bool, true, false, List, [], ◌∷◌, ◌++◌, length, map, refl, ap, sym, ◌∙◌, append_assoc, length-append, arith, cond, subst, Some, ◌==◌, nat_le}
-use Rattle.std.proofs.lemmas.Bool.{ne_eqb, le-leb, and_parts, leb-true, cases_Bool}
+use Rattle.std.proofs.Common.{◌≡◌, ℕ, ◌+◌, ◌<◌, ◌≤◌, Bool, true, false, List, [], ◌∷◌, ◌++◌, length, refl, ap, sym, ◌∙◌, append_assoc, length-append, arith, cond, subst, Some, ◌==◌, nat_le}
+use Rattle.std.proofs.lemmas.Bool.{ne_eqb, le-leb, and_parts, leb-true}
 use Rattle.std.proofs.lemmas.List.{append-nil}
 use Rattle.std.proofs.lemmas.List.Concat.{flat_map-cons}
 use Rattle.std.proofs.lemmas.List.Sums.{fold-append}
-use Rattle.std.specs.List.{fold, flat_map, list_all}
+use Rattle.std.specs.List.{fold, list_all}
 use Rattle.pos_service.specs.declared.receipt_text.Alignment.{Alignment}
 use Rattle.pos_service.specs.declared.receipt_text.Alignment.TheVariants as alignment
 use Rattle.pos_service.specs.declared.receipt_text.PrintedCharacter.{PrintedCharacter}
@@ -12,7 +12,7 @@ use Rattle.pos_service.specs.Receipts.{Item, Line, CutAt}
 use Rattle.pos_escpos.specs.declared.settings.Cutter.{Cutter}
 use Rattle.pos_escpos.specs.declared.settings.Cutter.TheVariants as cutter
 use Rattle.pos_escpos.specs.declared.settings.CutSettings.{CutSettings}
-use Rattle.pos_escpos.specs.Printers.{OnPaper, PrintedLine, CutThrough, Press, IsReady, PrintsOnly, press_after, size_of, takes}
+use Rattle.pos_escpos.specs.Printers.{OnPaper, PrintedLine, CutThrough, Press, IsReady, PrintsOnly, press_after, takes}
 use Rattle.pos_escpos.specs.PrinterBytes.{all_fit, all_on_paper, alignment_number_of, bold_bytes, cut_bytes, cut_on_paper, is_character, item_bytes, item_fits, items_bytes, line_bytes, on_paper, run_bytes}
 
 -- a printer at work on a line

@@ -1,14 +1,13 @@
 -- How a stream of replies is read.
-use Rattle.std.proofs.Common.{◌≡◌, ◌≢◌, ℕ, ◌+◌, ◌*◌, ◌/◌, ◌%◌, ◌<◌, ◌≤◌, Bool, true, false, not, List, [], ◌∷◌, ◌++◌, length, refl, ap, sym, ◌∙◌, append_assoc, length-append, arith, cond, subst, Some, None, bit_and, ◌==◌, ◌||◌}
-use Rattle.std.proofs.lemmas.Bool.{ne_eqb, and_parts, eqb-true, le-leb}
+use Rattle.std.proofs.Common.{◌≡◌, ℕ, ◌+◌, ◌/◌, ◌%◌, ◌<◌, true, false, List, [], ◌∷◌, length, refl, ap, sym, ◌∙◌, arith, subst, Some, None, bit_and}
+use Rattle.std.proofs.lemmas.Bool.{ne_eqb, eqb-true, le-leb}
 use Rattle.std.proofs.lemmas.Nat.{and_assoc}
 use Rattle.std.proofs.lemmas.Nat.Bits.{and_pow}
 use Rattle.pos_escpos.specs.declared.printer_commands.NowStatus.{NowStatus}
 use Rattle.pos_escpos.specs.declared.printer_commands.OrderStatus.{OrderStatus}
 use Rattle.pos_escpos.specs.declared.statuses.PrinterReply.{PrinterReply}
 use Rattle.pos_escpos.specs.declared.statuses.PrinterReply.TheVariants as reply
-use Rattle.pos_escpos.specs.PrinterCommands.{job_characters}
-use Rattle.pos_escpos.specs.Replies.{Reader, Reading, ReadsOne, Step, after_step, answers_now, automatic_status, begins_job, begins_status, byte_received, bytes_of_replies, bytes_told, is_first, is_job_character, is_long_reply, is_plain, job_number, job_reply, joined, kept, now_status, order_status, reading_of, reads_none, reads_reply}
+use Rattle.pos_escpos.specs.Replies.{Reader, ReadsOne, Step, after_step, answers_now, automatic_status, begins_job, begins_status, byte_received, is_first, is_job_character, is_plain, job_number, job_reply, now_status, order_status, reading_of, reads_none, reads_reply}
 
 -- the same bit 4, seen through a mask that has it
 seen_through : (mask value b : ℕ) → bit_and mask 16 ≡ 16 → bit_and b mask ≡ value → bit_and b 16 ≡ bit_and value 16

@@ -1,5 +1,5 @@
 -- How a reader keeps a reply that has begun.
-use Rattle.std.specs.Prelude.{ℕ, ◌+◌, Bool, true, false, not, List, [], ◌∷◌, length}
+use Rattle.std.specs.Prelude.{ℕ, Bool, true, false, not, List, [], ◌∷◌}
 use Rattle.pos_escpos.specs.declared.begun.Begun.{Begun}
 use Rattle.pos_escpos.specs.declared.begun.Begun.TheVariants as begun
 use Rattle.pos_escpos.specs.declared.begun.Next.{Next}

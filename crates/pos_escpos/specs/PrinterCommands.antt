@@ -17,7 +17,8 @@ automatic_command is_automatic = 29 ∷ 97 ∷ (if is_automatic then 255 else 0)
 abbrev pub start_command : Bool → List ℕ
 start_command is_automatic = 27 ∷ 64 ∷ automatic_command is_automatic
 
--- From the old printer, whatever it had begun to print, it is ready then, and was asked for an automatic status or none.
+-- From the old printer, whatever it had begun to print, the new one is ready, and was asked for an automatic status or
+-- none.
 pub record IsStarted (is_automatic : Bool) (old new : Press) : Type 0 where
   pub ready : IsReady new
   pub paper : new.paper ≡ old.paper

@@ -1,5 +1,5 @@
 -- What a printer sends: which bytes are a reply, and what it tells.
-use Rattle.std.specs.Prelude.{◌≡◌, ℕ, ◌+◌, ◌*◌, ◌%◌, Bool, true, false, not, List, [], ◌∷◌, ◌++◌, length, nat_le, bit_and, ◌==◌, ◌&&◌, ◌||◌, if◌then◌else◌, Option, Some, None}
+use Rattle.std.specs.Prelude.{◌≡◌, ℕ, ◌+◌, ◌*◌, ◌%◌, Bool, false, not, List, [], ◌∷◌, ◌++◌, length, nat_le, bit_and, ◌==◌, ◌&&◌, ◌||◌, if◌then◌else◌, Option, Some, None}
 use Rattle.std.specs.List.{list_all}
 use Rattle.pos_service.specs.declared.signs.PaperLevel.{PaperLevel}
 use Rattle.pos_service.specs.declared.signs.PaperLevel.TheVariants as paper
@@ -112,6 +112,14 @@ pub record Step : Type 0 where
   pub received : Received
   pub reader : Reader
 
+-- a step, by its parts
+abbrev pub step_of : Received → Reader → Step
+step_of received reader = record { received = received; reader = reader }
+
+-- a reader of which no reply has begun
+abbrev pub idle : Reader → Reader
+idle reader = record reader { begun = [] }
+
 -- nothing is read, and so many bytes were no reply; a reply may have begun
 abbrev pub reads_none : ℕ → List ℕ → Reader → Step
 reads_none skipped begun reader = record {
@@ -221,7 +229,7 @@ abbrev pub ReadsOne : Reader → PrinterReply → Reader → Reading → Type 0
 ReadsOne reader told next reading = reading ≡ record {
   replies = told ∷ [];
   skipped = length reader.begun;
-  reader = record next { begun = [] };
+  reader = idle next;
 }
 
 -- the bytes of an automatic status, or the acknowledgement of a job, by their first and their number: no other has

@@ -11,8 +11,8 @@ use std::marker::Model;
 
 /// Reads what a printer sends, byte by byte. Contracts see what was asked, and the bytes of a reply that has begun.
 ///
-/// It finds automatic statuses and acknowledgements by themselves. A reply to DLE EOT or GS r doesn't say what was asked,
-/// so it is found only after [`ReplyReader::expect_now`] or [`ReplyReader::expect_in_order`].
+/// It finds automatic statuses and acknowledgements by themselves. A reply to DLE EOT or GS r doesn't say what was
+/// asked, so it is found only after [`ReplyReader::expect_now`] or [`ReplyReader::expect_in_order`].
 #[derive(Drop)]
 pub struct ReplyReader {
     asked_now: Option<NowStatus>,
@@ -27,7 +27,11 @@ impl Model for ReplyReader {
 
     ghost Value = { Reader };
 
-    ghost view = { λ r. record { asked_now = r.asked_now; asked_in_order = r.asked_in_order; begun = bytes_begun r.begun } };
+    ghost view = { λ r. record {
+      asked_now = r.asked_now;
+      asked_in_order = r.asked_in_order;
+      begun = bytes_begun r.begun;
+    } };
 
     ghost invariant = { λ r. is_begun r.begun ≡ true };
 }
@@ -47,7 +51,7 @@ fn add_reply(replies: &mut Vec<PrinterReply>, reply: Option<PrinterReply>)
 }
 
 impl ReplyReader {
-    ghost use Rattle.pos_escpos.specs.Replies.{Reader, byte_received, bytes_told, first_received, later_received, lone_received, now_received, reading_of};
+    ghost use Rattle.pos_escpos.specs.Replies.{Reader, byte_received, bytes_told, idle, first_received, later_received, lone_received, now_received, reading_of, step_of};
     ghost use Rattle.pos_escpos.specs.BegunReplies.{is_begun_next, step_by};
 
     /// Returns a reader that expects no reply to a question, with none begun.
@@ -72,8 +76,8 @@ impl ReplyReader {
 
     /// Expects the reply to GS r, in the place of any expected before.
     ///
-    /// That reply is a single byte without a mark. So ask GS r only while automatic status is off and no acknowledgement
-    /// is due: if bytes of these were lost, what is left of them could be taken for the reply.
+    /// That reply is a single byte without a mark. So ask GS r only while automatic status is off and no
+    /// acknowledgement is due: if bytes of these were lost, what is left of them could be taken for the reply.
     pub fn expect_in_order(&mut self, status: OrderStatus)
         ensures { self.new ≡ record self.old { asked_in_order = Some status } }
     {
@@ -110,7 +114,7 @@ impl ReplyReader {
     fn take_now(&mut self, skipped: u8, byte: u8) -> Received
         requires { skipped ≤ 6 }
         ensures { (begun : List ℕ) → skipped ≡ length begun →
-            record { received = result; reader = self.new } ≡ now_received self.old.asked_now begun byte (record self.old { begun = [] }) }
+            step_of result self.new ≡ now_received self.old.asked_now begun byte (idle self.old) }
     {
         self.begun = Begun::Nothing;
         let Some(asked) = self.asked_now else {
@@ -128,7 +132,7 @@ impl ReplyReader {
 
     /// Takes a byte that a reply may begin with.
     fn take_first(&mut self, byte: u8) -> Received
-        ensures { record { received = result; reader = self.new } ≡ first_received self.old.begun byte self.old }
+        ensures { step_of result self.new ≡ first_received self.old.begun byte self.old }
     {
         let skipped = self.begun.len();
         if byte & 0x93 == 0x10 {
@@ -158,7 +162,7 @@ impl ReplyReader {
     /// Takes a byte that no marked reply begins with, while none has begun.
     fn take_lone(&mut self, byte: u8) -> Received
         requires { self.old.begun ≡ [] }
-        ensures { record { received = result; reader = self.new } ≡ lone_received self.old.asked_in_order byte self.old }
+        ensures { step_of result self.new ≡ lone_received self.old.asked_in_order byte self.old }
     {
         if let Some(asked) = self.asked_in_order
             && is_plain(byte)
@@ -178,7 +182,7 @@ impl ReplyReader {
     /// Takes what comes of a byte behind a reply that has begun.
     fn take_next(&mut self, next: Next) -> Received
         requires { is_begun_next next ≡ true }
-        ensures { record { received = result; reader = self.new } ≡ step_by self.old.begun next self.old }
+        ensures { step_of result self.new ≡ step_by self.old.begun next self.old }
     {
         let count = self.begun.len();
         self.begun = Begun::Nothing;
@@ -203,7 +207,7 @@ impl ReplyReader {
 
     /// Takes a byte that no marked reply begins with.
     fn take_later(&mut self, byte: u8) -> Received
-        ensures { record { received = result; reader = self.new } ≡ later_received self.old.begun byte self.old }
+        ensures { step_of result self.new ≡ later_received self.old.begun byte self.old }
     {
         match self.begun {
             Begun::Nothing => self.take_lone(byte),
@@ -216,7 +220,7 @@ impl ReplyReader {
 
     /// Takes the next byte by what it may be.
     fn take_byte(&mut self, byte: u8) -> Received
-        ensures { record { received = result; reader = self.new } ≡ byte_received self.old byte }
+        ensures { step_of result self.new ≡ byte_received self.old byte }
     {
         if byte & 0x10 != 0 {
             return self.take_first(byte);
@@ -226,7 +230,7 @@ impl ReplyReader {
 
     /// Takes the next byte, and returns what comes of it.
     pub fn take(&mut self, byte: u8) -> Received
-        ensures step { record { received = result; reader = self.new } ≡ byte_received self.old byte }
+        ensures step { step_of result self.new ≡ byte_received self.old byte }
         // The byte is of a reply, or of none, or of one that has begun.
         ensures counts { result.skipped + bytes_told result.reply + length self.new.begun ≡ length self.old.begun + 1 }
     {
