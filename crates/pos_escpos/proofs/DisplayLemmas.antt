@@ -9,7 +9,8 @@ use Rattle.std.proofs.lemmas.List.Sums.{fold-append}
 use Rattle.std.specs.List.{fold, list_all}
 use Rattle.pos_service.specs.declared.display_text.DisplayCell.{DisplayCell}
 use Rattle.pos_service.specs.declared.display_text.Place.{Place}
-use Rattle.pos_service.specs.Displays.{Display}
+use Rattle.pos_service.specs.Displays.{Display, blank, blank_display}
+use Rattle.std.specs.Prelude.{replicate}
 use Rattle.pos_escpos.specs.declared.settings.DisplayProtocol.{DisplayProtocol}
 use Rattle.pos_escpos.specs.declared.settings.DisplayProtocol.TheVariants as protocol
 use Rattle.pos_escpos.specs.DisplayBytes.{can_become, characters_of, is_character, is_whole, make_of, row_bytes, row_start, rows_bytes, same_size}
@@ -186,3 +187,24 @@ becomes is old new can screen showing =
     let bytes = rows_bytes is new.columns 1 new.rows old.cells new.cells in
     subst (λ (s : Screen). IsShowing (characters_of new.cells) s) (sym (ap (λ s. screen_after (make_of is new) s bytes) begins ∙ all.is))
     (record { shown = refl; known = refl; whole = refl })
+
+-- blanks are spaces
+blank_characters : (n : ℕ) → characters_of (replicate n blank) ≡ replicate n 32
+blank_characters zero = refl
+blank_characters (suc n) = ap (λ characters. 32 ∷ characters) (blank_characters n)
+
+-- a display that was initialized and cleared shows blanks
+cleared_at_start : (is : DisplayProtocol) (rows columns : ℕ) (characters : List ℕ) (cursor : Option Place) (known : Bool)
+    → IsShowing (replicate (rows * columns) 32)
+    (screen_after (make_by is rows columns) (record { characters = characters; cursor = cursor; is_known = known; begun = [] }) (27 ∷ 64 ∷ 12 ∷ []))
+cleared_at_start protocol.Cd5220 rows columns characters cursor known = record { shown = refl; known = refl; whole = refl }
+cleared_at_start protocol.EscPos rows columns characters cursor known = record { shown = refl; known = refl; whole = refl }
+
+pub starts_blank : (make : Make) (screen : Screen) → screen.begun ≡ []
+    → IsShowing (characters_of (blank_display make.rows make.columns).cells) (screen_after make screen (27 ∷ 64 ∷ 12 ∷ []))
+starts_blank make screen whole =
+    let start : screen ≡ record { characters = screen.characters; cursor = screen.cursor; is_known = screen.is_known; begun = [] } =
+    ap (λ begun. record { characters = screen.characters; cursor = screen.cursor; is_known = screen.is_known; begun = begun }) whole in
+    subst (λ (characters : List ℕ). IsShowing characters (screen_after make screen (27 ∷ 64 ∷ 12 ∷ []))) (sym (blank_characters (make.rows * make.columns)))
+    (subst (λ (s : Screen). IsShowing (replicate (make.rows * make.columns) 32) (screen_after make s (27 ∷ 64 ∷ 12 ∷ []))) (sym start)
+    (cleared_at_start make.protocol make.rows make.columns screen.characters screen.cursor screen.is_known))

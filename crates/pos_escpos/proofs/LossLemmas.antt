@@ -189,6 +189,18 @@ long_first b h = ⊎_elim
     rw is refl)
     (cases_Bool (begins_status b))
 
+-- no reply comes of a long reply of which bytes were lost, but not its first, whatever had begun before it
+pub begun_gives_none : (reader : Reader) (sent : List ℕ) (which : List Bool) → reader.asked_in_order ≡ None
+    → is_long_reply sent ≡ true → length (kept (true ∷ which) sent) ≢ length sent → (reading_of reader (kept (true ∷ which) sent)).replies ≡ []
+begun_gives_none reader [] which none long lost = refl
+begun_gives_none reader (first ∷ more) which none long lost =
+    let parts = and_parts ((begins_status first || begins_job first) && length more + 1 == reply_size first) (none_first more) long in
+    let ends = and_parts (begins_status first || begins_job first) (length more + 1 == reply_size first) parts.0 in
+    let size = eqb-true (length more + 1) (reply_size first) ends.1 in
+    ap (λ r. r.replies) (first_step reader first (kept which more) (reads_none (length reader.begun) (first ∷ []) reader)
+    (rw (long_first first ends.0, ends.0) refl))
+    ∙ no_reply (first ∷ []) reader (kept which more) none (kept_none_first which more parts.1) (omega (arith, kept_le which more))
+
 -- no reply comes of a long reply of which bytes were lost
 pub lost_gives_none : (reader : Reader) (sent : List ℕ) (which : List Bool) → reader.asked_in_order ≡ None → reader.begun ≡ []
     → is_long_reply sent ≡ true → length (kept which sent) ≢ length sent → (reading_of reader (kept which sent)).replies ≡ []
@@ -196,12 +208,7 @@ lost_gives_none reader [] [] none idle long lost = refl
 lost_gives_none reader [] (here ∷ which) none idle long lost = refl
 lost_gives_none reader (first ∷ more) [] none idle long lost = refl
 lost_gives_none reader (first ∷ more) (true ∷ which) none idle long lost =
-    let parts = and_parts ((begins_status first || begins_job first) && length more + 1 == reply_size first) (none_first more) long in
-    let ends = and_parts (begins_status first || begins_job first) (length more + 1 == reply_size first) parts.0 in
-    let size = eqb-true (length more + 1) (reply_size first) ends.1 in
-    ap (λ r. r.replies) (first_step reader first (kept which more) (reads_none (length reader.begun) (first ∷ []) reader)
-    (rw (long_first first ends.0, ends.0) refl))
-    ∙ no_reply (first ∷ []) reader (kept which more) none (kept_none_first which more parts.1) (omega (arith, kept_le which more))
+    begun_gives_none reader (first ∷ more) which none long lost
 lost_gives_none reader (first ∷ more) (false ∷ which) none idle long lost =
     let parts = and_parts ((begins_status first || begins_job first) && length more + 1 == reply_size first) (none_first more) long in
     ap (λ begun. (reading_of (with_begun begun reader) (kept which more)).replies) idle

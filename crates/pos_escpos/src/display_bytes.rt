@@ -1,5 +1,5 @@
 //! What a line display shows, as the bytes of a customer display.
-ghost use Rattle.std.specs.Prelude.{◌≡◌, [], ◌++◌, ◌+◌, ◌*◌, ◌≤◌, ◌<◌, OnOk, IfOk, IsErrOf, true, false, length, replicate, bytes_eq};
+ghost use Rattle.std.specs.Prelude.{◌≡◌, [], ◌++◌, ◌+◌, ◌*◌, ◌≤◌, ◌<◌, OnOk, IfOk, IsErrOf, true, false, length, bytes_eq};
 ghost use Rattle.std.specs.List.{list_all};
 ghost use Rattle.pos_service.specs.Displays.{blank_display};
 ghost use Rattle.pos_escpos.specs.declared.bytes_fault.BytesFault.TheVariants as fault;
@@ -16,7 +16,7 @@ use std::alloc::{AllocError, Global};
 pub fn display_start_bytes() -> [u8; 3]
     // Whatever it showed, it shows blanks then.
     ensures { (make : Make) (screen : Screen) → screen.begun ≡ [] →
-        IsShowing (replicate (make.rows * make.columns) 32) (screen_after make screen result) }
+        IsShowing (characters_of (blank_display make.rows make.columns).cells) (screen_after make screen result) }
 {
     [0x1B, b'@', 0x0C]
 }

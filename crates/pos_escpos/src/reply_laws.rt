@@ -39,6 +39,10 @@ pub fn losses_are_seen()
     ensures lost { (reader : Reader) (sent : List ℕ) (which : List Bool) → reader.asked_in_order ≡ None →
         reader.begun ≡ [] → is_long_reply sent ≡ true → length (kept which sent) ≢ length sent →
         (reading_of reader (kept which sent)).replies ≡ [] }
+    // The same if another one had begun, of which bytes were lost, and the first byte of this one came.
+    ensures begun { (reader : Reader) (sent : List ℕ) (which : List Bool) → reader.asked_in_order ≡ None →
+        is_long_reply sent ≡ true → length (kept (true ∷ which) sent) ≢ length sent →
+        (reading_of reader (kept (true ∷ which) sent)).replies ≡ [] }
     // An acknowledgement is such a reply.
     ensures acknowledgements { (number : ℕ) → number < 2 ^ 16 → is_long_reply (job_reply number) ≡ true }
     // An automatic status is one.
