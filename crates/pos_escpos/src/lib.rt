@@ -7,7 +7,7 @@
 //! - [`printer_inputs`] and [`drawer_inputs`] are the inputs by which devices show what a status tells.
 //! - [`rows_bytes`] sends the rows of a display that changed, to a CD5220 or ESC/POS display that shows them.
 //!
-//! What a printer and a display do with bytes is a definition of `specs/`. docs/reference/escpos.md has the tables.
+//! What a printer and a display do with bytes is a definition of `specs/`. README.md beside this crate has the tables.
 #![tactic(auto)]
 
 mod begun;
