@@ -31,7 +31,7 @@ cd "$(dirname "$0")/.." || exit 1
 exec python3 - "$@" <<'PROGRAM'
 import functools, glob, os, re, shutil, subprocess, sys
 
-DOCUMENTS = ["README.md", "CONTRIBUTING.md", "CHANGELOG.md", "abi/README.md",
+DOCUMENTS = ["README.md", "CONTRIBUTING.md", "CHANGELOG.md", "abi/README.md", *sorted(glob.glob("crates/*/README.md")),
              *sorted(glob.glob("docs/**/*.md", recursive=True))]
 CRATES = sorted(os.path.basename(path) for path in glob.glob("crates/*"))
 # Files that a command makes, or that stand for those of a reader.
