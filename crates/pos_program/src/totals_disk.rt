@@ -62,8 +62,12 @@ fn folder_of(path: &str) -> &str
     }
 }
 
-// Makes the entry of a file in its folder stay.
-fn sync_folder<S: FileSystem>(files: &S, path: &str) -> Result<(), FileFault>
+/// Makes the entry of a file in its folder stay.
+///
+/// # Errors
+///
+/// `Folder`.
+pub fn sync_folder<S: FileSystem>(files: &S, path: &str) -> Result<(), FileFault>
     ensures { SyncsFolder S.FileSystem files.now path.now result }
 {
     match files.sync(folder_of(path)) {

@@ -1,0 +1,84 @@
+//! How an answer is printed.
+ghost use Rattle.std.specs.Prelude.{◌≡◌, MatchResult};
+ghost use Rattle.pos_tool.specs.Outputs.{IsCutOff, IsWritten, output_of};
+ghost use Rattle.pos_tool.specs.Telling.{TellsBytes, TellsFile, name_in};
+
+use crate::answers::{AnswerFault, answer};
+use crate::fault::Fault;
+use crate::question::{Finding, Question};
+use pos_file::BlockFile;
+use pos_program::NamedFiles;
+use pos_script::write_bytes;
+use pos_streams::{Sink, WriteFault};
+use std::alloc::Global;
+
+/// Writes a text to its end, and flushes it.
+///
+/// # Errors
+///
+/// [`WriteFault`] at the first write that fails, or if the flush does.
+pub(crate) fn write_text<W: Sink>(writer: &mut W, text: &[u8]) -> Result<(), WriteFault>
+    ensures { MatchResult result
+        (λ _. IsWritten (output_of W.Sink writer.old) (output_of W.Sink writer.new) text.now)
+        (λ _. IsCutOff (output_of W.Sink writer.old) (output_of W.Sink writer.new) text.now) }
+{
+    write_bytes(writer, text)?;
+    writer.flush()
+}
+
+// The name of a file that a question asks for.
+fn name_in<'a>(question: Question<'a>) -> &'a str
+    ensures { result.now ≡ name_in question }
+{
+    match question {
+        Question::Cat { name, .. } => name,
+        _ => "",
+    }
+}
+
+// Prints what is answered to a question about the bytes of the totals file at a path.
+fn tell_bytes<'a, W: Sink>(
+    alloc: Global,
+    writer: &mut W,
+    path: &'a str,
+    question: Question<'a>,
+    bytes: &[u8],
+) -> Result<Finding, Fault<'a>>
+    ensures { TellsBytes path.entry.now question bytes.now
+        (output_of W.Sink writer.old) (output_of W.Sink writer.new) result }
+{
+    let (finding, text) = match answer(alloc, question, bytes) {
+        Ok(answered) => answered,
+        Err(AnswerFault::Totals(cause)) => return Err(Fault::Totals { path, cause }),
+        Err(AnswerFault::NoFile) => {
+            let name = name_in(question);
+            return Err(Fault::NoFile { path, name });
+        }
+    };
+    match write_text(writer, &text) {
+        Ok(()) => Ok(finding),
+        Err(_) => Err(Fault::Write),
+    }
+}
+
+/// Prints what is answered to a question about the totals file at a path. The file is read once, and nothing is written
+/// to it. docs/reference/tool.md, "Commands".
+///
+/// # Errors
+///
+/// `File` if the file can't be read, `Totals` and `NoFile` as `answer` has them, and `Write`.
+pub(crate) fn tell_file<'a, F: NamedFiles, W: Sink>(
+    alloc: Global,
+    files: &F,
+    writer: &mut W,
+    path: &'a str,
+    question: Question<'a>,
+) -> Result<Finding, Fault<'a>>
+    ensures { TellsFile F.NamedFiles ⟦<F::File as BlockFile>⟧ files.now path.entry.now question
+        (output_of W.Sink writer.old) (output_of W.Sink writer.new) result }
+{
+    match files.read_disk(path) {
+        Ok(totals) => tell_bytes(alloc, writer, path, question, totals.bytes()),
+        Err(cause) => Err(Fault::File { path, cause }),
+    }
+}
