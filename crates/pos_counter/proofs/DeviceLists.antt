@@ -143,15 +143,6 @@ devices_stay [] None = refl
 devices_stay [] (Some name) = refl
 devices_stay (d ∷ list) totals = search (rules, parked_device, (devices_stay list totals))
 
--- what was taken out of service is out of service
-out_of_service : (o : Option PeripheralState) → IfSome (option_map parked_state o) (λ state. state.is_parked ≡ true)
-out_of_service None = tt
-out_of_service (Some state) = refl
-
-pub all_parked : (list : List Registered) → All (λ (d : Registered). IfSome d.peripheral (λ state. state.is_parked ≡ true)) (map parked list)
-all_parked list = All-map (λ (d : Registered). IfSome d.peripheral (λ state. state.is_parked ≡ true)) parked list
-    (λ k d lt. out_of_service (get_or list k d).peripheral)
-
 -- ---- the devices of a profile
 
 -- no entry behind earlier ones is refused

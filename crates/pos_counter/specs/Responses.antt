@@ -54,17 +54,17 @@ shown (Ok snapshot) = response.Shown snapshot
 shown (Err snapshot_fault.NoDevice) = response.NoDevice
 shown (Err snapshot_fault.NoMemory) = response.OutOfMemory
 
--- what `attach` answers, by what the peripheral is that it hands back
+-- what `attach` answers, by what the peripheral is that it returns
 abbrev pub attached : {P : Type 0} → (P → PeripheralState) → Result (Unit {0}) (AttachFault × P) → machine.Response
 attached state (Ok u) = response.Attached
 attached state (Err refusal) = response.NotAttached refusal.0 (hardware_of (state refusal.1))
 
--- what `detach` answers, by what the peripheral is that it hands out
+-- what `detach` answers, by what the peripheral is that it returns
 abbrev pub detached : {P : Type 0} → (P → PeripheralState) → Result P DetachFault → machine.Response
 detached state (Ok peripheral) = response.Detached (hardware_of (state peripheral))
 detached state (Err fault) = response.NotDetached fault
 
--- what stands at a device, or would stand there, where a peripheral serves it
+-- the hardware that a device has, or would have, if a peripheral serves it
 abbrev pub stands_as : {P : Type 0} → Ghosts P → P → Hardware
 stands_as peripherals peripheral = hardware_of (peripherals.state peripheral)
 
@@ -87,7 +87,7 @@ abbrev pub OffersInService : {P : Type 0} → Ghosts P → Request (Unit {0}) �
 OffersInService peripherals (request.Attach name peripheral) = (peripherals.state peripheral).is_parked ≡ false
 OffersInService peripherals other = ⊤
 
--- a peripheral that was detached is out of service, and one that is handed back is in service
+-- a peripheral that was detached is out of service, and one that was refused is in service
 abbrev pub HandsOut : {P : Type 0} → Ghosts P → Response P → Type 0
 HandsOut peripherals (response.Detached peripheral) = (peripherals.state peripheral).is_parked ≡ true
 HandsOut peripherals (response.NotAttached fault peripheral) = (peripherals.state peripheral).is_parked ≡ false

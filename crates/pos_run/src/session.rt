@@ -1,4 +1,4 @@
-//! What the lines of a script ask of the session that carries them out, by what was read of their words.
+//! What the lines of a script ask of their session, by what was read of their words.
 ghost use Rattle.std.specs.Prelude.{List, ℕ};
 ghost use Rattle.pos_counter.specs.Steps.{NewControl, CallOf, InputTo, Deliver, Attach};
 ghost use Rattle.pos_script.specs.Commands.{LineRequest, asked_of};
@@ -20,11 +20,11 @@ pub(crate) struct Session<'a, D: Disk, P> {
     pub(crate) spares: &'a mut Spares<P>,
 }
 
-/// What is read of a line's words behind a name, by which the line asks something of a session.
+/// What is read of a line's words after a name, by which the line asks something of a session.
 pub(crate) trait Asks<D: Disk, P: Peripheral>: Sized + Drop {
     ghost asked: { List ℕ → Self → LineRequest };
 
-    /// Asks it, with the name of a control or a device.
+    /// Asks it, with the name of a control or a device, and returns the reply.
     fn ask(&self, name: &[u8], session: &mut Session<'_, D, P>) -> Reply
         requires { IsSessionSound P.Peripheral session.old }
         ensures asks { CarriesOutAsking D.Disk P.Peripheral session.old.counter.now
@@ -33,7 +33,7 @@ pub(crate) trait Asks<D: Disk, P: Peripheral>: Sized + Drop {
         ensures session { KeepsSession P.Peripheral session.old session.new };
 }
 
-/// A new control, under a name that no control has.
+/// Makes a control, under a name that no control has.
 impl<D: Disk, P: Peripheral> Asks<D, P> for Category {
     ghost asked = { λ name category. NewControl name category };
 
@@ -57,7 +57,7 @@ impl<D: Disk, P: Peripheral> Asks<D, P> for Category {
     }
 }
 
-/// A call on the control of a name.
+/// Calls the control of a name.
 impl<D: Disk, P: Peripheral> Asks<D, P> for Call {
     ghost asked = { λ name call. CallOf name call };
 
@@ -74,7 +74,7 @@ impl<D: Disk, P: Peripheral> Asks<D, P> for Call {
     }
 }
 
-/// The delivery of an event to the control of a name.
+/// Delivers an event to the control of a name.
 impl<D: Disk, P: Peripheral> Asks<D, P> for ErrorReply {
     ghost asked = { λ name reply. Deliver name reply };
 
@@ -90,7 +90,7 @@ impl<D: Disk, P: Peripheral> Asks<D, P> for ErrorReply {
     }
 }
 
-/// What happens at a device.
+/// Passes an input on to a device.
 impl<D: Disk, P: Peripheral> Asks<D, P> for Input {
     ghost asked = { λ name input. InputTo name input };
 
@@ -105,7 +105,7 @@ impl<D: Disk, P: Peripheral> Asks<D, P> for Input {
     }
 }
 
-/// The spare of a number is to serve a device. One that is refused goes back to its place.
+/// Attaches the spare of a number to a device. One that is refused goes back to its place.
 impl<D: Disk, P: Peripheral> Asks<D, P> for u32 {
     ghost asked = { λ name number. Attach name number };
 
@@ -124,7 +124,7 @@ impl<D: Disk, P: Peripheral> Asks<D, P> for u32 {
     }
 }
 
-/// What a line of the verb asks of a device. A peripheral that is detached, which is out of service then, is ended.
+/// Does what a line's verb asks of a device. A peripheral that is detached is out of service, and is ended.
 impl<D: Disk, P: Peripheral + Ends> Asks<D, P> for DeviceVerb {
     ghost asked = { λ name by. asked_of by name };
 
