@@ -54,4 +54,3 @@ module _ (app : App) (words : List Text) (same : app ≡ program_line) where
   told error (Err (Refused told)) kinds why = rw why.0 (among error kinds why.1)
   told error (Err NotUtf8) kinds why = absurd why
   told error (Err NoMemory) kinds why = tt
-

@@ -9,8 +9,8 @@ use Rattle.pos_tool.specs.declared.commands.Task.{Task}
 use Rattle.pos_tool.specs.declared.commands.Task.TheVariants.{Help, Version, Explain, Ask, Create, Migrate, Backup, Restore}
 use Rattle.pos_tool.specs.declared.fault.WordsFault.{WordsFault}
 use Rattle.pos_tool.specs.declared.fault.WordsFault.TheVariants.{Refused, NotUtf8, NoMemory}
-use Rattle.pos_tool.specs.declared.question.Question.{Question}
-use Rattle.pos_tool.specs.declared.question.Question.TheVariants.{Check, Files, Cat}
+use Rattle.pos_report.specs.declared.question.Question.{Question}
+use Rattle.pos_report.specs.declared.question.Question.TheVariants.{Check, Files, Cat}
 
 -- the command that `clap` finds in words, with its matches, if there is one
 abbrev pub command_in : List Text → Option (Text × List Row)

@@ -21,8 +21,8 @@ use Rattle.pos_tool.specs.Whole.{Puts, Replaces}
 use Rattle.pos_tool.specs.declared.fault.Fault.{Fault}
 use Rattle.pos_tool.specs.declared.fault.Fault.TheVariants as fault
 use Rattle.pos_tool.specs.declared.folder.Folder.{Ghosts as FolderGhosts}
-use Rattle.pos_tool.specs.declared.question.Finding.{Finding}
-use Rattle.pos_tool.specs.declared.question.Finding.TheVariants.{Good}
+use Rattle.pos_report.specs.declared.question.Finding.{Finding}
+use Rattle.pos_report.specs.declared.question.Finding.TheVariants.{Good}
 use Rattle.pos_tool.specs.declared.whole.WholeFault.{WholeFault}
 
 -- one read from the start of a file that gave all of these bytes

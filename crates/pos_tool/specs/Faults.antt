@@ -8,8 +8,8 @@ use Rattle.pos_tool.specs.declared.fault.Fault.{Fault}
 use Rattle.pos_tool.specs.declared.fault.Fault.TheVariants as fault
 use Rattle.pos_tool.specs.declared.fault.WordsFault.{WordsFault}
 use Rattle.pos_tool.specs.declared.fault.WordsFault.TheVariants as words
-use Rattle.pos_tool.specs.declared.question.Finding.{Finding}
-use Rattle.pos_tool.specs.declared.question.Finding.TheVariants.{Good, Nothing, Damaged}
+use Rattle.pos_report.specs.declared.question.Finding.{Finding}
+use Rattle.pos_report.specs.declared.question.Finding.TheVariants.{Good, Nothing, Damaged}
 use Rattle.pos_tool.specs.declared.whole.WholeFault.{WholeFault}
 use Rattle.pos_tool.specs.declared.whole.WholeFault.TheVariants as whole
 

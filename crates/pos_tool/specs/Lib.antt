@@ -1,11 +1,8 @@
-pub mod Answers
 pub mod Commands
 pub mod Copies
 pub mod Faults
-pub mod Json
 pub mod Lines
 pub mod Outputs
 pub mod Program
 pub mod Telling
-pub mod Texts
 pub mod Whole

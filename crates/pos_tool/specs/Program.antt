@@ -13,8 +13,8 @@ use Rattle.pos_tool.specs.Copies.{BacksUp, Restores}
 use Rattle.pos_tool.specs.Faults.{status_of}
 use Rattle.pos_tool.specs.Outputs.{IsCutOff, IsWritten, Output}
 use Rattle.pos_tool.specs.Telling.{EndsAtFile, TellsFile}
-use Rattle.pos_tool.specs.Texts.{explained}
-use Rattle.pos_tool.specs.declared.codes.Code.{Code}
+use Rattle.pos_report.specs.Texts.{explained}
+use Rattle.pos_report.specs.declared.codes.Code.{Code}
 use Rattle.pos_tool.specs.declared.commands.Task.{Task}
 use Rattle.pos_tool.specs.declared.commands.Task.TheVariants.{Help, Version, Explain, Ask, Create, Migrate, Backup, Restore}
 use Rattle.pos_tool.specs.declared.fault.Fault.{Fault}
@@ -23,8 +23,8 @@ use Rattle.pos_tool.specs.declared.fault.WordsFault.{WordsFault}
 use Rattle.pos_tool.specs.declared.fault.WordsFault.TheVariants as words
 use Rattle.pos_tool.specs.declared.folder.Folder.{Ghosts as FolderGhosts}
 use Rattle.pos_tool.specs.declared.program.Pages.{Pages}
-use Rattle.pos_tool.specs.declared.question.Finding.{Finding}
-use Rattle.pos_tool.specs.declared.question.Finding.TheVariants.{Good}
+use Rattle.pos_report.specs.declared.question.Finding.{Finding}
+use Rattle.pos_report.specs.declared.question.Finding.TheVariants.{Good}
 
 -- a text is printed, as far as it can be written
 abbrev pub Prints : List ℕ → Output → Output → Result Finding Fault → Type 0

@@ -6,14 +6,14 @@ use Rattle.pos_mirror.specs.Mirror.{Mirror}
 use Rattle.pos_program.specs.TotalsDisks.{AreRead}
 use Rattle.pos_program.specs.declared.file_fault.FileFault.{FileFault}
 use Rattle.pos_program.specs.declared.named_files.NamedFiles.{Ghosts}
-use Rattle.pos_tool.specs.Answers.{Answers, Refuses}
+use Rattle.pos_report.specs.Answers.{Answers, Refuses}
 use Rattle.pos_tool.specs.Outputs.{IsCutOff, IsWritten, Output}
-use Rattle.pos_tool.specs.declared.answers.AnswerFault.TheVariants as answer
+use Rattle.pos_report.specs.declared.answers.AnswerFault.TheVariants as answer
 use Rattle.pos_tool.specs.declared.fault.Fault.{Fault}
 use Rattle.pos_tool.specs.declared.fault.Fault.TheVariants as fault
-use Rattle.pos_tool.specs.declared.question.Finding.{Finding}
-use Rattle.pos_tool.specs.declared.question.Question.{Question}
-use Rattle.pos_tool.specs.declared.question.Question.TheVariants.{Cat}
+use Rattle.pos_report.specs.declared.question.Finding.{Finding}
+use Rattle.pos_report.specs.declared.question.Question.{Question}
+use Rattle.pos_report.specs.declared.question.Question.TheVariants.{Cat}
 
 -- the name of a file that a question asks for
 abbrev pub name_in : Question → List ℕ

@@ -5,9 +5,9 @@ ghost use Rattle.pos_tool.specs.Commands.{Asks, AsksOf, Chooses, TellsWhy, is_gi
 
 use crate::fault::WordsFault;
 use crate::line::program_line;
-use crate::question::Question;
 use clap::ArgMatches;
 use clap::error::ErrorKind;
+use pos_report::Question;
 use std::alloc::Global;
 use std::convert::AsStr;
 

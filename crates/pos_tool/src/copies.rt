@@ -6,10 +6,10 @@ ghost use Rattle.pos_tool.specs.Copies.{ReadsTwice, Restores, TakesSnapshot, len
 
 use crate::fault::Fault;
 use crate::folder::Folder;
-use crate::question::Finding;
 use crate::whole::{WholeFault, put_new, replace};
 use pos_file::BlockFile;
 use pos_program::{FileFault, FileSystem, open_file, open_totals, read_totals};
+use pos_report::Finding;
 use pos_survey::{Survey, SurveyFault};
 use std::alloc::Global;
 
@@ -65,10 +65,7 @@ fn read_steady<F: BlockFile>(alloc: Global, file: &mut F) -> Result<Vec<u8>, Fil
 }
 
 // The bytes of the totals file at a path, which a till may be writing.
-fn take_snapshot<S: FileSystem + AllocGlobal>(
-    system: &S,
-    path: &str,
-) -> Result<Vec<u8>, FileFault>
+fn take_snapshot<S: FileSystem + AllocGlobal>(system: &S, path: &str) -> Result<Vec<u8>, FileFault>
     ensures { TakesSnapshot S.FileSystem ⟦<S::File as BlockFile>⟧.calls system.now path.now (bytes_of result) }
 {
     let mut file = open_file(system, path)?;

@@ -3,9 +3,9 @@ ghost use Rattle.std.specs.Prelude.{◌≡◌};
 ghost use Rattle.pos_tool.specs.Faults.{file_status, finding_status, status, status_of, survey_status};
 ghost use Rattle.pos_tool.specs.Faults.{whole_status, words_status};
 
-use crate::question::Finding;
 use crate::whole::WholeFault;
 use pos_program::{FileFault, FirstParagraph, OneLine};
+use pos_report::Finding;
 use pos_survey::{SurveyFault, words_of};
 use std::fmt;
 use std::fmt::Write;
@@ -190,7 +190,8 @@ fn hint_of_totals(cause: &SurveyFault) -> &'static str {
 fn hint_of_whole(cause: &WholeFault) -> &'static str {
     match cause {
         WholeFault::NoMemory => "free memory, and try again",
-        WholeFault::Part(_) => "check the folder; remove the .part file if no other command is making it",
+        WholeFault::Part(_) =>
+            "check the folder; remove the .part file if no other command is making it",
         WholeFault::Unwritten => "check the device, and the space that is free there",
         WholeFault::Link(_) => "if a file is there: give another path, or restore with --replace",
         WholeFault::Aside(_) => "if a .old file is there: move it away first",
@@ -239,7 +240,10 @@ impl fmt::Display for Cause<'_> {
                 let words = words_of(*rule);
                 write!(f, "its totals are damaged at byte {at}: {words}")
             }
-            SurveyFault::TooSmall => write!(f, "is shorter than a totals file, which has 327680 bytes"),
+            SurveyFault::TooSmall => write!(
+                f,
+                "is shorter than a totals file, which has 327680 bytes"
+            ),
             SurveyFault::Unformatted => write!(f, "isn't formatted"),
             SurveyFault::NoMemory => write!(f, "no memory"),
         }

@@ -101,10 +101,7 @@ fn reading_line<'a>(alloc: Global, version: &'a str) -> Result<Command<'a>, Allo
 /// # Errors
 ///
 /// [`AllocError`] if memory ran out.
-pub(crate) fn program_line<'a>(
-    alloc: Global,
-    version: &'a str,
-) -> Result<Command<'a>, AllocError>
+pub(crate) fn program_line<'a>(alloc: Global, version: &'a str) -> Result<Command<'a>, AllocError>
     ensures { IfOk result (λ line. app_of line ≡ program_line) }
 {
     let reads = reading_line(alloc, version)?;

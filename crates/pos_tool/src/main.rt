@@ -5,24 +5,20 @@
 //! status that it ends with, is `perform`'s contract.
 #![tactic(auto)]
 
-mod answers;
-mod codes;
 mod commands;
 mod copies;
 mod fault;
 mod folder;
 mod help;
-mod json;
 mod line;
 mod program;
-mod question;
 mod telling;
-mod texts;
 mod whole;
 
-use codes::CODES;
+
 use help::{HELP, VERSION, VERSION_LINE};
 use pos_program::{SystemFiles, read_words};
+use pos_report::CODES;
 use pos_streams::WriterSink;
 use program::{Pages, perform};
 use std::process::ExitCode;

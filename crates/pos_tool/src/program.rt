@@ -5,16 +5,14 @@ ghost use Rattle.pos_tool.specs.Faults.{status_of};
 ghost use Rattle.pos_tool.specs.Outputs.{output_of};
 ghost use Rattle.pos_tool.specs.Program.{Does, DoesAsAsked, EndsAt, Explains, Performs, Prints, fault_of_unread};
 
-use crate::codes::Code;
 use crate::commands::{Task, choice};
 use crate::copies::{back_up, restore};
 use crate::fault::{Fault, WordsFault, status_of};
 use crate::folder::Folder;
-use crate::question::Finding;
 use crate::telling::{tell_file, write_text};
-use crate::texts::explained;
 use pos_file::BlockFile;
 use pos_program::{ChoiceFault, FileFault, FileSystem, NamedFiles, format_file, migrate_file};
+use pos_report::{Code, Finding, explained};
 use pos_streams::Sink;
 use std::alloc::Global;
 use std::convert::AsStr;
@@ -143,7 +141,12 @@ fn fault_of_unread(fault: ChoiceFault) -> WordsFault
 /// The program, over the files that its words name, the file system that they are in, which also takes a fault, and an
 /// output. It does what the words ask for, if they could be read, and ends with the status of what became of it.
 /// docs/reference/tool.md.
-pub fn perform<F: NamedFiles, S: FileSystem + Folder + Eprint + AllocGlobal, T: AsStr + Drop, W: Sink>(
+pub fn perform<
+    F: NamedFiles,
+    S: FileSystem + Folder + Eprint + AllocGlobal,
+    T: AsStr + Drop,
+    W: Sink,
+>(
     files: &F,
     system: &S,
     writer: &mut W,

@@ -3,11 +3,10 @@ ghost use Rattle.std.specs.Prelude.{◌≡◌, MatchResult};
 ghost use Rattle.pos_tool.specs.Outputs.{IsCutOff, IsWritten, output_of};
 ghost use Rattle.pos_tool.specs.Telling.{TellsBytes, TellsFile, name_in};
 
-use crate::answers::{AnswerFault, answer};
 use crate::fault::Fault;
-use crate::question::{Finding, Question};
 use pos_file::BlockFile;
 use pos_program::NamedFiles;
+use pos_report::{AnswerFault, Finding, Question, answer};
 use pos_script::write_bytes;
 use pos_streams::{Sink, WriteFault};
 use std::alloc::Global;
@@ -28,7 +27,7 @@ pub(crate) fn write_text<W: Sink>(writer: &mut W, text: &[u8]) -> Result<(), Wri
 
 // The name of a file that a question asks for.
 fn name_in<'a>(question: Question<'a>) -> &'a str
-    ensures { result.now ≡ name_in question }
+    ensures { result.now ≡ name_in question.entry }
 {
     match question {
         Question::Cat { name, .. } => name,
@@ -44,7 +43,7 @@ fn tell_bytes<'a, W: Sink>(
     question: Question<'a>,
     bytes: &[u8],
 ) -> Result<Finding, Fault<'a>>
-    ensures { TellsBytes path.entry.now question bytes.now
+    ensures { TellsBytes path.entry.now question.entry bytes.now
         (output_of W.Sink writer.old) (output_of W.Sink writer.new) result }
 {
     let (finding, text) = match answer(alloc, question, bytes) {
@@ -74,7 +73,7 @@ pub(crate) fn tell_file<'a, F: NamedFiles, W: Sink>(
     path: &'a str,
     question: Question<'a>,
 ) -> Result<Finding, Fault<'a>>
-    ensures { TellsFile F.NamedFiles ⟦<F::File as BlockFile>⟧ files.now path.entry.now question
+    ensures { TellsFile F.NamedFiles ⟦<F::File as BlockFile>⟧ files.now path.entry.now question.entry
         (output_of W.Sink writer.old) (output_of W.Sink writer.new) result }
 {
     match files.read_disk(path) {

@@ -79,7 +79,11 @@ fn write_whole<F: BlockFile>(file: &mut F, bytes: &[u8]) -> Result<(), WholeFaul
 }
 
 // Makes a new file with these bytes. If that fails after it was made, it is removed again.
-fn write_part<S: FileSystem + Folder>(system: &S, part: &str, bytes: &[u8]) -> Result<(), WholeFault>
+fn write_part<S: FileSystem + Folder>(
+    system: &S,
+    part: &str,
+    bytes: &[u8],
+) -> Result<(), WholeFault>
     ensures { WritesPart S.FileSystem ⟦<S::File as BlockFile>⟧.calls system.now part.now bytes.now result }
 {
     let mut file = match system.open(&options(), part) {

@@ -7,7 +7,7 @@ use Rattle.serde_json.specs.View.{items_of}
 use Rattle.pos_dir.specs.declared.file.File.{File}
 use Rattle.pos_image.specs.Layout.{layout_of, start}
 use Rattle.pos_survey.specs.declared.survey.Survey.{Survey}
-use Rattle.pos_tool.specs.Texts.{layout_number}
+use Rattle.pos_report.specs.Texts.{layout_number}
 
 -- a file: its bytes and its name in hex, and its size
 abbrev pub file_data : List ℕ → List ℕ → Data

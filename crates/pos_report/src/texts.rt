@@ -1,7 +1,7 @@
 //! What a check and an explanation print.
 ghost use Rattle.std.specs.Prelude.{◌≡◌, ◌≢◌, ◌++◌, IfOk, OnOk, decimal, flat_map};
 ghost use Rattle.pos_survey.specs.declared.fault.SurveyFault.TheVariants.{NoMemory};
-ghost use Rattle.pos_tool.specs.Texts.{broken_text, code_text, damage_text, explained, is_meant, layout_number, sound_text};
+ghost use Rattle.pos_report.specs.Texts.{broken_text, code_text, damage_text, explained, is_meant, layout_number, sound_text};
 
 use crate::codes::Code;
 use itoa::Buffer;
@@ -9,20 +9,14 @@ use pos_image::Layout;
 use pos_survey::{Rule, Survey, SurveyFault, words_of};
 use std::alloc::{AllocError, Global};
 
-// Puts bytes at the end of a text.
-fn put(text: &mut Vec<u8>, bytes: &str) -> Result<(), AllocError>
-    ensures { OnOk result (text.new.items ≡ text.old.items ++ bytes.now) }
+/// Puts parts at the end of a text, one after another.
+pub(crate) fn put_all(text: &mut Vec<u8>, parts: &[&str]) -> Result<(), AllocError>
+    ensures { OnOk result (text.new.items ≡ text.old.items ++ flat_map (λ part. part.now) parts.now) }
 {
-    text.extend_from_slice(bytes.as_bytes())
-}
-
-// Puts words and a number at the end of a text.
-fn put_number(text: &mut Vec<u8>, words: &str, number: u64) -> Result<(), AllocError>
-    ensures { OnOk result (text.new.items ≡ text.old.items ++ (words.now ++ decimal number)) }
-{
-    let mut buffer = Buffer::new();
-    put(text, words)?;
-    put(text, buffer.format(number))
+    for part in parts {
+        text.extend_from_slice(part.as_bytes())?;
+    }
+    Ok(())
 }
 
 /// Returns the number of a layout.
@@ -43,12 +37,25 @@ pub(crate) fn layout_number(layout: Layout) -> u64
 pub(crate) fn sound_text(alloc: Global, survey: &Survey) -> Result<Vec<u8>, AllocError>
     ensures { IfOk result (λ text. text.items ≡ sound_text survey.now) }
 {
+    let mut layout = Buffer::new();
+    let mut sequence = Buffer::new();
+    let mut records = Buffer::new();
+    let mut files = Buffer::new();
     let mut text = Vec::new(alloc);
-    put_number(&mut text, "sound: layout ", layout_number(survey.slot.layout()))?;
-    put_number(&mut text, ", sequence ", survey.sequence)?;
-    put_number(&mut text, ", records ", survey.records as u64)?;
-    put_number(&mut text, ", files ", survey.directory.len() as u64)?;
-    put(&mut text, "\n")?;
+    put_all(
+        &mut text,
+        &[
+            "sound: layout ",
+            layout.format(layout_number(survey.slot.layout())),
+            ", sequence ",
+            sequence.format(survey.sequence),
+            ", records ",
+            records.format(survey.records as u64),
+            ", files ",
+            files.format(survey.directory.len() as u64),
+            "\n",
+        ],
+    )?;
     Ok(text)
 }
 
@@ -56,11 +63,15 @@ pub(crate) fn sound_text(alloc: Global, survey: &Survey) -> Result<Vec<u8>, Allo
 fn damage_text(alloc: Global, at: u64, rule: Rule) -> Result<Vec<u8>, AllocError>
     ensures { IfOk result (λ text. text.items ≡ damage_text at rule) }
 {
+    let mut place = Buffer::new();
     let mut text = Vec::new(alloc);
-    put_number(&mut text, "damaged at byte ", at)?;
-    put(&mut text, ": ")?;
-    put(&mut text, words_of(rule))?;
-    put(&mut text, "\nto do: copy the file before anything else, and let no till open it\n")?;
+    put_all(
+        &mut text,
+        &["damaged at byte ", place.format(at), ": ", words_of(rule)],
+    )?;
+    text.extend_from_slice(
+        b"\nto do: copy the file before anything else, and let no till open it\n",
+    )?;
     Ok(text)
 }
 
@@ -98,15 +109,22 @@ fn is_meant(code: &Code<'_>, word: &str) -> bool
 fn put_code(text: &mut Vec<u8>, code: &Code<'_>) -> Result<(), AllocError>
     ensures { OnOk result (text.new.items ≡ text.old.items ++ code_text code.now) }
 {
-    put(text, code.name)?;
-    put_number(text, " ", code.number as u64)?;
-    put(text, ", ")?;
-    put(text, code.kind)?;
-    put(text, ": ")?;
-    put(text, code.meaning)?;
-    put(text, "\nto do: ")?;
-    put(text, code.action)?;
-    put(text, "\n")
+    let mut number = Buffer::new();
+    put_all(
+        text,
+        &[
+            code.name,
+            " ",
+            number.format(code.number),
+            ", ",
+            code.kind,
+            ": ",
+            code.meaning,
+            "\nto do: ",
+            code.action,
+            "\n",
+        ],
+    )
 }
 
 /// Returns what all codes mean that have a number or a name.
@@ -114,11 +132,7 @@ fn put_code(text: &mut Vec<u8>, code: &Code<'_>) -> Result<(), AllocError>
 /// # Errors
 ///
 /// [`AllocError`] if memory ran out.
-pub(crate) fn explained(
-    alloc: Global,
-    codes: &[Code<'_>],
-    word: &str,
-) -> Result<Vec<u8>, AllocError>
+pub fn explained(alloc: Global, codes: &[Code<'_>], word: &str) -> Result<Vec<u8>, AllocError>
     ensures { IfOk result (λ text. text.items ≡ flat_map (explained word.now) codes.now) }
 {
     let mut text = Vec::new(alloc);

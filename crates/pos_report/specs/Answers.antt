@@ -1,9 +1,6 @@
 -- What is answered to a question about the bytes of a totals file (docs/reference/tool.md).
-use Rattle.std.specs.Prelude.{◌≡◌, ◌++◌, ℕ, Bool, true, false, List, [], Option, Some, None, slice_get, codes, ⊤}
-use Rattle.std.specs.Prelude.{option_and_then}
-use Rattle.std.specs.Option.{option_map}
+use Rattle.std.specs.Prelude.{◌≡◌, ◌++◌, ℕ, Bool, true, false, List, [], Some, None, codes, ⊤}
 use Rattle.hex.specs.Hex.{encode_lower}
-use Rattle.pos_dir.specs.Files.{index_of}
 use Rattle.pos_dir.specs.declared.file.File.{File}
 use Rattle.pos_survey.specs.Damages.{Breaks}
 use Rattle.pos_survey.specs.Tellings.{Tells}
@@ -11,19 +8,16 @@ use Rattle.pos_survey.specs.Texts.{survey_text}
 use Rattle.pos_survey.specs.declared.fault.SurveyFault.{SurveyFault}
 use Rattle.pos_survey.specs.declared.fault.SurveyFault.TheVariants as fault
 use Rattle.pos_survey.specs.declared.survey.Survey.{Survey}
-use Rattle.pos_tool.specs.Json.{IsJsonOf}
-use Rattle.pos_tool.specs.Texts.{broken_text, sound_text}
-use Rattle.pos_tool.specs.declared.answers.AnswerFault.{AnswerFault}
-use Rattle.pos_tool.specs.declared.answers.AnswerFault.TheVariants.{Totals, NoFile}
-use Rattle.pos_tool.specs.declared.question.Finding.{Finding}
-use Rattle.pos_tool.specs.declared.question.Finding.TheVariants.{Good, Nothing, Damaged}
-use Rattle.pos_tool.specs.declared.question.Question.{Question}
-use Rattle.pos_tool.specs.declared.question.Question.TheVariants.{Check, Files, Cat}
-
--- the bytes of the first file with a name
-abbrev pub bytes_of : List File → List ℕ → Option (List ℕ)
-bytes_of files name =
-    option_and_then (λ index. option_map (λ file. file.bytes) (slice_get files index)) (index_of files name)
+use Rattle.pos_report.specs.Dump.{dump_text}
+use Rattle.pos_report.specs.Files.{bytes_of}
+use Rattle.pos_report.specs.Json.{IsJsonOf}
+use Rattle.pos_report.specs.Texts.{broken_text, sound_text}
+use Rattle.pos_report.specs.declared.answers.AnswerFault.{AnswerFault}
+use Rattle.pos_report.specs.declared.answers.AnswerFault.TheVariants.{Totals, NoFile}
+use Rattle.pos_report.specs.declared.question.Finding.{Finding}
+use Rattle.pos_report.specs.declared.question.Finding.TheVariants.{Good, Nothing, Damaged}
+use Rattle.pos_report.specs.declared.question.Question.{Question}
+use Rattle.pos_report.specs.declared.question.Question.TheVariants.{Check, Files, Cat, Dump}
 
 -- bytes as they are, or in hex and a line feed
 abbrev pub printed : Bool → List ℕ → List ℕ
@@ -46,6 +40,7 @@ AnswersSound (Check true) it text = text ≡ []
 AnswersSound (Check false) it text = text ≡ sound_text it
 AnswersSound (Files true) it text = IsJsonOf it text
 AnswersSound (Files false) it text = text ≡ survey_text it
+AnswersSound Dump it text = text ≡ dump_text it
 AnswersSound (Cat name hex) it text = IsFilePrinted it.directory.files name.now hex text
 
 -- why a question about sound totals isn't answered

@@ -1,7 +1,7 @@
 //! What a totals file holds, as JSON.
 ghost use Rattle.std.specs.Prelude.{◌≡◌, IfOk};
 ghost use Rattle.serde_json.specs.View.{view};
-ghost use Rattle.pos_tool.specs.Json.{IsJsonOf, file_data, files_data, room_data, survey_data};
+ghost use Rattle.pos_report.specs.Json.{IsJsonOf, file_data, files_data, room_data, survey_data};
 
 use crate::texts::layout_number;
 use pos_dir::Directory;

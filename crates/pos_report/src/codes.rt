@@ -16,16 +16,23 @@ pub struct Code<'a> {
 }
 
 const RESULT: &str = "result code";
+
 const STATUS: &str = "status of a StatusUpdateEvent";
+
 const STATE: &str = "value of State";
+
 const LOCUS: &str = "locus of an ErrorEvent";
+
 const EXTENDED: &str = "extended code";
+
 const POWER: &str = "value of PowerState";
+
 const REPLY: &str = "reply to an ErrorEvent";
+
 const NOTHING: &str = "nothing";
 
 /// The codes, by their kinds.
-pub(crate) const CODES: [Code<'static>; 40] = [
+pub const CODES: [Code<'static>; 40] = [
     Code {
         number: 0,
         name: "E_SUCCESS",

@@ -20,6 +20,8 @@ pub enum Question<'a> {
         /// Whether in hex.
         hex: bool,
     },
+    /// Their layout and their files, as lines of text that can be loaded again.
+    Dump,
 }
 
 /// What a command found that did what it was asked.

@@ -2,9 +2,11 @@
 ghost use Rattle.std.specs.Prelude.{◌≡◌, ◌≢◌, IfErr, IfOk};
 ghost use Rattle.std.specs.Option.{option_copied};
 ghost use Rattle.pos_survey.specs.declared.fault.SurveyFault.TheVariants.{NoMemory};
-ghost use Rattle.pos_tool.specs.Answers.{Answers, AnswersBroken, AnswersSound, IsFilePrinted, LacksFile, Refuses};
-ghost use Rattle.pos_tool.specs.Answers.{RefusesBroken, RefusesSound, bytes_of, finding_of, printed};
+ghost use Rattle.pos_report.specs.Answers.{Answers, AnswersBroken, AnswersSound, IsFilePrinted, LacksFile, Refuses};
+ghost use Rattle.pos_report.specs.Answers.{RefusesBroken, RefusesSound, finding_of, printed};
+ghost use Rattle.pos_report.specs.Files.{bytes_of};
 
+use crate::dump::dump_text;
 use crate::json::survey_json;
 use crate::question::{Finding, Question};
 use crate::texts::{broken_text, sound_text};
@@ -22,7 +24,7 @@ pub enum AnswerFault {
 }
 
 impl From<AllocError> for AnswerFault {
-    ghost use Rattle.pos_tool.specs.declared.answers.AnswerFault.TheVariants.{Totals};
+    ghost use Rattle.pos_report.specs.declared.answers.AnswerFault.TheVariants.{Totals};
 
     ghost from_gives = { λ _ fault. fault ≡ Totals NoMemory };
 
@@ -44,11 +46,11 @@ fn printed(alloc: Global, bytes: &[u8], hex: bool) -> Result<Vec<u8>, AllocError
     Ok(text)
 }
 
-// The bytes of the file with a name.
-fn bytes_of<'a>(directory: &'a Directory, name: &str) -> Option<&'a [u8]>
+/// Returns the bytes of the file with a name, or `None` if there is none.
+pub(crate) fn bytes_of<'a>(directory: &'a Directory, name: &[u8]) -> Option<&'a [u8]>
     ensures { option_copied result ≡ bytes_of directory.now.files name.now }
 {
-    let index = directory.index_of(name.as_bytes())?;
+    let index = directory.index_of(name)?;
     directory.bytes(index)
 }
 
@@ -62,7 +64,7 @@ fn print_file(
     ensures ok { IfOk result (λ text. IsFilePrinted directory.now.files name.now hex text.items) }
     ensures refused { IfErr result (LacksFile directory.now.files name.now) }
 {
-    match bytes_of(directory, name) {
+    match bytes_of(directory, name.as_bytes()) {
         Some(bytes) => Ok(printed(alloc, bytes, hex)?),
         None => Err(AnswerFault::NoFile),
     }
@@ -74,8 +76,8 @@ fn answer_sound(
     question: Question<'_>,
     survey: &Survey,
 ) -> Result<Vec<u8>, AnswerFault>
-    ensures ok { IfOk result (λ text. AnswersSound question survey.now text.items) }
-    ensures refused { IfErr result (RefusesSound question survey.now) }
+    ensures ok { IfOk result (λ text. AnswersSound question.entry survey.now text.items) }
+    ensures refused { IfErr result (RefusesSound question.entry survey.now) }
 {
     match question {
         Question::Check { quiet: true } => Ok(Vec::new(alloc)),
@@ -83,6 +85,7 @@ fn answer_sound(
         Question::Files { json: true } => Ok(survey_json(alloc, survey)?),
         Question::Files { json: false } => Ok(survey.to_text(alloc)?),
         Question::Cat { name, hex } => print_file(alloc, &survey.directory, name, hex),
+        Question::Dump => Ok(dump_text(alloc, survey)?),
     }
 }
 
@@ -103,8 +106,8 @@ fn answer_broken(
     fault: SurveyFault,
 ) -> Result<(Finding, Vec<u8>), AnswerFault>
     requires { fault ≢ NoMemory }
-    ensures ok { IfOk result (λ answer. AnswersBroken question fault answer.0 answer.1.items) }
-    ensures refused { IfErr result (RefusesBroken question fault) }
+    ensures ok { IfOk result (λ answer. AnswersBroken question.entry fault answer.0 answer.1.items) }
+    ensures refused { IfErr result (RefusesBroken question.entry fault) }
 {
     match question {
         Question::Check { quiet: true } => Ok((finding_of(fault), Vec::new(alloc))),
@@ -119,13 +122,13 @@ fn answer_broken(
 ///
 /// - `Totals` if the bytes are no totals or damaged ones, and the question isn't a check; or if memory ran out.
 /// - `NoFile` if no file has the name that was asked for.
-pub(crate) fn answer(
+pub fn answer(
     alloc: Global,
     question: Question<'_>,
     bytes: &[u8],
 ) -> Result<(Finding, Vec<u8>), AnswerFault>
-    ensures ok { IfOk result (λ answer. Answers question bytes.now answer.0 answer.1.items) }
-    ensures refused { IfErr result (Refuses question bytes.now) }
+    ensures ok { IfOk result (λ answer. Answers question.entry bytes.now answer.0 answer.1.items) }
+    ensures refused { IfErr result (Refuses question.entry bytes.now) }
 {
     match Survey::of(alloc, bytes) {
         Ok(survey) => Ok((Finding::Good, answer_sound(alloc, question, &survey)?)),
