@@ -78,7 +78,7 @@ script() {
 hint_words='hint: `kijolvar help` lists the commands'
 hint_path='hint: check the path, and who may read and write it'
 hint_create='hint: is it the right file? `kijolvar create FILE` makes totals without files'
-hint_copy='hint: copy the file before you do anything else with it'
+hint_salvage='hint: `kijolvar salvage FILE TO` makes a sound file of what can be had'
 hint_stop='hint: a till that runs locks its totals file: stop it first'
 none='No such file or directory (os error 2)'
 unread="can't be read"
@@ -88,7 +88,7 @@ unopened="can't be opened for reading and writing"
 "$tool" help > help.txt
 told 'help: status' 0 $?
 told 'help begins' 'kijolvar: checks, prints, makes and copies totals files' "$(head -n 1 help.txt)"
-for command in check files cat create migrate backup restore explain version help; do
+for command in check files cat dump diff create migrate backup restore load salvage explain version help; do
   told "help has $command" 1 "$(grep -c "^  $command " help.txt)"
 done
 ends 'no words' 0 '' "$(cat help.txt)"
@@ -116,6 +116,9 @@ refuses 'cat without a name' "$missing <NAME>" cat a
 refuses 'backup without a place' "$missing <TO>" backup a
 refuses 'restore without words' "$missing <FROM> <FILE>" restore
 refuses 'explain without a code' "$missing <CODE>" explain
+refuses 'diff of one file' "$missing <OTHER>" diff a
+refuses 'salvage without a place' "$missing <TO>" salvage a
+refuses 'load without a file' "$missing <FILE>" load a
 refuses 'a word too many' "unexpected argument 'b' found" check a b
 refuses 'an option of another command' "unexpected argument '--json' found" check a --json
 refuses 'an option twice' "the argument '--quiet' cannot be used multiple times" check a --quiet --quiet
@@ -166,23 +169,34 @@ breaks() {
     check damaged.totals
   ends "$name: check, quiet" 2 '' '' check --quiet damaged.totals
   for words in 'files damaged.totals' 'files --json damaged.totals' 'cat damaged.totals A' 'backup damaged.totals new' \
-    'restore damaged.totals new'; do
+    'restore damaged.totals new' 'dump damaged.totals' 'diff damaged.totals till.totals' \
+    'diff till.totals damaged.totals'; do
     ends "$name: $words" 2 \
-      "kijolvar: damaged.totals: its totals are damaged at byte $place: $rule"$'\n'"$hint_copy" '' $words
+      "kijolvar: damaged.totals: its totals are damaged at byte $place: $rule"$'\n'"$hint_salvage" '' $words
   done
   ends "$name: migrate" 2 \
     'kijolvar: damaged.totals: its totals are damaged: keep it, and read a copy of it by hand'$'\n''hint: `kijolvar check FILE` names the rule that is broken' \
     '' migrate damaged.totals
+  "$tool" salvage damaged.totals new > out 2> err
+  told "$name: salvage: status" "$6" $?
+  if [ "$6" -eq 0 ]; then
+    told "$name: salvage says where" "closed gate $7, broken at $place: $rule" "$(cat out)"
+    told "$name: what was salvaged" "$8" "$("$tool" check new)"
+    rm new
+  else
+    told "$name: salvage: message" "kijolvar: damaged.totals: isn't formatted"$'\n'"$hint_create" "$(cat err)"
+  fi
   same "$name: the file is as it was" damaged.totals kept
   told "$name: no other file is there" '' "$(ls new* 2> /dev/null)"
 }
-breaks 'a tie' 32769 'both slots are open with the same sequence' 32768 a50000000000000001
-breaks 'a long body' 9 'the length of the current body is above the longest' 9 0000ffff
-breaks 'a body with bytes left' 15 'bytes of the current body are left over' 9 00000003
-breaks 'a long record' 16384 "a record doesn't end within the log" 16385 00007fff
-breaks 'a record without a group' 16384 'a record is no group of changes' 16391 09
-breaks 'a record without changes' 16384 'a record has no changes' 16385 000000020000a5
-breaks 'a change of no file' 16398 "the changes of a record don't fit the files before it" 16406 0009
+sound='sound: layout 1, sequence 1, records'
+breaks 'a tie' 32769 'both slots are open with the same sequence' 32768 a50000000000000001 0 32768 "$sound 3, files 2"
+breaks 'a long body' 9 'the length of the current body is above the longest' 9 0000ffff 1
+breaks 'a body with bytes left' 15 'bytes of the current body are left over' 9 00000003 1
+breaks 'a long record' 16384 "a record doesn't end within the log" 16385 00007fff 0 16384 "$sound 0, files 0"
+breaks 'a record without a group' 16384 'a record is no group of changes' 16391 09 0 16384 "$sound 0, files 0"
+breaks 'a record without changes' 16384 'a record has no changes' 16385 000000020000a5 0 16384 "$sound 0, files 0"
+breaks 'a change of no file' 16398 "the changes of a record don't fit the files before it" 16406 0009 0 16398 "$sound 1, files 1"
 
 # --- files
 "$program" files --disk till.totals > listed
@@ -255,6 +269,54 @@ ends 'migrate of no file' 4 "kijolvar: none.totals: $unopened: $none"$'\n'"$hint
   script moved.totals
 ends 'check of 250 files' 0 '' "sound: layout 2, sequence 1, records $((250 - 2)), files 250" check moved.totals
 told 'files --json: 250 files' same "$(json moved.totals)"
+
+# --- dump, load and diff
+"$tool" dump till.totals > dumped
+told 'dump' $'layout 1\n41=01020304\n422043=' "$(cat dumped)"
+ends 'load' 0 '' '' load dumped loaded.totals
+ends 'dump, load, dump' 0 '' "$(cat dumped)" dump loaded.totals
+"$tool" dump moved.totals > dumped2
+ends 'load of 250 files' 0 '' '' load dumped2 loaded2.totals
+told 'dump, load, dump of 250 files' same "$(cmp -s <("$tool" dump loaded2.totals) dumped2 && echo same)"
+ends 'diff of the same files' 0 '' '' diff till.totals loaded.totals
+ends 'diff with layout 2' 1 '' "$(for at in $(seq 3 250); do printf 'only in the second: f%03d\n' $((at - 2)); done)" diff till.totals moved.totals
+printf 'call a write 1 3 05\ncall a delete 422043\ncall a create 44 0 false\n' | script loaded.totals
+ends 'diff' 1 '' $'differs: A\nonly in the first: B C\nonly in the second: D' diff till.totals loaded.totals
+ends 'diff with no file' 4 "kijolvar: none.totals: $unread: $none"$'\n'"$hint_path" '' diff till.totals none.totals
+ends 'diff of no file' 4 "kijolvar: none.totals: $unread: $none"$'\n'"$hint_path" '' diff none.totals till.totals
+hint_dump='hint: `kijolvar dump FILE` prints such a text'
+for text in '' 'layout 3' 'layout 1 ' $'layout 1\n41' $'layout 1\n41=0' $'layout 1\n4=00' $'layout 1\n41=0A' $'layout 1\n41=\n41=' \
+  $'layout 1\n19=00' $'layout 1\n41=00\n\n' "layout 1"$'\n'"41=$(head -c 8193 /dev/zero | od -An -v -tx1 | tr -d ' \n')"; do
+  printf '%s\n' "$text" > text
+  ends "load of ${text:0:20}" 1 "kijolvar: text: is no dump of totals"$'\n'"$hint_dump" '' load text new
+done
+printf '\377' > text
+ends 'load of bytes that are no text' 1 "kijolvar: text: is no dump of totals"$'\n'"$hint_dump" '' load text new
+printf 'layout 1' > text
+ends 'load of a text that is cut' 1 "kijolvar: text: is no dump of totals"$'\n'"$hint_dump" '' load text new
+ends 'load of no text' 4 "kijolvar: none: $unread: $none"$'\n'"$hint_path" '' load none new
+told 'load makes nothing then' '' "$(ls new* 2> /dev/null)"
+ends 'load where a file is' 4 \
+  "kijolvar: till.totals: can't be put there: File exists (os error 17)"$'\n''hint: if a file is there: give another path, or restore with --replace' \
+  '' load dumped till.totals
+
+# --- salvage
+ends 'salvage of sound totals' 0 '' '' salvage till.totals saved.totals
+same 'salvage of sound totals copies them' till.totals saved.totals
+ends 'salvage of bytes without totals' 1 "kijolvar: zero.totals: isn't formatted"$'\n'"$hint_create" '' salvage zero.totals new
+ends 'salvage of a file that was cut off' 0 '' '' salvage short.totals saved2.totals
+same 'salvage adds the bytes that are missing' saved2.totals till.totals
+ends 'salvage of no file' 4 "kijolvar: none.totals: $unread: $none"$'\n'"$hint_path" '' salvage none.totals new
+ends 'salvage where a file is' 4 \
+  "kijolvar: other.totals: can't be put there: File exists (os error 17)"$'\n''hint: if a file is there: give another path, or restore with --replace' \
+  '' salvage till.totals other.totals
+"$tool" create two.totals
+filler() { printf 'call a write 1 0 %s\n' "$(head -c 8192 /dev/zero | tr '\000' "\\$1" | od -An -v -tx1 | tr -d ' \n')"; }
+{ printf 'call a create 41 8192 false\n'; filler 001; filler 002; } | script two.totals
+put two.totals 32777 0000ffff
+ends 'salvage of the image before' 0 '' \
+  'closed gate 32768, broken at 32777: the length of the current body is above the longest' salvage two.totals saved3.totals
+told 'salvage of the image before: what is there' 0101 "$("$tool" cat saved3.totals A --hex | head -c 4)"
 
 # --- explain
 ends 'explain a number' 0 '' "E_ILLEGAL 106, result code: an argument is out of its range, or the control's state doesn't allow the call
@@ -347,7 +409,8 @@ told 'a till runs' ok "${answer:-}"
 cp till.totals kept
 in_use='kijolvar: till.totals: is in use: close the other program that has it open'$'\n'"$hint_stop"
 for words in 'check till.totals' 'check --quiet till.totals' 'files till.totals' 'files --json till.totals' \
-  'cat till.totals A' 'create till.totals' 'migrate till.totals' 'restore till.totals new' \
+  'cat till.totals A' 'dump till.totals' 'diff till.totals other.totals' 'diff other.totals till.totals' \
+  'salvage till.totals new' 'create till.totals' 'migrate till.totals' 'restore till.totals new' \
   'restore copy.totals till.totals --replace'; do
   ends "$words beside a till" 4 "$in_use" '' $words
 done
@@ -412,7 +475,8 @@ wait "$other" 2> /dev/null
 
 # --- what reads writes nothing
 cp till.totals kept
-for words in 'check till.totals' 'files till.totals' 'files --json till.totals' 'cat till.totals A' 'backup till.totals new'; do
+for words in 'check till.totals' 'files till.totals' 'files --json till.totals' 'cat till.totals A' 'dump till.totals' \
+  'diff till.totals other.totals' 'salvage till.totals new2' 'backup till.totals new'; do
   strace -f -e trace=openat,write,pwrite64,ftruncate,rename,unlink -o trace "$tool" $words > /dev/null
   told "$words opens the file to be read alone" 'O_RDONLY|O_CLOEXEC' \
     "$(grep -o '"till.totals", [A-Z_|]*' trace | sed 's/.*, //' | sort -u)"
@@ -420,7 +484,7 @@ done
 same 'the file is as it was after all that read' till.totals kept
 
 # --- an output that takes nothing
-for words in help version 'explain 106' 'check till.totals' 'files till.totals' 'files --json till.totals' 'cat till.totals A'; do
+for words in help version 'explain 106' 'dump till.totals' 'check till.totals' 'files till.totals' 'files --json till.totals' 'cat till.totals A'; do
   "$tool" $words > /dev/full 2> err
   told "$words on a full output: status" 5 $?
   told "$words on a full output: message" \
@@ -431,7 +495,7 @@ told 'a quiet check prints nothing' 0 $?
 
 # --- random damages: each is answered, and the file stays
 python3 - "$tool" <<'PYTHON' > counted
-import random, subprocess, sys
+import os, random, subprocess, sys
 tool, source = sys.argv[1], open('till.totals', 'rb').read()
 random.seed(13)
 places = [0, *range(1, 40), *range(16384, 16500), 32768, *range(32769, 32790), 65536, 196608]
@@ -447,6 +511,18 @@ for turn in range(300):
     first = {0: 'sound: ', 1: 'no totals: ', 2: 'damaged at byte '}.get(check.returncode)
     if first is None or not check.stdout.startswith(first) or files.returncode != check.returncode:
         faults.append((turn, check, files))
+    saved = subprocess.run([tool, 'salvage', 'random.totals', 'random.saved'], capture_output=True, text=True)
+    if saved.returncode == 0:
+        with open('random.saved', 'rb') as it:
+            made = it.read()
+        wrong = [at for at in range(len(made)) if made[at] != bytes_[at] and made[at] != 0]
+        check2 = subprocess.run([tool, 'check', 'random.saved'], capture_output=True, text=True)
+        os.remove('random.saved')
+        closed = sum(made[at] != bytes_[at] for at in range(len(made)))
+        if wrong or check2.returncode or closed != saved.stdout.count('\n'):
+            faults.append((turn, saved, wrong))
+    elif saved.returncode != 1:
+        faults.append((turn, saved))
     if open('random.totals', 'rb').read() != bytes(bytes_):
         faults.append((turn, 'changed'))
 print('good' if not faults else faults[:3])

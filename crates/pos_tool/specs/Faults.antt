@@ -8,6 +8,8 @@ use Rattle.pos_tool.specs.declared.fault.Fault.{Fault}
 use Rattle.pos_tool.specs.declared.fault.Fault.TheVariants as fault
 use Rattle.pos_tool.specs.declared.fault.WordsFault.{WordsFault}
 use Rattle.pos_tool.specs.declared.fault.WordsFault.TheVariants as words
+use Rattle.pos_report.specs.declared.load.LoadFault.{LoadFault}
+use Rattle.pos_report.specs.declared.load.LoadFault.TheVariants as load
 use Rattle.pos_report.specs.declared.question.Finding.{Finding}
 use Rattle.pos_report.specs.declared.question.Finding.TheVariants.{Good, Nothing, Damaged}
 use Rattle.pos_tool.specs.declared.whole.WholeFault.{WholeFault}
@@ -46,12 +48,18 @@ abbrev pub whole_status : WholeFault → ℕ
 whole_status whole.NoMemory = 6
 whole_status other = 4
 
+-- the status of a fault of a text that was to be loaded
+abbrev pub load_status : LoadFault → ℕ
+load_status load.NoMemory = 6
+load_status load.NoDump = 1
+
 -- the status of a fault
 abbrev pub status : Fault → ℕ
 status (fault.Words why) = words_status why
 status (fault.File path cause) = file_status cause
 status (fault.Totals path cause) = survey_status cause
 status (fault.Whole path cause) = whole_status cause
+status (fault.Load path cause) = load_status cause
 status (fault.NoFile path name) = 1
 status (fault.NoCode code) = 1
 status fault.Write = 5

@@ -40,14 +40,17 @@ top_line = with_subcommand (with_subcommand bare_line (new_app (codes "help")).t
 
 -- with the commands that only read, too
 abbrev pub reading_line : App
-reading_line = with_subcommand (with_subcommand (with_subcommand (with_subcommand top_line
-    (place_line (codes "explain") (codes "CODE")).top) (flagged_line (codes "check") (codes "quiet")).top)
-    (flagged_line (codes "files") (codes "json")).top)
-    (flagged_two_line (codes "cat") (codes "FILE") (codes "NAME") (codes "hex")).top
+reading_line = with_subcommand (with_subcommand (with_subcommand (with_subcommand (with_subcommand (with_subcommand
+    top_line (place_line (codes "explain") (codes "CODE")).top)
+    (flagged_line (codes "check") (codes "quiet")).top) (flagged_line (codes "files") (codes "json")).top)
+    (flagged_two_line (codes "cat") (codes "FILE") (codes "NAME") (codes "hex")).top)
+    (place_line (codes "dump") (codes "FILE")).top) (two_line (codes "diff") (codes "FILE") (codes "OTHER")).top
 
 -- with all commands
 abbrev pub program_line : App
-program_line = with_subcommand (with_subcommand (with_subcommand (with_subcommand reading_line
-    (place_line (codes "create") (codes "FILE")).top) (place_line (codes "migrate") (codes "FILE")).top)
+program_line = with_subcommand (with_subcommand (with_subcommand (with_subcommand (with_subcommand (with_subcommand
+    reading_line (place_line (codes "create") (codes "FILE")).top) (place_line (codes "migrate") (codes "FILE")).top)
     (two_line (codes "backup") (codes "FILE") (codes "TO")).top)
-    (flagged_two_line (codes "restore") (codes "FROM") (codes "FILE") (codes "replace")).top
+    (flagged_two_line (codes "restore") (codes "FROM") (codes "FILE") (codes "replace")).top)
+    (two_line (codes "load") (codes "TEXT") (codes "FILE")).top)
+    (two_line (codes "salvage") (codes "FILE") (codes "TO")).top

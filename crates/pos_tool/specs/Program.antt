@@ -10,13 +10,16 @@ use Rattle.pos_program.specs.declared.file_system.FileSystem.{Ghosts as SystemGh
 use Rattle.pos_program.specs.declared.named_files.NamedFiles.{Ghosts}
 use Rattle.pos_tool.specs.Commands.{Chooses}
 use Rattle.pos_tool.specs.Copies.{BacksUp, Restores}
+use Rattle.pos_tool.specs.Differing.{TellsDifference}
 use Rattle.pos_tool.specs.Faults.{status_of}
-use Rattle.pos_tool.specs.Outputs.{IsCutOff, IsWritten, Output}
-use Rattle.pos_tool.specs.Telling.{EndsAtFile, TellsFile}
+use Rattle.pos_tool.specs.Making.{Loads, Salvages}
+use Rattle.pos_tool.specs.Outputs.{Output}
+use Rattle.pos_tool.specs.Telling.{EndsAtFile, Prints, TellsFile}
 use Rattle.pos_report.specs.Texts.{explained}
 use Rattle.pos_report.specs.declared.codes.Code.{Code}
 use Rattle.pos_tool.specs.declared.commands.Task.{Task}
 use Rattle.pos_tool.specs.declared.commands.Task.TheVariants.{Help, Version, Explain, Ask, Create, Migrate, Backup, Restore}
+use Rattle.pos_tool.specs.declared.commands.Task.TheVariants.{Diff, Load, Salvage}
 use Rattle.pos_tool.specs.declared.fault.Fault.{Fault}
 use Rattle.pos_tool.specs.declared.fault.Fault.TheVariants as fault
 use Rattle.pos_tool.specs.declared.fault.WordsFault.{WordsFault}
@@ -25,11 +28,6 @@ use Rattle.pos_tool.specs.declared.folder.Folder.{Ghosts as FolderGhosts}
 use Rattle.pos_tool.specs.declared.program.Pages.{Pages}
 use Rattle.pos_report.specs.declared.question.Finding.{Finding}
 use Rattle.pos_report.specs.declared.question.Finding.TheVariants.{Good}
-
--- a text is printed, as far as it can be written
-abbrev pub Prints : List ℕ → Output → Output → Result Finding Fault → Type 0
-Prints text old new (Ok finding) = (finding ≡ Good) × IsWritten old new text
-Prints text old new (Err why) = (why ≡ fault.Write) × IsCutOff old new text
 
 -- what some of these codes mean is printed, by a word for their number or name; nothing if it is none's
 abbrev pub Explains : List Code → List ℕ → Output → Output → Result Finding Fault → Type 0
@@ -73,6 +71,12 @@ Does files below them system folder under it pages (Backup file to) old new resu
     BacksUp system folder under.calls it file.now to.now result × (new ≡ old)
 Does files below them system folder under it pages (Restore from file replaces) old new result =
     Restores system folder under.calls it from.now file.now replaces result × (new ≡ old)
+Does files below them system folder under it pages (Diff file other) old new result =
+    TellsDifference files below them file.now other.now old new result
+Does files below them system folder under it pages (Load text file) old new result =
+    Loads system folder under.calls it text.now file.now result × (new ≡ old)
+Does files below them system folder under it pages (Salvage file to) old new result =
+    Salvages system folder under.calls it file.now to.now old new result
 
 -- what it does for what the words ask for: nothing where they ask for nothing
 abbrev pub DoesChosen : (Task → Output → Output → Result Finding Fault → Type 0) → Result Task WordsFault → Output

@@ -12,6 +12,7 @@ use Rattle.pos_report.specs.declared.answers.AnswerFault.TheVariants as answer
 use Rattle.pos_tool.specs.declared.fault.Fault.{Fault}
 use Rattle.pos_tool.specs.declared.fault.Fault.TheVariants as fault
 use Rattle.pos_report.specs.declared.question.Finding.{Finding}
+use Rattle.pos_report.specs.declared.question.Finding.TheVariants.{Good}
 use Rattle.pos_report.specs.declared.question.Question.{Question}
 use Rattle.pos_report.specs.declared.question.Question.TheVariants.{Cat}
 
@@ -32,6 +33,11 @@ TellsBytes path question bytes old new (Err (fault.Totals at cause)) =
 TellsBytes path question bytes old new (Err (fault.NoFile at name)) =
     (at.now ≡ path) × (name.now ≡ name_in question) × Refuses question bytes answer.NoFile × (new ≡ old)
 TellsBytes path question bytes old new (Err other) = ⊥
+
+-- a text is printed, as far as it can be written
+abbrev pub Prints : List ℕ → Output → Output → Result Finding Fault → Type 0
+Prints text old new (Ok finding) = (finding ≡ Good) × IsWritten old new text
+Prints text old new (Err why) = (why ≡ fault.Write) × IsCutOff old new text
 
 -- what is answered of the totals file at a path, if it can't serve
 abbrev pub EndsAtFile : {A : Type 0} → List ℕ → FileFault → Result A Fault → Type 0

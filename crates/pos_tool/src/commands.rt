@@ -1,7 +1,7 @@
 //! What the words of the command line ask for.
 ghost use Rattle.std.specs.Prelude.{◌≡◌, map};
 ghost use Rattle.clap.specs.Words.{found_of, rows_of, subcommand_rows_of};
-ghost use Rattle.pos_tool.specs.Commands.{Asks, AsksOf, Chooses, TellsWhy, is_given, word_in};
+ghost use Rattle.pos_tool.specs.Commands.{Asks, AsksOf, Chooses, MakesOf, PrintsOf, TellsWhy, is_given, word_in};
 
 use crate::fault::WordsFault;
 use crate::line::program_line;
@@ -23,7 +23,7 @@ pub enum Task<'a> {
         /// The code's number or name.
         code: &'a str,
     },
-    /// `check FILE`, `files FILE` and `cat FILE NAME`: to answer a question about a totals file.
+    /// `check FILE`, `files FILE`, `dump FILE` and `cat FILE NAME`: to answer a question about a totals file.
     Ask {
         /// The totals file.
         file: &'a str,
@@ -55,6 +55,27 @@ pub enum Task<'a> {
         file: &'a str,
         /// Whether it may take the place of a file.
         replaces: bool,
+    },
+    /// `diff FILE OTHER`: to print how the files of two totals differ.
+    Diff {
+        /// A totals file.
+        file: &'a str,
+        /// Another one.
+        other: &'a str,
+    },
+    /// `load TEXT FILE`: to make a totals file of a dump.
+    Load {
+        /// The dump.
+        text: &'a str,
+        /// The totals file.
+        file: &'a str,
+    },
+    /// `salvage FILE TO`: to make sound totals of damaged ones.
+    Salvage {
+        /// The damaged totals file.
+        file: &'a str,
+        /// The sound one.
+        to: &'a str,
     },
 }
 
@@ -104,12 +125,71 @@ fn question_of<'a>(command: &str, found: &ArgMatches<'a>) -> Option<Question<'a>
         let json = is_given(found, "json");
         return Some(Question::Files { json });
     }
+    if command == "dump" {
+        return Some(Question::Dump);
+    }
     if command == "cat" {
         let name = word_in(found, "NAME");
         let hex = is_given(found, "hex");
         return Some(Question::Cat { name, hex });
     }
     None
+}
+
+// What the matches of a command ask to be made, if something is.
+fn making_of<'a>(command: &str, found: &ArgMatches<'a>) -> Option<Task<'a>>
+    ensures { MakesOf command.now (rows_of (found_of found.now)) result }
+{
+    let file = word_in(found, "FILE");
+    let to = word_in(found, "TO");
+    if command == "create" {
+        return Some(Task::Create { file });
+    }
+    if command == "migrate" {
+        return Some(Task::Migrate { file });
+    }
+    if command == "backup" {
+        return Some(Task::Backup { file, to });
+    }
+    if command == "restore" {
+        let from = word_in(found, "FROM");
+        let replaces = is_given(found, "replace");
+        return Some(Task::Restore {
+            from,
+            file,
+            replaces,
+        });
+    }
+    if command == "load" {
+        let text = word_in(found, "TEXT");
+        return Some(Task::Load { text, file });
+    }
+    if command == "salvage" {
+        return Some(Task::Salvage { file, to });
+    }
+    None
+}
+
+// What the matches of a command ask to be printed; the help, if it is no other command.
+fn printing_of<'a>(command: &str, found: &ArgMatches<'a>) -> Task<'a>
+    ensures { PrintsOf command.now (rows_of (found_of found.now)) result }
+{
+    if command == "version" {
+        return Task::Version;
+    }
+    if command == "explain" {
+        let code = word_in(found, "CODE");
+        return Task::Explain { code };
+    }
+    let file = word_in(found, "FILE");
+    if command == "diff" {
+        let other = word_in(found, "OTHER");
+        return Task::Diff { file, other };
+    }
+    match question_of(command, found) {
+        Some(question) => Task::Ask { file, question },
+        None => Task::Help,
+    }
 }
 
 // What `clap`'s matches of the words ask for.
@@ -119,36 +199,9 @@ fn task_of<'a>(matches: &ArgMatches<'a>) -> Task<'a>
     let Some((command, found)) = matches.subcommand() else {
         return Task::Help;
     };
-    if command == "version" {
-        return Task::Version;
-    }
-    if command == "explain" {
-        let code = word_in(found, "CODE");
-        return Task::Explain { code };
-    }
-    let file = word_in(found, "FILE");
-    if command == "create" {
-        return Task::Create { file };
-    }
-    if command == "migrate" {
-        return Task::Migrate { file };
-    }
-    if command == "backup" {
-        let to = word_in(found, "TO");
-        return Task::Backup { file, to };
-    }
-    if command == "restore" {
-        let from = word_in(found, "FROM");
-        let replaces = is_given(found, "replace");
-        return Task::Restore {
-            from,
-            file,
-            replaces,
-        };
-    }
-    match question_of(command, found) {
-        Some(question) => Task::Ask { file, question },
-        None => Task::Help,
+    match making_of(command, found) {
+        Some(task) => task,
+        None => printing_of(command, found),
     }
 }
 

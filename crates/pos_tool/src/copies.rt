@@ -3,13 +3,17 @@ ghost use Rattle.std.specs.Prelude.{IfErr, IfOk};
 ghost use Rattle.pos_program.specs.Answers.{bytes_of};
 ghost use Rattle.pos_tool.specs.Copies.{BacksUp, ChecksSound, EndsCopy, IsUnread, PutsBack, ReadsFront, ReadsSteady};
 ghost use Rattle.pos_tool.specs.Copies.{ReadsTwice, Restores, TakesSnapshot, lent};
+ghost use Rattle.pos_tool.specs.Making.{Loads, Salvages};
+ghost use Rattle.pos_tool.specs.Outputs.{output_of};
 
 use crate::fault::Fault;
 use crate::folder::Folder;
+use crate::telling::print;
 use crate::whole::{WholeFault, put_new, replace};
 use pos_file::BlockFile;
 use pos_program::{FileFault, FileSystem, open_file, open_totals, read_totals};
-use pos_report::Finding;
+use pos_report::{Finding, load_totals, salvage_totals};
+use pos_streams::Sink;
 use pos_survey::{Survey, SurveyFault};
 use std::alloc::Global;
 
@@ -52,7 +56,7 @@ fn read_steady<F: BlockFile>(alloc: Global, file: &mut F) -> Result<Vec<u8>, Fil
     ensures { ReadsSteady F.calls file.new (bytes_of result) }
 {
     let mut same = read_twice(alloc, file)?;
-    for _ in 1..READINGS {
+    for _turn in 1..READINGS {
         if same.is_some() {
             break;
         }
@@ -159,5 +163,60 @@ pub(crate) fn restore<'a, S: FileSystem + Folder + AllocGlobal>(
     match check_sound(system.alloc(), totals.bytes()) {
         Ok(()) => put(system, to, totals.bytes(), replaces),
         Err(cause) => Err(Fault::Totals { path: from, cause }),
+    }
+}
+
+/// Makes sound totals of damaged ones, which are only read, at a path where no file is; and prints what was lost.
+/// docs/reference/tool.md, "salvage".
+///
+/// # Errors
+///
+/// `File` if the damaged file can't be read or is in use; `Totals` if nothing can be had of it; `Whole` if the new file
+/// can't be made, or one is there; `Write` if the new file is there, but what was lost can't be written.
+pub(crate) fn salvage<'a, S: FileSystem + Folder + AllocGlobal, W: Sink>(
+    system: &S,
+    writer: &mut W,
+    from: &'a str,
+    to: &'a str,
+) -> Result<Finding, Fault<'a>>
+    ensures { Salvages S.FileSystem S.Folder ⟦<S::File as BlockFile>⟧.calls system.now from.entry.now to.entry.now
+        (output_of W.Sink writer.old) (output_of W.Sink writer.new) result }
+{
+    let totals = match read_totals(system, from) {
+        Ok(totals) => totals,
+        Err(cause) => return Err(Fault::File { path: from, cause }),
+    };
+    let made = match salvage_totals(system.alloc(), totals.bytes()) {
+        Ok(made) => made,
+        Err(cause) => return Err(Fault::Totals { path: from, cause }),
+    };
+    match put_new(system.alloc(), system, to, &made.bytes) {
+        Ok(()) => print(writer, &made.lost),
+        Err(cause) => Err(Fault::Whole { path: to, cause }),
+    }
+}
+
+/// Makes a totals file of the dump at a path, where no file is. docs/reference/tool.md, "dump and load".
+///
+/// # Errors
+///
+/// `File` if the dump can't be read; `Load` if it is none; `Whole` if the file can't be made, or one is there.
+pub(crate) fn load<'a, S: FileSystem + Folder + AllocGlobal>(
+    system: &S,
+    from: &'a str,
+    to: &'a str,
+) -> Result<Finding, Fault<'a>>
+    ensures { Loads S.FileSystem S.Folder ⟦<S::File as BlockFile>⟧.calls system.now from.entry.now to.entry.now result }
+{
+    let text = match system.read(from) {
+        Ok(text) => text,
+        Err(cause) => {
+            let cause = FileFault::Unreadable(cause);
+            return Err(Fault::File { path: from, cause });
+        }
+    };
+    match load_totals(system.alloc(), &text) {
+        Ok(bytes) => at_copy(to, put_new(system.alloc(), system, to, &bytes)),
+        Err(cause) => Err(Fault::Load { path: from, cause }),
     }
 }

@@ -1,11 +1,11 @@
 //! Why the program doesn't do what it was asked, and the status that it ends with.
 ghost use Rattle.std.specs.Prelude.{◌≡◌};
-ghost use Rattle.pos_tool.specs.Faults.{file_status, finding_status, status, status_of, survey_status};
+ghost use Rattle.pos_tool.specs.Faults.{file_status, finding_status, load_status, status, status_of, survey_status};
 ghost use Rattle.pos_tool.specs.Faults.{whole_status, words_status};
 
 use crate::whole::WholeFault;
 use pos_program::{FileFault, FirstParagraph, OneLine};
-use pos_report::Finding;
+use pos_report::{Finding, LoadFault};
 use pos_survey::{SurveyFault, words_of};
 use std::fmt;
 use std::fmt::Write;
@@ -46,6 +46,13 @@ pub enum Fault<'a> {
         path: &'a str,
         /// Why.
         cause: WholeFault,
+    },
+    /// A text isn't loaded.
+    Load {
+        /// Its path, as its word stood.
+        path: &'a str,
+        /// Why.
+        cause: LoadFault,
     },
     /// No file of this name is among the totals.
     NoFile {
@@ -119,6 +126,16 @@ fn whole_status(cause: &WholeFault) -> u8
     }
 }
 
+// The status of a fault of a text that was to be loaded.
+fn load_status(cause: &LoadFault) -> u8
+    ensures { result ≡ load_status cause.now }
+{
+    match cause {
+        LoadFault::NoMemory => 6,
+        LoadFault::NoDump => 1,
+    }
+}
+
 impl Fault<'_> {
     /// Returns the status that the program ends with. docs/reference/tool.md, "Statuses".
     pub fn status(&self) -> u8
@@ -129,6 +146,7 @@ impl Fault<'_> {
             Fault::File { cause, .. } => file_status(cause),
             Fault::Totals { cause, .. } => survey_status(cause),
             Fault::Whole { cause, .. } => whole_status(cause),
+            Fault::Load { cause, .. } => load_status(cause),
             Fault::NoFile { .. } | Fault::NoCode { .. } => 1,
             Fault::Write => 5,
             Fault::NoMemory => 6,
@@ -181,7 +199,8 @@ fn hint_of_totals(cause: &SurveyFault) -> &'static str {
         SurveyFault::TooSmall | SurveyFault::Unformatted => {
             "is it the right file? `kijolvar create FILE` makes totals without files"
         }
-        SurveyFault::Damaged(_, _) => "copy the file before you do anything else with it",
+        SurveyFault::Damaged(_, _) =>
+            "`kijolvar salvage FILE TO` makes a sound file of what can be had",
         SurveyFault::NoMemory => "free memory, and try again",
     }
 }
@@ -208,6 +227,7 @@ impl Fault<'_> {
             Fault::File { cause, .. } => hint_of_file(cause),
             Fault::Totals { cause, .. } => hint_of_totals(cause),
             Fault::Whole { cause, .. } => hint_of_whole(cause),
+            Fault::Load { .. } => "`kijolvar dump FILE` prints such a text",
             Fault::NoFile { .. } => "`kijolvar files FILE` lists the files in it",
             Fault::NoCode { .. } => "give a number as 106, or a name as E_ILLEGAL",
             Fault::Write => "check the space that is free where the output goes",
@@ -261,6 +281,7 @@ impl fmt::Display for Fault<'_> {
                 write!(line, "{path}: {cause}")?;
             }
             Fault::Whole { path, cause } => write!(line, "{path}: {cause}")?,
+            Fault::Load { path, cause } => write!(line, "{path}: {cause}")?,
             Fault::NoFile { path, name } => write!(line, "{path}: no file has the name {name}")?,
             Fault::NoCode { code } => write!(line, "no code is {code}")?,
             Fault::Write => write!(line, "the output can't be written")?,

@@ -15,18 +15,22 @@ usage: kijolvar COMMAND ..
   check FILE [--quiet]     is FILE sound? if not: the rule that is broken, at which byte
   files FILE [--json]      print what FILE holds: layout, sequence, records, room, each file
   cat FILE NAME [--hex]    print the bytes of one file in FILE
+  dump FILE                print the files of FILE as text, which can be loaded
+  diff FILE OTHER          print how the files of two totals files differ
   create FILE              make a totals file without files
   migrate FILE             move FILE to layout 2, which has more and longer files
   backup FILE TO           copy FILE, also while a till uses it; TO appears whole or not at all
   restore FROM FILE [--replace]
                            put a copy back; --replace keeps the old file as FILE.old
+  load TEXT FILE           make FILE of what dump printed
+  salvage FILE TO          make a sound TO of what can be had of a damaged FILE
   explain CODE             what a code means, and what to do: 106, E_ILLEGAL
   version                  print the version
   help                     print this
 
 statuses:
   0  done; of check: sound
-  1  no totals, or no such file or code
+  1  no totals, or no such file or code; of diff: they differ
   2  damaged totals
   3  the words ask for nothing
   4  a file can't be read or written, is there already, or is in use

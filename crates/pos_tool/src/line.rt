@@ -93,7 +93,9 @@ fn reading_line<'a>(alloc: Global, version: &'a str) -> Result<Command<'a>, Allo
     let explains = top.subcommand(place_line(alloc, "explain", "CODE")?)?;
     let checks = explains.subcommand(flagged_line(alloc, "check", "quiet")?)?;
     let lists = checks.subcommand(flagged_line(alloc, "files", "json")?)?;
-    lists.subcommand(flagged_two_line(alloc, "cat", "FILE", "NAME", "hex")?)
+    let prints = lists.subcommand(flagged_two_line(alloc, "cat", "FILE", "NAME", "hex")?)?;
+    let dumps = prints.subcommand(place_line(alloc, "dump", "FILE")?)?;
+    dumps.subcommand(two_line(alloc, "diff", "FILE", "OTHER")?)
 }
 
 /// Returns the command line of the program: its version is this one.
@@ -108,5 +110,9 @@ pub(crate) fn program_line<'a>(alloc: Global, version: &'a str) -> Result<Comman
     let creates = reads.subcommand(place_line(alloc, "create", "FILE")?)?;
     let migrates = creates.subcommand(place_line(alloc, "migrate", "FILE")?)?;
     let backs_up = migrates.subcommand(two_line(alloc, "backup", "FILE", "TO")?)?;
-    backs_up.subcommand(flagged_two_line(alloc, "restore", "FROM", "FILE", "replace")?)
+    let restores = backs_up.subcommand(flagged_two_line(
+        alloc, "restore", "FROM", "FILE", "replace",
+    )?)?;
+    let loads = restores.subcommand(two_line(alloc, "load", "TEXT", "FILE")?)?;
+    loads.subcommand(two_line(alloc, "salvage", "FILE", "TO")?)
 }

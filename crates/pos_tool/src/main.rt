@@ -15,7 +15,6 @@ mod program;
 mod telling;
 mod whole;
 
-
 use help::{HELP, VERSION, VERSION_LINE};
 use pos_program::{SystemFiles, read_words};
 use pos_report::CODES;

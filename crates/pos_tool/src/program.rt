@@ -3,13 +3,13 @@ ghost use Rattle.std.specs.Prelude.{◌≡◌, map};
 ghost use Rattle.std.specs.Process.{exit_status};
 ghost use Rattle.pos_tool.specs.Faults.{status_of};
 ghost use Rattle.pos_tool.specs.Outputs.{output_of};
-ghost use Rattle.pos_tool.specs.Program.{Does, DoesAsAsked, EndsAt, Explains, Performs, Prints, fault_of_unread};
+ghost use Rattle.pos_tool.specs.Program.{Does, DoesAsAsked, EndsAt, Explains, Performs, fault_of_unread};
 
 use crate::commands::{Task, choice};
-use crate::copies::{back_up, restore};
+use crate::copies::{back_up, load, restore, salvage};
 use crate::fault::{Fault, WordsFault, status_of};
 use crate::folder::Folder;
-use crate::telling::{tell_file, write_text};
+use crate::telling::{print, tell_difference, tell_file};
 use pos_file::BlockFile;
 use pos_program::{ChoiceFault, FileFault, FileSystem, NamedFiles, format_file, migrate_file};
 use pos_report::{Code, Finding, explained};
@@ -30,16 +30,6 @@ pub struct Pages<'a> {
     pub version_line: &'a str,
     /// The codes.
     pub codes: &'a [Code<'a>],
-}
-
-// Prints a text.
-fn print<'a, W: Sink>(writer: &mut W, text: &[u8]) -> Result<Finding, Fault<'a>>
-    ensures { Prints text.now (output_of W.Sink writer.old) (output_of W.Sink writer.new) result }
-{
-    match write_text(writer, text) {
-        Ok(()) => Ok(Finding::Good),
-        Err(_) => Err(Fault::Write),
-    }
 }
 
 // Prints what a code means.
@@ -96,6 +86,9 @@ fn carry_out<'a, F: NamedFiles, S: FileSystem + Folder + AllocGlobal, W: Sink>(
             file,
             replaces,
         } => restore(system, from, file, replaces),
+        Task::Diff { file, other } => tell_difference(alloc, files, writer, file, other),
+        Task::Load { text, file } => load(system, text, file),
+        Task::Salvage { file, to } => salvage(system, writer, file, to),
     }
 }
 
