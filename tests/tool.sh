@@ -195,7 +195,7 @@ breaks 'a long body' 9 'the length of the current body is above the longest' 9 0
 breaks 'a body with bytes left' 15 'bytes of the current body are left over' 9 00000003 1
 breaks 'a long record' 16384 "a record doesn't end within the log" 16385 00007fff 0 16384 "$sound 0, files 0"
 breaks 'a record without a group' 16384 'a record is no group of changes' 16391 09 0 16384 "$sound 0, files 0"
-breaks 'a record without changes' 16384 'a record has no changes' 16385 000000020000a5 0 16384 "$sound 0, files 0"
+breaks 'a record without changes' 16384 'a record has no changes' 16385 00000002000000 0 16384 "$sound 0, files 0"
 breaks 'a change of no file' 16398 "the changes of a record don't fit the files before it" 16406 0009 0 16398 "$sound 1, files 1"
 
 # --- files
@@ -206,7 +206,9 @@ told 'files: lines of a file' 'file 41 name A size 4 hex 01020304 text ....' \
 ends 'files of bytes without totals' 1 "kijolvar: zero.totals: isn't formatted"$'\n'"$hint_create" '' files zero.totals
 ends 'files of a short file' 1 \
   "kijolvar: short.totals: is shorter than a totals file, which has 327680 bytes"$'\n'"$hint_create" '' files short.totals
-ends 'files of a folder' 1 'kijolvar: .: is shorter than a totals file, which has 327680 bytes'$'\n'"$hint_create" '' files .
+ends 'files of a folder' 4 \
+  'kijolvar: .: can'"'"'t be read whole: check the device that it is on'$'\n''hint: check the device that it is on, and the space that is free there' \
+  '' files .
 touch locked.totals
 chmod 000 locked.totals
 under=("${held[@]}")
@@ -543,8 +545,8 @@ count = 0
 for block in re.findall(r'^```console\n(.*?)^```$', text, re.M | re.S):
     for part in re.split(r'^\$ ', block, flags=re.M)[1:]:
         command, _, wanted = part.partition('\n')
-        made = subprocess.run(['bash', '-c', command], capture_output=True, text=True)
-        found = made.stdout + made.stderr
+        made = subprocess.run(['bash', '-c', command], stdout=subprocess.PIPE, stderr=subprocess.STDOUT, text=True)
+        found = made.stdout
         print(f'{command}: {"same" if found == wanted else repr(found)}')
 PYTHON
 while read -r line; do

@@ -1,1 +1,2 @@
 mod Parsed
+mod Readings

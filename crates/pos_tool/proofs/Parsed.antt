@@ -1,6 +1,7 @@
 -- What a parse of the program's words tells of them.
 use Rattle.std.proofs.Common.{◌≡◌, [], ◌∙◌, List, Err, Ok, true, refl, ap, inl, inr}
 use Rattle.std.specs.Prelude.{◌≢◌, Result, Some}
+use Rattle.std.specs.Borrow.{Bor}
 use Rattle.clap.specs.declared.parser.matches.ArgMatches.{ArgMatches}
 use Rattle.clap.specs.Words.{App, HasKind, HasMatchesOf, IsAmong, Text, fault_of, is_simple, is_simple_and_free, kind_of}
 use Rattle.clap.specs.Words.{app_of, new_app, subcommand_rows_of}
@@ -55,6 +56,11 @@ module _ (app : App) (words : List Text) (same : app ≡ program_line) where
   told error (Ok (Diff file other)) kinds why = absurd why
   told error (Ok (Load text file)) kinds why = absurd why
   told error (Ok (Salvage file to)) kinds why = absurd why
-  told error (Err (Refused told)) kinds why = rw why.0 (among error kinds why.1)
+  told error (Err (Refused refusal)) kinds why = rw why.0 (among error kinds why.1)
   told error (Err NotUtf8) kinds why = absurd why
   told error (Err NoMemory) kinds why = tt
+
+-- a version on a command line
+pub versioned : (text : Bor Text) (old new : Command) (before : App) → app_of old ≡ before → fields_of new ≡ record (fields_of old) { version = Some text }
+    → app_of new ≡ on_top (λ s. record s { has_version = true }) before
+versioned text old new before is third = ap app_of_fields third ∙ ap (on_top (λ s. record s { has_version = true })) is

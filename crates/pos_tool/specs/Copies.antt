@@ -140,16 +140,22 @@ PutsBack {F = F} system folder calls them path bytes true result =
     (held : Result (Mirror (FileDisk F)) FileFault) × OpensTotals system calls them path held
     × PutsOver system folder calls them path bytes held result
 
+-- what putting the bytes of a copy back comes to: they are those of sound totals, and the file has them
+abbrev pub RestoresBytes : {S F : Type 0} → SystemGhosts S F → FolderGhosts S → (F → List Call) → S → List ℕ → List ℕ
+    → Bool → List ℕ → Result Finding Fault → Type 0
+RestoresBytes system folder calls them from to replaces bytes result =
+    CopiesBytes from (λ bytes. PutsBack system folder calls them to bytes replaces) bytes result
+
 -- what becomes of totals that were only read
-abbrev pub RestoresRead : {B : Type 0} → (B → List Call) → List ℕ → (List ℕ → Result Finding Fault → Type 0)
-    → Result (Mirror (FileDisk B)) FileFault → Result Finding Fault → Type 0
-RestoresRead calls from Copies (Ok totals) result =
-    AreRead calls totals × CopiesBytes from Copies totals.memory.present.reading result
-RestoresRead calls from Copies (Err cause) result = EndsAtFile from cause result
+abbrev pub RestoresRead : {S F : Type 0} → SystemGhosts S F → FolderGhosts S → (F → List Call) → S → List ℕ → List ℕ
+    → Bool → Result (Mirror (FileDisk F)) FileFault → Result Finding Fault → Type 0
+RestoresRead system folder calls them from to replaces (Ok totals) result = AreRead calls totals
+    × RestoresBytes system folder calls them from to replaces totals.memory.present.reading result
+RestoresRead system folder calls them from to replaces (Err cause) result = EndsAtFile from cause result
 
 -- What putting a copy back comes to: the bytes that were read of it are those of sound totals, and the file has them.
 abbrev pub Restores : {S F : Type 0} → SystemGhosts S F → FolderGhosts S → (F → List Call) → S → List ℕ → List ℕ
     → Bool → Result Finding Fault → Type 0
 Restores {F = F} system folder calls them from to replaces result =
     (opened : Result (Mirror (FileDisk F)) FileFault) × ReadsTotals system calls them from opened
-    × RestoresRead calls from (λ bytes. PutsBack system folder calls them to bytes replaces) opened result
+    × RestoresRead system folder calls them from to replaces opened result

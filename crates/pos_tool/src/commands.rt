@@ -12,7 +12,7 @@ use std::alloc::Global;
 use std::convert::AsStr;
 
 /// What the words of the command line ask for. A path is its word as it stands.
-#[derive(Clone, Copy, PartialEq, Eq)]
+#[derive(Clone, Copy)]
 pub enum Task<'a> {
     /// No words, `help`, `--help` or `-h`: to print the help.
     Help,

@@ -2,8 +2,11 @@
 ghost use Rattle.std.specs.Prelude.{IfErr, IfOk};
 ghost use Rattle.pos_program.specs.Answers.{bytes_of};
 ghost use Rattle.pos_tool.specs.Copies.{BacksUp, ChecksSound, EndsCopy, IsUnread, PutsBack, ReadsFront, ReadsSteady};
-ghost use Rattle.pos_tool.specs.Copies.{ReadsTwice, Restores, TakesSnapshot, lent};
-ghost use Rattle.pos_tool.specs.Making.{Loads, Salvages};
+ghost use Rattle.pos_tool.specs.Copies.{ReadsTwice, Restores, RestoresBytes, TakesSnapshot, lent};
+ghost use Rattle.pos_tool.specs.Making.{Loads, LoadsText, MakesLoad, MakesSalvage, PutsSalvaged, Salvages};
+ghost use Rattle.pos_tool.specs.Making.{SalvagesBytes};
+ghost use Rattle.pos_tool.specs.Telling.{EndsAtFile};
+ghost use Rattle.pos_program.specs.declared.file_fault.FileFault.TheVariants.{Unreadable};
 ghost use Rattle.pos_tool.specs.Outputs.{output_of};
 
 use crate::fault::Fault;
@@ -12,10 +15,11 @@ use crate::telling::print;
 use crate::whole::{WholeFault, put_new, replace};
 use pos_file::BlockFile;
 use pos_program::{FileFault, FileSystem, open_file, open_totals, read_totals};
-use pos_report::{Finding, load_totals, salvage_totals};
+use pos_report::{Finding, LoadFault, Salvaged, load_totals, salvage_totals};
 use pos_streams::Sink;
 use pos_survey::{Survey, SurveyFault};
 use std::alloc::Global;
+use std::io;
 
 // How many bytes a totals file has that are looked at.
 const LENGTH: usize = 327_680;
@@ -140,6 +144,23 @@ fn put<'a, S: FileSystem + Folder + AllocGlobal>(
     }
 }
 
+// Puts the bytes of the copy at a path back, if they are sound.
+fn restore_bytes<'a, S: FileSystem + Folder + AllocGlobal>(
+    system: &S,
+    from: &'a str,
+    bytes: &[u8],
+    to: &'a str,
+    replaces: bool,
+) -> Result<Finding, Fault<'a>>
+    ensures { RestoresBytes S.FileSystem S.Folder ⟦<S::File as BlockFile>⟧.calls system.now from.entry.now to.entry.now
+        replaces bytes.now result }
+{
+    match check_sound(system.alloc(), bytes) {
+        Ok(()) => put(system, to, bytes, replaces),
+        Err(cause) => Err(Fault::Totals { path: from, cause }),
+    }
+}
+
 /// Puts a copy of totals back, which is only read and sound: at a path where no file is, or in place of a file, which
 /// is locked meanwhile and kept. docs/reference/tool.md, "restore".
 ///
@@ -156,12 +177,51 @@ pub(crate) fn restore<'a, S: FileSystem + Folder + AllocGlobal>(
     ensures { Restores S.FileSystem S.Folder ⟦<S::File as BlockFile>⟧.calls system.now from.entry.now to.entry.now
         replaces result }
 {
-    let totals = match read_totals(system, from) {
-        Ok(totals) => totals,
-        Err(cause) => return Err(Fault::File { path: from, cause }),
-    };
-    match check_sound(system.alloc(), totals.bytes()) {
-        Ok(()) => put(system, to, totals.bytes(), replaces),
+    match read_totals(system, from) {
+        Ok(totals) => restore_bytes(system, from, totals.bytes(), to, replaces),
+        Err(cause) => Err(Fault::File { path: from, cause }),
+    }
+}
+
+// What can be had of damaged bytes.
+fn make_salvage(alloc: Global, bytes: &[u8]) -> Result<Salvaged, SurveyFault>
+    ensures { MakesSalvage bytes.now result }
+{
+    match salvage_totals(alloc, bytes) {
+        Ok(made) => Ok(made),
+        Err(fault) => Err(fault),
+    }
+}
+
+// Makes a file of what was salvaged, and prints what was lost.
+fn put_salvaged<'a, S: FileSystem + Folder + AllocGlobal, W: Sink>(
+    system: &S,
+    writer: &mut W,
+    made: &Salvaged,
+    to: &'a str,
+) -> Result<Finding, Fault<'a>>
+    ensures { PutsSalvaged S.FileSystem S.Folder ⟦<S::File as BlockFile>⟧.calls system.now to.entry.now made.now
+        (output_of W.Sink writer.old) (output_of W.Sink writer.new) result }
+{
+    match put_new(system.alloc(), system, to, &made.bytes) {
+        Ok(()) => print(writer, &made.lost),
+        Err(cause) => Err(Fault::Whole { path: to, cause }),
+    }
+}
+
+// Makes sound totals of the bytes of damaged ones at a path.
+fn salvage_bytes<'a, S: FileSystem + Folder + AllocGlobal, W: Sink>(
+    system: &S,
+    writer: &mut W,
+    from: &'a str,
+    bytes: &[u8],
+    to: &'a str,
+) -> Result<Finding, Fault<'a>>
+    ensures { SalvagesBytes S.FileSystem S.Folder ⟦<S::File as BlockFile>⟧.calls system.now from.entry.now to.entry.now
+        bytes.now (output_of W.Sink writer.old) (output_of W.Sink writer.new) result }
+{
+    match make_salvage(system.alloc(), bytes) {
+        Ok(made) => put_salvaged(system, writer, &made, to),
         Err(cause) => Err(Fault::Totals { path: from, cause }),
     }
 }
@@ -182,18 +242,44 @@ pub(crate) fn salvage<'a, S: FileSystem + Folder + AllocGlobal, W: Sink>(
     ensures { Salvages S.FileSystem S.Folder ⟦<S::File as BlockFile>⟧.calls system.now from.entry.now to.entry.now
         (output_of W.Sink writer.old) (output_of W.Sink writer.new) result }
 {
-    let totals = match read_totals(system, from) {
-        Ok(totals) => totals,
-        Err(cause) => return Err(Fault::File { path: from, cause }),
-    };
-    let made = match salvage_totals(system.alloc(), totals.bytes()) {
-        Ok(made) => made,
-        Err(cause) => return Err(Fault::Totals { path: from, cause }),
-    };
-    match put_new(system.alloc(), system, to, &made.bytes) {
-        Ok(()) => print(writer, &made.lost),
-        Err(cause) => Err(Fault::Whole { path: to, cause }),
+    match read_totals(system, from) {
+        Ok(totals) => salvage_bytes(system, writer, from, totals.bytes(), to),
+        Err(cause) => Err(Fault::File { path: from, cause }),
     }
+}
+
+// The bytes of sound totals of which a dump prints this text.
+fn make_load(alloc: Global, text: &[u8]) -> Result<Vec<u8>, LoadFault>
+    ensures { MakesLoad text.now (bytes_of result) }
+{
+    match load_totals(alloc, text) {
+        Ok(bytes) => Ok(bytes),
+        Err(fault) => Err(fault),
+    }
+}
+
+// Makes a totals file of the dump at a path, which has this text.
+fn load_text<'a, S: FileSystem + Folder + AllocGlobal>(
+    system: &S,
+    from: &'a str,
+    text: &[u8],
+    to: &'a str,
+) -> Result<Finding, Fault<'a>>
+    ensures { LoadsText S.FileSystem S.Folder ⟦<S::File as BlockFile>⟧.calls system.now from.entry.now to.entry.now
+        text.now result }
+{
+    match make_load(system.alloc(), text) {
+        Ok(bytes) => at_copy(to, put_new(system.alloc(), system, to, &bytes)),
+        Err(cause) => Err(Fault::Load { path: from, cause }),
+    }
+}
+
+// What is answered of the text at a path that can't be read, to the program.
+fn unread<'a>(path: &'a str, cause: io::Error) -> Result<Finding, Fault<'a>>
+    ensures { EndsAtFile path.entry.now (Unreadable cause) result }
+{
+    let cause = FileFault::Unreadable(cause);
+    Err(Fault::File { path, cause })
 }
 
 /// Makes a totals file of the dump at a path, where no file is. docs/reference/tool.md, "dump and load".
@@ -208,15 +294,8 @@ pub(crate) fn load<'a, S: FileSystem + Folder + AllocGlobal>(
 ) -> Result<Finding, Fault<'a>>
     ensures { Loads S.FileSystem S.Folder ⟦<S::File as BlockFile>⟧.calls system.now from.entry.now to.entry.now result }
 {
-    let text = match system.read(from) {
-        Ok(text) => text,
-        Err(cause) => {
-            let cause = FileFault::Unreadable(cause);
-            return Err(Fault::File { path: from, cause });
-        }
-    };
-    match load_totals(system.alloc(), &text) {
-        Ok(bytes) => at_copy(to, put_new(system.alloc(), system, to, &bytes)),
-        Err(cause) => Err(Fault::Load { path: from, cause }),
+    match system.read(from) {
+        Ok(text) => load_text(system, from, &text, to),
+        Err(cause) => unread(from, cause),
     }
 }

@@ -1,7 +1,8 @@
 //! How an answer is printed.
 ghost use Rattle.std.specs.Prelude.{◌≡◌, MatchResult};
 ghost use Rattle.pos_tool.specs.Outputs.{IsCutOff, IsWritten, output_of};
-ghost use Rattle.pos_tool.specs.Differing.{PrintsDifference, SurveysFile, TellsDifference, difference_finding};
+ghost use Rattle.pos_tool.specs.Differing.{PrintsDifference, SurveysBytes, SurveysFile, TellsDifference};
+ghost use Rattle.pos_tool.specs.Differing.{difference_finding};
 ghost use Rattle.pos_tool.specs.Telling.{Prints, TellsBytes, TellsFile, name_in};
 
 use crate::fault::Fault;
@@ -98,6 +99,16 @@ pub(crate) fn print<'a, W: Sink>(writer: &mut W, text: &[u8]) -> Result<Finding,
     }
 }
 
+// What a survey of the bytes of the totals file at a path tells.
+fn survey_bytes<'a>(alloc: Global, path: &'a str, bytes: &[u8]) -> Result<Survey, Fault<'a>>
+    ensures { SurveysBytes path.entry.now bytes.now result }
+{
+    match Survey::of(alloc, bytes) {
+        Ok(survey) => Ok(survey),
+        Err(cause) => Err(Fault::Totals { path, cause }),
+    }
+}
+
 // What a survey of the totals file at a path tells.
 fn survey_file<'a, F: NamedFiles>(
     alloc: Global,
@@ -106,13 +117,9 @@ fn survey_file<'a, F: NamedFiles>(
 ) -> Result<Survey, Fault<'a>>
     ensures { SurveysFile F.NamedFiles ⟦<F::File as BlockFile>⟧ files.now path.entry.now result }
 {
-    let totals = match files.read_disk(path) {
-        Ok(totals) => totals,
-        Err(cause) => return Err(Fault::File { path, cause }),
-    };
-    match Survey::of(alloc, totals.bytes()) {
-        Ok(survey) => Ok(survey),
-        Err(cause) => Err(Fault::Totals { path, cause }),
+    match files.read_disk(path) {
+        Ok(totals) => survey_bytes(alloc, path, totals.bytes()),
+        Err(cause) => Err(Fault::File { path, cause }),
     }
 }
 
