@@ -8,9 +8,11 @@ use Rattle.pos_tool.specs.Copies.{IsSteady, IsUnsteady, LastGave, ReadsFront, fr
 module _ {F : Type 0} (calls : F → List Call) (old mid new : F) (one other : List ℕ) (first : ReadsFront calls old mid one)
     (second : ReadsFront calls mid new other) where
   last_gave : LastGave calls new one other
-  last_gave =
-      (calls old, second.0 ∙ ap (λ before. before ++ front_read other ∷ []) first.0
-      ∙ append_assoc (calls old) (front_read one ∷ []) (front_read other ∷ []))
+  last_gave = (
+    calls old,
+    second.0 ∙ ap (λ before. before ++ front_read other ∷ []) first.0
+        ∙ append_assoc (calls old) (front_read one ∷ []) (front_read other ∷ []),
+  )
 
   -- both gave the same
   pub steady : other ≡ one → IsSteady calls new other

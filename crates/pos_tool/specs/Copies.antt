@@ -110,20 +110,6 @@ abbrev pub CopiesBytes : List ℕ → (List ℕ → Result Finding Fault → Typ
 CopiesBytes from Copies bytes result =
     (sound : Result (Unit {0}) SurveyFault) × ChecksSound bytes sound × CopiesSound from (Copies bytes) sound result
 
--- what becomes of the bytes of the totals file at a path, if they could be read
-abbrev pub CopiesTaken : List ℕ → (List ℕ → Result Finding Fault → Type 0) → Result (List ℕ) FileFault
-    → Result Finding Fault → Type 0
-CopiesTaken from Copies (Ok bytes) result = CopiesBytes from Copies bytes result
-CopiesTaken from Copies (Err cause) result = EndsAtFile from cause result
-
--- What a backup comes to: the bytes that two readings of the source gave, one right after the other, are those of sound
--- totals, and a new file has them.
-abbrev pub BacksUp : {S F : Type 0} → SystemGhosts S F → FolderGhosts S → (F → List Call) → S → List ℕ → List ℕ
-    → Result Finding Fault → Type 0
-BacksUp system folder calls them from to result =
-    (taken : Result (List ℕ) FileFault) × TakesSnapshot system calls them from taken
-    × CopiesTaken from (PutsNew system folder calls them to) taken result
-
 -- a file with these bytes takes the place of the one at a path, which is opened and locked for this program alone
 abbrev pub PutsOver : {S F : Type 0} → SystemGhosts S F → FolderGhosts S → (F → List Call) → S → List ℕ → List ℕ
     → Result (Mirror (FileDisk F)) FileFault → Result Finding Fault → Type 0
@@ -140,17 +126,32 @@ PutsBack {F = F} system folder calls them path bytes true result =
     (held : Result (Mirror (FileDisk F)) FileFault) × OpensTotals system calls them path held
     × PutsOver system folder calls them path bytes held result
 
--- what putting the bytes of a copy back comes to: they are those of sound totals, and the file has them
-abbrev pub RestoresBytes : {S F : Type 0} → SystemGhosts S F → FolderGhosts S → (F → List Call) → S → List ℕ → List ℕ
+-- what putting the bytes of the totals file at one path to another comes to: they are sound, and the file has them
+abbrev pub CopiesTo : {S F : Type 0} → SystemGhosts S F → FolderGhosts S → (F → List Call) → S → List ℕ → List ℕ
     → Bool → List ℕ → Result Finding Fault → Type 0
-RestoresBytes system folder calls them from to replaces bytes result =
+CopiesTo system folder calls them from to replaces bytes result =
     CopiesBytes from (λ bytes. PutsBack system folder calls them to bytes replaces) bytes result
+
+-- what becomes of the bytes of a totals file, if they could be read
+abbrev pub CopiesTaken : {S F : Type 0} → SystemGhosts S F → FolderGhosts S → (F → List Call) → S → List ℕ → List ℕ
+    → Result (List ℕ) FileFault → Result Finding Fault → Type 0
+CopiesTaken system folder calls them from to (Ok bytes) result =
+    CopiesTo system folder calls them from to false bytes result
+CopiesTaken system folder calls them from to (Err cause) result = EndsAtFile from cause result
+
+-- What a backup comes to: the bytes that two readings of the source gave, one right after the other, are those of sound
+-- totals, and a new file has them.
+abbrev pub BacksUp : {S F : Type 0} → SystemGhosts S F → FolderGhosts S → (F → List Call) → S → List ℕ → List ℕ
+    → Result Finding Fault → Type 0
+BacksUp system folder calls them from to result =
+    (taken : Result (List ℕ) FileFault) × TakesSnapshot system calls them from taken
+    × CopiesTaken system folder calls them from to taken result
 
 -- what becomes of totals that were only read
 abbrev pub RestoresRead : {S F : Type 0} → SystemGhosts S F → FolderGhosts S → (F → List Call) → S → List ℕ → List ℕ
     → Bool → Result (Mirror (FileDisk F)) FileFault → Result Finding Fault → Type 0
 RestoresRead system folder calls them from to replaces (Ok totals) result = AreRead calls totals
-    × RestoresBytes system folder calls them from to replaces totals.memory.present.reading result
+    × CopiesTo system folder calls them from to replaces totals.memory.present.reading result
 RestoresRead system folder calls them from to replaces (Err cause) result = EndsAtFile from cause result
 
 -- What putting a copy back comes to: the bytes that were read of it are those of sound totals, and the file has them.

@@ -2,7 +2,7 @@
 ghost use Rattle.std.specs.Prelude.{IfErr, IfOk};
 ghost use Rattle.pos_program.specs.Answers.{bytes_of};
 ghost use Rattle.pos_tool.specs.Copies.{BacksUp, ChecksSound, EndsCopy, IsUnread, PutsBack, ReadsFront, ReadsSteady};
-ghost use Rattle.pos_tool.specs.Copies.{ReadsTwice, Restores, RestoresBytes, TakesSnapshot, lent};
+ghost use Rattle.pos_tool.specs.Copies.{ReadsTwice, Restores, CopiesTo, TakesSnapshot, lent};
 ghost use Rattle.pos_tool.specs.Making.{Loads, LoadsText, MakesLoad, MakesSalvage, PutsSalvaged, Salvages};
 ghost use Rattle.pos_tool.specs.Making.{SalvagesBytes};
 ghost use Rattle.pos_tool.specs.Telling.{EndsAtFile};
@@ -100,31 +100,6 @@ fn at_copy<'a>(path: &'a str, answer: Result<(), WholeFault>) -> Result<Finding,
     }
 }
 
-/// Copies the totals file at a path, which a till may be writing, to a path where no file is. The copy has the bytes
-/// that two readings gave, one right after the other, and they are sound. docs/reference/tool.md, "backup".
-///
-/// # Errors
-///
-/// `File` if it can't be read, or changed from each reading to the next; `Totals` if it isn't sound; `Whole` if the
-/// copy can't be made, or a file is there.
-pub(crate) fn back_up<'a, S: FileSystem + Folder + AllocGlobal>(
-    system: &S,
-    from: &'a str,
-    to: &'a str,
-) -> Result<Finding, Fault<'a>>
-    ensures { BacksUp S.FileSystem S.Folder ⟦<S::File as BlockFile>⟧.calls system.now from.entry.now to.entry.now
-        result }
-{
-    let bytes = match take_snapshot(system, from) {
-        Ok(bytes) => bytes,
-        Err(cause) => return Err(Fault::File { path: from, cause }),
-    };
-    match check_sound(system.alloc(), &bytes) {
-        Ok(()) => at_copy(to, put_new(system.alloc(), system, to, &bytes)),
-        Err(cause) => Err(Fault::Totals { path: from, cause }),
-    }
-}
-
 // Puts a file with these bytes at a path: where none is, or in place of one that no program has open.
 fn put<'a, S: FileSystem + Folder + AllocGlobal>(
     system: &S,
@@ -144,20 +119,41 @@ fn put<'a, S: FileSystem + Folder + AllocGlobal>(
     }
 }
 
-// Puts the bytes of the copy at a path back, if they are sound.
-fn restore_bytes<'a, S: FileSystem + Folder + AllocGlobal>(
+// Puts the bytes of the totals file at one path to another path, if they are sound.
+fn copy_bytes<'a, S: FileSystem + Folder + AllocGlobal>(
     system: &S,
     from: &'a str,
     bytes: &[u8],
     to: &'a str,
     replaces: bool,
 ) -> Result<Finding, Fault<'a>>
-    ensures { RestoresBytes S.FileSystem S.Folder ⟦<S::File as BlockFile>⟧.calls system.now from.entry.now to.entry.now
+    ensures { CopiesTo S.FileSystem S.Folder ⟦<S::File as BlockFile>⟧.calls system.now from.entry.now to.entry.now
         replaces bytes.now result }
 {
     match check_sound(system.alloc(), bytes) {
         Ok(()) => put(system, to, bytes, replaces),
         Err(cause) => Err(Fault::Totals { path: from, cause }),
+    }
+}
+
+/// Copies the totals file at a path, which a till may be writing, to a path where no file is. The copy has the bytes
+/// that two readings gave, one right after the other, and they are sound. docs/reference/tool.md, "backup".
+///
+/// # Errors
+///
+/// `File` if it can't be read, or changed from each reading to the next; `Totals` if it isn't sound; `Whole` if the
+/// copy can't be made, or a file is there.
+pub(crate) fn back_up<'a, S: FileSystem + Folder + AllocGlobal>(
+    system: &S,
+    from: &'a str,
+    to: &'a str,
+) -> Result<Finding, Fault<'a>>
+    ensures { BacksUp S.FileSystem S.Folder ⟦<S::File as BlockFile>⟧.calls system.now from.entry.now to.entry.now
+        result }
+{
+    match take_snapshot(system, from) {
+        Ok(bytes) => copy_bytes(system, from, &bytes, to, false),
+        Err(cause) => Err(Fault::File { path: from, cause }),
     }
 }
 
@@ -178,7 +174,7 @@ pub(crate) fn restore<'a, S: FileSystem + Folder + AllocGlobal>(
         replaces result }
 {
     match read_totals(system, from) {
-        Ok(totals) => restore_bytes(system, from, totals.bytes(), to, replaces),
+        Ok(totals) => copy_bytes(system, from, totals.bytes(), to, replaces),
         Err(cause) => Err(Fault::File { path: from, cause }),
     }
 }
