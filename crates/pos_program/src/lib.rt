@@ -43,6 +43,7 @@ pub use profile_fault::ProfileFileFault;
 pub use profile_file::{profile_of_bytes, profile_of_text, read_profile};
 pub use totals_disk::{
     TotalsDisk, disk_over, disk_to_read, lengthened, make_totals, mirrored, open_totals,
+    sync_folder,
 };
-pub use totals_file::read_totals;
+pub use totals_file::{open_file, read_totals};
 pub use words::{Task, choice, read_words};

@@ -62,8 +62,12 @@ fn folder_of(path: &str) -> &str
     }
 }
 
-// Makes the entry of a file in its folder stay after a crash.
-fn sync_folder<S: FileSystem>(files: &S, path: &str) -> Result<(), FileFault>
+/// Makes the entry of a file in its folder stay after a crash.
+///
+/// # Errors
+///
+/// `Folder` if the folder can't be synced.
+pub fn sync_folder<S: FileSystem>(files: &S, path: &str) -> Result<(), FileFault>
     ensures { SyncsFolder S.FileSystem files.now path.now result }
 {
     match files.sync(folder_of(path)) {

@@ -29,8 +29,12 @@ fn options() -> OpenOptions
     options
 }
 
-// Opens a file that is there for reading alone, and returns it.
-fn open_file<S: FileSystem>(files: &S, path: &str) -> Result<S::File, FileFault>
+/// Opens a file that is there for reading alone, and returns it. Nothing was asked of it yet.
+///
+/// # Errors
+///
+/// `Unreadable` if it can't be opened, and `NoMemory` if memory ran out.
+pub fn open_file<S: FileSystem>(files: &S, path: &str) -> Result<S::File, FileFault>
     ensures opens { OpensFile S.FileSystem TellsUnreadable files.now to_read path.now result }
     ensures new { IfOk result (λ file. ⟦<S::File as BlockFile>⟧.calls file ≡ []) }
 {
