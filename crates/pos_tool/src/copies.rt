@@ -278,7 +278,7 @@ fn unread<'a>(path: &'a str, cause: io::Error) -> Result<Finding, Fault<'a>>
     Err(Fault::File { path, cause })
 }
 
-/// Makes a totals file of the dump at a path, where no file is. docs/reference/tool.md, "dump and load".
+/// Makes a totals file of the dump at a path, where no file is. docs/reference/tool.md, "load".
 ///
 /// # Errors
 ///
