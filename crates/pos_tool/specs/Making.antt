@@ -1,4 +1,4 @@
--- What salvaging and loading come to (docs/reference/tool.md, "salvage", "dump and load").
+-- What salvaging and loading come to (docs/reference/tool.md, "salvage" and "load").
 use Rattle.std.specs.Prelude.{◌≡◌, ℕ, List, Result, Ok, Err, ⊤}
 use Rattle.std.specs.declared.io.Error.{Error}
 use Rattle.pos_file.specs.Calls.{Call}
