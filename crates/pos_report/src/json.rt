@@ -53,7 +53,9 @@ fn survey_value(alloc: Global, survey: &Survey) -> Result<Value, AllocError>
     let room = room_value(survey.room);
     let slot = survey.slot.start();
     let sequence = survey.sequence;
-    json!(in alloc; {"files": files, "layout": layout, "records": records, "room": room, "sequence": sequence, "slot": slot})
+    json!(in alloc; {
+        "files": files, "layout": layout, "records": records, "room": room, "sequence": sequence, "slot": slot
+    })
 }
 
 /// Returns a survey as one line of JSON. It reads back as what the survey has.
