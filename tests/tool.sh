@@ -461,13 +461,13 @@ sound=$("$tool" check till.totals)
 told 'check after the till' 'sound: layout 1' "${sound%%,*}"
 
 # --- a second program that locks, and one that reads
-flock --exclusive till.totals sleep 60 &
+flock --exclusive --no-fork till.totals sleep 60 &
 other=$!
 until ! flock --nonblock till.totals true; do sleep 0.1; done
 ends 'check beside a lock' 4 "$in_use" '' check till.totals
 kill "$other"
 wait "$other" 2> /dev/null
-flock --shared till.totals sleep 60 &
+flock --shared --no-fork till.totals sleep 60 &
 other=$!
 until ! flock --nonblock till.totals true; do sleep 0.1; done
 ends 'check beside a reader' 0 '' "$sound" check till.totals
@@ -480,8 +480,8 @@ cp till.totals kept
 for words in 'check till.totals' 'files till.totals' 'files --json till.totals' 'cat till.totals A' 'dump till.totals' \
   'diff till.totals other.totals' 'salvage till.totals new2' 'backup till.totals new'; do
   strace -f -e trace=openat,write,pwrite64,ftruncate,rename,unlink -o trace "$tool" $words > /dev/null
-  told "$words opens the file to be read alone" 'O_RDONLY|O_CLOEXEC' \
-    "$(grep -o '"till.totals", [A-Z_|]*' trace | sed 's/.*, //' | sort -u)"
+  told "$words opens the file to be read alone" O_RDONLY \
+    "$(grep -o '"till.totals", [A-Z_]*' trace | sed 's/.*, //' | sort -u)"
 done
 same 'the file is as it was after all that read' till.totals kept
 
