@@ -179,10 +179,10 @@ install_pages() {
 ask_tool() {
   local to=$1
   shift
-  mkdir -p "$(dirname "$to")"
-  if ! "$@" > "$to" 2> /dev/null || [ ! -s "$to" ]; then
-    rm -f "$to"
-    rmdir --ignore-fail-on-non-empty "$(dirname "$to")"
+  if "$@" > "$work/told" 2> /dev/null && [ -s "$work/told" ]; then
+    mkdir -p "$(dirname "$to")"
+    cp "$work/told" "$to"
+  else
     echo "${to##*/share/}: kijolvar has no command '${*:2}' yet" >> "$work/left_out"
   fi
 }
