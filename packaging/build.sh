@@ -106,13 +106,13 @@ build_program() {
 # link_program OBJECT TO: links a program with the release's start, so that an older glibc runs it
 link_program() {
   local kit
-  if readelf -SW "$1" | grep -q '\.\(init_array\|preinit_array\|fini_array\|ctors\|dtors\)'; then
-    stop "$1 has constructors, which packaging/start.c doesn't run"
-  fi
   kit=$(dirname "$(rt doc)")
   "${CC:-gcc}" "${flags[@]}" -c -o "$work/start.o" "$top/packaging/start.c"
   "${CC:-gcc}" -pie -nostartfiles -o "$2" -Wl,-u,kijolvar_build "${links[@]}" "$work/start.o" "$work/build.o" "$1" \
     "$kit/c/libos_c.a" "$kit/c/liblibc_c.a" -lm
+  if readelf -SW "$2" | grep -q ' \.\(preinit_array\|init\|fini\|ctors\|dtors\) '; then
+    stop "$2 has constructors of a kind that packaging/start.c doesn't run"
+  fi
   strip "$2"
 }
 
@@ -179,10 +179,10 @@ install_pages() {
 ask_tool() {
   local to=$1
   shift
-  mkdir -p "$(dirname "$to")"
-  if ! "$@" > "$to" 2> /dev/null || [ ! -s "$to" ]; then
-    rm -f "$to"
-    rmdir --ignore-fail-on-non-empty "$(dirname "$to")"
+  if "$@" > "$work/told" 2> /dev/null && [ -s "$work/told" ]; then
+    mkdir -p "$(dirname "$to")"
+    cp "$work/told" "$to"
+  else
     echo "${to##*/share/}: kijolvar has no command '${*:2}' yet" >> "$work/left_out"
   fi
 }

@@ -1,12 +1,25 @@
 /* The start of the release's programs, in place of the C library's own, so that they run with glibc 2.31 or later.
 
-   An object that starts a program today asks for __libc_start_main of glibc 2.34. The one of glibc 2.2.5 is still in
-   every later glibc, and does the same for a program that has no constructors. Rattle's programs have none, and
-   packaging/build.sh refuses to link one that has.
+   An object that starts a program today asks for __libc_start_main of glibc 2.34, which runs the program's constructors
+   itself. The one of glibc 2.2.5 is still in every later glibc, and runs what the program's start names to it. Here this
+   runs the constructors: one of the kit keeps the words of the command line.
 
    Rattle's main asks glibc 2.33 which instructions the processor has, and ends if it isn't an x86-64-v2. Here the
    processor itself answers. */
 #include <cpuid.h>
+
+typedef void constructor(int count, char **words, char **environment);
+
+/* The linker says where the constructors are. */
+extern constructor *const __init_array_start[] __attribute__((visibility("hidden")));
+extern constructor *const __init_array_end[] __attribute__((visibility("hidden")));
+
+constructor run_constructors __attribute__((used, visibility("hidden")));
+
+void run_constructors(int count, char **words, char **environment) {
+    constructor *const *at;
+    for (at = __init_array_start; at != __init_array_end; at++) (*at)(count, words, environment);
+}
 
 __asm__(".symver start_main, __libc_start_main@GLIBC_2.2.5\n"
         ".text\n"
@@ -20,8 +33,8 @@ __asm__(".symver start_main, __libc_start_main@GLIBC_2.2.5\n"
         "    andq $-16, %rsp\n"
         "    pushq %rax\n"
         "    pushq %rsp\n"      /* the end of the stack */
-        "    xorl %r8d, %r8d\n" /* no destructors */
-        "    xorl %ecx, %ecx\n" /* no constructors */
+        "    xorl %r8d, %r8d\n" /* the loader runs the destructors */
+        "    leaq run_constructors(%rip), %rcx\n"
         "    movq main@GOTPCREL(%rip), %rdi\n"
         "    call *start_main@GOTPCREL(%rip)\n"
         "    hlt\n"
