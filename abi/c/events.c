@@ -1,5 +1,6 @@
-/* Which control has an event to deliver. Two tills are given the same lines, picked at random. One is asked for the next
-   event, and the other delivers to each control in turn, which has to find the same one. Then the cases one by one. */
+/* Which control has an event to deliver. Two tills are given the same lines, picked at random. One is asked for the
+   next event, and the other delivers to each control in turn, which has to find the same one. Then the cases one by
+   one. */
 #include "kijolvar.h"
 #include <stdbool.h>
 #include <stdint.h>
@@ -72,9 +73,18 @@ static kijolvar_till opened(void) {
     return till;
 }
 
+/* A number below a bound, of the generator's higher bits. */
+static size_t pick(size_t bound) {
+    static uint32_t seed = 20;
+    seed = seed * 1103515245u + 12345u;
+    return (seed >> 16) % bound;
+}
+
 static void same_as_in_turn(void) {
+    /* What is rarely so has more lines that bring it about. */
     static const char *const lines[] = {
-        "input d1 open", "input d1 closed", "input d1 power off", "input d1 power on",
+        "input d1 open", "input d1 closed", "input d1 power off", "input d1 power on", "input d1 open",
+        "input d1 closed", "input d1 power on", "open a d1\nset a DeviceEnabled true", "input d1 open\ninput d1 closed",
         "set a FreezeEvents true", "set a FreezeEvents false", "set b FreezeEvents true", "set b FreezeEvents false",
         "set a DeviceEnabled false", "set a DeviceEnabled true", "close a", "open a d1",
         "input s1 scan 104 61 61", "input s1 fault", "set s DataEventEnabled true", "set s DataEventEnabled false",
@@ -83,18 +93,16 @@ static void same_as_in_turn(void) {
         "set r FreezeEvents true", "set r FreezeEvents false", "call r clearOutput",
     };
     kijolvar_till asked = opened(), delivering = opened();
-    unsigned seed = 20;
     size_t events[CONTROLS] = {0}, no_event = 0;
     does(&asked, begin);
     does(&delivering, begin);
     for (int step = 0; step < 20000; step++) {
-        seed = seed * 1103515245u + 12345u;
-        const char *line = lines[(seed >> 16) % (sizeof lines / sizeof lines[0])];
+        const char *line = lines[pick(sizeof lines / sizeof lines[0])];
         char before[64];
         snprintf(before, sizeof before, "%s", answer(&asked, line));
         wants("the same answer", strcmp(before, answer(&delivering, line)) == 0);
-        if ((seed >> 8) % 2 == 0) continue;
-        size_t from = (seed >> 10) % 3, control = next(&asked, from);
+        if (pick(2) == 0) continue;
+        size_t from = pick(3), control = next(&asked, from);
         wants("the same, asked again", next(&asked, from) == control);
         wants("the first to which a delivery gives an event", found(&delivering, from) == control);
         if (control == none) no_event++;
@@ -114,7 +122,8 @@ static void each_case(void) {
     size_t control = untouched;
     wants("no control", next(&till, 0) == none);
     does(&till, begin);
-    wants("no event", next(&till, 0) == none);
+    wants("the power of the one that is notified", next(&till, 0) == 1 && delivers(&till, 1));
+    wants("no other event", next(&till, 0) == none);
     for (size_t number = 0; number < CONTROLS; number++)
         wants("its number", kijolvar_control(till, &till.at, (const uint8_t *)names[number], 1, &control) ==
                                     KIJOLVAR_OK && control == number);

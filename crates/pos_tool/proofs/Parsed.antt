@@ -60,6 +60,16 @@ module _ (app : App) (words : List Text) (same : app ≡ program_line) where
   told error (Err NotUtf8) kinds why = absurd why
   told error (Err NoMemory) kinds why = tt
 
+-- a program's command line as it begins: its name isn't among the words, and `clap`'s own `help` is no command
+pub begun : (name : Text) (new unnamed started : Command) → app_of new ≡ new_app name
+    → fields_of unnamed ≡ record (fields_of new) { no_binary_name = true }
+    → fields_of started ≡ record (fields_of unnamed) { disable_help_subcommand = true }
+    → app_of started ≡ on_top (λ s. record s { no_binary_name = true; disable_help_subcommand = true }) (new_app name)
+begun name new unnamed started is first second =
+    ap app_of_fields second
+    ∙ ap (on_top (λ s. record s { disable_help_subcommand = true }))
+    (ap app_of_fields first ∙ ap (on_top (λ s. record s { no_binary_name = true })) is)
+
 -- a version on a command line
 pub versioned : (text : Bor Text) (old new : Command) (before : App) → app_of old ≡ before → fields_of new ≡ record (fields_of old) { version = Some text }
     → app_of new ≡ on_top (λ s. record s { has_version = true }) before
