@@ -1,6 +1,7 @@
 #!/usr/bin/env bash
 # Counts what an addition costs, as docs/contributing/adding.md says: for one of each kind that is there, the files of
-# src/, specs/ and proofs/ that name it. The crates of tests and the example pos_till don't count. Usage: tests/adding.sh.
+# src/, specs/ and proofs/ that name it. The crates of tests and the example pos_till don't count. Neither do pos_escpos and
+# pos_report, which name some and need none: but a code needs a row there that explains it. Usage: tests/adding.sh.
 # A kind that takes more files than its row says has failed, and so has one that no file names. Of the categories it is the
 # median. Its last line is 'N passed, M failed'.
 set -u
@@ -11,7 +12,7 @@ failed=0
 # files_with PATTERN: the files that name it, comments aside. What a file imports of a module of the same name isn't it.
 files_with() {
   grep -rnP --include='*.rt' --include='*.antt' "(?<!specs\.)(?<!proofs\.)(?:$1)" crates/*/src crates/*/specs crates/*/proofs |
-    grep -vP '^[^:]*:[0-9]+:\s*(//|--)' | cut -d: -f1 | sort -u | grep -v '_tests/\|pos_till/'
+    grep -vP '^[^:]*:[0-9]+:\s*(//|--)' | cut -d: -f1 | sort -u | grep -v '_tests/\|pos_till/\|pos_escpos/\|pos_report/'
 }
 
 # judge KIND MOST NUMBER FILES: a kind that so many files name, of which at most so many are said
@@ -66,7 +67,7 @@ count "a property that can be set" 5 'AutoDisable|auto_disable'
 count "an input of every kind" 6 'PowerMoved'
 count "a reply with its code" 8 'Offline\b'
 count "a sign" 22 '\bpowered\b'
-count "a request of the script" 11 'Deliver\b|deliver_event|"deliver"'
+count "a request of the script" 12 'Deliver\b|deliver_event|"deliver"'
 count_median "a category" 24 CashDrawer Scanner LineDisplay PosPrinter HardTotals
 echo "$passed passed, $failed failed"
 [ "$failed" -eq 0 ]
