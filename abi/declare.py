@@ -19,6 +19,7 @@ TYPES = {
     "&[u8]": "const uint8_t *{0}, size_t {0}_len",
     "&mut [u8]": "uint8_t *{0}, size_t {0}_len",
     "&mut u64": "uint64_t *{}",
+    "usize": "size_t {}",
     "&mut usize": "size_t *{}",
     "&mut Slot": "void **{}",
 }
@@ -85,7 +86,7 @@ def doc_before(source, at):
     while lines and (lines[-1].startswith("///") or lines[-1].startswith("#[")):
         line = lines.pop()
         if line.startswith("///"):
-            doc.insert(0, line[3:].strip())
+            doc.insert(0, line[4:].rstrip())
     return doc
 
 
@@ -113,7 +114,8 @@ def groups():
 
 
 def comment(lines):
-    text = "\n".join(("   " + line.replace("`", "")).rstrip() for line in lines).lstrip()
+    plain = [re.sub("^# (.*)", r"\1:", line.replace("`", "")) for line in lines]
+    text = "\n".join(("   " + line).rstrip() for line in plain).lstrip()
     return f"/* {text} */"
 
 

@@ -26,33 +26,33 @@ typedef struct {
 enum {
     /* The call did what it says. */
     KIJOLVAR_OK = 0,
-    /* There was no memory, and nothing was done. */
+    /* Memory ran out, and nothing was done. */
     KIJOLVAR_NO_MEMORY = 1,
     /* The profile is refused (docs/reference/profile.md). */
     KIJOLVAR_BAD_PROFILE = 2,
-    /* What is told is longer than the room for it. */
+    /* The room is too short for what would be written. */
     KIJOLVAR_SHORT = 3,
-    /* There was no memory for the whole answer. */
+    /* Memory ran out for the answer, of which a front is kept. */
     KIJOLVAR_CUT = 4,
-    /* The lines were carried out, and their answer waits for the errands that the host has in its file. */
+    /* The lines were carried out, and their answer waits until the host has done its errands. */
     KIJOLVAR_ERRANDS = 5,
-    /* Errands of the lines before are left, so these were not carried out. */
+    /* Errands of earlier lines are left, so these lines were not carried out. */
     KIJOLVAR_UNDONE = 6,
-    /* The file fell behind: an errand failed, or there was no memory for one. The till can only be closed. */
+    /* The file isn't as the totals are: an errand failed, or memory ran out for one. The till can only be closed. */
     KIJOLVAR_DISK_FAILED = 7,
-    /* Totals are in the file already. */
+    /* The file has totals already. */
     KIJOLVAR_FORMATTED = 8,
-    /* The file is shorter than a disk. */
+    /* The file is shorter than a disk of totals. */
     KIJOLVAR_TOO_SMALL = 9,
     /* The errand writes bytes at a place. */
     KIJOLVAR_WRITE = 10,
     /* The errand makes what was written stay. */
     KIJOLVAR_SYNC = 11,
-    /* An order is told. */
+    /* An order was written. */
     KIJOLVAR_ORDER = 12,
     /* No device of the name has orders. */
     KIJOLVAR_NO_DEVICE = 13,
-    /* The profile isn't text, or is no TOML document. */
+    /* The profile isn't UTF-8, or is no TOML document. */
     KIJOLVAR_BAD_TEXT = 14,
     /* The file isn't formatted. */
     KIJOLVAR_UNFORMATTED = 15,
@@ -60,6 +60,10 @@ enum {
     KIJOLVAR_DAMAGED = 16,
     /* The totals in the file have layout 2 already. */
     KIJOLVAR_MOVED = 17,
+    /* A control has an event to deliver. */
+    KIJOLVAR_EVENT = 18,
+    /* No control has the name. */
+    KIJOLVAR_NO_CONTROL = 19,
 };
 
 /* The result codes of the standard, which stand in answers. */
@@ -152,124 +156,196 @@ enum {
     PTR_S_RECEIPT = 2,
 };
 
-/* The version of this interface. It changes where a call's meaning or its parameters do, and not with the language of
-   the lines. */
+/* Returns the version of this interface. It changes if a call's meaning or its parameters change, but not with the
+   language of the lines. */
 uint32_t kijolvar_version(void);
 
-/* A new till over the devices of a profile, which are simulated, with totals on a formatted disk in memory. The
-   profile is TOML (docs/reference/profile.md); an empty one is the built profile. The till is what is written to
-   out.
+/* Makes a new till over the devices of a profile, which are simulated, with totals on a formatted disk in memory.
+   Writes the till to out, and returns OK. The profile is TOML (docs/reference/profile.md); an empty one is the
+   built-in profile.
 
-   Answers OK, NO_MEMORY or BAD_PROFILE; where it isn't OK, nothing is written. */
+   Errors:
+
+   - BAD_PROFILE if the profile is refused. kijolvar_profile_mistake says why.
+   - NO_MEMORY if memory ran out.
+
+   Then nothing is written. */
 uint32_t kijolvar_open(const uint8_t *profile, size_t profile_len, void **out);
 
-/* A new till as kijolvar_open makes it, but with totals in a file, whose bytes these are. The host has it open for
-   writing as long as the till is there, lets nobody else write it, and does in it what the till's disk does, errand by
-   errand (kijolvar_next_errand). A file that is not formatted (kijolvar_format_file, or the program's format)
-   is one whose totals can't be enabled.
+/* Makes a new till as kijolvar_open does, but with totals in a file, which has these bytes. Writes the till to
+   out, and returns OK.
 
-   Answers OK, NO_MEMORY or BAD_PROFILE, or TOO_SMALL where the file has fewer than 327,680 bytes; where it isn't OK,
-   nothing is written. */
+   The host must keep the file open for writing as long as the till is there, let nobody else write it, and do in it
+   what the till's disk does, errand by errand (kijolvar_next_errand). The totals of a file that is not formatted
+   (kijolvar_format_file, or the program's format) can't be enabled.
+
+   Errors:
+
+   - BAD_PROFILE if the profile is refused.
+   - TOO_SMALL if the file has fewer than 327,680 bytes.
+   - NO_MEMORY if memory ran out.
+
+   Then nothing is written. */
 uint32_t kijolvar_open_file(const uint8_t *profile, size_t profile_len, const uint8_t *bytes, size_t bytes_len, void
     **out);
 
-/* A new till as kijolvar_open_file makes it, over a file that has no totals yet, of at least 327,680 bytes: it gets
-   no files (docs/reference/totals-file.md, "Formatting"), which are the till's first errands.
+/* Makes a new till as kijolvar_open_file does, over a file that has no totals yet, of at least 327,680 bytes. Writes
+   the till to out, and returns OK. The totals have no files (docs/reference/totals-file.md, "Formatting"). What
+   formatting writes are the till's first errands.
 
-   Answers OK, NO_MEMORY or BAD_PROFILE, FORMATTED where the file has totals, or TOO_SMALL; where it isn't OK, nothing
-   is written, and the file stays as it is. */
+   Errors:
+
+   - BAD_PROFILE if the profile is refused.
+   - TOO_SMALL if the file has fewer bytes, and FORMATTED if it has totals.
+   - NO_MEMORY if memory ran out.
+
+   Then nothing is written, and the file stays as it is. */
 uint32_t kijolvar_format_file(const uint8_t *profile, size_t profile_len, const uint8_t *bytes, size_t bytes_len, void
     **out);
 
-/* A new till as kijolvar_open_file makes it, over a file whose totals have layout 1: they have layout 2 from then
-   on, with the same files (docs/reference/totals-file.md, "The move to layout 2"). The till's first errands are the
-   move; a crash at any moment of them leaves the files by one layout or the other, and the file may be moved again.
+/* Makes a new till as kijolvar_open_file does, over a file whose totals have layout 1. Writes the till to out, and
+   returns OK. The totals have layout 2 from then on, with the same files (docs/reference/totals-file.md, "The move to
+   layout 2").
 
-   Answers OK, NO_MEMORY or BAD_PROFILE; TOO_SMALL or UNFORMATTED where there are no totals; DAMAGED; or MOVED where
-   they have layout 2 already. Where it isn't OK, nothing is written, and the file stays as it is. */
+   What the move writes are the till's first errands. A crash at any moment of them leaves the files by one layout or
+   the other, and the file may be moved again.
+
+   Errors:
+
+   - BAD_PROFILE if the profile is refused.
+   - TOO_SMALL if the file has fewer than 327,680 bytes, UNFORMATTED if it has no totals, and DAMAGED if they are
+     damaged.
+   - MOVED if they have layout 2 already.
+   - NO_MEMORY if memory ran out.
+
+   Then nothing is written, and the file stays as it is. */
 uint32_t kijolvar_migrate_file(const uint8_t *profile, size_t profile_len, const uint8_t *bytes, size_t bytes_len, void
     **out);
 
-/* Tells why a profile is refused: writes the reason to text, as the program pos_console gives it, without a line
-   feed, and to needed how many bytes it has.
+/* Writes why a profile is refused to text, as the program pos_console gives it, without a line feed, and to
+   needed how many bytes the reason has. Returns OK if the profile isn't refused.
 
-   Answers OK where the profile isn't refused; BAD_TEXT where it isn't text, or no TOML document: at is the place in
-   its bytes where reading it stopped; BAD_PROFILE where something in the document isn't sound, and the reason names
-   the entry; or SHORT where text has less room: a front of the reason is there. Where it is OK or NO_MEMORY, nothing
-   is written. */
+   Errors:
+
+   - BAD_TEXT if it isn't UTF-8, or no TOML document. at is the place in its bytes where reading it stopped.
+   - BAD_PROFILE if something in the document isn't sound. The reason names the entry.
+   - SHORT if text has less room. Then a front of the reason is there.
+   - NO_MEMORY if memory ran out.
+
+   With OK and with NO_MEMORY nothing is written. */
 uint32_t kijolvar_profile_mistake(const uint8_t *profile, size_t profile_len, uint64_t *at, uint8_t *text, size_t
     text_len, size_t *needed);
 
-/* Tells the devices of a profile, in its order: writes a line for each to text, with its name, its category, and the
-   numbers of its kind behind their keys, as r1 POSPrinter chars 8 near 2, and to needed how many bytes that is.
+/* Writes the devices of a profile to text, in its order, and to needed how many bytes that is. Returns OK. Each
+   device has a line: its name, its category, and the numbers of its kind after their keys, as r1 POSPrinter chars 8
+   near 2.
 
-   Answers OK; or SHORT where text has less room: a front is there; or BAD_PROFILE or NO_MEMORY, and nothing is
-   written. */
+   Errors:
+
+   - SHORT if text has less room. Then a front is there.
+   - BAD_PROFILE if the profile is refused, and NO_MEMORY if memory ran out. Then nothing is written. */
 uint32_t kijolvar_devices(const uint8_t *profile, size_t profile_len, uint8_t *text, size_t text_len, size_t *needed);
 
-/* Tells what the bytes of a totals file hold: writes to text the lines that the program's files prints
-   (docs/reference/console.md, "What a totals file holds"), and to needed how many bytes they have.
+/* Writes what the bytes of a totals file hold to text, and to needed how many bytes that is. Returns OK. The text
+   is the lines that the program's files prints (docs/reference/console.md, "What a totals file holds").
 
-   Answers OK; DAMAGED where the bytes break a rule: text says which, and at where; or SHORT where text has less
-   room for either: a front is there; or UNFORMATTED, TOO_SMALL or NO_MEMORY, and nothing is written. */
+   Errors:
+
+   - DAMAGED if the bytes break a rule. text says which, and at where.
+   - SHORT if text has less room for either. Then a front is there.
+   - UNFORMATTED if they have no totals, TOO_SMALL if they are fewer than 327,680, and NO_MEMORY if memory ran out.
+     Then nothing is written. */
 uint32_t kijolvar_survey(const uint8_t *bytes, size_t bytes_len, uint64_t *at, uint8_t *text, size_t text_len, size_t
     *needed);
 
-/* Carries out the lines of a text, each whole before the next, and writes to text what they print, and to
-   needed how many bytes that is. What stands behind the last line feed is a line too. The till is what is written
-   to out from then on.
+/* Carries out the lines of a text, each whole before the next. Writes to text what they print, and to needed how
+   many bytes that is, and returns OK. What is after the last line feed is a line too. The till is what is written to
+   out from then on.
 
-   Answers OK; or SHORT where text has less room: all lines were carried out, a front of the answer is in text,
-   and kijolvar_answer gives it whole; or CUT where there was no memory for what a line prints: that line was carried
-   out, and no later one, and a front of the answer is kept.
+   Errors:
 
-   Of a till over a file also: ERRANDS where the lines were carried out and their answer is kept until the host has
-   done its errands: nothing is written; UNDONE where errands of earlier lines are left, and DISK_FAILED where one
-   failed: nothing was carried out or written. DISK_FAILED too where there was no memory for an errand of these lines:
-   what they changed may not be in the file. */
+   - SHORT if text has less room. All lines were carried out, a front of the answer is in text, and
+     kijolvar_answer writes all of it.
+   - CUT if memory ran out for what a line prints. That line was carried out, and no later one, and a front of the
+     answer is kept.
+
+   Of a till over a file also:
+
+   - ERRANDS if the lines were carried out, and their answer is kept until the host has done its errands. Nothing is
+     written.
+   - UNDONE if errands of earlier lines are left. Nothing was carried out or written.
+   - DISK_FAILED if one of them failed. Nothing was carried out or written.
+   - DISK_FAILED also if memory ran out for an errand of these lines. What they changed may not be in the file. */
 uint32_t kijolvar_carry_out(kijolvar_till till, void **out, const uint8_t *lines, size_t lines_len, uint8_t *text,
     size_t text_len, size_t *needed);
 
-/* Writes to text the answer to the lines that the till was given last, as far as it was kept, and to needed how
-   many bytes it has. Nothing is carried out. The till is what is written to out from then on.
+/* Writes the answer to the lines that were carried out last to text, as far as it was kept, and to needed how many
+   bytes it has. Returns OK. Nothing is carried out. The till is what is written to out from then on.
 
-   Answers OK, or SHORT where text has less room, or CUT as kijolvar_carry_out does: a front of the answer is
-   there; or ERRANDS where errands are left, or DISK_FAILED where one failed: nothing is written. */
+   Errors:
+
+   - SHORT if text has less room, and CUT as kijolvar_carry_out has it. Then a front of the answer is there.
+   - ERRANDS if errands are left, and DISK_FAILED if one failed. Then nothing is written. */
 uint32_t kijolvar_answer(kijolvar_till till, void **out, uint8_t *text, size_t text_len, size_t *needed);
 
-/* Tells the host the next thing to do to its file, once the one before is done: WRITE, where needed bytes, which are
-   in bytes, go to the place at; SYNC, where what was written has to stay; or OK, where nothing is left. The till
-   is what is written to out from then on.
+/* Gives the host the next thing to do to its file. The errand before it is done when the host calls this. The till is
+   what is written to out from then on. Returns one of these:
 
-   Answers SHORT where bytes has less room than needed says: the errand stays the next one, and nothing else is
-   written; and DISK_FAILED where an errand failed. */
+   - WRITE: needed bytes, which are in bytes, go to the place at, counted from 0.
+   - SYNC: what was written must stay.
+   - OK: no errand is left.
+
+   Errors:
+
+   - SHORT if bytes has less room than needed says. The errand stays the next one, and nothing else is written.
+   - DISK_FAILED if an errand failed. */
 uint32_t kijolvar_next_errand(kijolvar_till till, void **out, uint64_t *at, uint8_t *bytes, size_t bytes_len, size_t
     *needed);
 
-/* Tells a till that an errand failed. What its lines changed may or may not be in the file, none of them is answered,
-   and the till can only be closed; one that is opened anew finds what is there. A till in memory stays as it is. The
-   till is what is written to out from then on. */
+/* Notes that an errand failed. What the till's lines changed may or may not be in the file, and none of them is
+   answered. The till can only be closed. A new till over the file finds what is there. A till in memory stays as it
+   is. The till is what is written to out from then on. */
 void kijolvar_errand_failed(kijolvar_till till, void **out);
 
-/* Says that the host has the device of this name: from now on each order that the device carries out is kept for the
-   host, which gives it to its hardware (kijolvar_next_order), while the simulated device answers in its place. What
-   happens at the hardware the host says by input lines. A host may say it once more. The till is what is written to
-   out from then on.
+/* Notes that the host has the hardware of the device of this name, and returns OK. Each order that the device carries
+   out from now on is kept for the host, which passes it to its hardware (kijolvar_next_order), while the simulated
+   device answers for it. What happens at the hardware the host says by input lines. A host may call this again. The
+   till is what is written to out from then on.
 
-   Answers OK; or NO_DEVICE where the profile has no device of the name, or it is one of Hard Totals, or NO_MEMORY, and
-   nothing changes. */
+   Errors:
+
+   NO_DEVICE if the profile has no device of the name, or it is one of Hard Totals, and NO_MEMORY if memory ran out.
+   Then nothing changes. */
 uint32_t kijolvar_host(kijolvar_till till, void **out, const uint8_t *name, size_t name_len);
 
-/* Takes out the oldest order of the devices that the host has, and writes to text the line that tells it (the
-   device's name, the order's word, its arguments; abi/README.md), and to needed how many bytes it has. The till is
-   what is written to out from then on.
+/* Removes the oldest order of the devices that the host has, and writes its line to text and to needed how many
+   bytes it has. Returns ORDER; or OK if no order is left, and needed is 0. The line has the device's name, the
+   order's word and its arguments (abi/README.md). The till is what is written to out from then on.
 
-   Answers ORDER; or OK where none is left: needed is 0; or SHORT where text has less room than needed says: the
-   order stays the next one, and nothing else is written; or ERRANDS while errands are left, or DISK_FAILED where one
-   failed: nothing is written. */
+   Errors:
+
+   - SHORT if text has less room than needed says. The order stays the next one, and nothing else is written.
+   - ERRANDS if errands are left, and DISK_FAILED if one failed. Then nothing is written. */
 uint32_t kijolvar_next_order(kijolvar_till till, void **out, uint8_t *text, size_t text_len, size_t *needed);
 
-/* Ends a till, its totals at rest. Errands and orders that are left are dropped. */
+/* Writes the number of the control of this name to control, and returns OK. The controls of a till are numbered from
+   0, in the order of their new lines that were answered ok. The till is what is written to out from then on.
+
+   Errors:
+
+   NO_CONTROL if no control has the name. Then nothing is written. */
+uint32_t kijolvar_control(kijolvar_till till, void **out, const uint8_t *name, size_t name_len, size_t *control);
+
+/* Writes the lowest number, from or above, of a control that has an event to deliver to control, and returns
+   EVENT; or returns OK if no such control has one. A deliver line of that control gives the event. This changes
+   nothing of the till. The till is what is written to out from then on.
+
+   Errors:
+
+   ERRANDS if errands are left, and DISK_FAILED if one failed. Then nothing is written, and neither with OK. */
+uint32_t kijolvar_next_event(kijolvar_till till, void **out, size_t from, size_t *control);
+
+/* Closes a till, its totals at rest. Errands and orders that are left are dropped. */
 void kijolvar_close(kijolvar_till till);
 
 #ifdef __cplusplus

@@ -163,8 +163,8 @@ install_library() {
     "$to/$lib/cmake/kijolvar/kijolvar-config-version.cmake"
 }
 
-# install_pages TO: puts the man pages and the completions into TO/share. `kijolvar` prints its own; until it has a command
-# for a man page, that is made of its help.
+# install_pages TO: puts the man pages and the completions into TO/share. `kijolvar` prints its own. Until it has a
+# command for a man page, that is made of its help.
 install_pages() {
   local share=$1/share tool=$1/bin/kijolvar
   mkdir -p "$share/man/man1"

@@ -31,7 +31,7 @@ cd "$(dirname "$0")/.." || exit 1
 exec python3 - "$@" <<'PROGRAM'
 import functools, glob, os, re, shutil, subprocess, sys
 
-DOCUMENTS = ["README.md", "CONTRIBUTING.md", "CHANGELOG.md", "abi/README.md",
+DOCUMENTS = ["README.md", "CONTRIBUTING.md", "CHANGELOG.md", "abi/README.md", *sorted(glob.glob("crates/*/README.md")),
              *sorted(glob.glob("docs/**/*.md", recursive=True))]
 CRATES = sorted(os.path.basename(path) for path in glob.glob("crates/*"))
 # Files that a command makes, or that stand for those of a reader.
@@ -773,7 +773,7 @@ PLANTS = [
     ("theorems", instead(THEOREMS, r"`any_moment`, `log`, `HasEither`", "`any_moments`, `log`, `HasEither`")),
     ("theorems", instead(THEOREMS, r"`Commits\.crash`, `LeavesBeforeOrAfter`", "`Commits.crash`, `LeavesItsFilesMoved`")),
     ("theorems", instead(THEOREMS, r"`Commits\.crash`", "`Commits.nothing_of_it`")),
-    ("theorems", instead(THEOREMS, r'"a type … whose', '"a type … never whose')),
+    ("theorems", instead(THEOREMS, r'"makes a function pointer', '"never makes a function pointer')),
     ("theorems", instead(THEOREMS, r"\| missing as a clause: ", "| whole, as a clause: ")),
     ("commits", behind("docs/contributing/measures.md", "It was measured at 0123abcd.")),
     ("kit", instead("README.md", r"rattle-kit-\w+", "rattle-kit-0z")),

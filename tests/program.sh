@@ -101,8 +101,8 @@ totals_script() {
   printf 'call a create 41 4 false\ncall a read 1 0 4\nget a FreeData\nget a NumberOfFiles\n'
 }
 
-# --- words
-: > script
+# --- words; the script has a line, which a run would answer
+printf 'new a CashDrawer\n' > script
 nothing='error: unrecognized subcommand'
 refuses_words 'a misspelt command' "$nothing 'rum'" rum --profile p --disk d
 refuses_words 'a command in capitals' "$nothing 'RUN'" RUN --profile p --disk d
@@ -110,6 +110,10 @@ refuses_words 'a command with a line feed' "$nothing 'r n'" "$(printf 'r\nn')"
 refuses_words 'an empty word' "$nothing ''" ''
 refuses_words 'a version' "error: unexpected argument '--version' found" --version
 refuses_words 'a word that is no text' 'a word is not UTF-8' "$(printf '\377')"
+refuses_words 'a delimiter alone' \
+  "error: 'pos_console' requires a subcommand but one was not provided [subcommands: run, format, migrate, files]" --
+refuses_words 'a command after a delimiter' "error: unexpected argument 'run' found" -- run
+refuses_words 'an option without a command' "error: unexpected argument '--disk' found" --disk x
 refuses_words 'help' usage --help
 refuses_words 'help in short' usage -h
 refuses_words 'the word help' "$nothing 'help'" help

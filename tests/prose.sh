@@ -1,5 +1,5 @@
 #!/usr/bin/env bash
-# Measures the prose of README.md, CONTRIBUTING.md, CHANGELOG.md, abi/README.md and docs/, document by document:
+# Measures the prose of README.md, CONTRIBUTING.md, CHANGELOG.md, abi/README.md, those of crates, and docs/:
 #   median   half of the sentences have at most 16 words
 #   longest  no sentence has more than 35
 #   words    none of the words that this project replaces with plainer ones
@@ -147,7 +147,7 @@ def measure(texts):
 
 
 def documents():
-    found = ["README.md", "CONTRIBUTING.md", "CHANGELOG.md", "abi/README.md"]
+    found = ["README.md", "CONTRIBUTING.md", "CHANGELOG.md", "abi/README.md", *sorted(glob.glob("crates/*/README.md"))]
     found += sorted(glob.glob("docs/**/*.md", recursive=True))
     return [path for path in found if os.path.exists(path) and path not in GENERATED]
 

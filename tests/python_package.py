@@ -671,6 +671,35 @@ def try_any_event():
         till.device("d1").drawer(is_open=False)
         told("a closed control has none", [kijolvar.StatusUpdateEvent(one, 0), None],
              [till.next_event() for _ in range(2)])
+    with opened() as till:
+        first = till.drawer("d1")
+        told("lines make a control", "ok\nok\nok\n",
+             till.carry_out("new raw CashDrawer\nopen raw d1\nset raw DeviceEnabled true\n"))
+        scanner, last = till.scanner("s1"), till.drawer("d1")
+        scanner.claim()
+        scanner.device_enabled = first.freeze_events = True
+        till.device("d1").drawer(is_open=True)
+        till.device("s1").scan(104, "a", "a")
+        told("a frozen event and a scan are passed over", [kijolvar.StatusUpdateEvent(last, 1), None],
+             [till.next_event() for _ in range(2)])
+        till.device("s1").scan_fault()
+        scanner.data_event_enabled = True
+        event = till.next_event()
+        told("an ErrorEvent is the next", (kijolvar.ErrorEvent, scanner, EL_INPUT_DATA),
+             (type(event), event.control, event.locus))
+        first.freeze_events = False
+        told("it is frozen no more", kijolvar.StatusUpdateEvent(first, 1), till.next_event())
+        for is_open in (False, True):
+            till.device("d1").drawer(is_open=is_open)
+        heard = []
+        first.listen(heard.append)
+        told("controls without a listener are passed over", (2, 2), (till.deliver(), len(heard)))
+        till.device("d1").drawer(is_open=False)
+        told("one event of each in turn", [first, scanner, last, last, last], [event.control for event in till.events()])
+        told("what lines made is left to lines", "event StatusUpdateEvent 1\n", till.carry_out("deliver raw\n"))
+        told("none is left", (None, [], 0), (till.next_event(), list(till.events()), till.deliver()))
+        kept = till.next_event
+    told("a closed till", "TillClosedError", name_of(kept))
 
 
 # ---- profiles, the library, help

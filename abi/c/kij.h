@@ -346,8 +346,9 @@ typedef kij_reply (*kij_listener)(const kij_event *event, void *with);
  */
 kij_result kij_next_event(kij_control *control, kij_event *event);
 
-/** Delivers the next event of any control of the till, in the order in which they were made, or writes KIJ_NO_EVENT
- * with a null control. The event says whose it is. */
+/** Delivers the next event of any control of the till, or writes KIJ_NO_EVENT with a null control. Of several controls
+ * with an event it is the one that was made first. The event says whose it is. This asks the library once, however many
+ * controls there are. Controls that lines made are passed over. */
 kij_result kij_next_event_of_any(kij_till *till, kij_event *event);
 
 /** Delivers the control's next event, and replies to it beforehand if it is an ErrorEvent. */
@@ -363,7 +364,8 @@ kij_result kij_reply_to(const kij_event *event, kij_reply reply);
  * returns. */
 kij_result kij_pump(kij_control *control, kij_listener listen, void *with);
 
-/** Passes each event of each control of the till to a listener, until none is left, and replies as kij_pump does. */
+/** Passes each event of each control of the till to a listener, one of each control in turn, until none is left, and
+ * replies as kij_pump does. Controls that lines made are passed over. */
 kij_result kij_pump_all(kij_till *till, kij_listener listen, void *with);
 
 /* ---- The devices' side: inputs, work, exchange. Devices are simulated; a host with hardware says what happens there.

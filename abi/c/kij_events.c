@@ -75,14 +75,37 @@ static inline kij_result deliver(kij_control *control, const kij_word *reply, ki
 
 kij_result kij_next_event(kij_control *control, kij_event *event) { return deliver(control, NULL, event); }
 
+/* The control of this number that the layer has handed out, or null: lines may have made others. */
+static kij_control *control_of(kij_till *till, size_t number) {
+    kij_control *control = till->first;
+    while (control != NULL && control->number < number) control = control->next;
+    return control != NULL && control->number == number && !control->is_free ? control : NULL;
+}
+
+/* Finds the first control, from a number on, that has an event to deliver; null is none. */
+static kij_result find(kij_till *till, size_t from, kij_control **found) {
+    size_t number = 0;
+    uint32_t answer;
+    int code = kij_internal_enter(till);
+    *found = NULL;
+    if (code != KIJ_OK) return kij_internal_result(code, 0, KIJ_NO_CATEGORY);
+    do {
+        answer = kijolvar_next_event(till->inner, &till->inner.at, from, &number);
+        if (answer == KIJOLVAR_EVENT) *found = control_of(till, number);
+        from = number + 1;
+    } while (answer == KIJOLVAR_EVENT && *found == NULL);
+    kij_internal_leave(till);
+    if (answer == KIJOLVAR_DISK_FAILED) code = KIJ_DISK_FAILED;
+    else if (answer != KIJOLVAR_EVENT && answer != KIJOLVAR_OK) code = KIJ_BAD_ANSWER;
+    return kij_internal_result(code, 0, KIJ_NO_CATEGORY);
+}
+
 kij_result kij_next_event_of_any(kij_till *till, kij_event *event) {
-    kij_result result = kij_internal_result(KIJ_OK, 0, KIJ_NO_CATEGORY);
+    kij_control *control;
     if (till == NULL || event == NULL) return kij_internal_result(KIJ_BAD_ARGUMENT, 0, KIJ_NO_CATEGORY);
-    for (kij_control *control = till->first; control != NULL; control = control->next) {
-        if (control->is_free) continue;
-        result = deliver(control, NULL, event);
-        if (result.code != KIJ_OK || event->kind != KIJ_NO_EVENT) return result;
-    }
+    kij_result result = find(till, 0, &control);
+    if (result.code != KIJ_OK) return result;
+    if (control != NULL) return deliver(control, NULL, event);
     clear(event, NULL);
     return result;
 }
@@ -123,14 +146,17 @@ kij_result kij_pump(kij_control *control, kij_listener listen, void *with) {
     return result;
 }
 
+/* One event of each control in turn, until a turn finds none. */
 kij_result kij_pump_all(kij_till *till, kij_listener listen, void *with) {
-    kij_result result = kij_internal_result(KIJ_OK, 0, KIJ_NO_CATEGORY);
-    bool is_passed;
+    kij_control *control = NULL;
+    size_t from = 0;
+    bool is_passed = false;
     if (till == NULL || listen == NULL) return kij_internal_result(KIJ_BAD_ARGUMENT, 0, KIJ_NO_CATEGORY);
-    do {
-        is_passed = false;
-        for (kij_control *control = till->first; control != NULL && result.code == KIJ_OK; control = control->next)
-            if (!control->is_free) result = pass(control, listen, with, &is_passed);
-    } while (result.code == KIJ_OK && is_passed);
+    kij_result result = find(till, from, &control);
+    while (result.code == KIJ_OK && (control != NULL || from != 0)) {
+        from = control == NULL ? 0 : control->number + 1;
+        if (control != NULL) result = pass(control, listen, with, &is_passed);
+        if (result.code == KIJ_OK) result = find(till, from, &control);
+    }
     return result;
 }

@@ -62,6 +62,8 @@ struct kij_control {
     kij_till *till;
     kij_control *next;
     kij_category category;
+    /* The library's number of it. */
+    size_t number;
     /* Whether it was given back, and may be handed out again. */
     bool is_free;
     kij_word name;

@@ -98,6 +98,13 @@ static void make_name(kij_word *name, unsigned long number) {
     name->size = strlen(name->text);
 }
 
+/* The library's number of a control that it has, by its name, which is written behind a space. */
+static int find_number(kij_till *till, const kij_word *name, size_t *number) {
+    const uint8_t *bytes = (const uint8_t *)name->text + 1;
+    uint32_t code = kijolvar_control(till->inner, &till->inner.at, bytes, name->size - 1, number);
+    return code == KIJOLVAR_OK ? KIJ_OK : KIJ_BAD_ANSWER;
+}
+
 /* Makes a control; its room is there before the library is asked. */
 static kij_result made_control(kij_till *till, kij_category category, const kij_word *name, kij_control **control) {
     kij_control *made = (kij_control *)calloc(1, sizeof *made);
@@ -110,6 +117,7 @@ static kij_result made_control(kij_till *till, kij_category category, const kij_
         else make_name(&made->name, ++till->names);
         result = ask_new(till, category, &made->name);
     } while (name == NULL && result.code == KIJ_NAME_IN_USE);
+    if (result.code == KIJ_OK) result.code = find_number(till, &made->name, &made->number);
     if (result.code != KIJ_OK) {
         free(made);
         return result;

@@ -320,6 +320,64 @@ static void any_event(kij_till *till) {
     kij_discard(two);
 }
 
+/* Whose the next event is; it is of this kind. */
+static void comes(kij_till *till, kij_control *whose, kij_event_kind kind) {
+    kij_event event;
+    succeeds("the next event", kij_next_event_of_any(till, &event));
+    wants("its control", event.control == whose);
+    wants("its kind", event.kind == kind);
+}
+
+/* The control and the kind of each event that a listener gets. */
+typedef struct heard {
+    size_t count;
+    kij_control *control[8];
+    kij_event_kind kind[8];
+} heard;
+
+static kij_reply hears(const kij_event *event, void *with) {
+    heard *all = (heard *)with;
+    wants("not too many", all->count < 8);
+    all->control[all->count] = event->control;
+    all->kind[all->count++] = event->kind;
+    return KIJ_ER_DEFAULT;
+}
+
+/* Events of several controls, of which some can't be delivered, and one is of a control that lines made. */
+static void any_of_several(void) {
+    static const char lines[] = "new raw CashDrawer\nopen raw d1\nset raw DeviceEnabled true";
+    kij_till *till;
+    kij_control *first, *scanner, *last;
+    const char *answer;
+    heard all;
+    succeeds("a till", kij_open("", NULL, KIJ_EXISTING, &till));
+    succeeds("a drawer", kij_start(till, KIJ_CASH_DRAWER, "d1", KIJ_UNCLAIMED, &first));
+    succeeds("lines", kij_carry_out(till, lines, KIJ_ZERO_ENDED, &answer));
+    succeeds("a scanner", kij_start(till, KIJ_SCANNER, "s1", KIJ_CLAIMED, &scanner));
+    succeeds("a drawer", kij_start(till, KIJ_CASH_DRAWER, "d1", KIJ_UNCLAIMED, &last));
+    succeeds("it opens", kij_input_drawer(till, "d1", true));
+    succeeds("frozen", kij_set_bool(first, KIJ_PROP_FREEZE_EVENTS, true));
+    succeeds("a scan waits", kij_input_scan(till, "s1", 104, "a", 1, "a", 1));
+    comes(till, last, KIJ_STATUS_UPDATE_EVENT);
+    comes(till, NULL, KIJ_NO_EVENT);
+    succeeds("a fault", kij_input_scan_fault(till, "s1"));
+    succeeds("data", kij_set_bool(scanner, KIJ_PROP_DATA_EVENT_ENABLED, true));
+    comes(till, scanner, KIJ_ERROR_EVENT);
+    succeeds("not frozen", kij_set_bool(first, KIJ_PROP_FREEZE_EVENTS, false));
+    comes(till, first, KIJ_STATUS_UPDATE_EVENT);
+    succeeds("it closes", kij_input_drawer(till, "d1", false));
+    succeeds("it opens", kij_input_drawer(till, "d1", true));
+    memset(&all, 0, sizeof all);
+    succeeds("all", kij_pump_all(till, hears, &all));
+    wants("one of each in turn", all.count == 5 && all.control[0] == first && all.control[1] == scanner &&
+                                     all.control[2] == last && all.control[3] == first && all.control[4] == last);
+    wants("the scan", all.kind[1] == KIJ_DATA_EVENT);
+    comes(till, NULL, KIJ_NO_EVENT);
+    succeeds("lines have theirs", kij_carry_out(till, "deliver raw", KIJ_ZERO_ENDED, &answer));
+    wants("lines have theirs", strcmp(answer, "event StatusUpdateEvent 1\n") == 0);
+    kij_close(till);
+}
+
 int main(int count, char **words) {
     kij_till *till;
     if (count != 2) return 2;
@@ -332,6 +390,7 @@ int main(int count, char **words) {
     replies(till);
     controls(till);
     any_event(till);
+    any_of_several();
     threads(till);
     kij_close(till);
     printf("as they should be\n");

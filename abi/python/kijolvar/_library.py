@@ -41,6 +41,8 @@ def declare(library: ctypes.CDLL) -> ctypes.CDLL:
         "kijolvar_errand_failed": ([Raw, out], None),
         "kijolvar_host": ([Raw, out, text, size], number),
         "kijolvar_next_order": ([Raw, out, text, size, needed], number),
+        "kijolvar_control": ([Raw, out, text, size, needed], number),
+        "kijolvar_next_event": ([Raw, out, size, needed], number),
         "kijolvar_close": ([Raw], None),
     }
     for name, (taken, given) in exports.items():

@@ -8,8 +8,8 @@ from collections import deque
 from collections.abc import Callable, Iterator
 from typing import Any, BinaryIO, NoReturn
 
-from ._constants import (KIJOLVAR_DISK_FAILED, KIJOLVAR_DISK_LENGTH, KIJOLVAR_ERRANDS, KIJOLVAR_OK, KIJOLVAR_ORDER,
-                         KIJOLVAR_SHORT, KIJOLVAR_SYNC, KIJOLVAR_UNDONE, KIJOLVAR_WRITE)
+from ._constants import (KIJOLVAR_DISK_FAILED, KIJOLVAR_DISK_LENGTH, KIJOLVAR_ERRANDS, KIJOLVAR_EVENT, KIJOLVAR_OK,
+                         KIJOLVAR_ORDER, KIJOLVAR_SHORT, KIJOLVAR_SYNC, KIJOLVAR_UNDONE, KIJOLVAR_WRITE)
 from ._library import Raw, carrier, check
 from .errors import ThreadError, TillClosedError, library_fault
 
@@ -34,6 +34,8 @@ class Session:
         self._room = ctypes.create_string_buffer(_ROOM)
         self._needed = ctypes.c_size_t()
         self._needed_at = ctypes.pointer(self._needed)
+        self._number = ctypes.c_size_t()
+        self._number_at = ctypes.pointer(self._number)
         self._later: deque[Callable[[], None]] = deque()
         self._is_settling = False
         check(library)
@@ -163,6 +165,29 @@ class Session:
         if code != KIJOLVAR_OK:
             raise library_fault(code)
         return bytes(room[:self._needed.value])
+
+    def number_of(self, control: bytes) -> int:
+        """The library's number of the control of this name."""
+        self.check()
+        code = self._library.kijolvar_control(self._raw, self._out, control, len(control), self._number_at)
+        if code != KIJOLVAR_OK:
+            raise library_fault(code)
+        return self._number.value
+
+    def next_event(self, start: int) -> int | None:
+        """The lowest number, start or above, of a control that has an event to deliver, or None if none has. It changes
+        nothing."""
+        self.check()
+        self.settle_later()
+        code = self._library.kijolvar_next_event(self._raw, self._out, start, self._number_at)
+        if code == KIJOLVAR_ERRANDS:
+            self._settle()
+            return self.next_event(start)
+        if code == KIJOLVAR_EVENT:
+            return self._number.value
+        if code != KIJOLVAR_OK:
+            raise library_fault(code)
+        return None
 
     def host(self, device: bytes) -> None:
         """Says that the host has the device of this name: its orders come by `orders` from then on."""

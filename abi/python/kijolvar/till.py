@@ -51,6 +51,7 @@ class Till:
         self._carry_out = session.carry_out
         self._file, self._owns_file = totals, owns_totals
         self._controls: weakref.WeakValueDictionary[str, Control] = weakref.WeakValueDictionary()
+        self._names: dict[int, str] = {}
         self._free: dict[str, deque[str]] = {}
         self._count = 0
 
@@ -108,6 +109,7 @@ class Till:
             assert word is not None
             answer = self._carry_out(b"new %b %b" % (device_word(word), kind.category.encode()))
             if answer == b"ok\n":
+                self._names[self._session.number_of(word.encode())] = word
                 return self._adopt(kind(self, word))
             if answer == b"refused Full\n":
                 raise TooManyControlsError("there are as many controls as there may be")
@@ -183,38 +185,53 @@ class Till:
 
         To reply to an ErrorEvent, call its `reply`.
         """
-        self._session.check()
-        was_any = True
-        while was_any:
-            was_any = False
-            for control in self.controls():
-                event = control.next_event() if control.device is not None else None
-                if event is not None:
-                    was_any = True
-                    yield event
+        for control in self._in_turn():
+            event = control.next_event()
+            if event is not None:
+                yield event
 
     def next_event(self) -> Event | None:
         """Delivers the next event of any control, or returns None if none can be delivered now.
 
-        The controls are asked in the order in which they were made. `event.control` says whose event it is.
+        Of several controls with an event, it is the one that was made first. `event.control` says whose event it is.
         """
-        self._session.check()
-        for control in self.controls():
-            event = control.next_event()
-            if event is not None:
-                return event
+        found = self._find(0)
+        return None if found is None else found[1].next_event()
+
+    def _find(self, start: int) -> tuple[int, Control] | None:
+        """The open control with the lowest number, start or above, that has an event to deliver, and its number."""
+        number = self._session.next_event(start)
+        while number is not None:
+            name = self._names.get(number)
+            control = None if name is None else self._controls.get(name)
+            if control is not None and control.device is not None:
+                return number, control
+            # Lines of the text layer made or opened it.
+            number = self._session.next_event(number + 1)
         return None
+
+    def _in_turn(self) -> Iterator[Control]:
+        """The open controls that have an event to deliver, in turn, until none has one."""
+        start = 0
+        while (found := self._find(start)) is not None or start > 0:
+            start = 0
+            if found is not None:
+                start = found[0] + 1
+                yield found[1]
 
     def deliver(self) -> int:
         """Passes each event that can be delivered to its control's listener. Returns how many there were.
 
         Events of controls without a listener stay where they are.
         """
-        self._session.check()
-        total, count = 0, -1
-        while count:
-            count = sum(control.deliver() for control in self.controls())
-            total += count
+        total, start, is_any = 0, 0, False
+        while (found := self._find(start)) is not None or is_any:
+            if found is None:
+                start, is_any = 0, False
+                continue
+            number, control = found
+            count = control.deliver()
+            total, start, is_any = total + count, number + 1, is_any or count > 0
         return total
 
     # Devices.

@@ -73,6 +73,14 @@ damaged = 16
 abbrev pub moved : ℕ
 moved = 17
 
+-- a control has an event to deliver
+abbrev pub event_there : ℕ
+event_there = 18
+
+-- no control has the name
+abbrev pub no_control : ℕ
+no_control = 19
+
 -- the code of a text that is told, by whether the room holds it: this one, or that it doesn't
 abbrev pub told_as : ℕ → Bool → ℕ
 told_as fine true = fine

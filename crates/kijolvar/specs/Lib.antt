@@ -1,4 +1,5 @@
 pub mod Codes
+pub mod Controls
 pub mod Errands
 pub mod TillDisks
 pub mod Orders

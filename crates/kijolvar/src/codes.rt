@@ -1,4 +1,4 @@
-//! What C is told by a number (abi/README.md, "Codes").
+//! The codes that the library answers to C (abi/README.md, "Codes").
 ghost use Rattle.std.specs.Prelude.{◌≡◌};
 ghost use Rattle.kijolvar.specs.Codes.{carried};
 
@@ -7,31 +7,31 @@ use pos_streams::WriteFault;
 /// The call did what it says.
 pub const OK: u32 = 0;
 
-/// There was no memory, and nothing was done.
+/// Memory ran out, and nothing was done.
 pub const NO_MEMORY: u32 = 1;
 
 /// The profile is refused (docs/reference/profile.md).
 pub const BAD_PROFILE: u32 = 2;
 
-/// What is told is longer than the room for it.
+/// The room is too short for what would be written.
 pub const SHORT: u32 = 3;
 
-/// There was no memory for the whole answer.
+/// Memory ran out for the answer, of which a front is kept.
 pub const CUT: u32 = 4;
 
-/// The lines were carried out, and their answer waits for the errands that the host has in its file.
+/// The lines were carried out, and their answer waits until the host has done its errands.
 pub const ERRANDS: u32 = 5;
 
-/// Errands of the lines before are left, so these were not carried out.
+/// Errands of earlier lines are left, so these lines were not carried out.
 pub const UNDONE: u32 = 6;
 
-/// The file fell behind: an errand failed, or there was no memory for one. The till can only be closed.
+/// The file isn't as the totals are: an errand failed, or memory ran out for one. The till can only be closed.
 pub const DISK_FAILED: u32 = 7;
 
-/// Totals are in the file already.
+/// The file has totals already.
 pub const FORMATTED: u32 = 8;
 
-/// The file is shorter than a disk.
+/// The file is shorter than a disk of totals.
 pub const TOO_SMALL: u32 = 9;
 
 /// The errand writes bytes at a place.
@@ -40,13 +40,13 @@ pub const WRITE: u32 = 10;
 /// The errand makes what was written stay.
 pub const SYNC: u32 = 11;
 
-/// An order is told.
+/// An order was written.
 pub const ORDER: u32 = 12;
 
 /// No device of the name has orders.
 pub const NO_DEVICE: u32 = 13;
 
-/// The profile isn't text, or is no TOML document.
+/// The profile isn't UTF-8, or is no TOML document.
 pub const BAD_TEXT: u32 = 14;
 
 /// The file isn't formatted.
@@ -58,7 +58,14 @@ pub const DAMAGED: u32 = 16;
 /// The totals in the file have layout 2 already.
 pub const MOVED: u32 = 17;
 
-/// The code of lines that were carried out, by whether the room holds their answer.
+/// A control has an event to deliver.
+pub const EVENT: u32 = 18;
+
+/// No control has the name.
+pub const NO_CONTROL: u32 = 19;
+
+/// Returns the code of lines that were carried out: OK; SHORT if the room doesn't hold their answer; CUT if memory ran
+/// out for it.
 pub fn code_of(outcome: Result<(), WriteFault>, holds: bool) -> u32
     ensures { result ≡ carried outcome holds }
 {

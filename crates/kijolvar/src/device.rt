@@ -5,11 +5,15 @@ ghost use Rattle.kijolvar.specs.Orders.{device_state, mounts_device};
 use crate::tray::{Post, Tray};
 use pos_profile::Entry;
 use pos_run::{Mount, Wrapped};
-use pos_service::{Ends, Input, Kind, NoMemory, Order, Peripheral, Reply, Signs, Snapshot, Taken};
+use pos_service::{
+    Ends, Input, Kind, NoMemory, Order, Peripheral, Reply, Signs, Snapshot, Taken, park_and_end,
+};
 
-/// A device of a till, or a spare: a simulated peripheral. Where the host has the device, the simulated one stands for
-/// it: it answers at once, and each order that it carries out is kept for the host. A spare has no name, and none of
-/// its orders is kept. It ends only parked: whoever lets it go has to show that.
+/// A device of a till, or a spare: a simulated peripheral. If the host has the hardware, the simulated one answers for
+/// it at once, and each order that it carries out is kept for the host. A spare has no name, and none of its orders is
+/// kept.
+///
+/// It ends only parked: whoever drops it must show that.
 pub struct Device {
     twin: Wrapped,
     asks: u64,
@@ -67,8 +71,7 @@ impl Drop for Device {
 
 impl Ends for Device {
     fn end(self) {
-        let mut ending = self;
-        ending.park();
+        drop(self);
     }
 }
 
@@ -81,7 +84,7 @@ impl Mount<Device> for Tray {
             None
         } else {
             let Ok(post) = self.post(name) else {
-                simulation.end();
+                park_and_end(simulation);
                 return Err(NoMemory);
             };
             Some(post)

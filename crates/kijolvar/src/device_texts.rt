@@ -7,7 +7,7 @@ use pos_profile::Entry;
 use pos_service::{Category, Kind};
 use std::alloc::{AllocError, Global};
 
-// The word of a category in profiles and lines.
+// Returns the word of a category in profiles and lines.
 fn category_word(category: Category) -> &'static str
     ensures { result.now ≡ category_word category }
 {
@@ -57,7 +57,11 @@ fn add_device(text: &mut Vec<u8>, entry: &Entry) -> Result<(), AllocError>
     text.extend_from_slice(b"\n")
 }
 
-/// Returns the lines of the devices, in order.
+/// Returns the lines of the devices, in order: each has the name, the category and the numbers of the kind.
+///
+/// # Errors
+///
+/// [`AllocError`] if memory ran out.
 pub fn devices_text(alloc: Global, entries: &[Entry]) -> Result<Vec<u8>, AllocError>
     ensures { IfOk result (λ text. text.items ≡ devices_text entries.now) }
 {

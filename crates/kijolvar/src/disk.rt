@@ -18,11 +18,13 @@ use std::alloc::Global;
 /// How many bytes the disk of the totals has.
 pub const SIZE: usize = 327_680;
 
-/// The disk of a file of these bytes, which gets no files: only the gates and the first image's fields are written.
+/// Returns the disk of a file of these bytes, formatted: its totals have no files. What formatting writes are errands
+/// of the host.
 ///
 /// # Errors
 ///
-/// TOO_SMALL if the file is too short, FORMATTED if it has totals, and NO_MEMORY.
+/// - TOO_SMALL if the file has fewer than 327,680 bytes, and FORMATTED if it has totals.
+/// - NO_MEMORY if memory ran out.
 pub fn format_in_file(alloc: Global, bytes: &[u8]) -> Result<TillDisk, u32>
     ensures { MatchResult result
         (λ formatted. (format_code bytes.now ≡ ok) × IsFormattedOf bytes.now formatted)
@@ -34,7 +36,7 @@ pub fn format_in_file(alloc: Global, bytes: &[u8]) -> Result<TillDisk, u32>
     }
 }
 
-// Formats a disk that has the bytes of its host's file, which are errands of the host then.
+// Formats a disk that has the bytes of its host's file, and returns it. What formatting writes are errands of the host.
 fn format_disk(disk: TillDisk) -> Result<TillDisk, u32>
     ensures { let bytes = disk.memory.present.reading in file_of disk ≡ Some bytes → MatchResult result
         (λ formatted. (format_code bytes ≡ ok) × IsFormattedOf bytes formatted)
@@ -55,7 +57,7 @@ fn format_disk(disk: TillDisk) -> Result<TillDisk, u32>
     }
 }
 
-// The code for why totals aren't moved to layout 2.
+// Returns the code for why totals aren't moved to layout 2.
 fn move_code(why: StoreFault) -> u32
     ensures { result ≡ move_code why }
 {
@@ -67,11 +69,15 @@ fn move_code(why: StoreFault) -> u32
     }
 }
 
-/// The disk of a file of these bytes, whose files are by layout 2 then.
+/// Returns the disk of a file of these bytes, whose files are by layout 2 then. What the move writes are errands of the
+/// host.
 ///
 /// # Errors
 ///
-/// TOO_SMALL if the file is too short, UNFORMATTED, DAMAGED, MOVED if it has layout 2 already, and NO_MEMORY.
+/// - TOO_SMALL if the file has fewer than 327,680 bytes, UNFORMATTED if it has no totals, and DAMAGED if they are
+///   damaged.
+/// - MOVED if they have layout 2 already.
+/// - NO_MEMORY if memory ran out.
 pub fn move_in_file(alloc: Global, bytes: &[u8]) -> Result<TillDisk, u32>
     ensures { MatchResult result (IsMovedOf bytes.now) (RefusesMove bytes.now) }
 {
@@ -84,7 +90,7 @@ pub fn move_in_file(alloc: Global, bytes: &[u8]) -> Result<TillDisk, u32>
     }
 }
 
-// The disk, if its host has errands. One was lost where it has none, for want of memory.
+// Returns the disk, if its host has errands. If it has none, one was lost because memory ran out.
 fn with_errands(disk: TillDisk) -> Result<TillDisk, u32>
     ensures { MatchResult result
         (λ same. (same ≡ disk) × IsInStep disk × (settlement_with disk.work false ≡ Owed))
@@ -98,7 +104,8 @@ fn with_errands(disk: TillDisk) -> Result<TillDisk, u32>
     }
 }
 
-// Moves the totals on a disk that has the bytes of its host's file, which are errands of the host then.
+// Moves the totals on a disk that has the bytes of its host's file, and returns it. What the move writes are errands of
+// the host.
 fn move_disk(alloc: Global, disk: TillDisk) -> Result<TillDisk, u32>
     ensures { let bytes = disk.memory.present.reading in disk ≡ hosted (fresh bytes) (Some (no_work bytes))
         → MatchResult result (IsMovedOf bytes) (RefusesMove bytes) }

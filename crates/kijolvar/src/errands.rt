@@ -1,4 +1,4 @@
-//! What a till's host has to do to its file.
+//! What a till's host must do to its file.
 ghost use Rattle.std.specs.Prelude.{◌≡◌, IfOk, Some, option_map};
 ghost use Rattle.kijolvar.specs.Errands.{Adds, Does, IsOldest, IsSync, IsWrite, TellsErrand, no_work};
 
@@ -9,7 +9,7 @@ use std::alloc::{AllocError, Global};
 use std::collections::VecDeque;
 use std::marker::Model;
 
-/// One thing that the host has to do to its file.
+/// One thing that the host must do to its file.
 #[derive(Drop)]
 pub enum Errand {
     /// Writes bytes at a place.
@@ -18,7 +18,11 @@ pub enum Errand {
     Sync,
 }
 
-/// The errand that writes bytes at a place.
+/// Returns the errand that writes bytes at a place.
+///
+/// # Errors
+///
+/// [`AllocError`] if memory ran out.
 pub fn write_errand(alloc: Global, at: u64, bytes: &[u8]) -> Result<Errand, AllocError>
     ensures { IfOk result (λ errand. IsWrite at bytes.now errand) }
 {
@@ -28,8 +32,12 @@ pub fn write_errand(alloc: Global, at: u64, bytes: &[u8]) -> Result<Errand, Allo
     })
 }
 
-/// Writes to `at`, `bytes` and `needed` what an errand has to do. Answers its kind, WRITE or SYNC; or SHORT where there
-/// is less room than it has bytes: `needed` says how many it has, and nothing else is written.
+/// Writes to `at`, `bytes` and `needed` what an errand must do, and returns its kind: WRITE or SYNC.
+///
+/// # Errors
+///
+/// SHORT if `bytes` has less room than the errand has bytes. Then `needed` says how many it has, and nothing else is
+/// written.
 pub fn tell_errand(errand: &Errand, at: &mut u64, bytes: &mut [u8], needed: &mut usize) -> u32
     ensures { TellsErrand errand.now at.old at.new bytes.old bytes.new needed.old needed.new result }
 {
@@ -50,8 +58,8 @@ pub fn tell_errand(errand: &Errand, at: &mut u64, bytes: &mut [u8], needed: &mut
     }
 }
 
-/// What a till's host has to do to its file, the oldest errand first. An errand without memory is lost, and so is each
-/// later one.
+/// What a till's host must do to its file, oldest errand first. If memory runs out for an errand, it is lost, and so is
+/// each later one.
 #[derive(Drop)]
 pub struct Errands {
     alloc: Global,
@@ -71,7 +79,7 @@ impl Model for Errands {
 }
 
 impl Errands {
-    /// No errand of a host whose file has these bytes.
+    /// Returns no errands, of a host whose file has these bytes.
     pub fn new(alloc: Global, bytes: &[u8]) -> Errands
         ensures { result ≡ no_work bytes.now }
     {
@@ -83,11 +91,11 @@ impl Errands {
         }
     }
 
-    /// Adds that bytes are to be written at a place.
+    /// Adds an errand that writes bytes at a place.
     ///
     /// # Errors
     ///
-    /// There is no memory for the errand, or was none for an earlier one: it is lost.
+    /// [`DiskFault`] if memory ran out for the errand, or did for an earlier one. Then it is lost.
     pub fn add_write(&mut self, at: u64, bytes: &[u8]) -> Result<(), DiskFault>
         ensures { Adds (IsWrite at bytes.now) self.old self.new result }
     {
@@ -95,11 +103,11 @@ impl Errands {
         self.add(errand)
     }
 
-    /// Adds that what was written is to stay.
+    /// Adds an errand that makes what was written stay.
     ///
     /// # Errors
     ///
-    /// There is no memory for the errand, or was none for an earlier one: it is lost.
+    /// [`DiskFault`] if memory ran out for the errand, or did for an earlier one. Then it is lost.
     pub fn add_sync(&mut self) -> Result<(), DiskFault>
         ensures { Adds IsSync self.old self.new result }
     {
@@ -121,21 +129,21 @@ impl Errands {
         Err(DiskFault)
     }
 
-    /// The oldest errand, if there is one.
+    /// Returns the oldest errand, or `None` if there is none.
     pub fn oldest(&self) -> Option<&Errand>
         ensures { IsOldest self.now.errands (option_map (λ errand. errand.now) result) }
     {
         self.errands.front()
     }
 
-    /// Whether an errand was lost.
+    /// Returns whether an errand was lost.
     pub fn is_lost(&self) -> bool
         ensures { result ≡ self.now.lost }
     {
         self.is_lost
     }
 
-    /// Takes it as said that the oldest errand is done, and takes it out, if there is one.
+    /// Removes the oldest errand, which the host has done, and returns it; `None` if there is none.
     pub fn next(&mut self) -> Option<Errand>
         ensures { Does self.old self.new result }
     {

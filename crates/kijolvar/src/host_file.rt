@@ -6,7 +6,7 @@ ghost use Rattle.kijolvar.specs.Errands.{file_after};
 use crate::errands::Errand;
 use std::marker::Model;
 
-/// The bytes of a host's file, if the host has done each errand before it asks for the next.
+/// The bytes of a host's file, if the host does each errand before it asks for the next.
 #[derive(Drop)]
 pub struct HostFile {
     pub ghost bytes: { List ℕ },
@@ -17,14 +17,14 @@ impl Model for HostFile {
 }
 
 impl HostFile {
-    /// A file with these bytes.
+    /// Returns a file with these bytes.
     pub fn of(_bytes: &[u8]) -> HostFile
         ensures { result.bytes ≡ _bytes.now }
     {
         HostFile {}
     }
 
-    /// The file after an errand was done in it.
+    /// Returns the file after an errand was done in it.
     pub fn after(&self, _errand: &Errand) -> HostFile
         ensures { result.bytes ≡ file_after _errand.now self.now.bytes }
     {

@@ -12,22 +12,25 @@ use crate::tray::Tray;
 use pos_profile::{Entry, Profile};
 use std::collections::VecDeque;
 
-/// Whether an entry has this name, and may have a peripheral.
+/// Returns whether an entry has this name, and may have a peripheral.
 fn is_hostable(entry: &Entry, name: &[u8]) -> bool
     ensures { result ≡ is_hostable name.now entry.now }
 {
     entry.name.as_bytes() == name && entry.kind().is_some()
 }
 
-/// Whether a device of this name may have a peripheral.
+/// Returns whether a device of this name may have a peripheral.
 fn may_be_hosted(entries: &[Entry], name: &[u8]) -> bool
     ensures { result ≡ may_be_hosted entries.now name.now }
 {
     entries.iter().any(|entry| is_hostable(entry, name))
 }
 
-/// Keeps the orders of the device of a name for the host from now on. Answers OK; or NO_DEVICE where no device of the
-/// name may have a peripheral, or NO_MEMORY, and nothing changes.
+/// Keeps the orders of the device of a name for the host from now on, and returns OK.
+///
+/// # Errors
+///
+/// NO_DEVICE if no device of the name may have a peripheral, and NO_MEMORY if memory ran out. Then nothing changes.
 pub fn host_device(profile: &Profile, tray: &Tray, name: &[u8]) -> u32
     ensures { IsHostCode profile.now.devices name.now result }
 {
@@ -40,7 +43,7 @@ pub fn host_device(profile: &Profile, tray: &Tray, name: &[u8]) -> u32
     }
 }
 
-/// Has those orders wait that devices have kept, where none waits.
+/// Takes the orders that devices have kept, if none is left of those that were taken before.
 fn refill(orders: &mut VecDeque<Vec<u8>>, tray: &Tray)
     ensures { Refills (order_lines orders.old.items) (order_lines orders.new.items) }
 {
@@ -49,8 +52,8 @@ fn refill(orders: &mut VecDeque<Vec<u8>>, tray: &Tray)
     }
 }
 
-/// Tells the oldest of the orders that wait; where none does, of those that devices have kept since. Answers as
-/// `tell_order`.
+/// Writes the oldest order that was taken, or if none is left, of those that devices have kept since. It returns what
+/// `tell_order` does.
 fn tell_next(kept: &mut Kept, tray: &Tray, text: &mut [u8], needed: &mut usize) -> u32
     ensures { HandsOut kept.old text.old text.new needed.new result kept.new }
 {
@@ -58,8 +61,11 @@ fn tell_next(kept: &mut Kept, tray: &Tray, text: &mut [u8], needed: &mut usize) 
     tell_order(&mut kept.orders, text, needed)
 }
 
-/// Tells the next order of the devices that the host has, where no errand is left and none failed. Answers as
-/// `tell_order`, or ERRANDS or DISK_FAILED.
+/// Writes the next order of the devices that the host has, and removes it. It returns what `tell_order` does.
+///
+/// # Errors
+///
+/// ERRANDS if errands are left, and DISK_FAILED if one failed. Then nothing is written.
 pub fn next_order(kept: &mut Kept, tray: &Tray, text: &mut [u8], needed: &mut usize) -> u32
     ensures { NextOrder kept.old text.old text.new needed.old needed.new result kept.new }
 {

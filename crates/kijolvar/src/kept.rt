@@ -16,25 +16,31 @@ use pos_run::{Names, Spares};
 use pos_streams::{MemorySink, WriteFault};
 use std::collections::VecDeque;
 
-/// What a till is between two calls: its profile, its counter of simulated devices over a disk, the names and the
-/// spares of its lines, the answer to the lines that it was given last and whether there was memory for all of it,
-/// whether its host was told the oldest errand, and whether the host said that one failed, and the lines of the orders
-/// that the host is told next.
+/// What a till is between two calls.
 pub struct Kept {
+    /// The profile.
     pub profile: Profile,
+    /// The counter of simulated devices over a disk.
     pub counter: Counter<TillDisk, Device>,
+    /// The names that lines have for the controls.
     pub names: Names,
+    /// The spares that lines attach.
     pub spares: Spares<Device>,
+    /// The answer to the lines that were carried out last.
     pub answer: MemorySink,
+    /// Whether there was memory for all of that answer.
     pub outcome: Result<(), WriteFault>,
+    /// Whether the host was given the oldest errand.
     pub told: bool,
+    /// Whether the host said that an errand failed.
     pub failed: bool,
+    /// The lines of the orders that the host gets next.
     pub orders: VecDeque<Vec<u8>>,
 }
 
 impl Kept {
-    /// How its host stands to its disk. If no errand is left and none failed, the host's file has the bytes of the
-    /// totals' disk.
+    /// Returns whether its changes are in its host's file. If no errand is left and none failed, the file has the bytes
+    /// of the totals' disk.
     pub fn settlement(&self) -> Settlement
         ensures settlement { result ≡ settlement_of self.now }
         ensures in_file { result ≡ Settled → IsInFile (disk_of self.now) }
@@ -44,8 +50,13 @@ impl Kept {
         disk.settlement(self.failed)
     }
 
-    /// Tells the next errand, and takes it as said that the one that was told is done. Returns OK if none is left, else
-    /// WRITE, SYNC, SHORT or DISK_FAILED.
+    /// Writes the next errand, and takes it that the one that was given is done. It returns WRITE or SYNC, or OK if no
+    /// errand is left.
+    ///
+    /// # Errors
+    ///
+    /// - SHORT if `bytes` has less room than `needed` says. The errand stays the next one.
+    /// - DISK_FAILED if an errand failed or was lost.
     pub fn next_errand(&mut self, at: &mut u64, bytes: &mut [u8], needed: &mut usize) -> u32
         ensures { AnswersNextErrand self.old at.old at.new bytes.old bytes.new needed.old needed.new result self.new }
     {
@@ -56,7 +67,7 @@ impl Kept {
         }
     }
 
-    // The errand that was told is done: tells the next.
+    // Writes the next errand. The one that was given is done.
     fn tell_next(&mut self, at: &mut u64, bytes: &mut [u8], needed: &mut usize) -> u32
         requires { settlement_of self.old ≡ Owed }
         ensures { TellsNext self.old at.old at.new bytes.old bytes.new needed.old needed.new result self.new }
@@ -67,7 +78,7 @@ impl Kept {
         code
     }
 
-    // Takes out the errand that was told, if one was: it is done.
+    // Removes the errand that was given, if one was: it is done.
     fn do_told(&mut self)
         ensures done { DoesTold self.old.told (disk_of self.old) (disk_of self.new) }
         ensures stays { self.new ≡ record self.old { counter = with_disk self.old.counter (disk_of self.new) } }
@@ -77,7 +88,7 @@ impl Kept {
         }
     }
 
-    // Tells the oldest errand, if there is one.
+    // Writes the oldest errand, if there is one.
     fn tell_oldest(&mut self, at: &mut u64, bytes: &mut [u8], needed: &mut usize) -> u32
         ensures tells { TellsOldest (errands_of (disk_of self.old).work) at.old at.new bytes.old bytes.new needed.old
             needed.new result self.new.told }

@@ -1,11 +1,23 @@
-//! A till for C, and for whatever calls C: lines in, the text of their answers out (docs/reference/console.md,
-//! abi/README.md).
+//! The library `kijolvar`: a till for C, and for each language that calls C. Lines go in, and the text of their answers
+//! comes out. docs/reference/console.md has the lines, abi/README.md the calls.
+//!
+//! - [`Till`] is what C holds between calls, and [`Slot`] the variable that it holds it in. Behind them is a
+//!   [`Session`].
+//! - [`TillDisk`] is the disk of a till: in memory, or in a file of the host, who does its [`errands::Errand`]s.
+//! - [`Device`] is a device of a till. The host may have the hardware, and then gets the orders that the device carries
+//!   out.
+//! - Each export answers a code of `codes`.
+//!
+//! The caller relies on this: lines do to the till what the standard asks, and no line is answered before what it
+//! changed is in the host's file. In return the caller passes the till that it was given last.
 #![tactic(auto)]
 
 ghost use Rattle.std.specs.Prelude.{◌≡◌, ◌≢◌, IfOk, MatchOption, MatchResult, None, Some};
 ghost use Rattle.pos_disk.specs.Memory.{fresh, state_of};
 ghost use Rattle.pos_image.specs.Standing.{HasNoFiles};
+ghost use Rattle.pos_run.specs.Names.{names_of, number_named};
 ghost use Rattle.kijolvar.specs.Codes.{ok};
+ghost use Rattle.kijolvar.specs.Controls.{FindsNumber, NextEvent};
 ghost use Rattle.kijolvar.specs.Errands.{no_work};
 ghost use Rattle.kijolvar.specs.DeviceTexts.{AnswersDevices};
 ghost use Rattle.kijolvar.specs.Hosting.{IsHostCode};
@@ -18,6 +30,7 @@ ghost use Rattle.kijolvar.specs.Tills.{Answers, Begins, Fails, HandsOver, Answer
 ghost use Rattle.kijolvar.specs.TillDisks.{hosted};
 
 mod codes;
+mod controls;
 mod device;
 mod device_texts;
 mod disk;
@@ -54,8 +67,8 @@ use telling::tell_text;
 use till::{Slot, Till, hold, put, take};
 use till_disk::TillDisk;
 
-/// The version of this interface. It changes where a call's meaning or its parameters do, and not with the language of
-/// the lines.
+/// Returns the version of this interface. It changes if a call's meaning or its parameters change, but not with the
+/// language of the lines.
 #[unsafe(no_mangle)]
 pub extern "C" fn kijolvar_version() -> u32
     ensures { result ≡ 2 }
@@ -63,7 +76,7 @@ pub extern "C" fn kijolvar_version() -> u32
     2
 }
 
-/// The profile of a text; the built one where the text is empty.
+/// Returns the profile of a text, the built-in one if the text is empty.
 #[tactic(auto, using(crate::proofs::ProfileLemmas::sound_isnt_refused))]
 fn read_profile(alloc: Global, bytes: &[u8]) -> Result<Profile, u32>
     ensures { let profile = bytes.entry.now in MatchResult result
@@ -92,7 +105,7 @@ fn leave(session: Box<Session>, out: &mut Slot)
     *out = put(hold(session));
 }
 
-/// A new session of a profile over a disk.
+/// Returns a new session of a profile over a disk.
 fn begin(alloc: Global, profile: Profile, disk: TillDisk) -> Result<Box<Session>, NoMemory>
     ensures { IfOk result (λ session. Begins ⟦<Device as Peripheral>⟧ profile disk session.value) }
 {
@@ -103,11 +116,16 @@ fn begin(alloc: Global, profile: Profile, disk: TillDisk) -> Result<Box<Session>
     }
 }
 
-/// A new till over the devices of a profile, which are simulated, with totals on a formatted disk in memory. The
-/// profile is TOML (docs/reference/profile.md); an empty one is the built profile. The till is what is written to
-/// `out`.
+/// Makes a new till over the devices of a profile, which are simulated, with totals on a formatted disk in memory.
+/// Writes the till to `out`, and returns OK. The profile is TOML (docs/reference/profile.md); an empty one is the
+/// built-in profile.
 ///
-/// Answers OK, NO_MEMORY or BAD_PROFILE; where it isn't OK, nothing is written.
+/// # Errors
+///
+/// - BAD_PROFILE if the profile is refused. `kijolvar_profile_mistake` says why.
+/// - NO_MEMORY if memory ran out.
+///
+/// Then nothing is written.
 #[unsafe(no_mangle)]
 pub extern "C" fn kijolvar_open(alloc: Global, profile: &[u8], out: &mut Slot) -> u32
     ensures code { AnswersOpening profile.now ok result }
@@ -129,13 +147,20 @@ pub extern "C" fn kijolvar_open(alloc: Global, profile: &[u8], out: &mut Slot) -
     OK
 }
 
-/// A new till as `kijolvar_open` makes it, but with totals in a file, whose bytes these are. The host has it open for
-/// writing as long as the till is there, lets nobody else write it, and does in it what the till's disk does, errand by
-/// errand (`kijolvar_next_errand`). A file that is not formatted (`kijolvar_format_file`, or the program's `format`)
-/// is one whose totals can't be enabled.
+/// Makes a new till as `kijolvar_open` does, but with totals in a file, which has these bytes. Writes the till to
+/// `out`, and returns OK.
 ///
-/// Answers OK, NO_MEMORY or BAD_PROFILE, or TOO_SMALL where the file has fewer than 327,680 bytes; where it isn't OK,
-/// nothing is written.
+/// The host must keep the file open for writing as long as the till is there, let nobody else write it, and do in it
+/// what the till's disk does, errand by errand (`kijolvar_next_errand`). The totals of a file that is not formatted
+/// (`kijolvar_format_file`, or the program's `format`) can't be enabled.
+///
+/// # Errors
+///
+/// - BAD_PROFILE if the profile is refused.
+/// - TOO_SMALL if the file has fewer than 327,680 bytes.
+/// - NO_MEMORY if memory ran out.
+///
+/// Then nothing is written.
 #[unsafe(no_mangle)]
 pub extern "C" fn kijolvar_open_file(
     alloc: Global,
@@ -165,11 +190,17 @@ pub extern "C" fn kijolvar_open_file(
     OK
 }
 
-/// A new till as `kijolvar_open_file` makes it, over a file that has no totals yet, of at least 327,680 bytes: it gets
-/// no files (docs/reference/totals-file.md, "Formatting"), which are the till's first errands.
+/// Makes a new till as `kijolvar_open_file` does, over a file that has no totals yet, of at least 327,680 bytes. Writes
+/// the till to `out`, and returns OK. The totals have no files (docs/reference/totals-file.md, "Formatting"). What
+/// formatting writes are the till's first errands.
 ///
-/// Answers OK, NO_MEMORY or BAD_PROFILE, FORMATTED where the file has totals, or TOO_SMALL; where it isn't OK, nothing
-/// is written, and the file stays as it is.
+/// # Errors
+///
+/// - BAD_PROFILE if the profile is refused.
+/// - TOO_SMALL if the file has fewer bytes, and FORMATTED if it has totals.
+/// - NO_MEMORY if memory ran out.
+///
+/// Then nothing is written, and the file stays as it is.
 #[unsafe(no_mangle)]
 pub extern "C" fn kijolvar_format_file(
     alloc: Global,
@@ -197,12 +228,22 @@ pub extern "C" fn kijolvar_format_file(
     OK
 }
 
-/// A new till as `kijolvar_open_file` makes it, over a file whose totals have layout 1: they have layout 2 from then
-/// on, with the same files (docs/reference/totals-file.md, "The move to layout 2"). The till's first errands are the
-/// move; a crash at any moment of them leaves the files by one layout or the other, and the file may be moved again.
+/// Makes a new till as `kijolvar_open_file` does, over a file whose totals have layout 1. Writes the till to `out`, and
+/// returns OK. The totals have layout 2 from then on, with the same files (docs/reference/totals-file.md, "The move to
+/// layout 2").
 ///
-/// Answers OK, NO_MEMORY or BAD_PROFILE; TOO_SMALL or UNFORMATTED where there are no totals; DAMAGED; or MOVED where
-/// they have layout 2 already. Where it isn't OK, nothing is written, and the file stays as it is.
+/// What the move writes are the till's first errands. A crash at any moment of them leaves the files by one layout or
+/// the other, and the file may be moved again.
+///
+/// # Errors
+///
+/// - BAD_PROFILE if the profile is refused.
+/// - TOO_SMALL if the file has fewer than 327,680 bytes, UNFORMATTED if it has no totals, and DAMAGED if they are
+///   damaged.
+/// - MOVED if they have layout 2 already.
+/// - NO_MEMORY if memory ran out.
+///
+/// Then nothing is written, and the file stays as it is.
 #[unsafe(no_mangle)]
 pub extern "C" fn kijolvar_migrate_file(
     alloc: Global,
@@ -230,13 +271,17 @@ pub extern "C" fn kijolvar_migrate_file(
     OK
 }
 
-/// Tells why a profile is refused: writes the reason to `text`, as the program `pos_console` gives it, without a line
-/// feed, and to `needed` how many bytes it has.
+/// Writes why a profile is refused to `text`, as the program `pos_console` gives it, without a line feed, and to
+/// `needed` how many bytes the reason has. Returns OK if the profile isn't refused.
 ///
-/// Answers OK where the profile isn't refused; BAD_TEXT where it isn't text, or no TOML document: `at` is the place in
-/// its bytes where reading it stopped; BAD_PROFILE where something in the document isn't sound, and the reason names
-/// the entry; or SHORT where `text` has less room: a front of the reason is there. Where it is OK or NO_MEMORY, nothing
-/// is written.
+/// # Errors
+///
+/// - BAD_TEXT if it isn't UTF-8, or no TOML document. `at` is the place in its bytes where reading it stopped.
+/// - BAD_PROFILE if something in the document isn't sound. The reason names the entry.
+/// - SHORT if `text` has less room. Then a front of the reason is there.
+/// - NO_MEMORY if memory ran out.
+///
+/// With OK and with NO_MEMORY nothing is written.
 #[unsafe(no_mangle)]
 pub extern "C" fn kijolvar_profile_mistake(
     alloc: Global,
@@ -250,11 +295,14 @@ pub extern "C" fn kijolvar_profile_mistake(
     tell_mistake(alloc, profile, at, text, needed)
 }
 
-/// Tells the devices of a profile, in its order: writes a line for each to `text`, with its name, its category, and the
-/// numbers of its kind behind their keys, as `r1 POSPrinter chars 8 near 2`, and to `needed` how many bytes that is.
+/// Writes the devices of a profile to `text`, in its order, and to `needed` how many bytes that is. Returns OK. Each
+/// device has a line: its name, its category, and the numbers of its kind after their keys, as `r1 POSPrinter chars 8
+/// near 2`.
 ///
-/// Answers OK; or SHORT where `text` has less room: a front is there; or BAD_PROFILE or NO_MEMORY, and nothing is
-/// written.
+/// # Errors
+///
+/// - SHORT if `text` has less room. Then a front is there.
+/// - BAD_PROFILE if the profile is refused, and NO_MEMORY if memory ran out. Then nothing is written.
 #[unsafe(no_mangle)]
 pub extern "C" fn kijolvar_devices(
     alloc: Global,
@@ -274,11 +322,15 @@ pub extern "C" fn kijolvar_devices(
     }
 }
 
-/// Tells what the bytes of a totals file hold: writes to `text` the lines that the program's `files` prints
-/// (docs/reference/console.md, "What a totals file holds"), and to `needed` how many bytes they have.
+/// Writes what the bytes of a totals file hold to `text`, and to `needed` how many bytes that is. Returns OK. The text
+/// is the lines that the program's `files` prints (docs/reference/console.md, "What a totals file holds").
 ///
-/// Answers OK; DAMAGED where the bytes break a rule: `text` says which, and `at` where; or SHORT where `text` has less
-/// room for either: a front is there; or UNFORMATTED, TOO_SMALL or NO_MEMORY, and nothing is written.
+/// # Errors
+///
+/// - DAMAGED if the bytes break a rule. `text` says which, and `at` where.
+/// - SHORT if `text` has less room for either. Then a front is there.
+/// - UNFORMATTED if they have no totals, TOO_SMALL if they are fewer than 327,680, and NO_MEMORY if memory ran out.
+///   Then nothing is written.
 #[unsafe(no_mangle)]
 pub extern "C" fn kijolvar_survey(
     alloc: Global,
@@ -292,7 +344,7 @@ pub extern "C" fn kijolvar_survey(
     tell_survey(alloc, bytes, at, text, needed)
 }
 
-/// Carries out lines and hands their answer over, where no errand is left and none failed.
+/// Carries out lines and writes their answer, if no errand is left and none failed.
 fn serve(session: &mut Session, lines: &[u8], text: &mut [u8], needed: &mut usize) -> u32
     ensures { Answers ⟦<TillDisk as Disk>⟧ ⟦<Device as Peripheral>⟧ session.old lines.now text.old text.new needed.old
         needed.new result session.new }
@@ -307,18 +359,24 @@ fn serve(session: &mut Session, lines: &[u8], text: &mut [u8], needed: &mut usiz
     }
 }
 
-/// Carries out the lines of a text, each whole before the next, and writes to `text` what they print, and to
-/// `needed` how many bytes that is. What stands behind the last line feed is a line too. The till is what is written
-/// to `out` from then on.
+/// Carries out the lines of a text, each whole before the next. Writes to `text` what they print, and to `needed` how
+/// many bytes that is, and returns OK. What is after the last line feed is a line too. The till is what is written to
+/// `out` from then on.
 ///
-/// Answers OK; or SHORT where `text` has less room: all lines were carried out, a front of the answer is in `text`,
-/// and `kijolvar_answer` gives it whole; or CUT where there was no memory for what a line prints: that line was carried
-/// out, and no later one, and a front of the answer is kept.
+/// # Errors
 ///
-/// Of a till over a file also: ERRANDS where the lines were carried out and their answer is kept until the host has
-/// done its errands: nothing is written; UNDONE where errands of earlier lines are left, and DISK_FAILED where one
-/// failed: nothing was carried out or written. DISK_FAILED too where there was no memory for an errand of these lines:
-/// what they changed may not be in the file.
+/// - SHORT if `text` has less room. All lines were carried out, a front of the answer is in `text`, and
+///   `kijolvar_answer` writes all of it.
+/// - CUT if memory ran out for what a line prints. That line was carried out, and no later one, and a front of the
+///   answer is kept.
+///
+/// Of a till over a file also:
+///
+/// - ERRANDS if the lines were carried out, and their answer is kept until the host has done its errands. Nothing is
+///   written.
+/// - UNDONE if errands of earlier lines are left. Nothing was carried out or written.
+/// - DISK_FAILED if one of them failed. Nothing was carried out or written.
+/// - DISK_FAILED also if memory ran out for an errand of these lines. What they changed may not be in the file.
 #[unsafe(no_mangle)]
 pub extern "C" fn kijolvar_carry_out(
     till: Till,
@@ -336,11 +394,13 @@ pub extern "C" fn kijolvar_carry_out(
     code
 }
 
-/// Writes to `text` the answer to the lines that the till was given last, as far as it was kept, and to `needed` how
-/// many bytes it has. Nothing is carried out. The till is what is written to `out` from then on.
+/// Writes the answer to the lines that were carried out last to `text`, as far as it was kept, and to `needed` how many
+/// bytes it has. Returns OK. Nothing is carried out. The till is what is written to `out` from then on.
 ///
-/// Answers OK, or SHORT where `text` has less room, or CUT as `kijolvar_carry_out` does: a front of the answer is
-/// there; or ERRANDS where errands are left, or DISK_FAILED where one failed: nothing is written.
+/// # Errors
+///
+/// - SHORT if `text` has less room, and CUT as `kijolvar_carry_out` has it. Then a front of the answer is there.
+/// - ERRANDS if errands are left, and DISK_FAILED if one failed. Then nothing is written.
 #[unsafe(no_mangle)]
 pub extern "C" fn kijolvar_answer(
     till: Till,
@@ -357,12 +417,17 @@ pub extern "C" fn kijolvar_answer(
     code
 }
 
-/// Tells the host the next thing to do to its file, once the one before is done: WRITE, where `needed` bytes, which are
-/// in `bytes`, go to the place `at`; SYNC, where what was written has to stay; or OK, where nothing is left. The till
-/// is what is written to `out` from then on.
+/// Gives the host the next thing to do to its file. The errand before it is done when the host calls this. The till is
+/// what is written to `out` from then on. Returns one of these:
 ///
-/// Answers SHORT where `bytes` has less room than `needed` says: the errand stays the next one, and nothing else is
-/// written; and DISK_FAILED where an errand failed.
+/// - WRITE: `needed` bytes, which are in `bytes`, go to the place `at`, counted from 0.
+/// - SYNC: what was written must stay.
+/// - OK: no errand is left.
+///
+/// # Errors
+///
+/// - SHORT if `bytes` has less room than `needed` says. The errand stays the next one, and nothing else is written.
+/// - DISK_FAILED if an errand failed.
 #[unsafe(no_mangle)]
 pub extern "C" fn kijolvar_next_errand(
     till: Till,
@@ -380,9 +445,9 @@ pub extern "C" fn kijolvar_next_errand(
     code
 }
 
-/// Tells a till that an errand failed. What its lines changed may or may not be in the file, none of them is answered,
-/// and the till can only be closed; one that is opened anew finds what is there. A till in memory stays as it is. The
-/// till is what is written to `out` from then on.
+/// Notes that an errand failed. What the till's lines changed may or may not be in the file, and none of them is
+/// answered. The till can only be closed. A new till over the file finds what is there. A till in memory stays as it
+/// is. The till is what is written to `out` from then on.
 #[unsafe(no_mangle)]
 pub extern "C" fn kijolvar_errand_failed(till: Till, out: &mut Slot)
     ensures { MatchOption out.new.left ⊥ (Fails till.session) }
@@ -392,13 +457,15 @@ pub extern "C" fn kijolvar_errand_failed(till: Till, out: &mut Slot)
     leave(session, out);
 }
 
-/// Says that the host has the device of this name: from now on each order that the device carries out is kept for the
-/// host, which gives it to its hardware (`kijolvar_next_order`), while the simulated device answers in its place. What
-/// happens at the hardware the host says by `input` lines. A host may say it once more. The till is what is written to
-/// `out` from then on.
+/// Notes that the host has the hardware of the device of this name, and returns OK. Each order that the device carries
+/// out from now on is kept for the host, which passes it to its hardware (`kijolvar_next_order`), while the simulated
+/// device answers for it. What happens at the hardware the host says by `input` lines. A host may call this again. The
+/// till is what is written to `out` from then on.
 ///
-/// Answers OK; or NO_DEVICE where the profile has no device of the name, or it is one of Hard Totals, or NO_MEMORY, and
-/// nothing changes.
+/// # Errors
+///
+/// NO_DEVICE if the profile has no device of the name, or it is one of Hard Totals, and NO_MEMORY if memory ran out.
+/// Then nothing changes.
 #[unsafe(no_mangle)]
 pub extern "C" fn kijolvar_host(till: Till, out: &mut Slot, name: &[u8]) -> u32
     ensures till { out.new.left ≡ Some till.session }
@@ -410,13 +477,14 @@ pub extern "C" fn kijolvar_host(till: Till, out: &mut Slot, name: &[u8]) -> u32
     code
 }
 
-/// Takes out the oldest order of the devices that the host has, and writes to `text` the line that tells it (the
-/// device's name, the order's word, its arguments; abi/README.md), and to `needed` how many bytes it has. The till is
-/// what is written to `out` from then on.
+/// Removes the oldest order of the devices that the host has, and writes its line to `text` and to `needed` how many
+/// bytes it has. Returns ORDER; or OK if no order is left, and `needed` is 0. The line has the device's name, the
+/// order's word and its arguments (abi/README.md). The till is what is written to `out` from then on.
 ///
-/// Answers ORDER; or OK where none is left: `needed` is 0; or SHORT where `text` has less room than `needed` says: the
-/// order stays the next one, and nothing else is written; or ERRANDS while errands are left, or DISK_FAILED where one
-/// failed: nothing is written.
+/// # Errors
+///
+/// - SHORT if `text` has less room than `needed` says. The order stays the next one, and nothing else is written.
+/// - ERRANDS if errands are left, and DISK_FAILED if one failed. Then nothing is written.
 #[unsafe(no_mangle)]
 pub extern "C" fn kijolvar_next_order(
     till: Till,
@@ -432,7 +500,53 @@ pub extern "C" fn kijolvar_next_order(
     code
 }
 
-/// Ends a till, its totals at rest. Errands and orders that are left are dropped.
+/// Writes the number of the control of this name to `control`, and returns OK. The controls of a till are numbered from
+/// 0, in the order of their `new` lines that were answered `ok`. The till is what is written to `out` from then on.
+///
+/// # Errors
+///
+/// NO_CONTROL if no control has the name. Then nothing is written.
+#[unsafe(no_mangle)]
+pub extern "C" fn kijolvar_control(
+    till: Till,
+    out: &mut Slot,
+    name: &[u8],
+    control: &mut usize,
+) -> u32
+    ensures till { out.new.left ≡ Some till.session }
+    ensures number { FindsNumber (number_named (names_of till.session.names) name.now) control.old control.new
+        result }
+{
+    let session = take(till);
+    let code = session.find_number(name, control);
+    leave(session, out);
+    code
+}
+
+/// Writes the lowest number, `from` or above, of a control that has an event to deliver to `control`, and returns
+/// EVENT; or returns OK if no such control has one. A `deliver` line of that control gives the event. This changes
+/// nothing of the till. The till is what is written to `out` from then on.
+///
+/// # Errors
+///
+/// ERRANDS if errands are left, and DISK_FAILED if one failed. Then nothing is written, and neither with OK.
+#[unsafe(no_mangle)]
+pub extern "C" fn kijolvar_next_event(
+    till: Till,
+    out: &mut Slot,
+    from: usize,
+    control: &mut usize,
+) -> u32
+    ensures till { out.new.left ≡ Some till.session }
+    ensures event { NextEvent ⟦<Device as Peripheral>⟧ till.session from control.old control.new result }
+{
+    let session = take(till);
+    let code = session.next_event(from, control);
+    leave(session, out);
+    code
+}
+
+/// Closes a till, its totals at rest. Errands and orders that are left are dropped.
 #[unsafe(no_mangle)]
 pub extern "C" fn kijolvar_close(till: Till) {
     drop(take(till));

@@ -20,7 +20,7 @@ fn add_number(text: &mut Vec<u8>, number: u64) -> Result<(), AllocError>
     text.extend_from_slice(buffer.format(number).as_bytes())
 }
 
-// Two texts, one after the other.
+// Returns two texts, one after the other.
 fn joined(alloc: Global, first: &str, second: &str) -> Result<Vec<u8>, AllocError>
     ensures { IfOk result (λ text. text.items ≡ first.now ++ second.now) }
 {
@@ -29,7 +29,7 @@ fn joined(alloc: Global, first: &str, second: &str) -> Result<Vec<u8>, AllocErro
     Ok(text)
 }
 
-// Where a profile isn't sound.
+// Returns where a profile isn't sound, as text.
 fn place_text(alloc: Global, place: Place) -> Result<Vec<u8>, AllocError>
     ensures { IfOk result (λ text. text.items ≡ place_text place) }
 {
@@ -43,7 +43,7 @@ fn place_text(alloc: Global, place: Place) -> Result<Vec<u8>, AllocError>
     Ok(text)
 }
 
-// The categories that an entry of a list may have.
+// Returns the categories that an entry of a list may have.
 fn category_reason(role: Role) -> &'static str
     ensures { result.now ≡ category_reason role }
 {
@@ -66,7 +66,7 @@ fn add_number_reason(text: &mut Vec<u8>, key: NumberKey) -> Result<(), AllocErro
     add_number(text, key.most() as u64)
 }
 
-// The values of an optional key.
+// Returns the values that an optional key may have.
 fn option_reason(key: OptionalKey) -> &'static str
     ensures { result.now ≡ option_reason key }
 {
@@ -108,7 +108,7 @@ fn add_reason(text: &mut Vec<u8>, reason: &Reason) -> Result<(), AllocError>
     }
 }
 
-// The first thing in a profile that isn't sound.
+// Returns the first thing in a profile that isn't sound, as text.
 fn mistake_text(alloc: Global, mistake: &Mistake) -> Result<Vec<u8>, AllocError>
     ensures { IfOk result (λ text. text.items ≡ mistake_text mistake.now) }
 {
@@ -117,7 +117,7 @@ fn mistake_text(alloc: Global, mistake: &Mistake) -> Result<Vec<u8>, AllocError>
     Ok(text)
 }
 
-// Tells why a text is no profile. Returns BAD_TEXT, BAD_PROFILE, SHORT or NO_MEMORY.
+// Writes why a text is no profile. Returns BAD_TEXT, BAD_PROFILE, SHORT or NO_MEMORY.
 fn tell_refusal(
     alloc: Global,
     why: &ProfileFileFault,
@@ -152,7 +152,7 @@ fn tell_refusal(
     }
 }
 
-// Tells whether a text is a profile, and why it isn't.
+// Writes why a text is no profile, if it is none.
 fn tell_document(
     alloc: Global,
     profile: &str,
@@ -169,8 +169,13 @@ fn tell_document(
     }
 }
 
-/// Tells why the bytes of a profile are refused, and the place where they stop being a text of TOML. Returns OK if they
-/// aren't, BAD_TEXT, BAD_PROFILE, SHORT or NO_MEMORY.
+/// Writes why the bytes of a profile are refused, and returns OK if they aren't.
+///
+/// # Errors
+///
+/// - BAD_TEXT if they are not UTF-8 or no TOML document. `at` is the place where reading them stopped.
+/// - BAD_PROFILE if something in the document isn't sound.
+/// - SHORT if `text` has less room than the reason has bytes, and NO_MEMORY if memory ran out.
 pub fn tell_mistake(
     alloc: Global,
     profile: &[u8],

@@ -1,4 +1,4 @@
-//! The orders that a till's host is told, as lines.
+//! The orders that a till's host gets, as lines.
 ghost use Rattle.std.specs.Prelude.{◌≡◌, ◌++◌, IfOk, OnOk, codes};
 ghost use Rattle.kijolvar.specs.Orders.{AsksTwin, Keeps, TellsOrder, argument_text, bytes_word, order_lines, number_word, order_text};
 
@@ -9,7 +9,7 @@ use pos_service::{Argument, NoMemory, Order, Peripheral, Reply};
 use std::alloc::{AllocError, Global};
 use std::collections::VecDeque;
 
-/// Adds a number behind a space.
+/// Adds a space and a number.
 fn add_number(line: &mut Vec<u8>, number: u32) -> Result<(), AllocError>
     ensures { OnOk result (line.new.items ≡ line.old.items ++ number_word number) }
 {
@@ -18,7 +18,7 @@ fn add_number(line: &mut Vec<u8>, number: u32) -> Result<(), AllocError>
     line.extend_from_slice(buffer.format(number).as_bytes())
 }
 
-/// Adds bytes in hex behind a space, or a hyphen for none.
+/// Adds a space and bytes in hex, or a hyphen for no bytes.
 fn add_bytes(alloc: Global, line: &mut Vec<u8>, bytes: &[u8]) -> Result<(), AllocError>
     ensures { OnOk result (line.new.items ≡ line.old.items ++ bytes_word bytes.now) }
 {
@@ -44,7 +44,7 @@ fn add_argument(
     }
 }
 
-/// A device's name, and a word behind it.
+/// Returns a device's name and a word after it.
 fn line_with(alloc: Global, device: &[u8], word: &str) -> Result<Vec<u8>, AllocError>
     ensures { IfOk result (λ line. line.items ≡ device.now ++ codes " " ++ word.now) }
 {
@@ -54,8 +54,12 @@ fn line_with(alloc: Global, device: &[u8], word: &str) -> Result<Vec<u8>, AllocE
     Ok(line)
 }
 
-/// The line that tells a host the order of a device: the device's name, the order's word, and its arguments
-/// (abi/README.md, "Devices of one's own").
+/// Returns the line of an order for the host: the device's name, the order's word, and its arguments (abi/README.md,
+/// "Devices of one's own").
+///
+/// # Errors
+///
+/// [`AllocError`] if memory ran out.
 pub fn order_line(alloc: Global, device: &[u8], order: &Order) -> Result<Vec<u8>, AllocError>
     ensures { IfOk result (λ line. line.items ≡ order_text device.now order.now) }
 {
@@ -69,8 +73,12 @@ pub fn order_line(alloc: Global, device: &[u8], order: &Order) -> Result<Vec<u8>
     Ok(line)
 }
 
-/// Asks the simulated peripheral that stands for a device of the host's, and keeps the order's line where it was
-/// carried out, behind those that are kept already. Where there is no memory for the line, it isn't asked.
+/// Asks the simulated peripheral of a device that the host has, and returns its reply. If the order was carried out,
+/// its line is kept after those that are kept already.
+///
+/// # Errors
+///
+/// [`NoMemory`] if memory ran out. For the line it is taken before the peripheral is asked.
 pub fn ask_keeping(
     alloc: Global,
     lines: &mut VecDeque<Vec<u8>>,
@@ -91,8 +99,12 @@ pub fn ask_keeping(
     Ok(reply)
 }
 
-/// Takes out the oldest line and writes it to `text`; one for which there is no room stays. `needed` says how many
-/// bytes it has, 0 where none is left. Answers ORDER, SHORT, or OK where none is left.
+/// Removes the oldest line, writes it to `text`, and returns ORDER; or returns OK if no line is left. `needed` says how
+/// many bytes the line has, 0 if none is left.
+///
+/// # Errors
+///
+/// SHORT if `text` has less room. Then the line stays.
 pub fn tell_order(lines: &mut VecDeque<Vec<u8>>, text: &mut [u8], needed: &mut usize) -> u32
     ensures { TellsOrder (order_lines lines.old.items) text.old text.new needed.new result
         (order_lines lines.new.items) }

@@ -1,9 +1,12 @@
 //! What is behind a till's pointer.
 ghost use Rattle.std.specs.Prelude.{◌≡◌, IfOk};
+ghost use Rattle.pos_run.specs.Names.{names_of, number_named};
+ghost use Rattle.kijolvar.specs.Controls.{FindsNumber, NextEvent};
 ghost use Rattle.kijolvar.specs.Hosting.{IsHostCode};
 ghost use Rattle.kijolvar.specs.Tills.{Begins, CarriesOut, Fails, HandsOver, AnswersNextErrand, NextOrder, settlement_of};
 
 use crate::codes::{DISK_FAILED, ERRANDS, code_of};
+use crate::controls::{find_number, next_event};
 use crate::device::Device;
 use crate::hosting::{host_device, next_order};
 use crate::kept::Kept;
@@ -47,7 +50,11 @@ impl Model for Session {
 }
 
 impl Session {
-    /// A till of a profile over a disk. Want of memory ends the disk.
+    /// Returns a till of a profile over a disk.
+    ///
+    /// # Errors
+    ///
+    /// [`NoMemory`] if memory ran out. Then the disk is dropped.
     pub fn new(alloc: Global, profile: Profile, disk: TillDisk) -> Result<Session, NoMemory>
         ensures { IfOk result (λ till. Begins ⟦<Device as Peripheral>⟧ profile disk till) }
     {
@@ -78,15 +85,15 @@ impl Session {
         })
     }
 
-    /// How its host stands to its disk.
+    /// Returns whether its changes are in its host's file.
     pub fn settlement(&self) -> Settlement
         ensures { result ≡ settlement_of self.now }
     {
         self.kept.settlement()
     }
 
-    /// Carries out the lines of a text, and keeps what they print as the answer. Where there is no memory for what a
-    /// line prints, that line was carried out, and no later one, and a front of the answer is kept.
+    /// Carries out the lines of a text, and keeps what they print as the answer. If memory runs out for what a line
+    /// prints, that line was carried out, and no later one, and a front of the answer is kept.
     pub fn carry_out(&mut self, lines: &[u8])
         ensures { CarriesOut ⟦<TillDisk as Disk>⟧ ⟦<Device as Peripheral>⟧ self.old lines.now self.new }
     {
@@ -104,8 +111,12 @@ impl Session {
         self.kept.counter.disk().is_in_step();
     }
 
-    /// Writes the answer to the lines that were given last, where no errand is left and none failed, and how long it
-    /// is. Answers OK, SHORT, CUT, ERRANDS or DISK_FAILED.
+    /// Writes the answer to the lines that were carried out last, and how many bytes it has, and returns OK.
+    ///
+    /// # Errors
+    ///
+    /// - SHORT if `text` has less room, and CUT if memory ran out for the answer. Then a front of it is written.
+    /// - ERRANDS if errands are left, and DISK_FAILED if one failed. Then nothing is written.
     pub fn hand_over(&self, text: &mut [u8], needed: &mut usize) -> u32
         ensures { HandsOver self.now text.old text.new needed.old needed.new result }
     {
@@ -119,31 +130,65 @@ impl Session {
         }
     }
 
-    /// Tells the next errand, and takes it as said that the one before is done. Answers OK where none is left, else
-    /// WRITE, SYNC, SHORT or DISK_FAILED.
+    /// Writes the next errand, and takes it that the one before is done. It returns WRITE or SYNC, or OK if no errand
+    /// is left.
+    ///
+    /// # Errors
+    ///
+    /// SHORT if `bytes` has less room than `needed` says, and DISK_FAILED if an errand failed.
     pub fn next_errand(&mut self, at: &mut u64, bytes: &mut [u8], needed: &mut usize) -> u32
         ensures { AnswersNextErrand self.old at.old at.new bytes.old bytes.new needed.old needed.new result self.new }
     {
         self.kept.next_errand(at, bytes, needed)
     }
 
-    /// Keeps the orders of the device of a name for the host from now on. Answers OK; or NO_DEVICE where no device of
-    /// the name may have a peripheral, or NO_MEMORY, and nothing changes.
+    /// Keeps the orders of the device of a name for the host from now on, and returns OK.
+    ///
+    /// # Errors
+    ///
+    /// NO_DEVICE if no device of the name may have a peripheral, and NO_MEMORY if memory ran out. Then nothing changes.
     pub fn host(&self, name: &[u8]) -> u32
         ensures { IsHostCode self.now.profile.devices name.now result }
     {
         host_device(&self.kept.profile, &self.tray, name)
     }
 
-    /// Tells the next order of the devices that the host has, where no errand is left and none failed. Answers ORDER,
-    /// SHORT, or OK where none is left, ERRANDS or DISK_FAILED.
+    /// Writes the next order of the devices that the host has, and removes it. It returns ORDER, or OK if none is left.
+    ///
+    /// # Errors
+    ///
+    /// - SHORT if `text` has less room than `needed` says. The order stays the next one.
+    /// - ERRANDS if errands are left, and DISK_FAILED if one failed. Then nothing is written.
     pub fn next_order(&mut self, text: &mut [u8], needed: &mut usize) -> u32
         ensures { NextOrder self.old text.old text.new needed.old needed.new result self.new }
     {
         next_order(&mut self.kept, &self.tray, text, needed)
     }
 
-    /// Takes it as said that an errand failed.
+    /// Writes the number of the control of a name, and returns OK.
+    ///
+    /// # Errors
+    ///
+    /// NO_CONTROL if no control has the name. Then nothing is written.
+    pub fn find_number(&self, name: &[u8], control: &mut usize) -> u32
+        ensures { FindsNumber (number_named (names_of self.now.names) name.now) control.old control.new result }
+    {
+        find_number(&self.kept.names, name, control)
+    }
+
+    /// Writes the lowest number, `from` or above, of a control that has an event to deliver, and returns EVENT; or
+    /// returns OK if no such control has one.
+    ///
+    /// # Errors
+    ///
+    /// ERRANDS if errands are left, and DISK_FAILED if one failed. Then nothing is written, and neither with OK.
+    pub fn next_event(&self, from: usize, control: &mut usize) -> u32
+        ensures { NextEvent ⟦<Device as Peripheral>⟧ self.now from control.old control.new result }
+    {
+        next_event(&self.kept, from, control)
+    }
+
+    /// Notes that an errand failed.
     pub fn fail(&mut self)
         ensures { Fails self.old self.new }
     {

@@ -1,14 +1,14 @@
-//! How a till's host stands to its disk.
+//! Whether a till's changes are in its host's file.
 
-/// Whether what a till's lines have written to its disk is where it has to stay.
+/// Whether what a till's lines wrote to its disk is where it must stay.
 #[derive(Clone, Copy, PartialEq, Eq)]
 pub enum Settlement {
-    /// The disk is in memory alone: nothing has to stay.
+    /// The disk is in memory alone, and nothing must stay.
     InMemory,
     /// All of it is in the host's file.
     Settled,
     /// The host has errands left.
     Owed,
-    /// It can't be put into the file any more.
+    /// An errand failed or was lost, so it can't be put into the file any more.
     Failed,
 }

@@ -6,7 +6,7 @@ use crate::telling::tell_text;
 use pos_survey::{Survey, SurveyFault, words_of};
 use std::alloc::Global;
 
-// Tells which rule bytes break, and the place. Returns DAMAGED, SHORT, TOO_SMALL, UNFORMATTED or NO_MEMORY.
+// Writes which rule bytes break, and the place. Returns DAMAGED, SHORT, TOO_SMALL, UNFORMATTED or NO_MEMORY.
 fn tell_break(why: SurveyFault, at: &mut u64, text: &mut [u8], needed: &mut usize) -> u32
     ensures { TellsBreak why at.old at.new text.old text.new needed.old needed.new result }
 {
@@ -21,8 +21,13 @@ fn tell_break(why: SurveyFault, at: &mut u64, text: &mut [u8], needed: &mut usiz
     }
 }
 
-/// Tells what the bytes of a totals file hold, or which rule they break, and the place. Returns OK, DAMAGED, SHORT,
-/// TOO_SMALL, UNFORMATTED or NO_MEMORY.
+/// Writes what the bytes of a totals file hold, and returns OK.
+///
+/// # Errors
+///
+/// - DAMAGED if they break a rule: `text` says which, and `at` the place.
+/// - SHORT if `text` has less room for either. Then a front of it is written.
+/// - TOO_SMALL, UNFORMATTED, and NO_MEMORY if memory ran out.
 pub fn tell_survey(
     alloc: Global,
     bytes: &[u8],

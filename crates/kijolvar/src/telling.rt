@@ -1,11 +1,12 @@
-//! What is written into the room of C.
+//! Writes answers into the room that C gives.
 ghost use Rattle.std.specs.Prelude.{◌≡◌, length, nat_le};
 ghost use Rattle.kijolvar.specs.Questions.{TellsText};
 ghost use Rattle.kijolvar.specs.Tills.{Tells};
 
 use crate::codes::SHORT;
 
-/// Writes the front of an answer that there is room for, and how long the answer is: whether that is all of it.
+/// Writes as much of an answer as there is room for, and to `needed` how many bytes it has. Returns whether all of it
+/// was written.
 pub fn tell(answer: &[u8], text: &mut [u8], needed: &mut usize) -> bool
     ensures tells { Tells answer.now text.old text.new needed.new }
     ensures whole { result ≡ nat_le (length answer.now) (length text.old) }
@@ -16,8 +17,8 @@ pub fn tell(answer: &[u8], text: &mut [u8], needed: &mut usize) -> bool
     answer.len() <= text.len()
 }
 
-/// Writes the front of a text that there is room for, and how long the text is. Returns a code, or SHORT if that isn't
-/// all of it.
+/// Writes as much of a text as there is room for, and to `needed` how many bytes it has. Returns the code, or SHORT if
+/// not all of it was written.
 pub fn tell_text(answer: &[u8], code: u32, text: &mut [u8], needed: &mut usize) -> u32
     ensures { TellsText answer.now text.old text.new needed.new code result }
 {

@@ -9,7 +9,7 @@ use crate::session::Session;
 use std::alloc::{Allocator, Global};
 use std::marker::Model;
 
-/// A till: C has its pointer alone, and owes that each pointer that it hands in is the one that it was handed out last.
+/// A till as C holds it: a pointer alone. C owes that each pointer that it passes is the one that it was given last.
 #[repr(C)]
 pub struct Till {
     at: *mut u8,
@@ -24,7 +24,7 @@ impl Model for Till {
     ghost also_owns = { λ t. box_owns (⟦<Global as Allocator>⟧.dealloc_token t.alloc) session_row t.at t.session };
 }
 
-/// C's variable for a till. It holds a till, or none. A till in it owns its session, so a bare pointer is no till.
+/// C's variable for a till: it holds one, or none. A till in it owns its session, so a bare pointer is no till.
 #[repr(C)]
 #[derive(Drop)]
 pub struct Slot {
@@ -42,6 +42,7 @@ impl Model for Slot {
         (λ session. box_owns (⟦<Global as Allocator>⟧.dealloc_token s.alloc) session_row s.at session) s.left };
 }
 
+/// Returns the till of a session's pointer.
 fn wrap(loose: Loose<Session, Global>) -> Till
     ensures { result.session ≡ loose.value }
 {
@@ -52,6 +53,7 @@ fn wrap(loose: Loose<Session, Global>) -> Till
     }
 }
 
+/// Returns the pointer to a till's session.
 fn unwrap(till: Till) -> Loose<Session, Global>
     ensures { result.value ≡ till.session }
 {
@@ -62,21 +64,21 @@ fn unwrap(till: Till) -> Loose<Session, Global>
     }
 }
 
-/// The till of a session.
+/// Returns the till of a session.
 pub fn hold(session: Box<Session>) -> Till
     ensures { result.session ≡ session.value }
 {
     wrap(Loose::of(session))
 }
 
-/// The session of a till.
+/// Returns the session of a till.
 pub fn take(till: Till) -> Box<Session>
     ensures { result.value ≡ till.session }
 {
     unwrap(till).into_box()
 }
 
-/// C's variable with this till in it.
+/// Returns C's variable with this till in it.
 pub fn put(till: Till) -> Slot
     ensures { result.left ≡ Some till.session }
 {

@@ -10,9 +10,10 @@ use pos_disk::{Disk, DiskFault, MemDisk, Relay};
 use std::alloc::{AllocError, Global};
 use std::marker::Model;
 
-/// The disk of a till: one in memory. If a host keeps it in a file, each write and each sync is an errand of the host
-/// too. Once the errands are done, the file has the bytes of the disk. A call whose errand is lost is a fault, and so
-/// is each later write and sync.
+/// The disk of a till: one in memory. If a host keeps it in a file, each write and each sync is also an errand of the
+/// host. Once the errands are done, the file has the bytes of the disk.
+///
+/// A call whose errand is lost returns a fault, and so does each later write and sync.
 #[derive(Drop)]
 pub struct TillDisk {
     memory: MemDisk,
@@ -30,7 +31,7 @@ impl Model for TillDisk {
 }
 
 impl TillDisk {
-    /// A disk in memory alone.
+    /// Returns a disk in memory alone.
     pub fn in_memory(memory: MemDisk) -> TillDisk
         ensures { result ≡ hosted memory None }
     {
@@ -40,7 +41,11 @@ impl TillDisk {
         }
     }
 
-    /// The disk of a host's file, which has these bytes. No errand is left.
+    /// Returns the disk of a host's file, which has these bytes. No errand is left.
+    ///
+    /// # Errors
+    ///
+    /// [`AllocError`] if memory ran out.
     pub fn in_file(alloc: Global, bytes: &[u8]) -> Result<TillDisk, AllocError>
         ensures { IfOk result (λ disk. disk ≡ hosted (fresh bytes.now) (Some (no_work bytes.now))) }
     {
@@ -50,15 +55,15 @@ impl TillDisk {
         })
     }
 
-    /// What is true of every disk of a till: once the errands are done in the host's file, it has the bytes of the
-    /// disk, unless an errand was lost.
+    /// States what is true of every disk of a till: once the errands are done in the host's file, it has the bytes of
+    /// the disk, unless an errand was lost.
     pub fn is_in_step(&self)
         ensures { IsInStep self.now }
     {
         let _memory = &self.memory;
     }
 
-    /// How its host stands to it, by whether the host said that an errand failed.
+    /// Returns whether its changes are in its host's file, given whether the host said that an errand failed.
     pub fn settlement(&self, has_failed: bool) -> Settlement
         ensures { result ≡ settlement_with self.now.work has_failed }
     {
@@ -72,7 +77,7 @@ impl TillDisk {
         }
     }
 
-    /// The oldest errand of its host, if there is one.
+    /// Returns the oldest errand of its host, or `None` if there is none.
     pub fn oldest(&self) -> Option<&Errand>
         ensures { IsOldest (errands_of self.now.work) (option_map (λ errand. errand.now) result) }
     {
@@ -83,7 +88,7 @@ impl TillDisk {
     }
 }
 
-// Adds that bytes are to be written at a place, if there is a host.
+// Adds an errand that writes bytes at a place, if there is a host.
 fn add_write(errands: &mut Option<Errands>, at: u64, bytes: &[u8]) -> Result<(), DiskFault>
     ensures { AddsIfHosted (IsWrite at bytes.now) errands.old errands.new result }
 {
@@ -93,7 +98,7 @@ fn add_write(errands: &mut Option<Errands>, at: u64, bytes: &[u8]) -> Result<(),
     }
 }
 
-// Adds that what was written is to stay, if there is a host.
+// Adds an errand that makes what was written stay, if there is a host.
 fn add_sync(errands: &mut Option<Errands>) -> Result<(), DiskFault>
     ensures { AddsIfHosted IsSync errands.old errands.new result }
 {
@@ -103,7 +108,7 @@ fn add_sync(errands: &mut Option<Errands>) -> Result<(), DiskFault>
     }
 }
 
-// Takes out the oldest errand, if there is a host, and it has one.
+// Removes the oldest errand, if there is a host that has one, and returns it.
 fn next_of(errands: &mut Option<Errands>) -> Option<Errand>
     ensures { DoesIfHosted errands.old errands.new result }
 {

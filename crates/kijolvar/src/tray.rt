@@ -18,8 +18,8 @@ struct Shared {
     lines: RefCell<VecDeque<Vec<u8>>>,
 }
 
-/// What a till's devices have for its host, in order: a device that the host has adds its orders, and the till takes
-/// them out.
+/// What a till's devices have for its host, in order. A device that the host has adds its orders, and the till takes
+/// them.
 #[derive(Drop)]
 pub struct Tray {
     alloc: Global,
@@ -27,7 +27,11 @@ pub struct Tray {
 }
 
 impl Tray {
-    /// No device is the host's, and no order is there.
+    /// Returns a tray without orders. The host has no device.
+    ///
+    /// # Errors
+    ///
+    /// [`AllocError`] if memory ran out.
     pub fn new(alloc: Global) -> Result<Tray, AllocError> {
         let shared = Shared {
             hosted: RefCell::new(Vec::new(alloc)),
@@ -39,7 +43,11 @@ impl Tray {
         }
     }
 
-    /// The same tray, for another owner.
+    /// Returns the same tray for another owner.
+    ///
+    /// # Errors
+    ///
+    /// [`AllocError`] if the tray has as many owners as it may have.
     pub fn share(&self) -> Result<Tray, AllocError> {
         Ok(Tray {
             alloc: self.alloc,
@@ -47,7 +55,11 @@ impl Tray {
         })
     }
 
-    /// The orders of the device of this name are kept for the host from now on. Want of memory changes nothing.
+    /// Keeps the orders of the device of this name for the host from now on.
+    ///
+    /// # Errors
+    ///
+    /// [`NoMemory`] if memory ran out. Then nothing changes.
     pub fn host(&self, device: &[u8]) -> Result<(), NoMemory> {
         if self.is_hosted(device) {
             return Ok(());
@@ -62,7 +74,7 @@ impl Tray {
         }
     }
 
-    /// Whether the host has the device of this name.
+    /// Returns whether the host has the device of this name.
     pub fn is_hosted(&self, device: &[u8]) -> bool {
         match self.shared.hosted.try_borrow() {
             Ok(hosted) => hosted.iter().any(|name| name.as_slice() == device),
@@ -70,7 +82,11 @@ impl Tray {
         }
     }
 
-    /// Where the device of this name puts its orders.
+    /// Returns the post at which the device of this name puts its orders.
+    ///
+    /// # Errors
+    ///
+    /// [`NoMemory`] if memory ran out.
     pub fn post(&self, device: &[u8]) -> Result<Post, NoMemory>
         ensures { IfOk result (λ post. post.device.items ≡ device.now) }
     {
@@ -80,7 +96,7 @@ impl Tray {
         })
     }
 
-    /// Takes out all orders, and leaves these in their place.
+    /// Exchanges all orders for these.
     pub fn exchange(&self, orders: &mut VecDeque<Vec<u8>>) {
         if let Ok(mut lines) = self.shared.lines.try_borrow_mut() {
             swap(&mut *lines, orders);
@@ -96,8 +112,12 @@ pub struct Post {
 }
 
 impl Post {
-    /// Gives an order to the simulated peripheral that stands for the device, and keeps it for the host where the host
-    /// has the device and the order was carried out. Where there is no memory for that, it isn't given.
+    /// Passes an order to the simulated peripheral of the device, and returns its reply. If the host has the device and
+    /// the order was carried out, it is kept for the host.
+    ///
+    /// # Errors
+    ///
+    /// [`NoMemory`] if memory ran out. For the host's line it is taken before the order is passed on.
     pub fn ask(&self, twin: &mut Wrapped, order: &Order) -> Result<Reply, NoMemory>
         ensures { AsksTwin twin.old order.now result twin.new }
     {

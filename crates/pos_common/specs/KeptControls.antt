@@ -22,23 +22,23 @@ pub record KeptControl : Type 0 where
 abbrev pub controls_of : List KeptControl → List Control
 controls_of helds = map (λ held. held.control) helds
 
--- a change of a device's signs has at most so many events: drawer, cover, paper, power
+-- a change of a device's signs has at most this many events: drawer, cover, paper, power
 abbrev pub sign_events : ℕ
 sign_events = 4
 
--- a scan has at most so many events: a DataEvent
+-- a scan has at most this many events: a DataEvent
 abbrev pub scan_events : ℕ
 scan_events = 1
 
--- a failed scan has at most so many events: EL_INPUT_DATA and EL_INPUT
+-- a failed scan has at most this many events: EL_INPUT_DATA and EL_INPUT
 abbrev pub fault_events : ℕ
 fault_events = 2
 
--- a request that is worked on has at most so many events: a change of signs, and OutputCompleteEvent or EL_OUTPUT
+-- a request that is worked on has at most this many events: a change of signs, and OutputCompleteEvent or EL_OUTPUT
 abbrev pub work_events : ℕ
 work_events = 5
 
--- a control that has the device at a place open and enabled has room for so many events
+-- a control that has the device at a place open and enabled has room for this many events
 abbrev pub HasRoom : ℕ → ℕ → KeptControl → Type 0
 HasRoom place count held = IsTrue (listens place held.control) → count ≤ held.spare
 
@@ -53,28 +53,28 @@ HasCopies (input.Scan number bytes label) place controls copies =
     AreCopies (record { kind = number; bytes = bytes; label = label }) place controls copies
 HasCopies other place controls copies = ⊤
 
--- A control has read one of the copies of a scan, where it has the device at a place open and enabled; the others are
+-- A control has read one of the copies of a scan, if it has the device at a place open and enabled. The others are
 -- left.
 pub record ReadsCopy (scan : Scan) (place : ℕ) (old new : KeptControl) (copies left : List Scan) : Type 0 where
   pub read : new.control ≡ if_listening place (read_by scan) old.control
   pub each : All (λ copy. copy ≡ scan) left
   pub most : length copies ≤ length left + count_by (listens place) (old.control ∷ [])
 
--- A call on a control is answered by its table, which changes nothing; where nothing refuses it, it succeeds, and the
+-- A call on a control is answered by its table, which changes nothing. If no row refuses it, it succeeds, and the
 -- control is this one.
 abbrev pub TurnsInto : List Row → Answer → KeptControl → KeptControl → Control → Type 0
 TurnsInto rows result old new control =
     Decided rows result (new ≡ old) ((result ≡ answer.Done value.Empty) × (new.control ≡ control))
 
--- A property is set as its table says, and the control is this one then. Memory is wanted for the event of the device's
--- power alone, where there is one, and only behind the table; then the control is as it was.
+-- A property is set as its table says, and the control is this one then. Memory is wanted only for the event of the
+-- device's power, if there is one, and only after the table. Then the control is as it was.
 abbrev pub SetsTo : List Row → Bool → Result Answer NoMemory → KeptControl → KeptControl → Control → Type 0
 SetsTo rows tells outcome old new control = MatchResult outcome
     (λ result. TurnsInto rows result old new control)
     (λ want. IsTrue tells × (first_refusal rows ≡ None) × (new.control ≡ old.control))
 
--- A property is told as its table says, and else with its value. Memory is wanted for a copy of bytes alone, and only
--- behind the table.
+-- A property is read as its table says, otherwise with its value. Memory is wanted only for a copy of bytes, and only
+-- after the table.
 abbrev pub Gets : List Row → Property → Value → Result Answer NoMemory → Type 0
 Gets rows p v outcome = MatchResult outcome
     (λ result. Decided rows result ⊤ (result ≡ answer.Done v))

@@ -22,8 +22,8 @@ abbrev pub own_refusals : Category → List Row → ℕ → List (Option ℕ) �
 own_refusals c rows number claims asked control =
     table number (holder_at claims control.device) control (needs_of c asked) rows
 
--- What the check of the control decides of such a call: the device is at this place, the category has the call, and its
--- rows decide; or the control is refused with a code, whatever the rows.
+-- What the check of the control decides of such a call. The device is at this place, the category has the call, and its
+-- rows decide. Otherwise the call is refused with a code, whatever the rows.
 abbrev pub ChecksCall : Category → ℕ → List (Option ℕ) → Call → Control → Result ℕ Code → Type 0
 ChecksCall c number claims asked control outcome = MatchResult outcome
     (λ place. (control.device ≡ Some place) × (has_call c asked ≡ true)
@@ -37,8 +37,8 @@ OwnDoes comes_to number result control old before new after = MatchOption contro
     MatchOption comes_to ⊥ (λ deed. Does deed number place result old before new after))
 
 -- Such a call, by the category's rows and what it comes to: it is refused by its table, which changes nothing, or it
--- does what it comes to. Memory is wanted by a call alone that may want some and that nothing refuses, and then nothing
--- changes.
+-- does what it comes to. Only a call that may want memory and that nothing refuses may fail for want of it, and then
+-- nothing changes.
 abbrev pub OwnCall : Category → List Row → Option Deed → ℕ → List (Option ℕ) → Call → Result Answer NoMemory → Control
     → Effect
 OwnCall c rows comes_to number claims asked outcome control old before new after =
@@ -47,7 +47,7 @@ OwnCall c rows comes_to number claims asked outcome control old before new after
     (OwnDoes comes_to number result control old before new after))
     (λ want. IsTrue (takes_memory asked) × (first_refusal refusals ≡ None) × SameHardware old before new after)
 
--- how many orders the peripheral was given before and after: a call that its table refuses gives none, another those of
+-- how many orders the peripheral was given before and after: none by a call that its table refuses, otherwise those of
 -- what it comes to
 abbrev pub OwnOrders : Category → List Row → Option Deed → ℕ → List (Option ℕ) → Call → Result Answer NoMemory → Control
     → ℕ → ℕ → Type 0

@@ -1,3 +1,4 @@
+//! The claims of all devices: which control holds each.
 ghost use Rattle.std.specs.Prelude.{◌≡◌, ◌<◌, Some, None, IfOk, length, replicate};
 ghost use Rattle.pos_service.specs.Claims.{claimed_by, holder_at, released_by};
 
@@ -6,7 +7,7 @@ use std::alloc::Global;
 use std::marker::Model;
 
 /// Which control holds each device by a claim (common chapter, methods claim and release). Contracts see the holders'
-/// numbers by the devices' places in the profile, None where nobody holds the device.
+/// numbers by the devices' places in the profile, `None` if nobody holds the device.
 #[derive(Drop)]
 pub struct Claims {
     holders: Vec<Option<usize>>,
@@ -21,7 +22,11 @@ impl Model for Claims {
 }
 
 impl Claims {
-    /// The claims of so many devices, none of which is held. Its other calls take no memory.
+    /// Returns the claims of this many devices, none of which is held. The other methods take no memory.
+    ///
+    /// # Errors
+    ///
+    /// [`NoMemory`] if memory ran out.
     pub fn new(alloc: Global, devices: usize) -> Result<Self, NoMemory>
         ensures { IfOk result (λ claims. claims ≡ replicate devices None) }
     {
@@ -29,8 +34,8 @@ impl Claims {
         Ok(Claims { holders })
     }
 
-    /// The number of the control that holds a control's device, by the device's place: none where nobody does, and
-    /// where the control is closed.
+    /// Returns the number of the control that holds the device at a place. It is `None` if nobody does, or if the place
+    /// is `None`, as of a closed control.
     pub fn holder(&self, device: Option<usize>) -> Option<usize>
         ensures { result ≡ holder_at self.now device }
     {
@@ -40,7 +45,7 @@ impl Claims {
         }
     }
 
-    /// The control with a number holds the device at a place from now on.
+    /// Makes the control with a number the holder of the device at a place.
     pub fn claim(&mut self, place: usize, number: usize)
         requires { place < length self.old }
         ensures { self.new ≡ claimed_by self.old (Some place) number }
@@ -48,8 +53,7 @@ impl Claims {
         self.holders[place] = Some(number);
     }
 
-    /// The control with a number holds its device no more: where it does, nobody does from now on, and else nothing
-    /// changes.
+    /// Ends the claim of the control with a number to its device. If that control doesn't hold it, nothing changes.
     pub fn release(&mut self, device: Option<usize>, number: usize)
         ensures { self.new ≡ released_by self.old device number }
     {

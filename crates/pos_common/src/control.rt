@@ -1,3 +1,4 @@
+//! A control: an application's hold of a device.
 ghost use Rattle.std.specs.Prelude.{◌≡◌};
 ghost use Rattle.pos_service.specs.Controls.{is_notified, new_control};
 ghost use Rattle.pos_service.specs.Deeds.{changed};
@@ -51,7 +52,7 @@ impl Model for Control {
 }
 
 impl Control {
-    /// A closed control of a category.
+    /// Returns a closed control of a category.
     pub fn new(alloc: Global, category: Category) -> Self
         ensures { result.control ≡ new_control category }
     {
@@ -67,43 +68,43 @@ impl Control {
         }
     }
 
-    /// Its category, which never changes.
+    /// Returns its category, which never changes.
     pub fn category(&self) -> Category
         ensures { result ≡ self.now.control.category }
     {
         self.category
     }
 
-    /// Whether the device is in operation for it.
+    /// Returns whether the device is in operation for it (common chapter, DeviceEnabled).
     pub fn is_enabled(&self) -> bool
         ensures { result ≡ self.now.control.enabled }
     {
         self.is_enabled
     }
 
-    /// Whether it is to be notified of its device's power, as far as that is told at all (common chapter, device power
-    /// reporting).
+    /// Returns whether it is notified of its device's power: PowerNotify is PN_ENABLED, and its category reports power
+    /// (common chapter, device power reporting).
     pub(crate) fn is_notified(&self) -> bool
         ensures { result ≡ is_notified self.now.control }
     {
         self.category.reports_power() && self.settings.power_notify
     }
 
-    /// The place in the profile of the device that it has open.
+    /// Returns the place in the profile of the device that it has open, if any.
     pub fn device(&self) -> Option<usize>
         ensures { result ≡ self.now.control.device }
     {
         self.device
     }
 
-    /// CursorRow, CursorColumn and CursorUpdate (chapter Line Display).
+    /// Returns CursorRow, CursorColumn and CursorUpdate (chapter Line Display).
     pub fn cursor(&self) -> Cursor
         ensures { result ≡ self.now.control.cursor }
     {
         self.cursor
     }
 
-    /// Changes as a call has it once that is done.
+    /// Applies what a call changes of its control, once the call is done.
     pub(crate) fn change(&mut self, change: Change)
         ensures { self.new.control ≡ changed change self.old.control }
     {

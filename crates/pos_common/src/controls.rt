@@ -1,3 +1,4 @@
+//! What comes to all controls of a device at once.
 ghost use Rattle.std.specs.Prelude.{◌≡◌, [], ◌∷◌, ℕ, ◌+◌, All, OnOk, OnErr, IfOk};
 ghost use Rattle.pos_service.specs.declared.scan.Scan.{Scan};
 ghost use Rattle.pos_service.specs.Controls.{all_listening, read, failed};
@@ -8,8 +9,11 @@ use crate::control::Control;
 use pos_service::{Bytes, NoMemory, Scan, Signs};
 use std::alloc::Global;
 
-/// Makes room for so many events in each control that has the device at a place open and enabled. Want of memory
-/// changes nothing that the machine sees.
+/// Makes room for this many events in each control that has the device at a place open and enabled.
+///
+/// # Errors
+///
+/// [`NoMemory`] if memory ran out. Then nothing but such room has changed.
 pub fn room_all(controls: &mut [Control], place: usize, count: usize) -> Result<(), NoMemory>
     ensures room { OnOk result (All (HasRoom place count) controls.new) }
     ensures full { OnErr result (¬ (All (HasRoom place count) controls.old)) }
@@ -21,8 +25,8 @@ pub fn room_all(controls: &mut [Control], place: usize, count: usize) -> Result<
     Ok(())
 }
 
-/// Enqueues the statuses that have changed in each control that has the device at a place open and enabled, and in
-/// no other, in the order drawer, cover, paper, power; that of power in those only that are to be notified of it
+/// Enqueues the StatusUpdateEvents of the signs that have changed in each control that has the device at a place open
+/// and enabled. The order is drawer, cover, paper, power. That of power comes only to a control that is notified of it
 /// (common chapter, StatusUpdateEvent and device power reporting).
 pub fn hear_all(controls: &mut [Control], place: usize, old: Signs, new: Signs)
     requires { All (HasRoom place sign_events) controls.old }
@@ -36,8 +40,12 @@ pub fn hear_all(controls: &mut [Control], place: usize, old: Signs, new: Signs)
     }
 }
 
-/// Copies of a scan, by its type, all that was read, and the label: one for each control that has the device at a place
-/// open and enabled.
+/// Returns copies of a scan, which has a type, all that was read, and the label. There is one for each control that has
+/// the device at a place open and enabled.
+///
+/// # Errors
+///
+/// [`NoMemory`] if memory ran out.
 pub(crate) fn copy_for_all(
     alloc: Global,
     controls: &[Control],
@@ -59,7 +67,11 @@ pub(crate) fn copy_for_all(
     Ok(copies)
 }
 
-/// A copy of a scan.
+/// Returns a copy of a scan.
+///
+/// # Errors
+///
+/// [`NoMemory`] if memory ran out.
 fn copy_of(alloc: Global, kind: u32, bytes: &Bytes, label: &Bytes) -> Result<Scan, NoMemory>
     ensures { let scan : Scan = record { kind = kind; bytes = bytes.now; label = label.now } in
         IfOk result (λ copy. copy ≡ scan) }
@@ -71,8 +83,8 @@ fn copy_of(alloc: Global, kind: u32, bytes: &Bytes, label: &Bytes) -> Result<Sca
     })
 }
 
-/// A scan has come to each control that has the device at a place open and enabled, and to no other: it reads
-/// one of the copies (`Control::read`).
+/// Gives one of the copies of a scan to each control that has the device at a place open and enabled (see
+/// `Control::read`).
 pub(crate) fn read_all(controls: &mut [Control], place: usize, copies: Vec<Scan>)
     requires { All (HasRoom place scan_events) controls.old }
     ensures { (scan : Scan) → AreCopies scan place (controls_of controls.old) copies.items →
@@ -84,7 +96,7 @@ pub(crate) fn read_all(controls: &mut [Control], place: usize, copies: Vec<Scan>
     }
 }
 
-/// A scan has come to a control, if it has the device at a place open and enabled: it takes one of the copies.
+/// Gives one of the copies of a scan to a control, if it has the device at a place open and enabled.
 fn read_copy(control: &mut Control, place: usize, copies: &mut Vec<Scan>)
     requires { HasRoom place scan_events control.old }
     ensures { (scan : Scan) → AreCopies scan place (control.old.control ∷ []) copies.old.items →
@@ -98,8 +110,8 @@ fn read_copy(control: &mut Control, place: usize, copies: &mut Vec<Scan>)
     }
 }
 
-/// Input has failed at each control that has the device at a place open and enabled, and at no other: the input error
-/// state stands from now on, with its ErrorEvents (common chapter, error handling).
+/// Puts each control that has the device at a place open and enabled into the input error state (see
+/// `Control::fail_input`; common chapter, error handling).
 pub(crate) fn fail_all(controls: &mut [Control], place: usize)
     requires { All (HasRoom place fault_events) controls.old }
     ensures { controls_of controls.new ≡ all_listening place failed (controls_of controls.old) }

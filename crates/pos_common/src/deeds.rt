@@ -1,4 +1,4 @@
-//! What a call comes to that nothing refuses, at a device with a peripheral.
+//! What a call that nothing refuses does at a device with a peripheral.
 ghost use Rattle.std.specs.Prelude.{◌≡◌, ◌<◌, false, true, IsTrue, MatchResult, length};
 ghost use Rattle.pos_service.specs.Deeds.{ChangesOne, DeedFits, Does, GivesOne, GivesOrder, Ordered, OrdersBy, QueuesOrder, changed, may_want};
 ghost use Rattle.pos_service.specs.Peripherals.{PrintersTake, order_fits};
@@ -9,12 +9,19 @@ use crate::control::{Control, SIGN_EVENTS};
 use crate::controls::{hear_all, room_all};
 use pos_service::{Answer, Change, Deed, NoMemory, Order, Peripheral, Reply, Value};
 
-/// Does what a call of the control with a number comes to, whose device is at a place. Want of memory changes nothing.
-/// The peripheral is given one order, or none where the call comes to none or there is no room for what it brings.
+/// Does what a call comes to, which the control with a number makes at the device at a place. The peripheral gets at
+/// most one order.
 ///
-/// Refused as the peripheral says to an order: with E_FAILURE for a line that failed, E_OFFLINE where it is off,
-/// E_EXTENDED for an open cover or too little paper; and with E_FAILURE where no OutputID is left for an order that is
-/// to be queued.
+/// # Errors
+///
+/// [`NoMemory`] if memory ran out. Then nothing has changed, but the order may have been counted. Refused with what the
+/// peripheral replies to an order:
+///
+/// - E_FAILURE: its line failed.
+/// - E_OFFLINE: it is off.
+/// - E_EXTENDED: its cover is open, or it has too little paper.
+///
+/// Refused with E_FAILURE also if an order is to be queued, and no OutputID is left.
 pub fn carry_out<P: Peripheral>(
     controls: &mut [Control],
     number: usize,
@@ -45,7 +52,7 @@ pub fn carry_out<P: Peripheral>(
     }
 }
 
-/// The control with a number changes.
+/// Changes the control with a number.
 fn change_one(controls: &mut [Control], number: usize, change: Change)
     requires { number < length controls.old }
     ensures { ChangesOne (changed change) number (controls_of controls.old) (controls_of controls.new) }
@@ -53,9 +60,11 @@ fn change_one(controls: &mut [Control], number: usize, change: Change)
     controls[number].change(change);
 }
 
-/// An order of the control with a number is queued. Want of memory changes nothing.
+/// Queues an order of the control with a number.
 ///
-/// Refused with E_FAILURE where no OutputID is left.
+/// # Errors
+///
+/// [`NoMemory`] if memory ran out. Refused with E_FAILURE if no OutputID is left. Then nothing has changed.
 fn queue(controls: &mut [Control], number: usize, order: Order) -> Result<Answer, NoMemory>
     requires within { number < length controls.old }
     requires fits { PrintersTake order }
@@ -66,10 +75,12 @@ fn queue(controls: &mut [Control], number: usize, order: Order) -> Result<Answer
     controls[number].queue(order)
 }
 
-/// Gives the peripheral at a place an order of the control with a number, which changes once that is done. Want of
-/// memory changes nothing.
+/// Gives the peripheral at a place an order of the control with a number, which changes once the order is done.
 ///
-/// Refused as the peripheral says.
+/// # Errors
+///
+/// [`NoMemory`] if memory ran out. Then nothing has changed, but the order may have been counted. Refused with what the
+/// peripheral replies.
 fn give<P: Peripheral>(
     controls: &mut [Control],
     number: usize,
@@ -101,8 +112,12 @@ fn give<P: Peripheral>(
     }
 }
 
-/// Gives the peripheral at a place an order, once there is room for what the controls will hear. Each control that has
-/// the device open and enabled hears the statuses that have changed. Want of memory changes nothing.
+/// Gives the peripheral at a place an order, once there is room for its events, and returns the reply. Each control
+/// that has the device open and enabled then gets the StatusUpdateEvents of what has changed.
+///
+/// # Errors
+///
+/// [`NoMemory`] if memory ran out. Then nothing has changed, but the order may have been counted.
 fn ask<P: Peripheral>(
     controls: &mut [Control],
     place: usize,

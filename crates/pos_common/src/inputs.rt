@@ -9,12 +9,18 @@ use crate::controls::{copy_for_all, fail_all, hear_all, read_all, room_all};
 use pos_service::{Input, NoMemory, Peripheral, Scan, Taken};
 use std::alloc::Global;
 
-/// Hands an input that fits to the peripheral of the device at a place. Each control that has the device open and
-/// enabled hears the statuses that have changed, as the device is switched on or off, a drawer or a cover is moved, or
-/// paper is loaded. Of a scan it gets a copy of its own (`Control::read`), of a failed scan ErrorEvents
-/// (`Control::fail_input`; common chapter, data events, error handling and device power reporting).
+/// Passes an input that fits on to the peripheral of the device at a place. Each control that has the device open and
+/// enabled gets the events of it (common chapter, data events, error handling and device power reporting):
 ///
-/// All copies, and the room for all events, are made before the peripheral is told. Want of memory changes nothing.
+/// - the StatusUpdateEvents of the signs that have changed,
+/// - for a scan, a copy of it (see `Control::read`),
+/// - for a failed scan, ErrorEvents (see `Control::fail_input`).
+///
+/// All copies, and the room for all events, are made before the peripheral takes the input.
+///
+/// # Errors
+///
+/// [`NoMemory`] if memory ran out. Then nothing has changed.
 pub fn take_input<P: Peripheral>(
     alloc: Global,
     controls: &mut [Control],
@@ -41,8 +47,12 @@ pub fn take_input<P: Peripheral>(
     Ok(())
 }
 
-/// Copies of what is scanned, one for each control that has the device at a place open and enabled; none of another
-/// input.
+/// Returns copies of a scan, one for each control that has the device at a place open and enabled. Another input needs
+/// none.
+///
+/// # Errors
+///
+/// [`NoMemory`] if memory ran out.
 fn copies_of(
     alloc: Global,
     controls: &[Control],

@@ -1,3 +1,4 @@
+//! The scan that a control shows.
 ghost use Rattle.std.specs.Prelude.{◌≡◌, IfOk};
 ghost use Rattle.pos_service.specs.Controls.{as_shown, no_scan, shown_after};
 
@@ -5,7 +6,7 @@ use pos_service::{Bytes, NoMemory, Scan};
 use std::alloc::Global;
 use std::marker::Model;
 
-/// The scan that a control shows (chapter Scanner).
+/// The scan that a control shows in ScanData, ScanDataLabel and ScanDataType (chapter Scanner).
 #[derive(Drop)]
 pub(crate) struct Shown {
     alloc: Global,
@@ -21,7 +22,7 @@ impl Model for Shown {
 }
 
 impl Shown {
-    /// No scan.
+    /// Returns no scan.
     pub(crate) fn new(alloc: Global) -> Self
         ensures { result ≡ no_scan }
     {
@@ -31,29 +32,37 @@ impl Shown {
         }
     }
 
-    /// ScanDataType: its type.
+    /// Returns ScanDataType.
     pub(crate) fn kind(&self) -> u32
         ensures { result ≡ self.now.kind }
     {
         self.scan.kind
     }
 
-    /// A copy of ScanData: all that was read.
+    /// Returns a copy of ScanData: all that was read.
+    ///
+    /// # Errors
+    ///
+    /// [`NoMemory`] if memory ran out.
     pub(crate) fn copy_of_bytes(&self) -> Result<Bytes, NoMemory>
         ensures { IfOk result (λ copy. copy ≡ self.now.bytes) }
     {
         Ok(Bytes::from_slice(self.alloc, self.scan.bytes.as_slice())?)
     }
 
-    /// A copy of ScanDataLabel: the label in what was read.
+    /// Returns a copy of ScanDataLabel: the label in what was read.
+    ///
+    /// # Errors
+    ///
+    /// [`NoMemory`] if memory ran out.
     pub(crate) fn copy_of_label(&self) -> Result<Bytes, NoMemory>
         ensures { IfOk result (λ copy. copy ≡ self.now.label) }
     {
         Ok(Bytes::from_slice(self.alloc, self.scan.label.as_slice())?)
     }
 
-    /// A DataEvent with this scan, or an event without one, is delivered: the scan is shown, its label and its type as
-    /// DecodeData says. It takes no memory.
+    /// Shows the scan of a DataEvent that is delivered, its label and its type as DecodeData says. Another event has no
+    /// scan, and changes nothing. It takes no memory.
     pub(crate) fn take(&mut self, scan: Option<Scan>, decode: bool)
         ensures { self.new ≡ shown_after scan decode self.old }
     {
@@ -70,7 +79,7 @@ impl Shown {
     }
 }
 
-/// A scan of nothing, which takes no memory.
+/// Returns a scan of nothing, which takes no memory.
 fn no_scan(alloc: Global) -> Scan
     ensures { result ≡ no_scan }
 {
@@ -81,7 +90,7 @@ fn no_scan(alloc: Global) -> Scan
     }
 }
 
-/// The scan as it is shown: where it isn't decoded, without a label, and with the type 0.
+/// Returns the scan as it is shown. If it isn't decoded, it has no label, and its type is 0.
 fn as_shown(alloc: Global, decode: bool, scan: Scan) -> Scan
     ensures { result ≡ as_shown decode scan }
 {

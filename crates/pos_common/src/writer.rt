@@ -1,3 +1,4 @@
+//! The requests of output that a control has, with the OutputID that it gave last.
 ghost use Rattle.std.specs.Prelude.{◌≡◌, ◌<◌, Some, OnOk, OnErr, IfSome, IsSome, option_map};
 ghost use Rattle.pos_output.specs.declared.fault.PutFault.TheVariants as put_fault;
 ghost use Rattle.pos_service.specs.Controls.{default_writer, queued_by, with_output};
@@ -10,8 +11,8 @@ use pos_service::{ErrorReply, Event, Locus, Order};
 use std::alloc::Global;
 use std::marker::Model;
 
-/// What a control keeps of output: the OutputID that it gave last, and the requests that are still to do, each of which
-/// every printer takes (common chapter, chapter POS Printer).
+/// The requests of output that a control has still to do, and the OutputID that it gave last (common chapter, chapter
+/// POS Printer). Every printer takes each of the requests.
 #[derive(Drop)]
 pub(crate) struct Writer {
     output_id: u64,
@@ -31,7 +32,7 @@ impl Model for Writer {
 }
 
 impl Writer {
-    /// No requests. OutputIDs begin with 1.
+    /// Returns a writer without requests. OutputIDs begin with 1.
     pub(crate) fn new(alloc: Global) -> Self
         ensures { result ≡ default_writer 1 }
     {
@@ -41,28 +42,28 @@ impl Writer {
         }
     }
 
-    /// OutputID: that of the request that was queued last, 0 where none was since the control was opened.
+    /// Returns OutputID: that of the request that was queued last, or 0 if there was none since the control was opened.
     pub(crate) fn output_id(&self) -> u64
         ensures { result ≡ self.now.output_id }
     {
         self.output_id
     }
 
-    /// Whether there are requests.
+    /// Returns whether there are requests.
     pub(crate) fn is_outstanding(&self) -> bool
         ensures { result ≡ is_outstanding self.now.output }
     {
         !self.output.is_empty()
     }
 
-    /// Whether the output error state stands.
+    /// Returns whether the control is in the output error state.
     pub(crate) fn is_failed(&self) -> bool
         ensures { result ≡ self.now.output.is_failed }
     {
         self.output.is_failed()
     }
 
-    /// Deletes all requests. OutputIDs go on, and none was given since.
+    /// Deletes all requests, and sets OutputID to 0. The OutputIDs to be given go on.
     pub(crate) fn reset(&mut self)
         ensures { self.new ≡ default_writer self.old.output.next }
     {
@@ -70,7 +71,11 @@ impl Writer {
         self.output.clear();
     }
 
-    /// Queues a request, which gets the next OutputID. A refusal changes nothing.
+    /// Queues a request, which gets the next OutputID.
+    ///
+    /// # Errors
+    ///
+    /// `NoMemory` if memory ran out, and `Exhausted` if no OutputID is left. Then nothing has changed.
     pub(crate) fn put(&mut self, order: Order) -> Result<(), PutFault>
         requires { PrintersTake order }
         ensures queued { OnOk result (self.new ≡ queued_by order self.old) }
@@ -87,7 +92,8 @@ impl Writer {
         }
     }
 
-    /// The request that is to be done now, with its OutputID: the first, or None while it has failed.
+    /// Returns the request that is to be done now, with its OutputID: the first one, or `None` if it has failed or
+    /// there is none.
     pub(crate) fn first(&self) -> Option<(u64, &Order)>
         ensures request { option_map (λ request. (request.0, request.1.now)) result ≡ request_to_do self.now.output }
         ensures fits { IfSome result (λ request. PrintersTake request.1.now) }
@@ -95,7 +101,7 @@ impl Writer {
         self.output.first()
     }
 
-    /// The request that was to be done is done: it is removed, and its OutputID is given.
+    /// Removes the request that was to be done, because it is done, and returns its OutputID.
     pub(crate) fn done(&mut self) -> u64
         requires { IsSome (request_to_do self.old.output) }
         ensures id { option_map (λ request. request.0) (request_to_do self.old.output) ≡ Some result }
@@ -104,7 +110,7 @@ impl Writer {
         self.output.done()
     }
 
-    /// The request that was to be done has failed: it stays the first, and the output error state stands.
+    /// Notes that the request that was to be done has failed. It stays the first, and the output error state begins.
     pub(crate) fn failed(&mut self)
         requires { IsSome (request_to_do self.old.output) }
         ensures { self.new ≡ with_output (request_failed self.old.output) self.old }
@@ -119,9 +125,8 @@ impl Writer {
         self.output.clear();
     }
 
-    /// An event has been delivered, and the application has replied: of an error of output the state ends; ER_CLEAR
-    /// deletes all requests, and with every other reply the first is to be tried again (common chapter, error
-    /// handling).
+    /// Does what the application's reply to a delivered error of output asks (common chapter, error handling). ER_CLEAR
+    /// deletes all requests. After another reply the first request is to be tried again. Other events change nothing.
     pub(crate) fn take_reply(&mut self, event: Event, reply: ErrorReply)
         ensures { self.new ≡ with_output (output_after (Some event) reply self.old.output) self.old }
     {

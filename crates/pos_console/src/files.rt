@@ -1,4 +1,4 @@
-//! What a totals file holds, told.
+//! Prints what a totals file holds.
 ghost use Rattle.std.specs.Prelude.{IfErr, IfOk, MatchResult};
 ghost use Rattle.pos_run.specs.Streams.{writing_of};
 ghost use Rattle.pos_console.specs.Program.{IsCutOff, IsWritten, TellsBytes, TellsFile};
@@ -12,7 +12,7 @@ use pos_streams::{Sink, WriteFault};
 use pos_survey::{Survey, SurveyFault, words_of};
 use std::alloc::Global;
 
-/// A survey's fault, as a fault of the file.
+/// Returns a survey's fault as a fault of the file.
 fn fault_of_survey(fault: SurveyFault) -> FileFault
     ensures { TellsBreak fault result }
 {
@@ -27,7 +27,7 @@ fn fault_of_survey(fault: SurveyFault) -> FileFault
     }
 }
 
-/// What the bytes of a totals file hold, as lines of text.
+/// Returns what the bytes of a totals file hold, as lines of text.
 fn survey_text(alloc: Global, bytes: &[u8]) -> Result<Vec<u8>, FileFault>
     ensures told { IfOk result (λ text. IsTold bytes.now text.items) }
     ensures broken { IfErr result (IsBroken bytes.now) }
@@ -52,7 +52,7 @@ fn write_text<W: Sink>(writer: &mut AnswerWriter<W>, text: &[u8]) -> Result<(), 
     writer.flush()
 }
 
-/// Tells what the bytes of the totals file at a path hold.
+/// Writes what the bytes of the totals file at a path hold.
 fn tell_bytes<'a, W: Sink>(
     alloc: Global,
     writer: &mut AnswerWriter<W>,
@@ -72,8 +72,13 @@ fn tell_bytes<'a, W: Sink>(
     }
 }
 
-/// Tells what the totals file at a path holds, as lines of text, or which rule it breaks and where. The file is read
-/// once, and nothing is written to it. docs/reference/console.md, "What a totals file holds".
+/// Writes what the totals file at a path holds, as lines of text. The file is read once, and nothing is written to it.
+/// docs/reference/console.md, "What a totals file holds".
+///
+/// # Errors
+///
+/// - `Disk` if the file can't be read, or breaks a rule of the format: the fault says which rule, and where.
+/// - `Write` if the text can't be written.
 pub fn tell_file<'a, F: NamedFiles, W: Sink>(
     alloc: Global,
     files: &F,

@@ -1,6 +1,12 @@
-//! The program: it runs a script of requests to the devices of a shop counter, which it reads from standard input, and
-//! writes what each line prints to standard output; or it formats a disk for one, moves it to layout 2, or
-//! tells what it holds (docs/reference/console.md).
+//! The program `pos_console`. It runs a script of requests to the devices of a shop counter, or works on a totals file.
+//!
+//! The script comes from standard input, and what each line prints goes to standard output. `perform` does what the
+//! words of the command line ask for, over the files that they name, and returns the exit status. `serve_built` runs a
+//! script over the built-in profile, `run_over_totals` over a profile and a totals file, and `tell_file` prints what
+//! such a file holds.
+//!
+//! Each part is generic over its files, its script and its writers, so a contract says what the program does for each
+//! of their answers. docs/reference/console.md says it in words.
 #![tactic(auto)]
 
 mod files;

@@ -22,7 +22,7 @@ use std::convert::AsStr;
 use std::io::Eprint;
 use std::process::ExitCode;
 
-/// What a run's end is to the program.
+/// Returns a run's end as the program's.
 fn ended<'a>(outcome: Result<(), RunFault>) -> Result<(), Fault<'a>>
     ensures { result ≡ fault_of_run outcome }
 {
@@ -51,7 +51,7 @@ fn run_files<'a, F: NamedFiles, R: Source, W: Sink>(
     ended(run_over_totals(alloc, reader, writer, &profile, totals))
 }
 
-/// What is answered of the disk in a file, to the program.
+/// Returns an answer of the disk in a file as the program's.
 fn at_disk<'a>(path: &'a str, answer: Result<(), FileFault>) -> Result<(), Fault<'a>>
     ensures { EndsAtDisk path.entry.now answer result }
 {
@@ -75,7 +75,7 @@ fn migrate<'a, F: NamedFiles>(alloc: Global, files: &F, path: &'a str) -> Result
     at_disk(path, migrate_file(alloc, files, path))
 }
 
-/// Does what the words of the command line chose.
+/// Does the task that the words of the command line ask for.
 fn carry_out<'a, F: NamedFiles, R: Source, W: Sink>(
     alloc: Global,
     files: &F,
@@ -95,7 +95,7 @@ fn carry_out<'a, F: NamedFiles, R: Source, W: Sink>(
     }
 }
 
-/// Does what the words of the command line ask for.
+/// Does what the words of the command line ask for, if they ask for something.
 fn carry_out_words<'a, F: NamedFiles, S: AsStr, R: Source, W: Sink>(
     alloc: Global,
     files: &F,
@@ -112,7 +112,8 @@ fn carry_out_words<'a, F: NamedFiles, S: AsStr, R: Source, W: Sink>(
     }
 }
 
-/// Ends with a status, and tells a fault in one line among the errors, if that can be written.
+/// Returns the exit status of an outcome: 0 if nothing was at fault, otherwise the fault's. It writes a fault as one
+/// line to standard error, if that can be written.
 pub fn end<E: Eprint>(errors: &E, outcome: Result<(), Fault<'_>>) -> ExitCode
     ensures { exit_status result ≡ status_of outcome.entry }
 {
@@ -123,8 +124,8 @@ pub fn end<E: Eprint>(errors: &E, outcome: Result<(), Fault<'_>>) -> ExitCode
     ExitCode::from(status)
 }
 
-/// The program, over the files that its words name, a script to read, a writer for the answers and one for a fault. It
-/// does what the words ask for, if they could be read, and ends with the status of what became of it.
+/// Does what the words ask for, if they could be read, and returns the exit status, 0 or 2 to 6. It works over the
+/// files that the words name, a script to read, a writer for the answers and one for a fault.
 /// docs/reference/console.md, "The program".
 pub fn perform<F: NamedFiles, E: Eprint, S: AsStr + Drop, R: Source, W: Sink>(
     alloc: Global,

@@ -8,9 +8,18 @@ use pos_run::{AnswerWriter, RunFault, ScriptReader, run_over_profile};
 use pos_streams::{Sink, Source};
 use std::alloc::Global;
 
-/// Runs a script over the built profile and a formatted disk in memory: a simulated cash drawer, `d1`, a simulated
-/// scanner, `s1`, a simulated line display of 2 rows of 4 columns, `p1`, a simulated receipt printer, `r1`, and Hard
-/// Totals, `t1`, with a simulated cash drawer as a spare.
+/// Runs a script over the built-in profile and a formatted disk in memory. The profile has, simulated:
+///
+/// - A cash drawer, `d1`, and a cash drawer as a spare.
+/// - A scanner, `s1`.
+/// - A line display of 2 rows of 4 columns, `p1`.
+/// - A receipt printer, `r1`.
+/// - Hard Totals, `t1`.
+///
+/// # Errors
+///
+/// - `Read` if the script can't be read, and `Write` if the answers can't be written.
+/// - `NoMemory` if memory ran out.
 pub fn serve_built<R: Source, W: Sink>(
     alloc: Global,
     reader: &mut ScriptReader<R>,

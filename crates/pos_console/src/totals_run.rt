@@ -11,7 +11,12 @@ use pos_run::{AnswerWriter, RunFault, ScriptReader, run_over_profile};
 use pos_streams::{Sink, Source};
 use std::alloc::Global;
 
-/// Runs a script over simulated devices of a profile and the totals in a file, which ends with the run.
+/// Runs a script over simulated devices of a profile and the totals in a file, which is closed after the run.
+///
+/// # Errors
+///
+/// - `Read` if the script can't be read, and `Write` if the answers can't be written.
+/// - `NoMemory` if memory ran out.
 pub fn run_over_totals<R: Source, W: Sink, F: BlockFile + Drop>(
     alloc: Global,
     reader: &mut ScriptReader<R>,

@@ -1,10 +1,10 @@
 -- What calls come to: they leave a cursor at a place of its display, and want memory only where they may.
-use Rattle.pos_counter.proofs.Common.{◌++◌, ◌<◌, ◌==◌, AllByRecursion, Answer, Bool, Call, CallsAt, CarriesOut, Category, Change, Changes, ClearText, Code}
-use Rattle.pos_counter.proofs.Common.{Control, Cursor, Deed, Display, DisplayText, DisplayTextAt, Gives, Hardware, IfSome, IsInRange, IsPlaceOn, IsTrue, Kind}
-use Rattle.pos_counter.proofs.Common.{List, MatchResult, MayWantFor, NoMemory, None, Ok, Option, Place, Property, Queues, Refused, Result, Row, SameHardware}
+use Rattle.pos_counter.proofs.Common.{◌++◌, ◌<◌, ◌==◌, AllByRecursion, Bool, Call, Category, Change, Changes, ClearText}
+use Rattle.pos_counter.proofs.Common.{Control, Cursor, Deed, Display, DisplayText, DisplayTextAt, Gives, IfSome, IsInRange, IsPlaceOn, Kind}
+use Rattle.pos_counter.proofs.Common.{List, None, Option, Place, Property, Queues, Refused, Row}
 use Rattle.pos_counter.proofs.Common.{ScrollText, Some, Strip, Value, [], and_from, arith, attribute_of, cond, cond_both, cursor_after, device_deed}
-use Rattle.pos_counter.proofs.Common.{device_rows, direction_of, false, fed, first_refusal, is_cursor_place, is_index, is_up_to, may_want, nat_abs, not}
-use Rattle.pos_counter.proofs.Common.{option_map, origin, place_left, refl, returned, rules, same_Some, serves, slice_get, subst, takes, true, with_run}
+use Rattle.pos_counter.proofs.Common.{device_rows, direction_of, false, fed, first_refusal, is_cursor_place, is_index, is_up_to, nat_abs, not}
+use Rattle.pos_counter.proofs.Common.{option_map, origin, place_left, refl, returned, rules, same_Some, serves, subst, takes, true, with_run}
 use Rattle.pos_counter.proofs.Common.{with_text, ℕ, ℤ, ◌∷◌, ◌≡◌, ◌≤◌, ⊤}
 use Rattle.std.proofs.lemmas.Bool.Decides.{nat_tests}
 use Rattle.std.proofs.lemmas.Nat.{mod_below}

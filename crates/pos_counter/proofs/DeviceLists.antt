@@ -1,9 +1,9 @@
 -- The devices of a machine, by the registry of a counter: what stands at their places, how they begin and end, and exchanges.
-use Rattle.pos_counter.proofs.Common.{◌+◌, ◌++◌, All, All-cons, All-map, All-nil, AllByRecursion, Attach, Attaches, Bool, Category, Detach, Detaches, Device}
-use Rattle.pos_counter.proofs.Common.{Does, Effect, Entry, Err, HardTotals, Hardware, HasItsKind, HasKindInRange, IfErr, IfSome, IsDoneAt, IsNamed, IsServed}
+use Rattle.pos_counter.proofs.Common.{◌+◌, ◌++◌, All, All-cons, All-nil, AllByRecursion, Attach, Attaches, Bool, Category, Detach, Detaches, Device}
+use Rattle.pos_counter.proofs.Common.{Does, Effect, Entry, Err, HardTotals, Hardware, HasItsKind, HasKindInRange, IfErr, IsDoneAt, IsNamed, IsServed}
 use Rattle.pos_counter.proofs.Common.{IsSome, KeptControl, List, None, Ok, Option, PeripheralState, Registered, Result, Some, Step, TotalsPart, [], ap}
 use Rattle.pos_counter.proofs.Common.{append-nil, append_assoc, arith, attached, bytes_eq, cond, cond_both, cons_option, controls_of, detached, device_at}
-use Rattle.pos_counter.proofs.Common.{device_of, devices_of, false, false≢true, filter, find, first_of, get_or, hardware_in, hardware_of, has_kind, is_open_at}
+use Rattle.pos_counter.proofs.Common.{device_of, devices_of, false, false≢true, filter, find, first_of, hardware_in, hardware_of, has_kind, is_open_at}
 use Rattle.pos_counter.proofs.Common.{kind_in, length, length-map, length_push, list_any, machine_with, map, names_of, option_and_then_some, option_map, parked}
 use Rattle.pos_counter.proofs.Common.{parked_state, place_from, place_of, planned_of, profile_devices, refl, registered_from, registered_place, rules}
 use Rattle.pos_counter.proofs.Common.{same_Some, set, slice_get, standing_at, suc, sym, take, totals_devices, totals_place, true, vacant, vacant_devices}
@@ -142,15 +142,6 @@ pub devices_stay : (list : List Registered) (totals : Option (List ℕ)) → map
 devices_stay [] None = refl
 devices_stay [] (Some name) = refl
 devices_stay (d ∷ list) totals = search (rules, parked_device, (devices_stay list totals))
-
--- what was taken out of service is out of service
-out_of_service : (o : Option PeripheralState) → IfSome (option_map parked_state o) (λ state. state.is_parked ≡ true)
-out_of_service None = tt
-out_of_service (Some state) = refl
-
-pub all_parked : (list : List Registered) → All (λ (d : Registered). IfSome d.peripheral (λ state. state.is_parked ≡ true)) (map parked list)
-all_parked list = All-map (λ (d : Registered). IfSome d.peripheral (λ state. state.is_parked ≡ true)) parked list
-    (λ k d lt. out_of_service (get_or list k d).peripheral)
 
 -- ---- the devices of a profile
 

@@ -1,7 +1,7 @@
 -- A counter of whose disk something was taken out that it kept for its owner: it is the same, and so is what a crash leaves of it.
-use Rattle.pos_counter.proofs.Common.{◌++◌, Counter, DiskGhosts, Ghosts, HasRun, History, IsCounterSound, IsLeftDuring, Layout, Leaves, List, Machine}
-use Rattle.pos_counter.proofs.Common.{PlainFile, Request, Response, Run, RunsFrom, Standing, StandsForOneOf, TotalsPart, [], ap, history_of, history_until, inl, inr}
-use Rattle.pos_counter.proofs.Common.{machine, machine_now, part_of, part_with, refl, subst, sym, ℕ, ◌∙◌, ◌∷◌, ◌≡◌}
+use Rattle.pos_counter.proofs.Common.{◌++◌, Counter, DiskGhosts, Ghosts, HasRun, IsCounterSound, IsLeftDuring, Layout, Leaves, List, Machine}
+use Rattle.pos_counter.proofs.Common.{PlainFile, Request, Response, Run, RunsFrom, Standing, [], ap, history_of, history_until, inl, inr}
+use Rattle.pos_counter.proofs.Common.{machine, part_of, part_with, refl, subst, sym, ℕ, ◌∷◌, ◌≡◌}
 use Rattle.pos_counter.proofs.Runs.{left_first, run_append}
 use Rattle.pos_counter.specs.Errands.{HasRunSame, IsSameCounter, over_disk}
 use Rattle.pos_disk.proofs.Moments.{followed_by, weaker}

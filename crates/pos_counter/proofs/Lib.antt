@@ -4,6 +4,7 @@ pub mod Cursors
 pub mod Sound
 pub mod Leaving
 pub mod Runs
+pub mod ResponseLemmas
 pub mod Serving
 pub mod DeviceLists
 pub mod Hardware
@@ -17,3 +18,4 @@ pub mod Prefixes
 pub mod Reopening
 pub mod Errands
 mod MovesLemmas
+pub mod NextEventLemmas

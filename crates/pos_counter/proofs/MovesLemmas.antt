@@ -1,6 +1,6 @@
 -- A crash while a disk is moved to layout 2 leaves a prefix of the history, and so does one of what runs after it.
 use Rattle.pos_counter.proofs.Common.{History, IsOneOf, IsPrefixOf, Layout2, List, Standing, StandsForEither, StandsForOneOf, StandsForSome, [], ap, inl, inr, refl}
-use Rattle.pos_counter.proofs.Common.{ℕ, ⊎_elim, ◌∙◌, ◌∷◌}
+use Rattle.pos_counter.proofs.Common.{ℕ, ⊎_elim, ◌∷◌}
 use Rattle.std.specs.Prelude.{map}
 use Rattle.pos_store.specs.MovedDisks.{moved}
 use Rattle.pos_counter.specs.Moves.{IsPrefixThrough}

@@ -1,5 +1,5 @@
 -- What is done at one device of a counter.
-use Rattle.std.specs.Prelude.{◌≡◌, ℕ, true, List, Option, Some, None, Result, MatchOption, slice_get, slice_set, IsSome}
+use Rattle.std.specs.Prelude.{◌≡◌, ℕ, true, List, Option, Some, Result, MatchOption, slice_get, slice_set, IsSome}
 use Rattle.pos_service.specs.declared.answer.Answer.{Answer}
 use Rattle.pos_service.specs.declared.call.Call.{Call}
 use Rattle.pos_service.specs.declared.memory.NoMemory.{NoMemory}
@@ -13,26 +13,26 @@ use Rattle.pos_common.specs.OwnCalls.{OwnCall}
 use Rattle.pos_counter.specs.Machine.{Device, device_at, kind_in, hardware_in}
 use Rattle.pos_counter.specs.Steps.{FindsFit, IsPlaceOn, device_deed, device_rows}
 
--- something stands at the device at a place
+-- the device at a place has a peripheral
 abbrev pub IsAttachedAt : List Device → ℕ → Type 0
 IsAttachedAt devices place = IsSome (hardware_in (device_at devices (Some place)))
 
--- An input fits what stands at the device at a place.
+-- An input fits the peripheral of the device at a place.
 abbrev pub FitsAt : List Device → ℕ → Input → Type 0
 FitsAt devices place given = FindsFit (hardware_in (device_at devices (Some place))) given true
 
--- A control may call what stands at its device, which is of this kind: its category serves the kind, and its cursor is
--- at one of its places.
+-- A control may call the peripheral of its device, which is of this kind. Its category serves the kind, and its cursor
+-- is at one of its places.
 pub record MayCall (at : Option Kind) (control : Control) : Type 0 where
   pub served : serves control.category at ≡ true
   pub cursor : IsPlaceOn at control.cursor.place
 
--- The control with a number may call what stands at the device at a place.
+-- The control with a number may call the peripheral of the device at a place.
 pub record MayBeCalled (devices : List Device) (place : ℕ) (controls : List Control) (number : ℕ) : Type 0 where
   pub attached : IsAttachedAt devices place
   pub may : MatchOption (slice_get controls number) ⊥ (MayCall (kind_in (device_at devices (Some place))))
 
--- Something is done with what stands at the device at a place, and with the controls, and nothing else changes.
+-- Something is done with the peripheral of the device at a place, and with the controls, and nothing else changes.
 pub record IsDoneAt (devices : List Device) (place : ℕ) (Does : Effect) (helds new_helds : List KeptControl)
     (new_devices : List Device) : Type 0 where
   pub device : Device

@@ -50,12 +50,11 @@ pub record IsStep {D P : Type 0} (bound : DiskGhosts D) (peripherals : Ghosts P)
   pub spared : (left : List Standing) (failures : ℕ)
       → SparesDisk (machine peripherals old (part_with old.totals.totals left failures)) request
       → Spared left failures (machine peripherals old) old.totals request response (machine peripherals new) new.totals
-  -- nor does a call touch the disk that isn't done, but after a fault of it, which turns the totals off, and but a
-  -- recovery, which finds them off
+  -- a call that isn't done touches the disk only in a fault, which turns the totals off, or in a recovery, which finds
+  -- them off
   pub unchanged : IsUndone response → IsReady old.totals.totals.mode → IsReady new.totals.totals.mode
       → new.totals.disk ≡ old.totals.disk
-  -- a request that doesn't spare it is a step whatever the disk is too, or a call at Hard Totals that changes nothing
-  -- beside them
+  -- a request that doesn't spare it is such a step too, or a call at Hard Totals that changes nothing else
   pub otherwise : (left : List Standing) (failures : ℕ)
       → Spared left failures (machine peripherals old) old.totals request response (machine peripherals new) new.totals
       ⊎ ChangesTotalsAlone (machine peripherals old (part_with old.totals.totals left failures)) request
@@ -89,8 +88,8 @@ IsRun {D = D} {P = P} bound peripherals old [] new = new ≡ old
 IsRun {D = D} {P = P} bound peripherals old (step ∷ steps) new =
     (mid : Counter D P) × IsStep bound peripherals old step.0 step.1 mid × IsRun bound peripherals mid steps new
 
--- What a run does whatever the disk is, honest or not: each request that spares it is a step, by whatever the machine
--- has of the disk, and another changes nothing beside the totals; and where all of them spare it, it is as it was.
+-- What a run does whatever the disk is, honest or not. Each request that spares it is a step, by whatever the machine
+-- has of the disk. Any other changes nothing but the totals. If all of them spare the disk, it is as it was.
 pub record RunsAnyhow {D P : Type 0} (peripherals : Ghosts P) (left : List Standing) (failures : ℕ)
     (old : Counter D P) (steps : List (Request × Response)) (new : Counter D P) : Type 0 where
   pub after : List Standing

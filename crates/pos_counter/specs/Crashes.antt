@@ -25,8 +25,8 @@ pub record BeginsOver {D P : Type 0} (bound : DiskGhosts D) (peripherals : Ghost
   pub at_rest : IsAtRest (bound.state disk)
   pub stands : StandsFor (Stands layout start sequence) (bound.state disk).reading
 
--- A counter has run through these steps since it began over such a disk; and for what its disk may stand that a crash
--- leaves now.
+-- A counter has run through these steps since it began over such a disk, and its disk may stand for these after a
+-- crash now.
 pub record HasRun {D P : Type 0} (bound : DiskGhosts D) (peripherals : Ghosts P)
     (layout : Layout) (start : List PlainFile) (sequence : ℕ) (steps : List (Request × Response))
     (counter : Counter D P) : Type 0 where

@@ -49,7 +49,7 @@ ChangesTotalsAlone old (CallOf number asked) new = MatchOption (slice_get old.co
     ⊎ (new ≡ record (with_control old number (after_enabling old control)) { totals = new.totals })))
 ChangesTotalsAlone old other new = ⊥
 
--- the response acknowledges no call: it refuses one, tells of no memory, or answers another request
+-- the response acknowledges no call: it refuses one, reports that memory ran out, or answers another request
 abbrev pub IsUndone : Response → Type 0
 IsUndone (Answered (answer.Done given)) = ⊥
 IsUndone other = ⊤

@@ -1,4 +1,4 @@
--- What a counter is of whose disk something was taken out that it kept for its owner.
+-- A counter after an errand that its disk keeps for the owner was taken.
 use Rattle.std.specs.Prelude.{◌≡◌, ℕ, List}
 use Rattle.pos_dir.specs.declared.file.File.{File as PlainFile}
 use Rattle.pos_disk.specs.Keeps.{KeepsState}
@@ -13,7 +13,7 @@ use Rattle.pos_counter.specs.Steps.{Request, Response}
 abbrev pub over_disk : {D P : Type 0} → Counter D P → D → Counter D P
 over_disk counter disk = record counter { totals = record counter.totals { disk = disk } }
 
--- The counter is the same but for its disk, of which all that is known is as it was.
+-- The counter is the same but for its disk, and all that is known of the disk is as it was.
 pub record IsSameCounter {D P : Type 0} (bound : DiskGhosts D) (old new : Counter D P) : Type 0 where
   pub same : new ≡ over_disk old new.totals.disk
   pub disk : KeepsState bound old.totals.disk new.totals.disk

@@ -42,7 +42,7 @@ pub record PutsThere {D : Type 0} (bound : Ghosts D) (before : TotalsView D) (nu
   pub uses : ¬ (SparesFiles before.totals number (file_call asked))
   pub steps : (left : List Standing) → Leaves bound before left
       → FilesStepped bound left before number asked outcome now
-  -- the disk isn't touched where the call isn't done, but after a fault of the disk
+  -- the disk isn't touched if the call isn't done, except in a fault of the disk
   pub unchanged : ¬ (IsDone outcome) → TurnsOff before.totals.mode now.totals.mode ⊎ (now.disk ≡ before.disk)
   pub kept : KeepsDisk bound before.disk now.disk
 

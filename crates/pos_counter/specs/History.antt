@@ -21,9 +21,9 @@ use Rattle.pos_counter.specs.Totals.{put_at_once}
 abbrev pub Group : Type 0
 Group = List FileChange
 
--- The layout and the files for which the disk stood at the start; the groups that are settled, in order, each
--- acknowledged to its caller or kept by a recovery; and the group in doubt, if there is one: the disk failed in it, and
--- no recovery has found files since.
+-- The layout and the files for which the disk stood at the start, the settled groups in order, and the group in doubt.
+-- A settled group was acknowledged to its caller or kept by a recovery. In a group in doubt, if there is one, the disk
+-- failed, and no recovery has found files since.
 pub record History : Type 0 where
   pub layout : Layout
   pub start : List PlainFile
@@ -73,7 +73,7 @@ abbrev pub has_made : Result (List PlainFile) DirectoryFault → List PlainFile 
 has_made (Ok files) found = pointwise is_same files found
 has_made (Err fault) found = false
 
--- a recovery keeps a group in doubt where the files that it finds are those after the group, and else drops it
+-- a recovery keeps a group in doubt if the files that it finds are those after the group, otherwise it drops the group
 abbrev pub decided : History → Option Group → List PlainFile → History
 decided history None found = history
 decided history (Some group) found =
@@ -95,7 +95,7 @@ told history (GroupInDoubt group) = with_doubt history group
 told history (FilesFound found) = decided history history.doubt found
 told history NothingDone = history
 
--- the changes that a call of the control with a number puts on the disk: none where they are buffered
+-- the changes that a call of the control with a number puts on the disk: none if they are buffered
 abbrev pub changes_asked : Totals → ℕ → FileCall → List Change
 changes_asked totals number (Makes change) = put_at_once (in_transaction totals number) change
 changes_asked totals number Commits = changes_in (transaction_of totals number)
@@ -106,9 +106,9 @@ abbrev pub changes_of : Machine → Request → List Change
 changes_of machine (CallOf number asked) = changes_asked machine.totals.totals number (file_call asked)
 changes_of machine other = []
 
--- What changes, a response and the modes before and after say: changes that are answered with success are a group that
--- is accepted; changes in which the totals turn off are one in which the disk fails; totals that turn ready find their
--- files.
+-- What follows from changes, a response and the modes before and after. Changes that are answered with success are a
+-- group that is accepted. Changes in which the totals turn off are a group in which the disk fails. Totals that turn
+-- ready find their files.
 abbrev pub event_between : List Change → Mode → Response → Mode → FilesEvent
 event_between (change ∷ changes) (Ready files sequence) (Answered (answer.Done given)) (Ready now next) =
     GroupAccepted (group_of files (change ∷ changes))

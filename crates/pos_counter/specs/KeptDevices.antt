@@ -1,5 +1,5 @@
--- The devices that a counter keeps, and those that it hands over at its end.
-use Rattle.std.specs.Prelude.{◌≡◌, ℕ, true, List, [], ◌∷◌, Option, Some, None, IfSome, All, map, option_map, is_some, ◌++◌, Bool, bytes_eq, if◌then◌else◌}
+-- The devices that a counter keeps, and those that it returns at its end.
+use Rattle.std.specs.Prelude.{◌≡◌, ℕ, List, [], ◌∷◌, Option, Some, None, map, option_map, is_some, ◌++◌, Bool, bytes_eq, if◌then◌else◌}
 use Rattle.std.specs.List.{filter, find}
 use Rattle.pos_service.specs.Hardware.{hardware_of}
 use Rattle.pos_counter.specs.Machine.{Device, Machine}
@@ -7,10 +7,10 @@ use Rattle.pos_counter.specs.declared.devices.Devices.{Devices}
 use Rattle.pos_profile.specs.declared.entry.Entry.{Entry}
 use Rattle.pos_profile.specs.declared.slot.Slot.{Slot}
 use Rattle.pos_profile.specs.Categories.{is_totals}
-use Rattle.pos_profile.specs.Registries.{Device as Registered, IsRegistrySound, devices as registered, vacant_devices}
+use Rattle.pos_profile.specs.Registries.{AreParked, Device as Registered, IsRegistrySound, devices as registered, vacant_devices}
 use Rattle.pos_service.specs.declared.peripheral.Peripheral.{Ghosts}
 
--- a device that may have a peripheral, and what stands at it
+-- a device that may have a peripheral, and its peripheral, if it has one
 abbrev pub device_of : Registered → Device
 device_of device = record {
   name = device.name;
@@ -18,7 +18,7 @@ device_of device = record {
   hardware = option_map hardware_of device.peripheral;
 }
 
--- the Hard Totals device of a name, which has no peripheral; none where there is no name
+-- the Hard Totals device of a name, which has no peripheral, or none if there is no name
 abbrev pub totals_devices : Option (List ℕ) → List Device
 totals_devices None = []
 totals_devices (Some name) = record { name = name; kind = None; hardware = None } ∷ []
@@ -27,7 +27,7 @@ totals_devices (Some name) = record { name = name; kind = None; hardware = None 
 abbrev pub devices_of : List Registered → Option (List ℕ) → List Device
 devices_of list totals = map device_of list ++ totals_devices totals
 
--- the place of the Hard Totals device, behind so many others, where it has the name
+-- the place of the Hard Totals device, after this many others, if it has the name
 abbrev pub totals_place : ℕ → List ℕ → Option (List ℕ) → Option ℕ
 totals_place count name None = None
 totals_place count name (Some totals) = if bytes_eq name totals then Some count else None
@@ -56,8 +56,8 @@ pub record AreDevicesSound {P : Type 0} (peripherals : Ghosts P) (devices : Devi
 abbrev pub has_kind : Device → Bool
 has_kind device = is_some device.kind
 
--- The devices of a machine that may have a peripheral are handed over, each once, in order, with what stands there,
--- which is out of service.
+-- The devices of a machine that may have a peripheral are returned, each once, in order, with their peripherals, which
+-- are out of service.
 pub record HandsOver (machine : Machine) (handed : List Registered) : Type 0 where
   pub devices : map device_of handed ≡ filter has_kind machine.devices
-  pub parked : All (λ device. IfSome device.peripheral (λ state. state.is_parked ≡ true)) handed
+  pub parked : AreParked handed

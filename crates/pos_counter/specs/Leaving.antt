@@ -9,16 +9,16 @@ use Rattle.pos_counter.specs.Machine.{Machine}
 use Rattle.pos_counter.specs.Steps.{Request, Response, Step}
 use Rattle.pos_counter.specs.Totals.{TotalsPart, settled}
 
--- what totals are to the machine, whatever their disk is: where a crash may leave bytes that stand for these, and the
--- disk has failed so often
+-- what totals are to the machine, whatever their disk is, if a crash may leave these, and the disk has failed this
+-- often
 abbrev pub part_with : Totals → List Standing → ℕ → TotalsPart
 part_with totals left failures = record { totals = totals; left = left; failures = failures }
 
--- what totals and their disk are to the machine, where a crash may leave bytes that stand for these
+-- what totals and their disk are to the machine, if a crash may leave bytes that stand for these
 abbrev pub part_of : {D : Type 0} → Ghosts D → TotalsView D → List Standing → TotalsPart
 part_of bound view left = part_with view.totals left (bound.state view.disk).failures
 
--- a crash may leave what stands for these: while the totals are ready, for their files alone
+-- a crash may leave what stands for these: while the totals are ready, only for their files
 abbrev pub IsSettled : Totals → List Standing → Type 0
 IsSettled totals left = left ≡ settled totals.layout totals.mode left
 

@@ -10,6 +10,7 @@ pub mod KeptDevices
 pub mod Leaving
 pub mod Machine
 pub mod Moves
+pub mod NextEvent
 pub mod Prefixes
 pub mod Reopening
 pub mod Responses

@@ -14,7 +14,7 @@ use Rattle.pos_service.specs.Hardware.{Hardware, signs_in}
 use Rattle.pos_common.specs.KeptControls.{KeptControl, controls_of}
 use Rattle.pos_counter.specs.Totals.{TotalsPart}
 
--- a device of the profile: of a kind, and without hardware where no peripheral is attached
+-- a device of the profile: of a kind, and without hardware if no peripheral is attached
 pub record Device : Type 0 where
   pub name : List ℕ
   pub kind : Option Kind
@@ -54,20 +54,20 @@ abbrev pub hardware_in : Option Device → Option Hardware
 hardware_in None = None
 hardware_in (Some device) = device.hardware
 
--- what a device is, where it has a peripheral
+-- what a device is, if it may have a peripheral
 abbrev pub kind_in : Option Device → Option Kind
 kind_in None = None
 kind_in (Some device) = device.kind
 
--- what stands at the device of this name
+-- the hardware of the device of this name
 abbrev pub hardware_named : Machine → List ℕ → Option Hardware
 hardware_named machine name = hardware_in (device_at machine.devices (place_of machine.devices name))
 
--- what the device of this name is, where it has a peripheral
+-- what the device of this name is, if it may have a peripheral
 abbrev pub kind_named : Machine → List ℕ → Option Kind
 kind_named machine name = kind_in (device_at machine.devices (place_of machine.devices name))
 
--- what a control of a category finds at a place: a device of its kind, with a peripheral where there are such
+-- what a control of a category finds at a place: a device of its kind, with a peripheral if it may have one
 abbrev pub found_at : Category → Option ℕ → Option Device → Finding
 found_at category None device = finding.NotThere
 found_at category (Some place) None = finding.NotThere
@@ -92,7 +92,7 @@ with_hardware machine controls place device hardware = record machine {
   devices = slice_set machine.devices place (record device { hardware = Some hardware });
 }
 
--- the machine, where a device has this hardware or none
+-- the machine in which a device has this hardware or none
 abbrev pub with_standing : Machine → ℕ → Device → Option Hardware → Machine
 with_standing machine place device hardware = record machine {
   devices = slice_set machine.devices place (record device { hardware = hardware });

@@ -25,8 +25,8 @@ pub record IsPrefix (history : History) (held : List Group) (left : Standing) : 
   pub made : files_after history prefix ≡ Ok files
   pub stands : left ≡ Stands history.layout files sequence
 
--- The history of a disk that was moved to layout 2 where it had the files after these groups: they are settled, and
--- none is in doubt.
+-- The history of a disk that was moved to layout 2 when it had the files after these groups. They are settled, and none
+-- is in doubt.
 abbrev pub moved_with : History → List Group → History
 moved_with history groups = record { layout = Layout2; start = history.start; settled = groups; doubt = None }
 
@@ -61,7 +61,7 @@ IsFiles Unformatted = ⊥
 IsFiles Damaged = ⊥
 IsFiles (Stands layout files sequence) = ⊤
 
--- The totals are off, and a crash leaves what stands for these files by a layout alone.
+-- The totals are off, and a crash leaves only what stands for these files by a layout.
 pub record StartsWith (layout : Layout) (start : List PlainFile) (sequence : ℕ) (totals : TotalsPart) : Type 0 where
   pub off : totals.totals.mode ≡ Off
   pub left : totals.left ≡ Stands layout start sequence ∷ []

@@ -1,4 +1,4 @@
--- What an enabling finds where a crash has left a disk that stands for some files (chapter Hard Totals).
+-- What an enabling finds after a crash has left a disk that stands for some files (chapter Hard Totals).
 use Rattle.std.specs.Prelude.{◌≡◌, ◌⊎◌, ℕ, true, List, [], ◌∷◌, Some, length}
 use Rattle.pos_dir.specs.declared.file.File.{File as PlainFile}
 use Rattle.pos_disk.specs.State.{Rises}
@@ -22,8 +22,8 @@ use Rattle.pos_counter.specs.Totals.{TotalsPart}
 abbrev pub enabling : Call
 enabling = call.Set property.DeviceEnabled (value.Truth true)
 
--- The totals have the layout and these very files, in this order, with the handles from the next one on; a crash leaves
--- them alone, and the disk hasn't failed.
+-- The totals have the layout and these very files, in this order, with the handles from the next one on. A crash leaves
+-- only these, and the disk hasn't failed.
 pub record HasThem (layout : Layout) (files : List PlainFile) (sequence : ℕ) (old new : TotalsPart) : Type 0 where
   pub found : new.totals.layout ≡ layout
   pub mode : new.totals.mode ≡ Ready (numbered old.totals.next files) sequence
@@ -34,9 +34,8 @@ pub record HasThem (layout : Layout) (files : List PlainFile) (sequence : ℕ) (
 abbrev pub HasCause : List PlainFile → TotalsPart → TotalsPart → Type 0
 HasCause files old new = Rises old.failures new.failures ⊎ (¬ (AreLeft old.totals.next (length files)))
 
--- What the enabling of a control comes to over totals that are off, whose disk stands for these files: it finds them;
--- or a row of its table refuses it, and nothing has changed; or it fails, for a cause; or no memory is found, and
--- nothing has changed.
+-- What the enabling of a control comes to over totals that are off, whose disk stands for these files. It finds them,
+-- or it fails for a cause. Or a row of its table refuses it or memory runs out, and nothing has changed.
 abbrev pub FindsThem : Layout → List PlainFile → ℕ → Machine → ℕ → Control → Response → Machine → Type 0
 FindsThem layout files sequence old number control (Answered (answer.Done given)) new =
     HasThem layout files sequence old.totals new.totals

@@ -25,46 +25,46 @@ use Rattle.pos_counter.specs.declared.faults.WorkFault.{WorkFault}
 use Rattle.pos_counter.specs.declared.faults.WorkFault.TheVariants as work_fault
 
 -- what `control` answers
-abbrev pub made : Result ℕ ControlFault → machine.Response
+abbrev pub made : {P : Type 0} → Result ℕ ControlFault → Response P
 made (Ok number) = response.Made number
 made (Err control_fault.Full) = response.Full
 made (Err control_fault.NoMemory) = response.OutOfMemory
 
 -- what `call` answers
-abbrev pub answered : Result Answer NoMemory → machine.Response
+abbrev pub answered : {P : Type 0} → Result Answer NoMemory → Response P
 answered (Ok answer) = response.Answered answer
 answered (Err want) = response.OutOfMemory
 
 -- what `input` answers
-abbrev pub taken_in : Result (Unit {0}) InputFault → machine.Response
+abbrev pub taken_in : {P : Type 0} → Result (Unit {0}) InputFault → Response P
 taken_in (Ok u) = response.TakenIn
 taken_in (Err input_fault.NoDevice) = response.NoDevice
 taken_in (Err input_fault.WrongInput) = response.WrongInput
 taken_in (Err input_fault.NoMemory) = response.OutOfMemory
 
 -- what `work` answers
-abbrev pub worked : Result Worked WorkFault → machine.Response
+abbrev pub worked : {P : Type 0} → Result Worked WorkFault → Response P
 worked (Ok result) = response.Worked result
 worked (Err work_fault.NoDevice) = response.NoDevice
 worked (Err work_fault.NoMemory) = response.OutOfMemory
 
 -- what `snapshot` answers
-abbrev pub shown : Result Snapshot SnapshotFault → machine.Response
+abbrev pub shown : {P : Type 0} → Result Snapshot SnapshotFault → Response P
 shown (Ok snapshot) = response.Shown snapshot
 shown (Err snapshot_fault.NoDevice) = response.NoDevice
 shown (Err snapshot_fault.NoMemory) = response.OutOfMemory
 
--- what `attach` answers, by what the peripheral is that it hands back
+-- what `attach` answers, by what the peripheral is that it returns
 abbrev pub attached : {P : Type 0} → (P → PeripheralState) → Result (Unit {0}) (AttachFault × P) → machine.Response
 attached state (Ok u) = response.Attached
 attached state (Err refusal) = response.NotAttached refusal.0 (hardware_of (state refusal.1))
 
--- what `detach` answers, by what the peripheral is that it hands out
+-- what `detach` answers, by what the peripheral is that it returns
 abbrev pub detached : {P : Type 0} → (P → PeripheralState) → Result P DetachFault → machine.Response
 detached state (Ok peripheral) = response.Detached (hardware_of (state peripheral))
 detached state (Err fault) = response.NotDetached fault
 
--- what stands at a device, or would stand there, where a peripheral serves it
+-- the hardware that a device has, or would have, if a peripheral serves it
 abbrev pub stands_as : {P : Type 0} → Ghosts P → P → Hardware
 stands_as peripherals peripheral = hardware_of (peripherals.state peripheral)
 
@@ -87,7 +87,7 @@ abbrev pub OffersInService : {P : Type 0} → Ghosts P → Request (Unit {0}) �
 OffersInService peripherals (request.Attach name peripheral) = (peripherals.state peripheral).is_parked ≡ false
 OffersInService peripherals other = ⊤
 
--- a peripheral that was detached is out of service, and one that is handed back is in service
+-- a peripheral that was detached is out of service, and one that was refused is in service
 abbrev pub HandsOut : {P : Type 0} → Ghosts P → Response P → Type 0
 HandsOut peripherals (response.Detached peripheral) = (peripherals.state peripheral).is_parked ≡ true
 HandsOut peripherals (response.NotAttached fault peripheral) = (peripherals.state peripheral).is_parked ≡ false

@@ -1,11 +1,11 @@
--- What a machine does whatever its disk is: what is said of requests that spare it (chapter Hard Totals).
+-- What a machine does whatever its disk is, by requests that spare it (chapter Hard Totals).
 use Rattle.std.specs.Prelude.{◌≡◌, ◌⊎◌, List, [], ◌∷◌, ⊤}
 use Rattle.pos_counter.specs.DiskUse.{ChangesTotalsAlone, SparesDisk}
 use Rattle.pos_counter.specs.Machine.{Machine}
 use Rattle.pos_counter.specs.Steps.{Request, Response, Step}
 
--- From old the request gets this response, and the machine is new then, whatever the disk is: a step where the request
--- spares the disk; and another is one too, or a call at Hard Totals that changes nothing beside them.
+-- From old the request gets this response, and the machine is new then, whatever the disk is. It is a step if the
+-- request spares the disk, otherwise a step or a call at Hard Totals that changes nothing else.
 abbrev pub StepSparing : Machine → Request → Response → Machine → Type 0
 StepSparing old request response new =
     (SparesDisk old request → Step old request response new)

@@ -51,16 +51,16 @@ use Rattle.pos_counter.specs.Totals.{TotalsDo, Recovered, Recovers, recovers, fi
 use Rattle.pos_counter.specs.Machine.{Device, Machine, place_of, hardware_named, kind_named, found_under, holder_of, kind_of, signs_at, with_control}
 use Rattle.pos_counter.specs.Machine.{with_hardware, with_standing, with_totals}
 
--- what may be asked of the machine: a new control without a name, controls by their numbers; a peripheral that is to be
--- attached by what would stand at the device
+-- What may be asked of the machine. Controls have numbers, not names, and a peripheral to be attached is the hardware
+-- that the device would have.
 abbrev pub Request : Type 0
 Request = RequestOf (Unit {0}) ℕ Hardware
 
--- what it may answer: a peripheral that it hands out by what stood there, or would have
+-- what it may answer: a peripheral that it returns is the hardware that the device had, or would have
 abbrev pub Response : Type 0
 Response = ResponseOf Hardware
 
--- what is known of the control with a number and of its device, as properties tell it
+-- what is known of the control with a number and of its device, from which properties are read
 abbrev pub facts_of : Machine → ℕ → Control → Facts
 facts_of machine number control = record {
   kind = kind_of machine control;
@@ -99,7 +99,7 @@ takes_memory machine control (call.Set property v) =
 takes_memory machine control (call.Get property) = is_of_bytes property
 takes_memory machine control own = own_takes_memory own
 
--- what each call at a device of a kind asks behind the check of its control, in order
+-- what each call at a device of a kind requires after the check of its control, in order
 abbrev pub device_rows : Category → Option Kind → Control → Call → List Row
 device_rows category.LineDisplay at control own = display_rows at own
 device_rows category.PosPrinter at control own = printer_rows control own
@@ -113,18 +113,18 @@ device_deed category.LineDisplay at control own = display_deed at control.cursor
 device_deed category.PosPrinter at control own = printer_deed control own
 device_deed category.HardTotals at control own = None
 
--- what it does at the hardware of the device, where nothing refuses it
+-- what it does at the hardware of the device, if nothing refuses it
 abbrev pub DeviceDoes : Category → Option Kind → ℕ → Control → Call → Answer → ℕ → Effect
 DeviceDoes c at number control own result place old before new after =
     MatchOption (device_deed c at control own) ⊥ (λ deed. CarriesOut deed number place result old before new after)
 
--- what each call of a category's own asks behind the check of its control, in order
+-- what each call of a category's own requires after the check of its control, in order
 abbrev pub category_rows : Category → Machine → ℕ → Control → Call → List Row
 category_rows category.HardTotals machine number control own =
     file_rows machine.totals.totals number (file_call own)
 category_rows c machine number control own = device_rows c (kind_of machine control) control own
 
--- what each call of a category's own does, where nothing refuses it: with the totals, or at its device's hardware
+-- what each call of a category's own does, if nothing refuses it: with the totals, or at its device's hardware
 abbrev pub CategoryDoes : Category → Machine → ℕ → Control → Call → Answer → Machine → Type 0
 CategoryDoes category.HardTotals old number control own result new =
     TotalsDo (file_call own) old.totals number result new.totals × (new ≡ record old { totals = new.totals })
@@ -150,7 +150,7 @@ released category.HardTotals machine number control =
 released c machine number control =
     record machine { claims = released_by machine.claims control.device number }
 
--- the machine, once the control with a number has nothing any more
+-- the machine, once the control with a number holds nothing
 abbrev pub dropped : Category → Machine → ℕ → Control → Machine
 dropped category.HardTotals machine number control =
     with_totals machine (without_control machine.totals.totals number)
@@ -179,7 +179,7 @@ Sets old number control property v result new =
     (result ≡ answer.Done value.Empty)
     × (new ≡ with_control old number (after_set (signs_at old control) control property v))
 
--- DeviceEnabled is set once the totals are recovered, and stays as it is where they aren't
+-- DeviceEnabled is set once the totals are recovered, and stays as it is if they aren't
 abbrev pub SetsByRecovery : Machine → ℕ → Control → Property → Value → Answer → Machine → Type 0
 SetsByRecovery old number control property v result new =
     ((result ≡ answer.Done value.Empty) × Recovered old.totals new.totals
@@ -188,7 +188,7 @@ SetsByRecovery old number control property v result new =
     }))
     ⊎ (Recovers old.totals result new.totals × (new ≡ record old { totals = new.totals }))
 
--- What each call does where nothing refuses it.
+-- What each call does if nothing refuses it.
 abbrev pub Does : Machine → ℕ → Control → Call → Answer → Machine → Type 0
 Does old number control (call.Open name) result new =
     (result ≡ answer.Done value.Empty)
@@ -214,7 +214,7 @@ abbrev pub Called : Machine → ℕ → Control → Call → Answer → Machine 
 Called old number control call result new =
     Decided (refusals old number control call) result (new ≡ old) (Does old number control call result new)
 
--- A call may find no memory only where it takes some and nothing refuses it before, and then nothing has changed.
+-- A call may find no memory only if it takes some and nothing refuses it before, and then nothing has changed.
 abbrev pub Wants : Machine → ℕ → Control → Call → Machine → Type 0
 Wants old number control call new =
     IsTrue (takes_memory old control call) × (first_refusal (refusals old number control call) ≡ None) × (new ≡ old)
@@ -250,8 +250,8 @@ pub record IsOfAnotherKind (machine : Machine) (name : List ℕ) (hardware : Har
   pub is_vacant : hardware_named machine name ≡ None
   pub differs : ¬ (hardware.kind ≡ kind)
 
--- why a peripheral is not attached: no device of the name has peripherals, else the device is of another kind, or has
--- its peripheral
+-- why a peripheral is not attached: no device of the name has peripherals, the device has its peripheral, or it is of
+-- another kind
 abbrev pub IsNotAttachedFor : Machine → List ℕ → Hardware → AttachFault → Type 0
 IsNotAttachedFor machine name hardware attach.Unknown = kind_named machine name ≡ None
 IsNotAttachedFor machine name hardware attach.KindDiffers = IsOfAnotherKind machine name hardware
@@ -270,7 +270,7 @@ has_open place control = is_place place control.device
 abbrev pub is_open_at : ℕ → List Control → Bool
 is_open_at place controls = list_any (has_open place) controls
 
--- The device of this name, which no control has open, is vacant from now on; this stood there.
+-- The device of this name, which no control has open, had this hardware and is vacant from now on.
 pub record IsDetached (old : Machine) (name : List ℕ) (hardware : Hardware) (new : Machine) : Type 0 where
   pub place : ℕ
   pub device : Device
@@ -287,8 +287,7 @@ pub record IsOpenUnder (machine : Machine) (name : List ℕ) : Type 0 where
   pub is_attached : IsSome (hardware_named machine name)
   pub is_open : is_open_at place machine.controls ≡ true
 
--- why no peripheral is detached: no device of the name has peripherals, else the device is vacant, else a control has
--- it open
+-- why no peripheral is detached: no device of the name has peripherals, the device is vacant, or a control has it open
 abbrev pub IsNotDetachedFor : Machine → List ℕ → DetachFault → Type 0
 IsNotDetachedFor machine name detach.Unknown = kind_named machine name ≡ None
 IsNotDetachedFor machine name detach.Vacant =
@@ -341,17 +340,17 @@ abbrev pub Run : Machine → List (Request × Response) → Machine → Type 0
 Run old [] new = new ≡ old
 Run old (step ∷ steps) new = (mid : Machine) × Step old step.0 step.1 mid × Run mid steps new
 
--- A device's kind is in range, and its peripheral, where it has one, is of this kind.
+-- A device's kind is in range, and its peripheral, if it has one, is of this kind.
 abbrev pub HasItsKind : Device → Type 0
 HasItsKind device =
     IfSome device.kind IsInRange × IfSome device.hardware (λ hardware. device.kind ≡ Some hardware.kind)
 
--- A place is one of what a device is, where that is a display.
+-- A place is on a device, if that is a display.
 abbrev pub IsPlaceOn : Option Kind → Place → Type 0
 IsPlaceOn at place =
     IfSome at (λ kind. is_display kind ≡ true → is_cursor_place (rows_of at) (columns_of at) place ≡ true)
 
--- The control's category serves the device, which has a peripheral where it is of a kind; where that is a display, the
+-- The control's category serves the device, which has a peripheral if it may have one. If that is a display, the
 -- control's cursor is at one of its places.
 abbrev pub IsServed : Control → Device → Type 0
 IsServed control device =

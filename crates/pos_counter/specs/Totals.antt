@@ -32,14 +32,14 @@ use Rattle.pos_totals.specs.Changes.{IsOneGroup, left_after as left_after_group}
 use Rattle.pos_totals.specs.Recoveries.{HasFound, HasTooMany}
 use Rattle.pos_totals.specs.Views.{TurnsOff}
 
--- The totals: what is known of them, for what the bytes may stand that a crash leaves now, and how often their disk has
+-- The totals: what is known of them, what the bytes that a crash leaves now may stand for, and how often their disk has
 -- failed.
 pub record TotalsPart : Type 0 where
   pub totals : Totals
   pub left : List Standing
   pub failures : ℕ
 
--- what is known of the files, as properties tell it
+-- what is known of the files, from which properties are read
 abbrev pub file_facts : Layout → Mode → Option FileFacts
 file_facts layout Off = None
 file_facts layout (Ready files sequence) =
@@ -49,12 +49,12 @@ file_facts layout (Ready files sequence) =
 abbrev pub left_after : TotalsPart → List Change → Mode → List Standing
 left_after old changes now = left_after_group old.totals old.left changes now
 
--- the disk fails only where that turns the totals off: else the count of its failures is as it was
+-- the disk fails only if that turns the totals off, otherwise the count of its failures is as it was
 abbrev pub FailsTurningOff : TotalsPart → TotalsPart → Type 0
 FailsTurningOff old new = TurnsOff old.totals.mode new.totals.mode ⊎ (new.failures ≡ old.failures)
 
--- Changes are put on the disk as one group, or the disk fails in them; and what a crash leaves then. Without changes
--- the disk is left alone.
+-- Changes are put on the disk as one group, or the disk fails in them, and this is what a crash leaves then. Without
+-- changes the disk isn't touched.
 pub record PutsChanges (Does : Answer → Totals → Type 0) (old : TotalsPart) (changes : List Change) (result : Answer)
     (new : TotalsPart) : Type 0 where
   pub does : Does result new.totals
@@ -67,7 +67,7 @@ pub record PutsChanges (Does : Answer → Totals → Type 0) (old : TotalsPart) 
 abbrev pub put_at_once : Bool → Change → List Change
 put_at_once in_transaction change = if in_transaction then [] else change ∷ []
 
--- A change is buffered, or refused where a handle or the sequences have run out, or is done as one group, or the disk
+-- A change is buffered, or refused if a handle or the sequences have run out, or is done as one group, or the disk
 -- fails in it.
 abbrev pub ChangesTotals : TotalsPart → ℕ → Change → Answer → TotalsPart → Type 0
 ChangesTotals old number change result new =
@@ -75,8 +75,8 @@ ChangesTotals old number change result new =
     PutsChanges (λ answer totals. DoesChange fails old.totals number change answer totals) old
     (put_at_once (in_transaction old.totals number) change) result new
 
--- A commit is refused where the sequences have run out, or what was buffered is done as one group, or the disk fails
--- in it.
+-- A commit is refused if the sequences have run out, or what was buffered is done as one group, or the disk fails in
+-- it.
 abbrev pub CommitsTotals : TotalsPart → ℕ → Answer → TotalsPart → Type 0
 CommitsTotals old number result new =
     let changes = changes_in (transaction_of old.totals number) in
@@ -84,7 +84,7 @@ CommitsTotals old number result new =
     let fails = Rises old.failures new.failures in
     PutsChanges (λ answer totals. DoesCommit fails old.totals ended changes answer totals) old changes result new
 
--- what each call does with the totals, where nothing refuses it
+-- what each call does with the totals, if nothing refuses it
 abbrev pub TotalsDo : FileCall → TotalsPart → ℕ → Answer → TotalsPart → Type 0
 TotalsDo (Asks question) old number result new =
     (result ≡ answer.Done (told_of (files_of old.totals.mode) question)) × (new ≡ old)
@@ -103,7 +103,7 @@ FilesCalled number asked old outcome new =
     (λ result. Decided rows result (new ≡ old) (TotalsDo (file_call asked) old number result new))
     (λ want. IsTrue (takes_memory asked) × (first_refusal rows ≡ None) × (new ≡ old))
 
--- One of the standings was found, which a crash leaves alone from then on. The disk hasn't failed.
+-- One of the standings was found, and a crash leaves only that from then on. The disk hasn't failed.
 pub record Recovered (old new : TotalsPart) : Type 0 where
   pub found : HasFound (IsOneOf old.left) old.totals new.totals
   pub left : new.left ≡ settled new.totals.layout new.totals.mode old.left
@@ -122,7 +122,7 @@ Fails old new =
     ((IsOneOf old.left Damaged ⊎ HasTooMany (IsOneOf old.left) old.totals.next) × (new ≡ old))
     ⊎ DiskFails old new
 
--- what a recovery answers where it recovers nothing: there are no totals, or it fails
+-- what a recovery answers if it recovers nothing: there are no totals, or it fails
 abbrev pub Recovers : TotalsPart → Answer → TotalsPart → Type 0
 Recovers old result new =
     ((result ≡ answer.Refused code.NoHardware 0) × IsOneOf old.left Unformatted × (new ≡ old))

@@ -19,14 +19,17 @@ use pos_service::{Answer, Call, Category, Code, NoMemory, Peripheral};
 use std::alloc::Global;
 
 impl<D: Disk, P: Peripheral> Counter<D, P> {
-    /// A call of an application on its control.
+    /// Does a call of an application on its control, and returns the answer. That is the first refusal in the call's
+    /// table, otherwise what the call gives.
     ///
-    /// The answer is E_ILLEGAL where there is no control of this number, else the first refusal of the call's table
-    /// that applies, else what the call gives. Want of memory changes nothing. A crash at any moment of the call leaves
-    /// what may be left before it or after it. The disk is touched only by a change and a commit that nothing refuses,
-    /// where the change isn't buffered and the commit has changes, and by an enabling of Hard Totals that are off. Over
-    /// any disk, honest or not, each other call is a step, and these change nothing beside the totals and their
-    /// control.
+    /// A crash at any moment leaves what it may leave before the call or after it. Only these calls touch the disk: a
+    /// change that isn't buffered, a commit that has changes, and an enabling of Hard Totals that are off. Over any
+    /// disk, honest or not, all others are steps, and these change nothing but the totals and their control.
+    ///
+    /// # Errors
+    ///
+    /// [`NoMemory`] if memory ran out. Then nothing has changed. Refused with E_ILLEGAL if there is no control of this
+    /// number, otherwise as the call's table says.
     pub fn call(&mut self, number: usize, call: &Call) -> Result<Answer, NoMemory>
         requires sound { IsCounterSound P.Peripheral self.old }
         ensures step { IsStep D.Disk P.Peripheral self.old (CallOf number call.now) (answered result) self.new }
@@ -46,8 +49,12 @@ impl<D: Disk, P: Peripheral> Counter<D, P> {
         }
     }
 
-    /// A call of a category's own, which the totals answer, or the crate of the category with what serves the control's
-    /// device.
+    /// Does a call of a category's own: by the totals, or by the crate of the category with the peripheral of the
+    /// control's device.
+    ///
+    /// # Errors
+    ///
+    /// As of `call`.
     fn call_category(&mut self, number: usize, call: &Call) -> Result<Answer, NoMemory>
         requires in_range { number < length self.old.controls.items }
         requires own { is_common call.now ≡ false }
@@ -72,7 +79,11 @@ impl<D: Disk, P: Peripheral> Counter<D, P> {
         )
     }
 
-    /// A call of a category's own on a control of Hard Totals: it is checked, and then the totals answer it.
+    /// Checks a call of a category's own on a control of Hard Totals, and passes it on to the totals.
+    ///
+    /// # Errors
+    ///
+    /// As of `call`.
     fn call_totals(&mut self, number: usize, call: &Call) -> Result<Answer, NoMemory>
         requires in_range { number < length self.old.controls.items }
         requires totals { MatchOption (slice_get (controls_of self.old.controls.items) number) ⊥ (λ control.
@@ -90,7 +101,11 @@ impl<D: Disk, P: Peripheral> Counter<D, P> {
     }
 }
 
-/// A call of the control with a number on its device at a place, which is handed to what serves it.
+/// Passes a call of the control with a number on to the peripheral of the device at a place.
+///
+/// # Errors
+///
+/// As of `Counter::call`.
 fn call_there<P: Peripheral>(
     alloc: Global,
     controls: &mut [Control],
@@ -112,7 +127,11 @@ fn call_there<P: Peripheral>(
     call_device(alloc, controls, number, claims, peripheral, call)
 }
 
-/// A call of the control with a number on its device, where this peripheral stands.
+/// Does a call of the control with a number on its device, which this peripheral serves.
+///
+/// # Errors
+///
+/// As of `Counter::call`.
 fn call_device<P: Peripheral>(
     alloc: Global,
     controls: &mut [Control],

@@ -1,7 +1,7 @@
 //! The calls that every category has.
-ghost use Rattle.std.specs.Prelude.{◌≡◌, ◌<◌, Some, None, IfSome, length};
+ghost use Rattle.std.specs.Prelude.{◌≡◌, ◌<◌, Some, None, length};
 ghost use Rattle.pos_service.specs.declared.call.Call.TheVariants as call;
-ghost use Rattle.pos_service.specs.Claims.{holder_at, is_own, is_foreign, claim_rows, claimed_by, release_rows, released_by, after_release};
+ghost use Rattle.pos_service.specs.Claims.{is_own, claim_rows, release_rows, after_release};
 ghost use Rattle.pos_totals.specs.TotalsClaims.{is_area_taken};
 ghost use Rattle.pos_service.specs.Refusals.{Decided};
 ghost use Rattle.pos_counter.specs.Counters.{IsCounterSound, Serves};
@@ -9,13 +9,18 @@ ghost use Rattle.pos_counter.specs.Steps.{CallOf, Answered};
 
 use crate::counter::Counter;
 use crate::totals_calls::is_totals;
-use pos_common::{Claims, Control};
+use pos_common::Control;
 use pos_disk::Disk;
 use pos_service::{Answer, Code, Peripheral, Value};
 use pos_totals::Totals;
 
 impl<D: Disk, P: Peripheral> Counter<D, P> {
-    /// `open`, of the first device with a name (common chapter).
+    /// `open`: opens a control for the first device with a name (common chapter).
+    ///
+    /// # Errors
+    ///
+    /// Refused with E_ILLEGAL if the control is open, E_NOEXIST if its category has no such device, and E_NOSERVICE if
+    /// the device has no peripheral.
     pub(crate) fn open(&mut self, number: usize, name: &[u8]) -> Answer
         requires in_range { number < length self.old.controls.items }
         requires sound { IsCounterSound P.Peripheral self.old }
@@ -26,7 +31,11 @@ impl<D: Disk, P: Peripheral> Counter<D, P> {
         control.open(found)
     }
 
-    /// `close`: what the control holds is free again (common chapter).
+    /// `close`: closes a control, and frees what it holds (common chapter).
+    ///
+    /// # Errors
+    ///
+    /// Refused with E_CLOSED if the control is closed.
     pub(crate) fn close(&mut self, number: usize) -> Answer
         requires in_range { number < length self.old.controls.items }
         requires sound { IsCounterSound P.Peripheral self.old }
@@ -44,7 +53,13 @@ impl<D: Disk, P: Peripheral> Counter<D, P> {
         control.close()
     }
 
-    /// `claim` (common chapter).
+    /// `claim`: makes a control the holder of its device (common chapter). The timeout is in milliseconds, -1 for no
+    /// end. It never waits.
+    ///
+    /// # Errors
+    ///
+    /// Refused with E_CLOSED if the control is closed, E_ILLEGAL if the timeout is below -1, and E_TIMEOUT if another
+    /// control holds the device.
     pub(crate) fn claim(&mut self, number: usize, timeout: i128) -> Answer
         requires in_range { number < length self.old.controls.items }
         requires sound { IsCounterSound P.Peripheral self.old }
@@ -54,10 +69,14 @@ impl<D: Disk, P: Peripheral> Counter<D, P> {
         if is_totals(control) {
             return claim_area(control, &mut self.totals, number, timeout);
         }
-        claim_device(control, &mut self.claims, number, timeout)
+        control.claim(number, &mut self.claims, timeout)
     }
 
-    /// `release` (common chapter).
+    /// `release`: ends a control's claim of its device (common chapter).
+    ///
+    /// # Errors
+    ///
+    /// Refused with E_CLOSED if the control is closed, and E_ILLEGAL if it doesn't hold the device.
     pub(crate) fn release(&mut self, number: usize) -> Answer
         requires in_range { number < length self.old.controls.items }
         requires sound { IsCounterSound P.Peripheral self.old }
@@ -67,31 +86,15 @@ impl<D: Disk, P: Peripheral> Counter<D, P> {
         if is_totals(control) {
             return release_area(control, &mut self.totals, number);
         }
-        release_device(control, &mut self.claims, number)
+        control.release(number, &mut self.claims)
     }
 }
 
-/// `claim` of a peripheral.
-fn claim_device(control: &Control, claims: &mut Claims, number: usize, timeout: i128) -> Answer
-    requires { IfSome control.now.control.device (λ place. place < length claims.old) }
-    ensures { let device = control.now.control.device in
-        Decided (claim_rows control.now.control (is_foreign number (holder_at claims.old device)) timeout)
-        result (claims.new ≡ claims.old)
-        ((result ≡ Answer.Done Value.Empty) × (claims.new ≡ claimed_by claims.old device number)) }
-{
-    let Some(place) = control.device() else {
-        return Answer::Refused(Code::Closed, 0);
-    };
-    match control.claim(number, claims.holder(Some(place)), timeout) {
-        Answer::Done(value) => {
-            claims.claim(place, number);
-            Answer::Done(value)
-        }
-        refusal => refusal,
-    }
-}
-
-/// `claim` of Hard Totals: of the area, which is taken where another control holds it or a file.
+/// `claim` of Hard Totals: of the area, which is taken if another control holds it or a file.
+///
+/// # Errors
+///
+/// As of `Counter::claim`.
 fn claim_area<D: Disk>(
     control: &Control,
     totals: &mut Totals<D>,
@@ -104,7 +107,7 @@ fn claim_area<D: Disk>(
     ensures rest { totals.new.totals ≡ record totals.old.totals { area = totals.new.totals.area } }
     ensures disk { totals.new.disk ≡ totals.old.disk }
 {
-    match control.claim(number, totals.area(), timeout) {
+    match control.claim_by(number, totals.area(), timeout) {
         Answer::Done(value) => match totals.claim_area(number) {
             Ok(()) => Answer::Done(value),
             Err(code) => Answer::Refused(code, 0),
@@ -113,22 +116,11 @@ fn claim_area<D: Disk>(
     }
 }
 
-/// `release` of a peripheral.
-fn release_device(control: &mut Control, claims: &mut Claims, number: usize) -> Answer
-    ensures { let device = control.old.control.device in
-        Decided (release_rows control.old.control (is_own number (holder_at claims.old device))) result
-        ((control.new ≡ control.old) × (claims.new ≡ claims.old))
-        ((result ≡ Answer.Done Value.Empty)
-        × (control.new.control ≡ after_release control.old.control.category control.old.control)
-        × (claims.new ≡ released_by claims.old device number)) }
-{
-    let device = control.device();
-    let answer = control.release(number, claims.holder(device));
-    claims.release(device, number);
-    answer
-}
-
-/// `release` of Hard Totals: of the area. Files that the control holds stay so.
+/// `release` of Hard Totals: of the area. The control keeps the files that it holds.
+///
+/// # Errors
+///
+/// As of `Counter::release`.
 fn release_area<D: Disk>(control: &mut Control, totals: &mut Totals<D>, number: usize) -> Answer
     ensures answer { Decided (release_rows control.old.control (is_own number totals.old.totals.area)) result
         ((control.new ≡ control.old) × (totals.new.totals ≡ totals.old.totals))
@@ -138,7 +130,7 @@ fn release_area<D: Disk>(control: &mut Control, totals: &mut Totals<D>, number: 
     ensures rest { totals.new.totals ≡ record totals.old.totals { area = totals.new.totals.area } }
     ensures disk { totals.new.disk ≡ totals.old.disk }
 {
-    match control.release(number, totals.area()) {
+    match control.release_by(number, totals.area()) {
         Answer::Done(value) => match totals.release_area(number) {
             Ok(()) => Answer::Done(value),
             Err(code) => Answer::Refused(code, 0),

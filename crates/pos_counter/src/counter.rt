@@ -1,6 +1,7 @@
+//! The counter, its requests, and its end.
 ghost use Rattle.std.specs.Prelude.{◌≡◌, [], length, All, IfOk, IfErr, OnErr};
 ghost use Rattle.pos_disk.specs.State.{IsAtRest};
-ghost use Rattle.pos_profile.specs.Registries.{devices_of as registered_in};
+ghost use Rattle.pos_profile.specs.Registries.{AreParked, devices_of as registered_in};
 ghost use Rattle.pos_totals.specs.Views.{WhenReady};
 ghost use Rattle.pos_counter.specs.Steps.{NewControl, Deliver, Delivered};
 ghost use Rattle.pos_counter.specs.KeptDevices.{HandsOver};
@@ -25,12 +26,11 @@ const MOST_CONTROLS: usize = 4096;
 /// The handle of a new counter's first file.
 const FIRST_HANDLE: u64 = 1;
 
-/// The controls of all applications, the devices that they share, and the totals on a disk. It is ended by `shutdown`
-/// alone.
+/// The controls of all applications, the devices that they share, and the totals on a disk. Only `shutdown` ends it.
 ///
-/// Each call is a step of the device machine that the counter stands for, so each list of calls is a run of it. Of
-/// calls at Hard Totals that use the disk, and of what a crash leaves, this is said over an honest disk; all else is a
-/// step over any disk. docs/reference/model.md, "Over any disk".
+/// Each call is a step of the device machine that the counter stands for, so each list of calls is a run of it. For
+/// calls at Hard Totals that use the disk, and for what a crash leaves, this holds over an honest disk. Everything else
+/// is a step over any disk. See docs/reference/model.md, "Over any disk".
 pub struct Counter<D: Disk, P> {
     pub(crate) alloc: Global,
     pub(crate) controls: Vec<Control>,
@@ -41,16 +41,17 @@ pub struct Counter<D: Disk, P> {
 
 /// What is left of a counter that was ended.
 pub struct Ended<D: Disk, P> {
-    /// The disk of the totals, at rest where they were ready.
+    /// The disk of the totals, at rest if they were ready.
     pub disk: D,
-    /// The devices that may have a peripheral, each once, in the profile's order, with what served it, out of service.
+    /// The devices that may have a peripheral, each once, in the profile's order. Each has the peripheral that served
+    /// it, out of service.
     pub entries: Vec<Slot<P>>,
 }
 
 impl<D: Disk, P: Ends> Ended<D, P> {
-    /// Ends what served the devices: the disk.
+    /// Ends what served the devices, which is out of service, and returns the disk.
     pub fn end(self) -> D
-        requires { Unit {0} }
+        requires { AreParked (registered_in P.Peripheral self.entries.items) }
         ensures { result ≡ self.disk }
     {
         let Ended { disk, entries } = self;
@@ -60,10 +61,12 @@ impl<D: Disk, P: Ends> Ended<D, P> {
 }
 
 impl<D: Disk, P: Peripheral> Counter<D, P> {
-    /// A counter with no control, over a disk and the devices of a profile, each vacant. The totals are off until a
-    /// control of Hard Totals is enabled. An empty list becomes a part of the counter.
+    /// Returns a counter without controls, over a disk and the devices of a profile, each vacant. The totals are off
+    /// until a control of Hard Totals is enabled. The slots are an empty list, which becomes a part of the counter.
     ///
-    /// Want of memory ends that list, and hands the disk back as it is.
+    /// # Errors
+    ///
+    /// [`NoMemory`] if memory ran out. Then the list is ended, and the disk is returned as it was.
     pub fn new(
         alloc: Global,
         profile: &Profile,
@@ -92,9 +95,12 @@ impl<D: Disk, P: Peripheral> Counter<D, P> {
         }
     }
 
-    /// A new control of a category, which is closed: its number, counted from 0.
+    /// Makes a closed control of a category, and returns its number, counted from 0.
     ///
-    /// Refused with Full where there are 4,096 controls, closed ones included. Want of memory changes nothing.
+    /// # Errors
+    ///
+    /// `Full` if there are 4,096 controls, closed ones included, and `NoMemory` if memory ran out. Then nothing has
+    /// changed.
     pub fn control(&mut self, category: Category) -> Result<usize, ControlFault>
         requires sound { IsCounterSound P.Peripheral self.old }
         ensures step { IsStep D.Disk P.Peripheral self.old (NewControl tt category) (made result) self.new }
@@ -117,8 +123,8 @@ impl<D: Disk, P: Peripheral> Counter<D, P> {
         }
     }
 
-    /// Takes the event that may be delivered to a control, with the application's answer in case it is an ErrorEvent.
-    /// It is None where there is none, or no control of this number.
+    /// Takes the event that may be delivered to a control, and returns it (common chapter, event queue). The reply is
+    /// the application's, if it is an ErrorEvent. It is `None` if there is no such event, or no control of this number.
     pub fn deliver(&mut self, number: usize, reply: ErrorReply) -> Option<Event>
         requires sound { IsCounterSound P.Peripheral self.old }
         ensures step { IsStepBeside P.Peripheral self.old (Deliver number reply) (Delivered result) self.new }
@@ -130,11 +136,13 @@ impl<D: Disk, P: Peripheral> Counter<D, P> {
         self.controls[number].deliver(reply)
     }
 
-    /// Carries out requests one after another: what is answered to each, in order. Each peripheral that is to be
-    /// attached is in service.
+    /// Carries out requests one after another, and returns their responses in order. Each peripheral that is to be
+    /// attached is in service. A request that finds no memory has the response `OutOfMemory`.
     ///
-    /// Want of memory for the list of answers changes nothing, and hands the requests back. A request that finds no
-    /// memory is answered so.
+    /// # Errors
+    ///
+    /// [`NoMemory`] if there is none for the list of responses. Then nothing has changed, and the requests are
+    /// returned.
     pub fn perform<'a>(
         &mut self,
         requests: Vec<Request<'a, (), usize, P>>,
@@ -162,7 +170,7 @@ impl<D: Disk, P: Peripheral> Counter<D, P> {
         Ok(responses)
     }
 
-    /// Carries out a request. A peripheral that is to be attached is in service.
+    /// Carries out a request, and returns its response. A peripheral that is to be attached is in service.
     fn carry_out(&mut self, request: Request<'_, (), usize, P>) -> Response<P>
         requires sound { IsCounterSound P.Peripheral self.old }
         requires in_service { OffersInService P.Peripheral request }
@@ -187,12 +195,13 @@ impl<D: Disk, P: Peripheral> Counter<D, P> {
         }
     }
 
-    /// Ends the counter: the disk, and the devices that may have a peripheral, each once, in the profile's order, with
-    /// their peripherals, which are taken out of service and else as they are. It takes no memory.
+    /// Ends the counter, and returns the disk and the devices that may have a peripheral, each once, in the profile's
+    /// order. Their peripherals are taken out of service, and are otherwise as they were. It takes no memory.
     pub fn shutdown(self) -> Ended<D, P>
         requires sound { IsCounterSound P.Peripheral self }
         ensures disk { result.disk ≡ self.totals.disk }
         ensures at_rest { D.honest result.disk → WhenReady self.totals.totals.mode (IsAtRest (D.state result.disk)) }
+        ensures parked { AreParked (registered_in P.Peripheral result.entries.items) }
         ensures entries { (part : TotalsPart)
             → HandsOver (machine P.Peripheral self part) (registered_in P.Peripheral result.entries.items) }
     {

@@ -1,6 +1,6 @@
 //! The devices of a counter, by their names and places.
 ghost use Rattle.std.specs.Prelude.{◌≡◌, [], None, Some, IfOk, IsSome, MatchOption, length, map, slice_get};
-ghost use Rattle.pos_profile.specs.Registries.{devices as registered, devices_of as registered_in, parked};
+ghost use Rattle.pos_profile.specs.Registries.{AreParked, devices as registered, devices_of as registered_in, parked};
 ghost use Rattle.pos_service.specs.Hardware.{hardware_of, signs_in};
 ghost use Rattle.pos_counter.specs.Machine.{device_at, found_at, kind_in, place_of, hardware_in};
 ghost use Rattle.pos_counter.specs.KeptDevices.{AreDevicesSound, devices_in, profile_devices, totals_name, totals_place};
@@ -9,14 +9,18 @@ use pos_profile::{Profile, Registry, Slot};
 use pos_service::{Bytes, Category, Finding, Kind, NoMemory, PaperLevel, Peripheral, Signs};
 use std::alloc::Global;
 
-/// The devices of a profile: those that may have a peripheral have the first places, in its order, and the Hard Totals
-/// device, where there is one, has the last.
+/// The devices of a profile. Those that may have a peripheral have the first places, in its order. The Hard Totals
+/// device, if there is one, has the last.
 pub(crate) struct Devices<P> {
     pub(crate) registry: Registry<P>,
     totals: Option<Bytes>,
 }
 
-/// The name of the Hard Totals device of a profile, if it has one.
+/// Returns a copy of the name of a profile's Hard Totals device, if it has one.
+///
+/// # Errors
+///
+/// [`NoMemory`] if memory ran out.
 fn copy_totals(alloc: Global, profile: &Profile) -> Result<Option<Bytes>, NoMemory>
     ensures { IfOk result (λ name. name ≡ totals_name profile.now.devices) }
 {
@@ -27,7 +31,11 @@ fn copy_totals(alloc: Global, profile: &Profile) -> Result<Option<Bytes>, NoMemo
 }
 
 impl<P: Peripheral> Devices<P> {
-    /// The devices of a profile, each vacant. An empty list becomes a part of them; want of memory ends that list.
+    /// Returns the devices of a profile, each vacant. The slots are an empty list, which becomes a part of them.
+    ///
+    /// # Errors
+    ///
+    /// [`NoMemory`] if memory ran out. Then the list is ended.
     pub(crate) fn new(
         alloc: Global,
         profile: &Profile,
@@ -46,7 +54,7 @@ impl<P: Peripheral> Devices<P> {
         Ok(Devices { registry, totals })
     }
 
-    /// The place of the first device with a name.
+    /// Returns the place of the first device with a name.
     pub(crate) fn find(&self, name: &[u8]) -> Option<usize>
         requires { AreDevicesSound P.Peripheral self.now }
         ensures { result ≡ place_of (devices_in P.Peripheral self.now) name.now }
@@ -57,7 +65,8 @@ impl<P: Peripheral> Devices<P> {
         }
     }
 
-    /// The place of the first device with a name, and what serves it; None where there is none or it is vacant.
+    /// Returns the place of the first device with a name, and its peripheral. It is `None` if there is no such device
+    /// or it is vacant.
     pub(crate) fn find_served(&self, name: &[u8]) -> Option<(usize, &P)>
         requires { AreDevicesSound P.Peripheral self.now }
         ensures { let devices = devices_in P.Peripheral self.now in
@@ -70,7 +79,7 @@ impl<P: Peripheral> Devices<P> {
         Some((place, peripheral))
     }
 
-    /// The place of the Hard Totals device, where it has the name.
+    /// Returns the place of the Hard Totals device, if it has the name.
     fn find_totals(&self, name: &[u8]) -> Option<usize>
         ensures { let list = registered P.Peripheral self.now.registry in
             result ≡ totals_place (length list) name.now self.now.totals }
@@ -81,7 +90,7 @@ impl<P: Peripheral> Devices<P> {
         }
     }
 
-    /// What a control of a category finds under a name.
+    /// Returns what a control of a category finds under a name.
     pub(crate) fn find_for(&self, category: Category, name: &[u8]) -> Finding
         requires { AreDevicesSound P.Peripheral self.now }
         ensures { let devices = devices_in P.Peripheral self.now in
@@ -93,7 +102,7 @@ impl<P: Peripheral> Devices<P> {
         self.find_at(category, place)
     }
 
-    /// What a control of a category finds at the place of a device.
+    /// Returns what a control of a category finds at the place of a device.
     fn find_at(&self, category: Category, place: usize) -> Finding
         requires { IsSome (device_at (devices_in P.Peripheral self.now) (Some place)) }
         ensures { let devices = devices_in P.Peripheral self.now in
@@ -109,7 +118,7 @@ impl<P: Peripheral> Devices<P> {
         Finding::At(place)
     }
 
-    /// What the device at the place is, where it has a peripheral.
+    /// Returns the kind of the device at the place, if it may have a peripheral.
     pub(crate) fn kind_at(&self, place: Option<usize>) -> Option<Kind>
         ensures { result ≡ kind_in (device_at (devices_in P.Peripheral self.now) place) }
     {
@@ -119,11 +128,12 @@ impl<P: Peripheral> Devices<P> {
         }
     }
 
-    /// Ends the devices: those that may have a peripheral, each once, in the profile's order, with their peripherals,
-    /// which are taken out of service and else as they were.
+    /// Ends the devices, and returns those that may have a peripheral, each once, in the profile's order. Their
+    /// peripherals are taken out of service, and are otherwise as they were.
     pub(crate) fn into_entries(self) -> Vec<Slot<P>>
         requires { Unit {0} }
-        ensures { registered_in P.Peripheral result.items ≡ map parked (registered P.Peripheral self.registry) }
+        ensures entries { registered_in P.Peripheral result.items ≡ map parked (registered P.Peripheral self.registry) }
+        ensures parked { AreParked (registered_in P.Peripheral result.items) }
     {
         let Devices {
             registry,
@@ -132,7 +142,8 @@ impl<P: Peripheral> Devices<P> {
         registry.into_entries()
     }
 
-    /// The signs of the peripheral at the place: where there is none, that it is on, and else each false or good.
+    /// Returns the signs of the peripheral at the place. Without a peripheral it is on, nothing is open, and the paper
+    /// is good.
     pub(crate) fn signs_at(&self, place: Option<usize>) -> Signs
         ensures { let devices = devices_in P.Peripheral self.now in
             result ≡ signs_in (hardware_in (device_at devices place)) }

@@ -1,4 +1,4 @@
-//! The exchange of peripherals: which are attached, and which are detached.
+//! The exchange of peripherals: attaching and detaching.
 ghost use Rattle.std.specs.Prelude.{◌≡◌, ℕ, Some, false, true, IfErr, IfOk};
 ghost use Rattle.std.specs.List.{list_any};
 ghost use Rattle.pos_service.specs.Hardware.{hardware_of};
@@ -16,11 +16,15 @@ use pos_disk::Disk;
 use pos_service::{AttachFault, DetachFault, Peripheral};
 
 impl<D: Disk, P: Peripheral> Counter<D, P> {
-    /// Has a peripheral serve the device of this name, which is vacant and of its kind.
+    /// Attaches a peripheral to the device of this name, which is vacant and of its kind. It takes no memory.
     ///
-    /// Refused with Unknown where no device of the name may have a peripheral, else with InUse where the device has its
-    /// peripheral, else with KindDiffers. A refusal changes nothing, and hands the peripheral back as it is. It takes
-    /// no memory.
+    /// # Errors
+    ///
+    /// With the peripheral as it was, and nothing changed:
+    ///
+    /// - `Unknown`: no device of the name may have a peripheral.
+    /// - `InUse`: the device has its peripheral.
+    /// - `KindDiffers`: the device is of another kind.
     pub fn attach(&mut self, name: &[u8], peripheral: P) -> Result<(), (AttachFault, P)>
         requires sound { IsCounterSound P.Peripheral self.old }
         requires unparked { (P.Peripheral.state peripheral).is_parked ≡ false }
@@ -34,11 +38,16 @@ impl<D: Disk, P: Peripheral> Counter<D, P> {
         self.devices.registry.attach(name, peripheral)
     }
 
-    /// Takes the peripheral of the device of this name, which no control has open, out of service, and hands it out,
-    /// else as it is. The device is vacant then.
+    /// Detaches the peripheral of the device of this name, which no control has open, and returns it. It is out of
+    /// service then, and otherwise as it was. It takes no memory.
     ///
-    /// Refused with Unknown where no device of the name may have a peripheral, else with Vacant where it has none, else
-    /// with InUse where a control has the device open. A refusal changes nothing. It takes no memory.
+    /// # Errors
+    ///
+    /// In this order, and nothing has changed:
+    ///
+    /// - `Unknown`: no device of the name may have a peripheral.
+    /// - `Vacant`: the device has none.
+    /// - `InUse`: a control has the device open.
     pub fn detach(&mut self, name: &[u8]) -> Result<P, DetachFault>
         requires sound { IsCounterSound P.Peripheral self.old }
         ensures step { IsStepBeside P.Peripheral self.old
@@ -51,7 +60,7 @@ impl<D: Disk, P: Peripheral> Counter<D, P> {
     }
 }
 
-/// Whether one of the controls has the first device with a name open, where that may have a peripheral.
+/// Returns whether one of the controls has the first device with a name open, if that may have a peripheral.
 fn is_open<P: Peripheral>(controls: &[Control], devices: &Devices<P>, name: &[u8]) -> bool
     requires { AreDevicesSound P.Peripheral devices.now }
     ensures { (place : ℕ) →
@@ -64,14 +73,14 @@ fn is_open<P: Peripheral>(controls: &[Control], devices: &Devices<P>, name: &[u8
     }
 }
 
-/// Whether one of the controls has the device at a place open.
+/// Returns whether one of the controls has the device at a place open.
 fn is_open_at(controls: &[Control], place: usize) -> bool
     ensures { result ≡ list_any (λ control. has_open place control.control) controls.now }
 {
     controls.iter().any(|control| has_open(control, place))
 }
 
-/// Whether the control has the device at a place open.
+/// Returns whether the control has the device at a place open.
 fn has_open(control: &Control, place: usize) -> bool
     ensures { result ≡ has_open place control.now.control }
 {

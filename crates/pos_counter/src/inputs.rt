@@ -1,4 +1,4 @@
-//! What happens at devices, and what they are physically.
+//! What happens at devices from outside, and their snapshots.
 ghost use Rattle.std.specs.Prelude.{◌≡◌, ◌<◌, Some, false, true};
 ghost use Rattle.pos_service.specs.Hardware.{StaysInService, TakenAt, hardware_of};
 ghost use Rattle.pos_service.specs.Peripherals.{input_fits};
@@ -18,10 +18,16 @@ use pos_service::{Input, Kind, NoMemory, Peripheral, Snapshot};
 use std::alloc::Global;
 
 impl<D: Disk, P: Peripheral> Counter<D, P> {
-    /// Something happens at the device of this name. Each control that has it open and enabled hears of it.
+    /// Passes an input on to the device of this name. Each control that has it open and enabled gets the events of it
+    /// (common chapter, data events, error handling and device power reporting).
     ///
-    /// Refused with NoDevice where no device has the name or no peripheral stands behind it, with WrongInput where a
-    /// peripheral of its kind has no such input. Want of memory changes nothing.
+    /// # Errors
+    ///
+    /// Nothing has changed then:
+    ///
+    /// - `NoDevice`: no device has the name, or it has no peripheral.
+    /// - `WrongInput`: a peripheral of its kind has no such input.
+    /// - `NoMemory`: memory ran out.
     pub fn input(&mut self, device: &[u8], input: &Input) -> Result<(), InputFault>
         requires sound { IsCounterSound P.Peripheral self.old }
         ensures step { IsStepBeside P.Peripheral self.old (InputTo device.now input.now) (taken_in result) self.new }
@@ -45,9 +51,11 @@ impl<D: Disk, P: Peripheral> Counter<D, P> {
         }
     }
 
-    /// What the device of this name is physically.
+    /// Returns what the device of this name is physically.
     ///
-    /// Refused with NoDevice where no device has the name or no peripheral stands behind it.
+    /// # Errors
+    ///
+    /// `NoDevice` if no device has the name or it has no peripheral, and `NoMemory` if memory ran out.
     pub fn snapshot(&self, device: &[u8]) -> Result<Snapshot, SnapshotFault>
         requires sound { IsCounterSound P.Peripheral self.now }
         ensures { IsStepBeside P.Peripheral self.now (SnapshotOf device.now) (shown result) self.now }
@@ -62,7 +70,11 @@ impl<D: Disk, P: Peripheral> Counter<D, P> {
     }
 }
 
-/// Hands an input to what serves the device at a place, which it fits.
+/// Passes an input that fits on to the peripheral of the device at a place.
+///
+/// # Errors
+///
+/// `NoMemory` if memory ran out. Then nothing has changed.
 fn input_there<P: Peripheral>(
     alloc: Global,
     controls: &mut [Control],
@@ -80,7 +92,11 @@ fn input_there<P: Peripheral>(
     input_at(alloc, controls, place, peripheral, input)
 }
 
-/// Hands an input to a peripheral that it fits, by the crate of its category.
+/// Passes an input that fits on to a peripheral, by the crate of its category.
+///
+/// # Errors
+///
+/// `NoMemory` if memory ran out. Then nothing has changed.
 fn input_at<P: Peripheral>(
     alloc: Global,
     controls: &mut [Control],

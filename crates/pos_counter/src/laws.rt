@@ -40,8 +40,8 @@ use pos_service::Peripheral;
 use pos_store::laws::disk_stands;
 use pos_totals::laws::ends_behind_their_records;
 
-/// Whatever a machine runs through, from totals whose disk stands for some files: a crash leaves the files after a
-/// prefix of the history, each group whole or absent, which holds each group that was settled before.
+/// In each run of a machine from totals whose disk stands for some files, a crash leaves the files after a prefix of
+/// the history. Each group is whole or absent, and each group that was settled before is there.
 pub fn crash_prefix()
     // after a run
     ensures after { (layout : Layout) (start : List File) (sequence : ℕ) (first last : Machine)
@@ -66,7 +66,7 @@ pub fn crash_prefix()
         (steps : List (Request × Response))
         → Run first steps last → StartsWith layout start sequence first.totals
         → (left : Standing) → IsOneOf last.totals.left left → IsFiles left }
-    // so a recovery that recovers nothing has met a fault of the disk, or more files than handles are left
+    // so a recovery that recovers nothing has met a fault of the disk, or there are more files than handles
     ensures recovers { (layout : Layout) (start : List File) (sequence : ℕ) (first last : Machine)
         (steps : List (Request × Response))
         → Run first steps last → StartsWith layout start sequence first.totals
@@ -78,10 +78,12 @@ pub fn crash_prefix()
         → BeginsWith (told history event).settled history.settled }
 {}
 
-/// Two counters, one after the other, on a disk that was moved to layout 2 between them: what the first one left are
-/// the files after a prefix of its history by layout 1, and the second one begins over the same files by layout 2. They
-/// are the files after the same groups; and whatever the second one's machine runs through, a crash leaves the files
-/// after a prefix of one history of both, each group whole or absent, which holds each group that was settled before.
+/// Two counters ran one after the other, and the disk was moved to layout 2 between them. What the first one left are
+/// the files after a prefix of its history by layout 1. The second one begins over the same files by layout 2, which
+/// are the files after the same groups.
+///
+/// In each run of the second one's machine, a crash leaves the files after a prefix of one history of both. Each group
+/// is whole or absent, and each group that was settled before is there.
 pub fn crash_prefix_across_a_move()
     // the prefix is one by layout 2
     ensures moved { (history : History) (held : List Group) (files : List File) (sequence : ℕ)
@@ -107,9 +109,9 @@ pub fn crash_prefix_across_a_move()
         → BeginsWith (history_along (moved_with history is.prefix) first steps last run).settled held }
 {}
 
-/// For a counter that began over an honest disk at rest that stands for some files: a crash at any moment of a call
-/// leaves bytes that stand for the files after a prefix of the history before or after the call, each group whole or
-/// absent, which holds each group that was settled before the call; and likewise of a list of requests and its steps.
+/// A counter began over an honest disk at rest that stands for some files. A crash at any moment of a call leaves the
+/// files after a prefix of the history before or after the call. Each group is whole or absent, and each group that was
+/// settled before the call is there. The same holds for a list of requests and its steps.
 pub fn crash_leaves_a_prefix<D: Disk, P: Peripheral>(counter: &Counter<D, P>)
     // a counter that begins has run through nothing
     ensures begins { (layout : Layout) (start : List File) (sequence : ℕ)
@@ -139,9 +141,9 @@ pub fn crash_leaves_a_prefix<D: Disk, P: Peripheral>(counter: &Counter<D, P>)
         → IsStep D.Disk P.Peripheral old request response counter.now }
 {}
 
-/// Totals that are off over a disk that stands for some files, as each crash leaves it. An enabling of a control of
-/// Hard Totals finds these very files, and else it was refused by its table, or the disk failed, or there were too few
-/// handles, or no memory.
+/// Totals are off over a disk that stands for some files, as each crash leaves it. An enabling of a control of Hard
+/// Totals finds these very files. Otherwise its table refused it, the disk failed, there were too few handles, or
+/// memory ran out.
 pub fn enabling_finds_the_files()
     ensures finds { (layout : Layout) (start : List File) (sequence : ℕ) (old new : Machine)
         (number : ℕ) (control : Control)
@@ -162,8 +164,8 @@ pub fn enabling_finds_the_files()
         → StandsFor (Stands layout files sequence) bytes → length files ≤ (limits_of layout).files }
 {}
 
-/// A new counter over an honest disk at rest: whatever the disk's bytes are, they stand for one thing, and a crash
-/// leaves that alone.
+/// The bytes of an honest disk at rest, under a new counter, stand for one thing, whatever they are. A crash leaves
+/// only that.
 pub fn new_counter_leaves_one_thing<D: Disk, P: Peripheral>(counter: &Counter<D, P>)
     ensures { (entries : List Entry) (disk : D) → Begins P.Peripheral entries disk counter.now
         → D.honest disk → IsAtRest (D.state disk)
@@ -172,8 +174,8 @@ pub fn new_counter_leaves_one_thing<D: Disk, P: Peripheral>(counter: &Counter<D,
     disk_stands(counter.disk());
 }
 
-/// The tail of a counter's totals that are ready lies behind the records of their disk: a change is refused for want of
-/// a sequence only where its group doesn't fit behind these.
+/// The tail of a counter's totals that are ready is after the records of their disk. So a change is refused for want of
+/// a sequence only if its group doesn't fit after these.
 pub fn ends_behind_its_records<D: Disk, P>(counter: &Counter<D, P>)
     ensures { D.honest counter.now.totals.disk → WhenReady counter.now.totals.totals.mode
         (EndsAt counter.now.totals.totals.layout counter.now.totals.totals.tail
@@ -182,8 +184,8 @@ pub fn ends_behind_its_records<D: Disk, P>(counter: &Counter<D, P>)
     ends_behind_their_records(&counter.totals);
 }
 
-/// What the disk of a counter keeps for its owner can be taken out before each call and after it: the counter is the
-/// same but for the disk, of which all that is known stays.
+/// The errands that the disk of a counter keeps for its owner can be taken before and after each call. The counter is
+/// the same but for the disk, and all that is known of the disk stays.
 pub fn errands_change_nothing<D: Disk, P: Peripheral>(counter: &Counter<D, P>)
     ensures sound { (old : _) → IsSameCounter D.Disk old counter.now
         → IsCounterSound P.Peripheral old → IsCounterSound P.Peripheral counter.now }
@@ -205,16 +207,16 @@ pub fn errands_change_nothing<D: Disk, P: Peripheral>(counter: &Counter<D, P>)
         → IsSameCounter D.Disk old mid → Leaves D.Disk old.totals left
         → RunsFrom D.Disk P.Peripheral left mid steps counter.now
         → RunsFrom D.Disk P.Peripheral left old steps counter.now }
-    // and one run behind another is a run
+    // and one run after another is a run
     ensures join { (left : List Standing) (steps more : List (Request × Response)) (first mid : _)
         (runs : RunsFrom D.Disk P.Peripheral left first steps mid)
         → RunsFrom D.Disk P.Peripheral runs.after mid more counter.now
         → RunsFrom D.Disk P.Peripheral left first (steps ++ more) counter.now }
 {}
 
-/// Whatever the disk of a counter is, honest or not: each request of a run that spares the disk is a step of the
-/// machine, and another, which is a call at Hard Totals, changes nothing beside them; and where all spare the disk, it
-/// is as it was. What the other calls answer and do to the totals is said over an honest disk alone.
+/// Over any disk, honest or not, each request of a run that spares the disk is a step of the machine. Each other
+/// request is a call at Hard Totals, and changes nothing but them and their control. If all requests spare the disk, it
+/// is as it was. What the other calls answer and do to the totals is known only over an honest disk. See
 /// docs/reference/model.md, "Over any disk".
 pub fn runs_over_any_disk<D: Disk, P: Peripheral>(counter: &Counter<D, P>)
     ensures { (left : List Standing) (failures : ℕ) (steps : List (Request × Response)) (old : _)
@@ -223,8 +225,8 @@ pub fn runs_over_any_disk<D: Disk, P: Peripheral>(counter: &Counter<D, P>)
         → RunsAnyhow P.Peripheral left failures old steps counter.now }
 {}
 
-/// Which requests spare the disk: all but calls at controls of Hard Totals; and a run of requests that spare it is a
-/// run of the machine.
+/// All requests spare the disk but calls at controls of Hard Totals. A run of requests that spare it is a run of the
+/// machine.
 pub fn most_requests_spare_the_disk()
     ensures elsewhere { (machine : Machine) (number : ℕ) (control : Control) (asked : Call)
         → slice_get machine.controls number ≡ Some control → ¬ (control.category ≡ HardTotals)
@@ -233,23 +235,23 @@ pub fn most_requests_spare_the_disk()
         → AllSpare old steps new run → Run old steps new }
 {}
 
-/// A run that is followed by a step is a run: so requests that are carried out as a list, and calls made one by one,
-/// among them those that attach and detach peripherals, are runs of the machine in any order.
+/// A run that is followed by a step is a run. So requests carried out as a list, and calls made one by one, are runs of
+/// the machine in any order. That includes those that attach and detach peripherals.
 pub fn runs_go_on<D: Disk, P: Peripheral>(counter: &Counter<D, P>)
-    // a step behind a run
+    // a step after a run
     ensures step { (first mid : _) (steps : List (Request × Response)) (request : Request) (response : Response)
         → IsRun D.Disk P.Peripheral first steps mid
         → IsStep D.Disk P.Peripheral mid request response counter.now
         → IsRun D.Disk P.Peripheral first (steps ++ (request, response) ∷ []) counter.now }
-    // a run behind a run
+    // a run after a run
     ensures run { (first mid : _) (steps more : List (Request × Response))
         → IsRun D.Disk P.Peripheral first steps mid
         → IsRun D.Disk P.Peripheral mid more counter.now
         → IsRun D.Disk P.Peripheral first (steps ++ more) counter.now }
 {}
 
-/// An example. The disk fails in a group; the next recovery keeps it or drops it, by the files that it finds, and it is
-/// in doubt until then.
+/// An example: the disk fails in a group, which is in doubt until the next recovery. That keeps the group or drops it,
+/// by the files that it finds.
 pub fn one_group_in_doubt()
     ensures doubt { MayHave new_machine Layout1 [] steps_into_doubt
         (record { layout = Layout1; start = []; settled = []; doubt = Some a_group }) }

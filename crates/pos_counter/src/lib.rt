@@ -1,4 +1,12 @@
 //! The controls of all applications and the devices that they share: each request is a step of the device machine.
+//!
+//! - [`Counter`] has the controls, the claims, the devices and the totals. Its methods are the requests, and [`Ended`]
+//!   is what is left of it.
+//! - [`ControlFault`], [`InputFault`], [`WorkFault`] and [`SnapshotFault`] say why a request did nothing.
+//! - [`laws`] and [`moves`] are what follows for each run of a counter, above all what a crash leaves.
+//!
+//! The layer above relies on this: each method is a step of the machine, so each list of calls is a run of it. If
+//! memory runs out, nothing changes. A crash leaves the files of Hard Totals after a prefix of their history.
 #![tactic(auto)]
 
 mod calls;
@@ -10,9 +18,10 @@ mod faults;
 mod inputs;
 pub mod laws;
 pub mod moves;
+mod next_event;
 mod properties;
 mod relay;
-mod responses;
+pub mod responses;
 mod totals_calls;
 mod working;
 

@@ -13,11 +13,12 @@ ghost use Rattle.pos_counter.specs.Steps.{Request, Response, Run};
 
 use pos_disk::Disk;
 
-/// Two counters, one after the other, and between them a disk that was moved to layout 2, or in whose move the disk
-/// failed: whatever the move answered. Each thing that the first counter left stands for the files after a prefix of
-/// its history. Then a crash at any moment of the move, and one after it, leaves the files after such a prefix, by the
-/// old layout or by layout 2. Whatever the second counter's machine then runs through from there, a crash leaves the
-/// files after a prefix of one history of both, each group whole or absent, which holds each group that was settled.
+/// Two counters ran one after the other. Between them the disk was moved to layout 2, or failed in the move, whatever
+/// the move answered. Each thing that the first counter left stands for the files after a prefix of its history.
+///
+/// Then a crash in the move or after it leaves the files after such a prefix, by the old layout or by layout 2. At each
+/// moment of the second counter's run, a crash leaves the files after a prefix of one history of both. Each group is
+/// whole or absent, and each group that was settled is there.
 pub fn crash_prefix_through_a_move<D: Disk>(disk: &D)
     // at any moment of the move
     ensures any_moment { (history : History) (left : List Standing) (old : D) (result : Result (Unit {0}) StoreFault)

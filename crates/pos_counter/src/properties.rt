@@ -1,4 +1,4 @@
-//! The properties of a control, by what is known of its device (common chapter, and those of the categories).
+//! The properties of a control, by what is known of its device (common chapter, and the categories' chapters).
 ghost use Rattle.std.specs.Prelude.{◌≡◌, ◌<◌, ◌&&◌, ℕ, List, length, not};
 ghost use Rattle.pos_service.specs.declared.call.Call.TheVariants as call;
 ghost use Rattle.pos_store.specs.Standing.{Standing};
@@ -25,7 +25,11 @@ use pos_service::{Answer, Facts, FileFacts, NoMemory, Peripheral, Property, Valu
 use pos_totals::Totals;
 
 impl<D: Disk, P: Peripheral> Counter<D, P> {
-    /// Gets a property. Want of memory, for a copy of bytes, changes nothing.
+    /// Returns the value of a property of the control with a number.
+    ///
+    /// # Errors
+    ///
+    /// [`NoMemory`] if there is none for a copy of bytes. Refused as of `Control::get`.
     pub(crate) fn get(&self, number: usize, property: Property) -> Result<Answer, NoMemory>
         requires { number < length self.now.controls.items }
         ensures { (left : List Standing) (failures : ℕ) →
@@ -38,7 +42,7 @@ impl<D: Disk, P: Peripheral> Counter<D, P> {
         control.get(number, holder, property, &facts)
     }
 
-    /// What is known of the control with a number and of its device, by whether it holds that.
+    /// Returns what is known of the control with a number and of its device, by whether it holds that.
     fn find_facts(&self, control: &Control, is_claimed: bool, number: usize) -> Facts
         ensures { (left : List Standing) (failures : ℕ) →
             let control = control.now.control in
@@ -56,12 +60,16 @@ impl<D: Disk, P: Peripheral> Counter<D, P> {
         }
     }
 
-    /// Sets a property. Setting DeviceEnabled to true on a control of Hard Totals recovers totals that are off; on
-    /// another that is to be notified of its device's power it enqueues the event of that. Both may find no memory,
-    /// which changes nothing.
+    /// Sets a property of the control with a number. If that enables a control of Hard Totals that are off, they are
+    /// recovered first.
     ///
-    /// Refused as the control says; and where the totals are to be recovered, with E_NOHARDWARE where the disk has
-    /// none, with E_FAILURE where it is damaged or fails, or where the handles don't suffice.
+    /// # Errors
+    ///
+    /// [`NoMemory`] if there is none for the recovery or for the event of the device's power. Then nothing has changed.
+    /// Refused as of `Control::set`, and if a recovery fails:
+    ///
+    /// - E_NOHARDWARE: the disk has no totals.
+    /// - E_FAILURE: the disk is damaged or fails, or too few handles are left.
     pub(crate) fn set(
         &mut self,
         number: usize,
@@ -86,7 +94,11 @@ impl<D: Disk, P: Peripheral> Counter<D, P> {
         set_control(control, number, holder, &self.devices, property, value)
     }
 
-    /// Enables a control of Hard Totals that are off, once they are recovered.
+    /// Recovers totals that are off, and then enables a control of Hard Totals.
+    ///
+    /// # Errors
+    ///
+    /// As of `set`.
     fn set_recovered(
         &mut self,
         number: usize,
@@ -114,7 +126,7 @@ impl<D: Disk, P: Peripheral> Counter<D, P> {
     }
 }
 
-/// The control that holds a control's device, by who holds the area.
+/// Returns the number of the control that holds a control's device, by who holds the area.
 pub(crate) fn find_holder(control: &Control, claims: &Claims, area: Option<usize>) -> Option<usize>
     ensures { result ≡ holder_in control.now.control.category claims.now area control.now.control.device }
 {
@@ -124,7 +136,11 @@ pub(crate) fn find_holder(control: &Control, claims: &Claims, area: Option<usize
     claims.holder(control.device())
 }
 
-/// Sets a property of a control, by who holds its device and by what that is and shows.
+/// Sets a property of a control, by who holds its device, and by what that is and shows.
+///
+/// # Errors
+///
+/// As of `Control::set`.
 fn set_control<P: Peripheral>(
     control: &mut Control,
     number: usize,
@@ -144,7 +160,7 @@ fn set_control<P: Peripheral>(
     control.set(number, holder, kind, signs, property, value)
 }
 
-/// What is known of the files: nothing while the totals are off.
+/// Returns what is known of the files, or `None` while the totals are off.
 fn find_file_facts<D: Disk>(totals: &Totals<D>) -> Option<FileFacts>
     ensures { result ≡ file_facts totals.now.totals.layout totals.now.totals.mode }
 {
@@ -157,7 +173,8 @@ fn find_file_facts<D: Disk>(totals: &Totals<D>) -> Option<FileFacts>
     })
 }
 
-/// Whether setting the property recovers the totals: it enables an open control of Hard Totals while they are off.
+/// Returns whether setting the property recovers the totals: it enables an open control of Hard Totals while they are
+/// off.
 fn is_recovering(control: &Control, is_ready: bool, property: Property, value: &Value) -> bool
     ensures { result ≡ (asks_recovery control.now.control property value.now && not is_ready) }
 {

@@ -1,4 +1,4 @@
-//! The disk of a counter's totals, and what it keeps for its owner.
+//! The disk of a counter's totals, and the errands that it keeps for its owner.
 ghost use Rattle.std.specs.Prelude.{◌≡◌};
 ghost use Rattle.pos_disk.specs.Keeps.{KeepsState};
 
@@ -6,7 +6,7 @@ use crate::counter::Counter;
 use pos_disk::{Disk, Relay};
 
 impl<D: Disk, P> Counter<D, P> {
-    /// The disk of the totals, to be looked at.
+    /// Returns the disk of the totals.
     pub fn disk(&self) -> &D
         ensures { result.now ≡ self.now.totals.disk }
     {
@@ -15,7 +15,7 @@ impl<D: Disk, P> Counter<D, P> {
 }
 
 impl<D: Relay, P> Counter<D, P> {
-    /// Takes out the oldest thing that the disk keeps for its owner. All else is as it was.
+    /// Takes the oldest errand that the disk keeps for its owner, and returns it. Everything else is as it was.
     pub fn next(&mut self) -> Option<D::Errand>
         ensures same { self.new ≡ record self.old { totals = record self.old.totals { disk = self.new.totals.disk } } }
         ensures state { KeepsState D.Disk self.old.totals.disk self.new.totals.disk }

@@ -1,4 +1,4 @@
-//! What a counter's calls answer, as responses.
+//! The responses that the results of a counter's methods become, for whoever carries requests out.
 ghost use Rattle.std.specs.Prelude.{◌≡◌, true, IfErr, IfOk, false};
 ghost use Rattle.pos_counter.specs.Responses.{HandsOut, attached, answered, detached, made, response_of, shown, taken_in, worked};
 
@@ -7,10 +7,10 @@ use pos_service::{
     Answer, AttachFault, DetachFault, NoMemory, Peripheral, Response, Snapshot, Worked,
 };
 
-/// What `Counter::control` answers.
-pub(crate) fn of_control<P: Peripheral>(answer: Result<usize, ControlFault>) -> Response<P>
-    ensures answer { response_of P.Peripheral result ≡ made answer }
-    ensures handed_out { HandsOut P.Peripheral result }
+/// Returns the response of a result of `Counter::control`.
+#[inline(always)]
+pub fn of_control<P>(answer: Result<usize, ControlFault>) -> Response<P>
+    ensures { result ≡ made answer }
 {
     match answer {
         Ok(number) => Response::Made(number),
@@ -19,10 +19,10 @@ pub(crate) fn of_control<P: Peripheral>(answer: Result<usize, ControlFault>) -> 
     }
 }
 
-/// What `Counter::call` answers.
-pub(crate) fn of_call<P: Peripheral>(answer: Result<Answer, NoMemory>) -> Response<P>
-    ensures answer { response_of P.Peripheral result ≡ answered answer }
-    ensures handed_out { HandsOut P.Peripheral result }
+/// Returns the response of a result of `Counter::call`.
+#[inline(always)]
+pub fn of_call<P>(answer: Result<Answer, NoMemory>) -> Response<P>
+    ensures { result ≡ answered answer }
 {
     match answer {
         Ok(answer) => Response::Answered(answer),
@@ -30,10 +30,10 @@ pub(crate) fn of_call<P: Peripheral>(answer: Result<Answer, NoMemory>) -> Respon
     }
 }
 
-/// What `Counter::input` answers.
-pub(crate) fn of_input<P: Peripheral>(answer: Result<(), InputFault>) -> Response<P>
-    ensures answer { response_of P.Peripheral result ≡ taken_in answer }
-    ensures handed_out { HandsOut P.Peripheral result }
+/// Returns the response of a result of `Counter::input`.
+#[inline(always)]
+pub fn of_input<P>(answer: Result<(), InputFault>) -> Response<P>
+    ensures { result ≡ taken_in answer }
 {
     match answer {
         Ok(()) => Response::TakenIn,
@@ -43,10 +43,10 @@ pub(crate) fn of_input<P: Peripheral>(answer: Result<(), InputFault>) -> Respons
     }
 }
 
-/// What `Counter::work` answers.
-pub(crate) fn of_work<P: Peripheral>(answer: Result<Worked, WorkFault>) -> Response<P>
-    ensures answer { response_of P.Peripheral result ≡ worked answer }
-    ensures handed_out { HandsOut P.Peripheral result }
+/// Returns the response of a result of `Counter::work`.
+#[inline(always)]
+pub fn of_work<P>(answer: Result<Worked, WorkFault>) -> Response<P>
+    ensures { result ≡ worked answer }
 {
     match answer {
         Ok(worked) => Response::Worked(worked),
@@ -55,10 +55,10 @@ pub(crate) fn of_work<P: Peripheral>(answer: Result<Worked, WorkFault>) -> Respo
     }
 }
 
-/// What `Counter::snapshot` answers.
-pub(crate) fn of_snapshot<P: Peripheral>(answer: Result<Snapshot, SnapshotFault>) -> Response<P>
-    ensures answer { response_of P.Peripheral result ≡ shown answer }
-    ensures handed_out { HandsOut P.Peripheral result }
+/// Returns the response of a result of `Counter::snapshot`.
+#[inline(always)]
+pub fn of_snapshot<P>(answer: Result<Snapshot, SnapshotFault>) -> Response<P>
+    ensures { result ≡ shown answer }
 {
     match answer {
         Ok(snapshot) => Response::Shown(snapshot),
@@ -67,7 +67,7 @@ pub(crate) fn of_snapshot<P: Peripheral>(answer: Result<Snapshot, SnapshotFault>
     }
 }
 
-/// What `Counter::attach` answers.
+/// Returns the response of a result of `Counter::attach`.
 pub(crate) fn of_attach<P: Peripheral>(answer: Result<(), (AttachFault, P)>) -> Response<P>
     requires { IfErr answer (λ refusal. (P.Peripheral.state refusal.1).is_parked ≡ false) }
     ensures answer { response_of P.Peripheral result ≡ attached P.Peripheral.state answer }
@@ -79,7 +79,7 @@ pub(crate) fn of_attach<P: Peripheral>(answer: Result<(), (AttachFault, P)>) -> 
     }
 }
 
-/// What `Counter::detach` answers.
+/// Returns the response of a result of `Counter::detach`.
 pub(crate) fn of_detach<P: Peripheral>(answer: Result<P, DetachFault>) -> Response<P>
     requires { IfOk answer (λ peripheral. (P.Peripheral.state peripheral).is_parked ≡ true) }
     ensures answer { response_of P.Peripheral result ≡ detached P.Peripheral.state answer }

@@ -10,14 +10,18 @@ use pos_disk::Disk;
 use pos_service::{Answer, Call, Category, NoMemory};
 use pos_totals::Totals;
 
-/// Whether a control is one of Hard Totals.
+/// Returns whether a control is one of Hard Totals.
 pub(crate) fn is_totals(control: &Control) -> bool
     ensures { result ≡ is_totals control.now.control.category }
 {
     control.category() == Category::HardTotals
 }
 
-/// A call of the totals' own that its control may make.
+/// Does a call of Hard Totals that the control with a number may make.
+///
+/// # Errors
+///
+/// [`NoMemory`] if memory ran out. Refused as the call's table says.
 pub(crate) fn call_files<D: Disk>(
     totals: &mut Totals<D>,
     number: usize,

@@ -1,4 +1,4 @@
-//! The work on the output that waits for devices (common chapter, asynchronous output).
+//! The work on the output that is queued for devices (common chapter, asynchronous output).
 ghost use Rattle.std.specs.Prelude.{◌≡◌, Some};
 ghost use Rattle.pos_service.specs.Claims.{holder_at};
 ghost use Rattle.pos_printer.specs.PrinterCalls.{WorksAt};
@@ -16,16 +16,18 @@ use pos_disk::Disk;
 use pos_service::{NoMemory, Peripheral, Worked};
 
 impl<D: Disk, P: Peripheral> Counter<D, P> {
-    /// Works on the output that waits for the device of this name: the first request of the control that holds it
-    /// (common chapter, asynchronous output).
+    /// Works on the first request of the control that holds the device of this name (common chapter, asynchronous
+    /// output). It returns one of:
     ///
-    /// It is Idle where there is nothing to do: where the device is no printer, where nobody holds it, where its holder
-    /// is disabled or has no request, and while the holder's first request has failed. Else the request is Done, and an
-    /// OutputCompleteEvent is enqueued; or it has Failed, stays the first, and an ErrorEvent with EL_OUTPUT is
-    /// enqueued.
+    /// - `Done`: the request is done and removed, and an OutputCompleteEvent is enqueued.
+    /// - `Failed`: the request has failed and stays the first, and an ErrorEvent with EL_OUTPUT is enqueued.
+    /// - `Idle`: there is nothing to do. The device is no printer, nobody holds it, the holder is disabled or has no
+    ///   request, or its first one has failed.
     ///
-    /// Refused with NoDevice where no device has the name or no peripheral stands behind it. Want of memory changes
-    /// nothing.
+    /// # Errors
+    ///
+    /// `NoDevice` if no device has the name or it has no peripheral, and `NoMemory` if memory ran out. Then nothing has
+    /// changed.
     pub fn work(&mut self, device: &[u8]) -> Result<Worked, WorkFault>
         requires sound { IsCounterSound P.Peripheral self.old }
         ensures step { IsStepBeside P.Peripheral self.old (WorkOn device.now) (worked result) self.new }
@@ -41,7 +43,11 @@ impl<D: Disk, P: Peripheral> Counter<D, P> {
     }
 }
 
-/// Works on the output that waits for what serves the device at a place.
+/// Works on the output that is queued for the device at a place.
+///
+/// # Errors
+///
+/// `NoMemory` if memory ran out. Then nothing has changed.
 fn work_there<P: Peripheral>(
     controls: &mut [Control],
     place: usize,

@@ -42,7 +42,7 @@ scroll_rows at direction units =
     when (is_none (direction_of direction)) code.Illegal
     ∷ when (not (are_units at (direction_of direction) units)) code.Illegal ∷ []
 
--- the arguments of each call, in order, by what stands at the device
+-- the arguments of each call, in order, by the kind of the device's peripheral
 abbrev pub display_rows : Option Kind → Call → List Row
 display_rows at (call.DisplayText text attribute) = text_rows text attribute
 display_rows at (call.DisplayTextAt row column text attribute) =
@@ -52,21 +52,21 @@ display_rows at (call.DisplayTextAt row column text attribute) =
 display_rows at (call.ScrollText direction units) = scroll_rows at direction units
 display_rows at asked = []
 
--- where a text from this place on leaves the cursor: at its last place, with CursorUpdate true, and else where it began
+-- where a text from this place on leaves the cursor: at its last place if CursorUpdate is true, otherwise at its first
 abbrev pub left_by : Option Kind → Cursor → Place → List ℕ → Place
 left_by at cursor start text = place_left (rows_of at) (columns_of at) cursor.update start text
 
--- the text is shown from this place on
+-- the order that shows a text from this place on
 abbrev pub shows : Option Kind → Cursor → Place → List ℕ → Attribute → Deed
 shows at cursor start text style =
     deed.Gives (order.ShowText start.row start.column style text) (change.Cursor (left_by at cursor start text))
 
--- what is shown moves so many units in a direction
+-- the order that moves what is shown by this many units in a direction
 abbrev pub scrolls : ℤ → Direction → Deed
 scrolls units direction = deed.Gives (order.Scroll direction (nat_abs units)) change.Nothing
 
--- What each call comes to at a device of this kind, by the control's cursor: a text is shown, and leaves the cursor at
--- its end or beginning; clearText leaves it at the first place, scrollText where it was.
+-- What each call comes to at a device of this kind, by the control's cursor. A text is shown, and leaves the cursor at
+-- its end or beginning. clearText leaves it at the first place, scrollText at its old one.
 abbrev pub display_deed : Option Kind → Cursor → Call → Option Deed
 display_deed at cursor (call.DisplayText text attribute) =
     option_map (shows at cursor cursor.place text) (attribute_of attribute)

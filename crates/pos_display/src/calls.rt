@@ -1,3 +1,4 @@
+//! The calls of a control on its line display.
 ghost use Rattle.std.specs.Prelude.{◌≡◌, ◌<◌, ◌≤◌, false, true, Some, Ok, MatchOption, length, slice_get};
 ghost use Rattle.std.specs.Option.{option_map};
 ghost use Rattle.pos_service.specs.declared.category.Category.TheVariants as category;
@@ -20,18 +21,27 @@ use pos_service::{
 };
 use std::alloc::Global;
 
-/// A call of the control with a number on its display. Each call gives one order, once its arguments are found good,
-/// its text, if any, is copied, and there is room for the events of all controls that hear of it; only when that is
-/// done, the cursor moves. Want of memory changes nothing.
+/// Does a call of the control with a number on its display (chapter Line Display). Each call gives one order, and the
+/// cursor moves only once that is done:
 ///
-/// `displayText` shows a text from the cursor on and leaves the cursor at its end, where CursorUpdate is true;
-/// `displayTextAt` has the cursor at a row and a column first; `clearText` blanks the display and has the cursor at the
-/// first place; `scrollText` moves what is shown, and keeps the cursor (chapter Line Display).
+/// - `displayText` shows a text from the cursor on. It leaves the cursor at the text's end if CursorUpdate is true.
+/// - `displayTextAt` does the same from a row and a column on.
+/// - `clearText` blanks the display, and leaves the cursor at the first place.
+/// - `scrollText` moves what is shown, and keeps the cursor.
 ///
-/// Refused with E_CLOSED where the control is closed, E_ILLEGAL for a call that displays don't have, E_CLAIMED where
-/// another control holds the display, E_NOTCLAIMED where nobody does, E_DISABLED where the control is disabled; with
-/// E_ILLEGAL for an argument out of range; then as the display says: with E_FAILURE where its line fails, E_OFFLINE
-/// where it is off.
+/// # Errors
+///
+/// [`NoMemory`] if there is none for a copy of the text or for the events, or the display ran out of it. Then nothing
+/// has changed. Refused in this order:
+///
+/// - E_CLOSED: the control is closed.
+/// - E_ILLEGAL: displays don't have the call.
+/// - E_CLAIMED: another control holds the display.
+/// - E_NOTCLAIMED: nobody holds it.
+/// - E_DISABLED: the control is disabled.
+/// - E_ILLEGAL: an argument is out of range.
+/// - E_FAILURE: the display's line failed.
+/// - E_OFFLINE: the display is off.
 pub fn call<P: Peripheral>(
     alloc: Global,
     controls: &mut [Control],
@@ -66,10 +76,12 @@ pub fn call<P: Peripheral>(
     }
 }
 
-/// What a call that displays have comes to, at a display of this kind, for a control with this cursor. Its text, if
-/// any, is copied once its arguments are found good.
+/// Returns what a call that displays have comes to, at a display of this kind, for a control with this cursor. Its
+/// text, if any, is copied once its arguments are checked.
 ///
-/// Refused with E_ILLEGAL for an argument out of range.
+/// # Errors
+///
+/// `NoMemory` if there is none for that copy, and within, E_ILLEGAL if an argument is out of range.
 fn plan(
     alloc: Global,
     kind: Kind,
@@ -103,7 +115,12 @@ fn plan(
     }
 }
 
-/// A text with the number of its attribute is to be shown from a place on.
+/// Returns the order to show a text, with the number of its attribute, from a place on.
+///
+/// # Errors
+///
+/// `NoMemory` if there is none for a copy of the text, and within, E_ILLEGAL if the text or the attribute is out of
+/// range.
 fn plan_text(
     alloc: Global,
     kind: Kind,
@@ -136,7 +153,7 @@ fn plan_text(
     Ok(Ok(Deed::Gives(order, Change::Cursor(place))))
 }
 
-/// Where a text from a place on leaves the cursor.
+/// Returns where a text from a place on leaves the cursor.
 fn left_by(kind: Kind, cursor: Cursor, start: Place, bytes: &[u8]) -> Place
     requires columns { 1 ≤ columns_of (Some kind) }
     requires start { is_cursor_place (rows_of (Some kind)) (columns_of (Some kind)) start ≡ true }
@@ -148,7 +165,11 @@ fn left_by(kind: Kind, cursor: Cursor, start: Place, bytes: &[u8]) -> Place
     place_after(rows_of(Some(kind)), columns_of(Some(kind)), start, bytes)
 }
 
-/// What is shown is to move in the direction of a number, by so many units.
+/// Returns the order to move what is shown by this many rows or columns, in the direction of a number.
+///
+/// # Errors
+///
+/// E_ILLEGAL if the direction is unknown, or the units are more than the rows or columns.
 fn plan_scroll(kind: Kind, direction: i128, units: i128) -> Result<Deed, Code>
     requires display { is_display kind ≡ true }
     ensures { Plans (scroll_rows (Some kind) direction units) (option_map (scrolls units) (direction_of direction))

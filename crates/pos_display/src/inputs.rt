@@ -1,3 +1,4 @@
+//! What happens at a line display from outside.
 ghost use Rattle.std.specs.Prelude.{◌≡◌, false, true};
 ghost use Rattle.pos_service.specs.Hardware.{StaysInService, TakenAt, hardware_of};
 ghost use Rattle.pos_service.specs.Kinds.{is_display};
@@ -8,9 +9,13 @@ use pos_common::{Control, take_input};
 use pos_service::{Input, NoMemory, Peripheral};
 use std::alloc::Global;
 
-/// Something happens at the display of the device at a place: it is switched on or off. Each control that has the
-/// device open and enabled, and is to be notified of its power, hears of it, once there is room for the events of all.
-/// Want of memory changes nothing (common chapter, device power reporting).
+/// Passes an input on to the display of the device at a place: it is switched on or off. Each control that has the
+/// device open and enabled, and is notified of its power, gets a StatusUpdateEvent (common chapter, device power
+/// reporting).
+///
+/// # Errors
+///
+/// [`NoMemory`] if memory ran out. Then nothing has changed.
 pub fn input<P: Peripheral>(
     alloc: Global,
     controls: &mut [Control],

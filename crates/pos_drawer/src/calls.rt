@@ -1,3 +1,4 @@
+//! The calls of a control on its cash drawer.
 ghost use Rattle.std.specs.Prelude.{◌≡◌, ◌<◌, false, true, Some, length};
 ghost use Rattle.pos_service.specs.declared.category.Category.TheVariants as category;
 ghost use Rattle.pos_service.specs.declared.kind.Kind.{Kind};
@@ -11,12 +12,20 @@ ghost use Rattle.pos_drawer.specs.DrawerCalls.{DrawerCall, DrawerOrders, drawer_
 use pos_common::{Claims, Control, carry_out};
 use pos_service::{Answer, Call, Category, Change, Deed, NoMemory, Order, Peripheral};
 
-/// A call of the control with a number on its drawer: with `openDrawer` the drawer opens, once there is room for the
-/// events of all controls that hear of it. Want of memory changes nothing.
+/// Does a call of the control with a number on its drawer: `openDrawer` opens it (chapter Cash Drawer). Each control
+/// that has the drawer open and enabled gets a StatusUpdateEvent if the drawer was closed before.
 ///
-/// Refused with E_CLOSED where the control is closed, E_ILLEGAL for a call that drawers don't have, E_CLAIMED where
-/// another control holds the drawer, E_DISABLED where the control is disabled; then as the drawer says: with E_FAILURE
-/// where its line fails, E_OFFLINE where it is off (chapter Cash Drawer).
+/// # Errors
+///
+/// [`NoMemory`] if there is no room for the events, or the drawer ran out of memory. Then nothing has changed. Refused
+/// in this order:
+///
+/// - E_CLOSED: the control is closed.
+/// - E_ILLEGAL: drawers don't have the call.
+/// - E_CLAIMED: another control holds the drawer.
+/// - E_DISABLED: the control is disabled.
+/// - E_FAILURE: the drawer's line failed.
+/// - E_OFFLINE: the drawer is off.
 pub fn call<P: Peripheral>(
     controls: &mut [Control],
     caller: usize,
@@ -41,7 +50,7 @@ pub fn call<P: Peripheral>(
     }
 }
 
-/// What a call that drawers have comes to: with `openDrawer` the drawer opens.
+/// Returns what a call that drawers have comes to.
 fn plan(call: &Call) -> Deed
     requires { has_call category.CashDrawer call.now ≡ true }
     ensures deed { drawer_deed call.now ≡ Some result }

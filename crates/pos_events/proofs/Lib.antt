@@ -4,3 +4,4 @@ pub mod EnqueuingLemmas
 pub mod ReadingLemmas
 pub mod ClearingLemmas
 pub mod DeliveringLemmas
+pub mod DeliverableLemmas

@@ -7,11 +7,11 @@ use Rattle.pos_file.specs.Calls.{is_whole}
 use Rattle.pos_file.specs.declared.fault.DiskFileFault.{DiskFileFault}
 use Rattle.pos_file.specs.declared.fault.DiskFileFault.TheVariants as fault
 
--- a fault, unless this is so
+-- a fault, unless this holds
 abbrev pub fault_unless : Bool → Answer
 fault_unless done = cond done (Ok tt) (Err record {})
 
--- what the disk answers if its file moved this many bytes of as many as were asked for: anything but all is a fault
+-- what the disk answers if its file moved so many of the bytes that were asked for: a fault unless it moved all
 abbrev pub answer_of : ℕ → Option ℕ → Answer
 answer_of asked moved = fault_unless (is_whole asked moved)
 

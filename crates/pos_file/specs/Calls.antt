@@ -10,7 +10,7 @@ pub record Call : Type 0 where
   pub kind : CallKind
   -- the place of a read or a write, the new length of a resize, and else 0
   pub at : ℕ
-  -- the bytes of a write, those that the room of a read holds after it, and else none
+  -- the bytes of a write, those that the buffer of a read holds after it, and else none
   pub bytes : List ℕ
   -- how many bytes a read or a write moved, how long the file is, how many locks were given (1 or 0), and else 0;
   -- none if the call failed
@@ -20,18 +20,18 @@ pub record Call : Type 0 where
 abbrev pub call_of : CallKind → ℕ → List ℕ → Option ℕ → Call
 call_of kind at bytes answer = record { kind = kind; at = at; bytes = bytes; answer = answer }
 
--- what a call for a lock answers: it is given, another program has it, or the system failed
+-- what a call for a lock answers: 1 if it is given, 0 if another program has it, none if the call failed
 abbrev pub locks_of : Result (Unit {0}) TryLockError → Option ℕ
 locks_of (Ok u) = Some 1
 locks_of (Err lock.WouldBlock) = Some 0
 locks_of (Err (lock.Error cause)) = None
 
--- what a call answers that has a number to tell
+-- the number that a call answers, none if it failed
 abbrev pub number_of : {E : Type 0} → Result ℕ E → Option ℕ
 number_of (Ok n) = Some n
 number_of (Err cause) = None
 
--- what a call answers that has nothing to tell
+-- 0 for a call that answers no number, none if it failed
 abbrev pub done_of : {E : Type 0} → Result (Unit {0}) E → Option ℕ
 done_of (Ok u) = Some 0
 done_of (Err cause) = None
@@ -44,7 +44,7 @@ lock_call answer = call_of Lock 0 [] answer
 abbrev pub share_call : Option ℕ → Call
 share_call answer = call_of Share 0 [] answer
 
--- the file is asked how long it is
+-- the file is asked for its length
 abbrev pub measure_call : Option ℕ → Call
 measure_call answer = call_of Measure 0 [] answer
 
@@ -52,7 +52,7 @@ measure_call answer = call_of Measure 0 [] answer
 abbrev pub resize_call : ℕ → Option ℕ → Call
 resize_call size answer = call_of Resize size [] answer
 
--- bytes are read from a place on, and the room holds these then
+-- bytes are read from a place on, and the buffer holds these then
 abbrev pub read_call : ℕ → List ℕ → Option ℕ → Call
 read_call at bytes answer = call_of Read at bytes answer
 
@@ -60,7 +60,7 @@ read_call at bytes answer = call_of Read at bytes answer
 abbrev pub write_call : ℕ → List ℕ → Option ℕ → Call
 write_call at bytes answer = call_of Write at bytes answer
 
--- what was written is made to stay
+-- the file is asked for a sync
 abbrev pub sync_call : Option ℕ → Call
 sync_call answer = call_of Sync 0 [] answer
 

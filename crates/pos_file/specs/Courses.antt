@@ -13,7 +13,7 @@ abbrev pub PutsDown : Bool → ℕ → List ℕ → Memory → Memory → Type 0
 PutsDown true at bytes old new = new ≡ written at bytes old
 PutsDown false at bytes old new = (put : List ℕ) × (length put ≡ length bytes) × (new ≡ written at put old)
 
--- the bytes are those that stand there, if all of them were given
+-- the bytes are those that are there, if all of them were read
 abbrev pub Shows : Bool → ℕ → List ℕ → Memory → Type 0
 Shows true at bytes now = bytes ≡ part at (length bytes) now.present.reading
 Shows false at bytes now = Unit {0}

@@ -20,7 +20,7 @@ Asks calls old new more = calls new ≡ calls old ++ more
 abbrev pub AsksNothing : {F : Type 0} → FileDisk F → FileDisk F → Answer → Type 0
 AsksNothing old new answer = (answer ≡ Err record {}) × (new ≡ old)
 
--- a read of a disk in a file is one read of the file, with the same place and room
+-- a read of a disk in a file is one read of the file, with the same place and buffer
 abbrev pub FileReads : {F : Type 0} → (F → List Call) → FileDisk F → FileDisk F → ℕ → List ℕ → List ℕ → Answer
     → Type 0
 FileReads calls old new at before after answer =
@@ -54,7 +54,7 @@ file_disks calls = record {
   own_sync = FileSyncs calls;
 }
 
--- what is made of a file's answer to a call for a lock: if it is locked, it is measured; a refusal hands it back
+-- what opening does after a file's answer to a call for a lock: a locked file is measured; a refusal returns it
 abbrev pub FollowsLock : {F : Type 0} → (F → List Call) → F → Result (Unit {0}) TryLockError
     → Result (FileDisk F) (DiskFileFault × F) → Type 0
 FollowsLock calls file (Ok u) (Ok disk) =
@@ -63,8 +63,8 @@ FollowsLock calls file (Ok u) (Err (fault.Measure cause, left)) = Asks calls fil
 FollowsLock calls file (Ok u) (Err (other, left)) = ⊥
 FollowsLock calls file (Err cause) result = result ≡ Err (lock_fault cause, file)
 
--- what opening a file as a disk answers: it is asked for a lock, by this call, and then measured; a refusal hands the
--- file back
+-- what opening a file as a disk answers: it is asked for a lock, by this call, and then measured; a refusal returns
+-- the file
 abbrev pub OpensBy : {F : Type 0} → (Option ℕ → Call) → (F → List Call) → F
     → Result (FileDisk F) (DiskFileFault × F) → Type 0
 OpensBy lock calls file (Ok disk) =
@@ -83,7 +83,7 @@ Opens calls file result = OpensBy lock_call calls file result
 abbrev pub OpensShared : {F : Type 0} → (F → List Call) → F → Result (FileDisk F) (DiskFileFault × F) → Type 0
 OpensShared calls file result = OpensBy share_call calls file result
 
--- what lengthening a disk's file answers: it has the new length, which is synced; a refusal hands the file back
+-- what lengthening a disk's file answers: it has the new length, which is synced; a refusal returns it
 abbrev pub Lengthens : {F : Type 0} → (F → List Call) → FileDisk F → ℕ → Result (FileDisk F) (DiskFileFault × F)
     → Type 0
 Lengthens calls old size (Ok disk) =

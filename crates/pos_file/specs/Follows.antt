@@ -1,4 +1,4 @@
--- How a disk in a file goes along with what its file was asked.
+-- How a disk in a file follows what its file was asked.
 use Rattle.std.specs.Prelude.{◌≡◌, ◌++◌, List}
 use Rattle.pos_disk.specs.Memory.{Memory}
 use Rattle.pos_file.specs.Calls.{Call}

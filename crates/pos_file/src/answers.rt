@@ -1,11 +1,12 @@
-//! What the answer of a file's call is in the list of its calls.
+//! The answers of a file's calls, as the list of its calls has them.
 ghost use Rattle.std.specs.Prelude.{◌≡◌};
 ghost use Rattle.pos_file.specs.Calls.{done_of, locks_of, number_of};
 
 use std::fs::TryLockError;
 use std::io;
 
-/// What a call for a lock answers.
+/// Returns the number that stands for the answer to a call for a lock: 1 if it is given, 0 if another program has it.
+/// It returns `None` if the call failed.
 pub(crate) fn locks(answer: &Result<(), TryLockError>) -> Option<u64>
     ensures { result ≡ locks_of answer.now }
 {
@@ -16,7 +17,7 @@ pub(crate) fn locks(answer: &Result<(), TryLockError>) -> Option<u64>
     }
 }
 
-/// What a call answers that has a number to tell.
+/// Returns the number that a call answered, or `None` if the call failed.
 pub(crate) fn number(answer: &io::Result<usize>) -> Option<u64>
     ensures { result ≡ number_of answer.now }
 {
@@ -26,7 +27,7 @@ pub(crate) fn number(answer: &io::Result<usize>) -> Option<u64>
     }
 }
 
-/// What a call answers that has nothing to tell.
+/// Returns 0 for a call that answers no number, or `None` if the call failed.
 pub(crate) fn done(answer: &io::Result<()>) -> Option<u64>
     ensures { result ≡ done_of answer.now }
 {

@@ -7,8 +7,10 @@ ghost use Rattle.pos_file.specs.Calls.{resize_call, share_call, sync_call, write
 use std::fs::TryLockError;
 use std::io;
 
-/// A file that is read and written by places. It counts its calls: each adds itself, with its answer, to the list of
-/// those before. What a file keeps no contract can say; what it was asked, the list says exactly.
+/// A file that is read and written by places, numbered from 0.
+///
+/// It keeps a list of its calls: each adds itself, with its answer, after those before. No contract can say what a file
+/// keeps, but the list says exactly what it was asked.
 pub trait BlockFile {
     /// What it was asked so far, the first call first.
     ghost calls: { Self → List Call };
@@ -17,15 +19,17 @@ pub trait BlockFile {
     ///
     /// # Errors
     ///
-    /// `WouldBlock` if another program has locked it, and what the system says.
+    /// - `WouldBlock` if another program has locked it.
+    /// - `Error` with the system's cause if the call failed.
     fn try_lock(&mut self) -> Result<(), TryLockError>
         ensures { calls self.new ≡ calls self.old ++ lock_call (locks_of result) ∷ [] };
 
-    /// Locks it for reading, without waiting: other programs may lock it for reading too.
+    /// Locks it for reading, without waiting. Other programs may lock it for reading too.
     ///
     /// # Errors
     ///
-    /// `WouldBlock` if another program has locked it for itself, and what the system says.
+    /// - `WouldBlock` if another program has locked it for itself.
+    /// - `Error` with the system's cause if the call failed.
     fn try_lock_shared(&mut self) -> Result<(), TryLockError>
         ensures { calls self.new ≡ calls self.old ++ share_call (locks_of result) ∷ [] };
 
@@ -33,32 +37,32 @@ pub trait BlockFile {
     ///
     /// # Errors
     ///
-    /// What the system says.
+    /// The system's cause if the call failed.
     fn measure(&mut self) -> io::Result<u64>
         ensures { calls self.new ≡ calls self.old ++ measure_call (number_of result) ∷ [] };
 
-    /// Cuts it to this many bytes, or lengthens it with zeros.
+    /// Cuts it to `size` bytes, or lengthens it with zeros.
     ///
     /// # Errors
     ///
-    /// What the system says.
+    /// The system's cause if the call failed.
     fn resize(&mut self, size: u64) -> io::Result<()>
         ensures { calls self.new ≡ calls self.old ++ resize_call size (done_of result) ∷ [] };
 
-    /// Reads bytes from place `at` on, at most as many as `out` holds. Returns how many.
+    /// Reads bytes from place `at` on, at most as many as `out` holds, and returns how many it read.
     ///
     /// # Errors
     ///
-    /// What the system says.
+    /// The system's cause if the call failed.
     fn read_at(&mut self, at: u64, out: &mut [u8]) -> io::Result<usize>
         ensures bound { ReadsAtMost result out.new }
         ensures asked { calls self.new ≡ calls self.old ++ read_call at out.new (number_of result) ∷ [] };
 
-    /// Writes bytes from place `at` on. Returns how many of them.
+    /// Writes bytes from place `at` on, and returns how many of them it wrote.
     ///
     /// # Errors
     ///
-    /// What the system says.
+    /// The system's cause if the call failed.
     fn write_at(&mut self, at: u64, bytes: &[u8]) -> io::Result<usize>
         ensures bound { WritesAtMost result bytes.now }
         ensures asked { calls self.new ≡ calls self.old ++ write_call at bytes.now (number_of result) ∷ [] };
@@ -67,7 +71,7 @@ pub trait BlockFile {
     ///
     /// # Errors
     ///
-    /// What the system says.
+    /// The system's cause if the call failed.
     fn sync(&mut self) -> io::Result<()>
         ensures { calls self.new ≡ calls self.old ++ sync_call (done_of result) ∷ [] };
 }

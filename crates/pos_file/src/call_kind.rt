@@ -1,20 +1,20 @@
-//! What a file can be asked.
+//! The kinds of a file's calls.
 
-/// What a file is asked.
+/// What a file is asked for.
 #[derive(Clone, Copy, PartialEq, Eq)]
 pub enum CallKind {
-    /// To lock itself for this program alone.
+    /// A lock for this program alone.
     Lock,
-    /// To lock itself for reading.
+    /// A lock for reading.
     Share,
-    /// How long it is.
+    /// Its length.
     Measure,
-    /// To have another length.
+    /// Another length.
     Resize,
-    /// For bytes.
+    /// A read.
     Read,
-    /// To take bytes.
+    /// A write.
     Write,
-    /// To make what it took stay.
+    /// A sync.
     Sync,
 }

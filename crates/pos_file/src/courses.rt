@@ -1,4 +1,4 @@
-//! What is true of a course of calls.
+//! Laws of a course of calls.
 ghost use Rattle.std.specs.Prelude.{◌≡◌, ◌++◌, List, ℕ, cond, false, length};
 ghost use Rattle.pos_disk.specs.Memory.{Memory, state_of, synced, written};
 ghost use Rattle.pos_disk.specs.State.{Answer, part};
@@ -11,7 +11,8 @@ ghost use Rattle.pos_file.specs.declared.file_disk.FileDisk.{FileDisk};
 
 use crate::block_file::BlockFile;
 
-/// One course and then another are a course of all their calls; and a course of both is one and then the other.
+/// Says that one course and then another are a course of all their calls (`joined`), and that such a course is one and
+/// then the other (`parted`).
 pub fn a_course_goes_on()
     ensures joined { (done rest : List Call) (old mid new : Memory) → CourseMakes done old mid
         → CourseMakes rest mid new → CourseMakes (done ++ rest) old new }
@@ -19,20 +20,22 @@ pub fn a_course_goes_on()
         → (mid : Memory) × CourseMakes done old mid × CourseMakes rest mid new }
 {}
 
-/// If each write took all its bytes, the calls alone determine the disk.
+/// Says that the calls alone determine the disk if each write took all its bytes.
 pub fn a_course_is_one()
     ensures { (calls : List Call) (old new other : Memory) → TakesAll calls → CourseMakes calls old new
         → CourseMakes calls old other → new ≡ other }
 {}
 
-/// What a crash at some moment of a course may leave, it may have left since the moment at which the course began.
+/// Says that what a crash at some moment of a course may leave, it may have left since the course began.
 pub fn a_course_leaves()
     ensures { (calls : List Call) (old new : Memory) (bytes : List ℕ) → CourseLeaves calls old new bytes
         → (state_of new).left_since (state_of old).moment bytes }
 {}
 
-/// Each call of a disk in a file that has not failed goes on with the course of its file: a read that gives what stands
-/// there, a write of all its bytes, or after a fault of any bytes in their range, and a sync.
+/// Says that each call of a disk in a file continues the course of its file, unless the disk has failed.
+///
+/// A read gives the bytes that are there. A write puts down all its bytes, or after a fault any bytes in their range. A
+/// sync settles what was written, or after a fault nothing.
 pub fn a_disk_follows<F: BlockFile>()
     ensures reads { (before : List Call) (start now : Memory) (old new : FileDisk F) (at : ℕ) (was out : List ℕ)
         (answer : Answer) → Follows F.calls before start old.file now → old.has_failed ≡ false

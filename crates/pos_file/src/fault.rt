@@ -13,13 +13,13 @@ pub enum DiskFileFault {
     /// The system gives no lock on it.
     #[error("it can't be locked: {0}")]
     Lock(io::Error),
-    /// The system doesn't say how long it is.
+    /// The system doesn't report its length.
     #[error("its length can't be told: {0}")]
     Measure(io::Error),
     /// It can't be lengthened.
     #[error("it can't be lengthened: {0}")]
     Lengthen(io::Error),
-    /// It was lengthened, and the device may not have it.
+    /// It was lengthened, but the device may not have the new length.
     #[error("it can't be synced: {0}")]
     Sync(io::Error),
 }
@@ -28,7 +28,7 @@ impl DiskFileFault {
     ghost use Rattle.std.specs.Prelude.{◌≡◌};
     ghost use Rattle.pos_file.specs.Answers.{lock_fault};
 
-    /// Why a file isn't locked.
+    /// Returns why a file isn't locked, by the answer to the call for a lock.
     pub fn of_lock(cause: TryLockError) -> DiskFileFault
         ensures { result ≡ lock_fault cause }
     {

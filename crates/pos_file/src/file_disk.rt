@@ -10,12 +10,16 @@ use pos_disk::{Disk, DiskFault};
 use std::fs::TryLockError;
 use std::io;
 
-/// A disk in a file, as long as the file was when it was opened. The file is locked for this program alone, from before
-/// it is measured until it is closed. A read or a write is one call of the file. If that fails, or moves fewer bytes
-/// than were asked for, the answer is a fault. After a sync that failed each call is a fault, and asks nothing of the
-/// file, until the file is opened again: the system may count as settled what the device never had.
+/// A disk in a file, as long as the file was when it was opened.
 ///
-/// No clause can say what a file keeps, so the disk is never honest. Its own relations say what it asks of the file.
+/// The file is locked from before it is measured until it is closed: for this program alone, or for reading by
+/// [`FileDisk::over_shared`]. A read or a write is one call of the file. If that fails, or moves fewer bytes than were
+/// asked for, the answer is a fault.
+///
+/// After a sync that failed each call is a fault and asks nothing of the file, until the file is opened again. The
+/// system may count as settled what the device never had.
+///
+/// No contract can say what a file keeps, so the disk is never honest. Its own relations say what it asks of the file.
 /// docs/guide/power-cuts.md, "Premises on a real disk".
 #[derive(Drop)]
 pub struct FileDisk<F: BlockFile + Drop> {
@@ -25,7 +29,7 @@ pub struct FileDisk<F: BlockFile + Drop> {
     has_failed: bool,
 }
 
-// Whether a call of the file moved all the bytes that it was asked for.
+// Returns a fault unless a call of the file moved all the bytes that it was asked for.
 fn whole(moved: io::Result<usize>, asked: usize) -> Result<(), DiskFault>
     ensures { result ≡ answer_of asked (number_of moved) }
 {
@@ -38,14 +42,14 @@ fn whole(moved: io::Result<usize>, asked: usize) -> Result<(), DiskFault>
 impl<F: BlockFile + Drop> FileDisk<F> {
     ghost use Rattle.pos_file.specs.Disks.{FollowsLock, Lengthens, Opens, OpensShared};
 
-    /// The file, to be looked at.
+    /// Returns the file, to be looked at.
     pub fn file(&self) -> &F
         ensures { result.now ≡ self.now.file }
     {
         &self.file
     }
 
-    // Answers a fault after a sync that failed.
+    // Returns a fault after a sync that failed.
     fn check(&self) -> Result<(), DiskFault>
         ensures { is_fault result ≡ self.now.has_failed }
     {
@@ -55,11 +59,15 @@ impl<F: BlockFile + Drop> FileDisk<F> {
         Ok(())
     }
 
-    /// The disk in an open file, as long as the file is now. The file is locked first, and a refusal hands it back.
+    /// Locks an open file for this program alone, and returns the disk in it, as long as the file is now.
     ///
     /// # Errors
     ///
-    /// `InUse` if another program has locked it, and nothing else was asked of it then; `Lock` and `Measure`.
+    /// - `InUse` if another program has locked it. Nothing else was asked of it then.
+    /// - `Lock` if the system gives no lock.
+    /// - `Measure` if the system doesn't report its length.
+    ///
+    /// A refusal returns the file.
     pub fn over(mut file: F) -> Result<FileDisk<F>, (DiskFileFault, F)>
         ensures { Opens F.calls file result }
     {
@@ -67,13 +75,16 @@ impl<F: BlockFile + Drop> FileDisk<F> {
         FileDisk::locked(file, lock)
     }
 
-    /// The disk in an open file that is only read, as long as the file is now. The file is locked for reading first, so
-    /// other programs may read it too. A refusal hands it back.
+    /// Locks an open file for reading, and returns the disk in it, as long as the file is now. Other programs may read
+    /// it too. Use it for a disk that is only read.
     ///
     /// # Errors
     ///
-    /// `InUse` if another program has locked it for itself, and nothing else was asked of it then; `Lock` and
-    /// `Measure`.
+    /// - `InUse` if another program has locked it for itself. Nothing else was asked of it then.
+    /// - `Lock` if the system gives no lock.
+    /// - `Measure` if the system doesn't report its length.
+    ///
+    /// A refusal returns the file.
     pub fn over_shared(mut file: F) -> Result<FileDisk<F>, (DiskFileFault, F)>
         ensures { OpensShared F.calls file result }
     {
@@ -81,7 +92,7 @@ impl<F: BlockFile + Drop> FileDisk<F> {
         FileDisk::locked(file, lock)
     }
 
-    // The disk in a file that answered this to a call for a lock.
+    // Returns the disk in a file that answered this to a call for a lock.
     fn locked(
         mut file: F,
         lock: Result<(), TryLockError>,
@@ -101,11 +112,14 @@ impl<F: BlockFile + Drop> FileDisk<F> {
         }
     }
 
-    /// The disk, lengthened with zero bytes, which are synced. A refusal hands the file back.
+    /// Lengthens the file to `size` bytes with zeros, syncs it, and returns the disk.
     ///
     /// # Errors
     ///
-    /// `Lengthen`, and `Sync` if the device may not have the new length.
+    /// - `Lengthen` if the file can't be lengthened.
+    /// - `Sync` if the sync failed. The device may not have the new length then.
+    ///
+    /// A refusal returns the file.
     pub fn lengthen(self, size: u64) -> Result<FileDisk<F>, (DiskFileFault, F)>
         requires { self.has_failed ≡ false }
         ensures { Lengthens F.calls self size result }

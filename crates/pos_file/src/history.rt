@@ -1,4 +1,4 @@
-//! What a file was asked so far. Only contracts and proofs read it; it takes no memory.
+//! The calls of a file so far. Only contracts and proofs read them; they take no memory.
 ghost use Rattle.std.specs.Prelude.{◌≡◌, ◌++◌, [], ◌∷◌, cond, List, None, Option, Some};
 ghost use Rattle.std.specs.Borrow.{ftrue};
 ghost use Rattle.pos_file.specs.Calls.{Call, call_of};
@@ -6,9 +6,10 @@ ghost use Rattle.pos_file.specs.Calls.{Call, call_of};
 use crate::call_kind::CallKind;
 use std::marker::Model;
 
-/// What a file was asked so far, the first call first. It is there for contracts alone, and takes no memory.
+/// The calls of a file so far, the first one first. Only contracts see them, and they take no memory.
 #[derive(Drop)]
 pub struct CallHistory {
+    /// The calls, the first one first.
     pub ghost calls: { List Call },
 }
 
@@ -17,14 +18,14 @@ impl Model for CallHistory {
 }
 
 impl CallHistory {
-    /// Nothing was asked yet.
+    /// Returns the history of a file that was asked nothing yet.
     pub fn new() -> CallHistory
         ensures { result.calls ≡ [] }
     {
         CallHistory {}
     }
 
-    // One call more, which failed or answered a number.
+    // Returns the history with one more call, which failed or answered a number.
     fn and(
         &self,
         _kind: &CallKind,
@@ -39,7 +40,7 @@ impl CallHistory {
         CallHistory {}
     }
 
-    /// One call more.
+    /// Adds one call, with the number that it answered, or `None` if it failed.
     pub fn note(&mut self, kind: CallKind, at: u64, bytes: &[u8], answer: Option<u64>)
         ensures { self.new.calls ≡ self.old.calls ++ call_of kind at bytes.now answer ∷ [] }
     {

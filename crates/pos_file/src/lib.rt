@@ -1,10 +1,13 @@
 //! A disk in a file, with a record of what was asked of the file.
 //!
-//! [`BlockFile`] is a file as the disk needs it. Its contracts say that each call adds itself, with its answer, to the
-//! list of the file's calls. [`FileDisk`] is the disk over any such file: each read, write and sync of the disk is one
-//! call of the file, with the same place and bytes. [`SystemFile`] is a file of the system, and
-//! [`MemoryFile`] one in memory.
-//! `specs/Courses.antt` says what a list of calls makes of a disk by the crash model, and what a crash leaves of it.
+//! - [`BlockFile`] is a file as the disk needs it. Each call adds itself, with its answer, to the list of the file's
+//!   calls.
+//! - [`FileDisk`] is the disk over any such file, and [`DiskFileFault`] says why a file can't serve as one.
+//! - [`SystemFile`] is a file of the system, and [`MemoryFile`] one in memory, for tests.
+//!
+//! The layer above relies on this: each read, write and sync of the disk is one call of the file, with the same place
+//! and bytes. No contract says what a file keeps. `specs/Courses.antt` says what a list of calls makes of a disk by the
+//! crash model, and what a crash leaves of it.
 #![tactic(auto)]
 
 mod answers;

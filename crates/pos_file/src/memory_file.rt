@@ -9,21 +9,23 @@ use std::fs::TryLockError;
 use std::io;
 use std::io::ErrorKind;
 
-/// A file in memory that does what a test wants. It moves at most so many bytes a call, and refuses its lock, its new
-/// length or its syncs, or not. It keeps its length.
+/// A file in memory that fails as a test sets it.
+///
+/// A read or a write moves at most `most` bytes. A lock or a sync fails if a cause is set. Its length never changes: a
+/// call for another length always fails.
 #[derive(Drop)]
 pub struct MemoryFile {
     bytes: Vec<u8>,
-    /// How many bytes a read or a write moves, at most.
+    /// The most bytes that a read or a write moves.
     pub most: usize,
-    /// Why it isn't locked.
+    /// Why a call for a lock fails, or `None` if it succeeds. `WouldBlock` means that another program has the lock.
     pub lock_fault: Option<ErrorKind>,
-    /// Why it isn't synced.
+    /// Why a sync fails, or `None` if it succeeds.
     pub sync_fault: Option<ErrorKind>,
     history: CallHistory,
 }
 
-// What a call answers that fails for this reason, or not.
+// Returns what a call answers that fails with this cause, or succeeds if there is none.
 fn outcome(fault: Option<ErrorKind>) -> io::Result<()> {
     match fault {
         None => Ok(()),
@@ -31,7 +33,7 @@ fn outcome(fault: Option<ErrorKind>) -> io::Result<()> {
     }
 }
 
-// What a call for a lock answers that fails for this reason, or not.
+// Returns what a call for a lock answers that fails with this cause, or succeeds if there is none.
 fn lock_outcome(fault: Option<ErrorKind>) -> Result<(), TryLockError> {
     match fault {
         None => Ok(()),
@@ -41,7 +43,7 @@ fn lock_outcome(fault: Option<ErrorKind>) -> Result<(), TryLockError> {
 }
 
 impl MemoryFile {
-    /// A file with these bytes, which moves all of them and refuses nothing.
+    /// Returns a file with these bytes, which moves all of them and refuses no lock and no sync.
     pub fn new(bytes: Vec<u8>) -> MemoryFile
         ensures { result.history.calls ≡ [] }
     {
@@ -54,7 +56,7 @@ impl MemoryFile {
         }
     }
 
-    /// Its bytes.
+    /// Returns its bytes.
     pub fn bytes(&self) -> &[u8]
         ensures { result.now ≡ self.now.bytes.items }
     {

@@ -1,5 +1,5 @@
-//! A file of the system. No contract says what its calls do, so read this file: each method is one call of `File`, and
-//! notes that call with its answer.
+//! A file of the system. No contract says what the system does: each method is one call of `File`, noted with its
+//! answer.
 ghost use Rattle.std.specs.Prelude.{◌≡◌, []};
 
 use crate::answers::{done, locks, number};
@@ -10,7 +10,7 @@ use std::fs::{File, TryLockError};
 use std::io;
 use std::os::unix::fs::FileExt;
 
-/// A file of the system.
+/// A file of the system. Each of its calls is one call of `File`, and is noted with its answer.
 #[derive(Drop)]
 pub struct SystemFile {
     file: File,
@@ -18,7 +18,7 @@ pub struct SystemFile {
 }
 
 impl SystemFile {
-    /// An open file, which wasn't asked anything yet.
+    /// Returns an open file that was asked nothing yet.
     pub fn new(file: File) -> SystemFile
         ensures { result.history.calls ≡ [] }
     {

@@ -4,7 +4,7 @@ use Rattle.pos_disk.specs.State.{Answer, part}
 use Rattle.pos_disk.specs.Memory.{Memory, fresh, written, synced}
 use Rattle.pos_disk.specs.declared.device.Disk.{Ghosts}
 
--- A relation that says which disk in memory the calls make that a disk was asked, and what each call adds to it.
+-- A relation that says which disk in memory a disk's calls make, and what each call adds to it.
 -- After a write that failed any bytes may be there; a read gives the bytes that are there.
 pub record IsAsking {D : Type 0} (bound : Ghosts D) (Asked : D → Memory → Type 0) : Type 0 where
   pub begun : (old new : D) (before bytes : List ℕ) → bound.own_read old new 0 before bytes (Ok tt)

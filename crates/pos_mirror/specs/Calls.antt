@@ -40,8 +40,8 @@ pub record MirrorReads {D : Type 0} (old new : Mirror D) (at : ℕ) (before afte
   pub untouched : old.lost ≡ true → after ≡ before
   pub same : new ≡ record old { failures = failures_after old.failures answer }
 
--- A range of memory, that of a write that failed, was read once from the disk below, and memory has what that left in
--- it: what was found, if the read succeeded, else any bytes.
+-- The range of a write that failed was read once from the disk below, and memory has what the read left in it: the
+-- bytes there if the read succeeded, else any bytes.
 pub record Rereads {D : Type 0} (bound : Ghosts D) (old new : D) (at n : ℕ) (memory after : Memory) (answer : Answer)
     : Type 0 where
   pub left : List ℕ
@@ -50,7 +50,7 @@ pub record Rereads {D : Type 0} (bound : Ghosts D) (old new : D) (at n : ℕ) (m
   pub reads : bound.honest old → Reads (bound.state old) (bound.state new) at left answer
   pub shown : after ≡ written at left memory
 
--- A write of a mirror failed below: that was one write of the disk below, and then one read of the range.
+-- A write of a mirror failed below: it made one write of the disk below, and then one read of the range.
 pub record FailsBelow {D : Type 0} (bound : Ghosts D) (old new : Mirror D) (at : ℕ) (bytes : List ℕ) : Type 0 where
   pub mid : D
   pub asked : bound.own_write old.below mid at bytes (Err record {})

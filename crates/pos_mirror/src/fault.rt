@@ -1,16 +1,16 @@
-// Why a disk can't be mirrored.
+//! Why a disk can't be mirrored.
 use thiserror::Error;
 
 /// Why a disk can't be mirrored.
 #[derive(Clone, Copy, Debug, PartialEq, Eq, Error)]
 pub enum MirrorFault {
-    /// There was no memory for its bytes.
+    /// Memory for the bytes of the disk ran out.
     #[error("there was no memory")]
     NoMemory,
-    /// The disk can't be synced.
+    /// A sync of the disk failed.
     #[error("the disk can't be synced")]
     Sync,
-    /// The disk can't be read.
+    /// A read of the disk failed.
     #[error("the disk can't be read")]
     Read,
 }

@@ -1,4 +1,4 @@
-// A disk in memory over another disk, which needn't be honest.
+//! A disk in memory over another disk, which needn't be honest.
 ghost use Rattle.std.specs.Prelude.{◌≡◌, ◌↔◌, List, ℕ, length, min, take};
 ghost use Rattle.pos_disk.specs.State.{MayLeave};
 ghost use Rattle.pos_disk.specs.Fuse.{counted};
@@ -11,14 +11,17 @@ use pos_disk::{Disk, DiskFault};
 use std::alloc::Global;
 use std::marker::Model;
 
-/// The bytes of a disk in memory. Each write and each sync is made on the disk below before it is answered; a read is
-/// answered from memory. A call succeeds only if the one below did. After a write that failed the range is read
-/// again, so memory shows what the disk below has. The mirror is lost for good when that read fails, and when a sync
-/// fails: the system may count as settled what the device never had. A lost mirror answers each call with a fault and
-/// asks nothing of the disk below.
+/// A disk in memory over another disk, which needn't be honest.
 ///
-/// It has one byte of memory for each byte of the disk, taken when it is made. No call takes memory, and each but a
-/// sync takes as long as its range is.
+/// It makes each write and each sync on the disk below before it answers, and answers a read from memory. A write or a
+/// sync succeeds only if the one below did. After a write that failed it reads the range again, so memory shows what
+/// the disk below has.
+///
+/// The mirror is lost for good if that read fails. It is lost if a sync fails, too: the system may count as settled
+/// what the device never had. A lost mirror answers each call with a fault and asks nothing of the disk below.
+///
+/// It takes one byte of memory for each byte of the disk, when it is made. No call takes memory, and each except a sync
+/// takes as long as its range is.
 #[derive(Drop)]
 pub struct MirrorDisk<D: Disk> {
     memory: Shown,
@@ -38,12 +41,16 @@ impl<D: Disk> Model for MirrorDisk<D> {
 }
 
 impl<D: Disk> MirrorDisk<D> {
-    /// A mirror of the first bytes of a disk, at most `most` of them. It syncs the disk and then reads it, so the
-    /// mirror is at rest.
+    /// Returns a mirror of the first bytes of a disk, at most `most` of them. It syncs the disk and then reads it, so
+    /// the mirror is at rest.
     ///
     /// # Errors
     ///
-    /// Sync and Read if the disk failed there, NoMemory if there is no memory. The disk is returned with the fault.
+    /// - `NoMemory` if memory ran out. The disk was asked nothing then.
+    /// - `Sync` if the sync failed.
+    /// - `Read` if the read failed.
+    ///
+    /// A refusal returns the disk.
     pub fn over(mut below: D, alloc: Global, most: u64) -> Result<MirrorDisk<D>, (MirrorFault, D)>
         ensures opens { Opens D.Disk below (min (D.size below) most) result }
         ensures size { D.size (disk_of result) ≡ D.size below }
@@ -67,21 +74,21 @@ impl<D: Disk> MirrorDisk<D> {
         })
     }
 
-    /// The bytes that the mirror shows.
+    /// Returns the bytes that the mirror shows.
     pub fn bytes(&self) -> &[u8]
         ensures { result.now ≡ self.now.memory.present.reading }
     {
         self.memory.bytes()
     }
 
-    /// Whether the mirror is lost.
+    /// Returns whether the mirror is lost.
     pub fn is_lost(&self) -> bool
         ensures { result ≡ self.now.lost }
     {
         self.lost
     }
 
-    /// The disk below.
+    /// Returns the disk below, to be looked at.
     pub fn below(&self) -> &D
         ensures { result.now ≡ self.now.below }
     {
@@ -95,9 +102,10 @@ impl<D: Disk> MirrorDisk<D> {
         self.below
     }
 
-    /// What is true of every mirror: the calls of the disk below make what memory shows. Over an honest disk, a crash
-    /// leaves of that disk only what it may leave of the mirror: now (`crash`), and at any moment since the mirror
-    /// was made (`History`).
+    /// Says what is true of every mirror: the calls of the disk below make what memory shows.
+    ///
+    /// Over an honest disk, a crash leaves of that disk only what it may leave of the mirror: now (`crash`), and at any
+    /// moment since the mirror was made (`History`).
     pub fn is_mirror(&self)
         ensures mirror { IsMirror D.Disk self.now }
         ensures crash { (bytes : List ℕ) → D.honest self.now.below → MayLeave (D.state self.now.below) bytes
@@ -106,7 +114,7 @@ impl<D: Disk> MirrorDisk<D> {
         let _memory = &self.memory;
     }
 
-    /// What is true of any calls of a mirror over an honest disk: whatever a crash since then has left of the disk
+    /// Says what is true of any calls of a mirror over an honest disk. Whatever a crash since then has left of the disk
     /// below, it may have left of the mirror.
     pub fn is_followed(&self, earlier: &MirrorDisk<D>)
         ensures { Calls D.Disk earlier.now self.now → D.honest earlier.now.below
@@ -116,7 +124,7 @@ impl<D: Disk> MirrorDisk<D> {
     }
 }
 
-// One more; the last value stays.
+// Adds one. The last value stays.
 fn count(failures: &mut u64)
     ensures { failures.new ≡ counted failures.old }
 {

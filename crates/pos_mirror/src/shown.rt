@@ -1,4 +1,4 @@
-// The bytes in memory that a mirror shows.
+//! The bytes in memory that a mirror shows.
 ghost use Rattle.std.specs.Prelude.{◌≡◌, ◌≤◌, ◌+◌, ◌↔◌, ℕ, Ok, length};
 ghost use Rattle.pos_disk.specs.State.{IsBytes, Reads, Syncs, Writes};
 ghost use Rattle.pos_disk.specs.Memory.{fresh, state_of, synced, written};
@@ -9,8 +9,8 @@ use crate::known::Known;
 use pos_disk::{Disk, DiskFault};
 use std::marker::Model;
 
-// The bytes that a mirror shows. To contracts they are a disk in memory. But a mirror is never crashed, so which places
-// are loose, what was settled and the moments before are known to contracts alone.
+// The bytes that a mirror shows. For contracts they are a disk in memory. A mirror is never crashed, so only contracts
+// know which places are loose, what was settled and the moments before.
 #[derive(Drop)]
 pub(crate) struct Shown {
     bytes: Vec<u8>,
@@ -28,7 +28,7 @@ impl Model for Shown {
     ghost invariant = { λ s. IsShown s.bytes.items s.known.memory };
 }
 
-// What the type of a slice says of its items.
+// Says that the items of a slice are bytes, by its type.
 fn are_bytes(bytes: &[u8])
     ensures { IsBytes bytes.now }
 {
@@ -36,7 +36,7 @@ fn are_bytes(bytes: &[u8])
 }
 
 impl Shown {
-    // These bytes, at rest.
+    // Returns these bytes, at rest.
     pub(crate) fn new(bytes: Vec<u8>) -> Shown
         ensures { result ≡ fresh bytes.items }
     {
@@ -44,28 +44,28 @@ impl Shown {
         Shown { bytes, known }
     }
 
-    // The bytes.
+    // Returns the bytes.
     pub(crate) fn bytes(&self) -> &[u8]
         ensures { result.now ≡ self.now.present.reading }
     {
         &self.bytes
     }
 
-    // How many bytes they are.
+    // Returns how many bytes there are.
     pub(crate) fn len(&self) -> u64
         ensures { result ≡ length self.now.present.reading }
     {
         self.bytes.len() as u64
     }
 
-    // What is true of all that is shown: it is bytes.
+    // Says that all that is shown is bytes.
     pub(crate) fn shows_bytes(&self)
         ensures { IsBytes self.now.present.reading }
     {
         are_bytes(&self.bytes);
     }
 
-    // Reads the bytes from a place on.
+    // Reads the bytes from place `at` on, as many as `out` holds.
     pub(crate) fn read(&self, at: u64, out: &mut [u8])
         requires { at + length out.old ≤ length self.now.present.reading }
         ensures { Reads {T = Unit {0}} (state_of self.now) (state_of self.now) at out.new (Ok tt) }
@@ -75,7 +75,7 @@ impl Shown {
         out.copy_from_slice(&bytes[at..at + out.len()]);
     }
 
-    // Writes bytes from a place on.
+    // Writes the bytes from place `at` on.
     pub(crate) fn write(&mut self, at: u64, bytes: &[u8])
         requires { at + length bytes.now ≤ length self.old.present.reading }
         ensures memory { self.new ≡ written at bytes.now self.old }
@@ -86,7 +86,7 @@ impl Shown {
         self.bytes[at..at + bytes.len()].copy_from_slice(bytes);
     }
 
-    // Reads a range of the disk below again, and shows what the reading left in it.
+    // Reads a range of the disk below again, and shows what the read left in it. It returns what the read answered.
     pub(crate) fn reread<D: Disk>(
         &mut self,
         below: &mut D,
@@ -106,7 +106,7 @@ impl Shown {
         answer
     }
 
-    // Settles what was written.
+    // Makes what was written settled.
     pub(crate) fn sync(&mut self)
         ensures memory { self.new ≡ synced self.old }
         ensures syncs { Syncs {T = Unit {0}} (state_of self.old) (state_of self.new) (Ok tt) }

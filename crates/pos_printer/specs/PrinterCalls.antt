@@ -36,7 +36,7 @@ abbrev pub is_receipt : ℤ → Bool
 is_receipt (pos n) = n == 2
 is_receipt (negsuc n) = false
 
--- a synchronous request is asked for while others are queued
+-- a synchronous request has to be refused, because others are queued
 abbrev pub is_busy : Control → Bool
 is_busy control = not control.settings.async_mode && is_outstanding control.writer.output
 
@@ -46,8 +46,8 @@ text_rows station text =
     when (not (is_receipt station)) code.Illegal
     ∷ when (not (is_printable_text text)) code.Illegal ∷ []
 
--- the arguments of each call, in order, and but for printImmediate that a synchronous request doesn't come before
--- others that are queued
+-- the arguments of each call, in order, then whether it is a synchronous request while others are queued (but for
+-- printImmediate)
 abbrev pub printer_rows : Control → Call → List Row
 printer_rows control (call.PrintNormal station text) =
     when (not (is_receipt station)) code.Illegal
@@ -59,7 +59,7 @@ printer_rows control (call.CutPaper percentage) =
     ∷ when (is_busy control) code.Busy ∷ []
 printer_rows control asked = []
 
--- a request: with AsyncMode true it is queued, else it is done at once
+-- a request: it is queued if AsyncMode is true, otherwise done at once
 abbrev pub request_of : Control → Order → Deed
 request_of control given = if control.settings.async_mode then deed.Queues given else deed.Gives given change.Nothing
 
@@ -100,7 +100,7 @@ abbrev pub due_request : ℕ → ℕ × Order → DueRequest
 due_request holder request = record { holder = holder; id = request.0; given = request.1 }
 
 -- the request that is to be done now at a place with a device of this kind: the first of the control that holds the
--- device; none but at a printer
+-- device, and only at a printer
 abbrev pub due_request_at : Kind → ℕ → Option ℕ → List Control → Option DueRequest
 due_request_at is place None controls = None
 due_request_at is place (Some holder) controls =
@@ -108,12 +108,12 @@ due_request_at is place (Some holder) controls =
     then option_map (due_request holder) (option_and_then (first_request place) (slice_get controls holder))
     else None
 
--- what is said of a request with an OutputID, once the printer has said this to its order
+-- what is reported of a request with an OutputID, by the printer's reply to its order
 abbrev pub worked_by : ℕ → Reply → Worked
 worked_by id reply.Done = worked.Done id
 worked_by id said = worked.Failed (code_by said) (extended_by said)
 
--- the control whose first request has this OutputID, once the printer has said this to its order
+-- the control whose first request has this OutputID, after the printer's reply to its order
 abbrev pub after_work : ℕ → Reply → Control → Control
 after_work id reply.Done control = completed id control
 after_work id said control = output_failed (code_by said) (extended_by said) control
@@ -133,8 +133,8 @@ abbrev pub OrdersOfWork : Result Worked NoMemory → ℕ → ℕ → Type 0
 OrdersOfWork (Ok worked.Idle) old new = new ≡ old
 OrdersOfWork outcome old new = GivesOne outcome old new
 
--- Work at a place whose device this control holds: on the request that is to be done there now, where there is one.
--- Memory is wanted for such a request alone, and then nothing changes.
+-- Work at a place whose device this control holds: on the request that is to be done there now, if there is one.
+-- Memory is wanted only for such a request, and then nothing changes.
 abbrev pub WorksAt : Option ℕ → ℕ → Result Worked NoMemory → Effect
 WorksAt holder place outcome old before new after = MatchOption (due_request_at before.kind place holder old)
     ((outcome ≡ Ok worked.Idle) × SameHardware old before new after)

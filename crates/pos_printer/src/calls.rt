@@ -1,3 +1,4 @@
+//! The calls of a control on its receipt printer.
 ghost use Rattle.std.specs.Prelude.{◌≡◌, ◌<◌, false, true, Ok, Some, length};
 ghost use Rattle.pos_service.specs.declared.category.Category.TheVariants as category;
 ghost use Rattle.pos_service.specs.Calls.{has_call};
@@ -14,20 +15,27 @@ use pos_service::receipt_text::is_printable;
 use pos_service::{Answer, Bytes, Call, Category, Change, Code, Deed, NoMemory, Order, Peripheral};
 use std::alloc::Global;
 
-/// A call of the control with a number on its printer. Its text, if any, is copied once its arguments are found good;
-/// one that gives an order gives it once there is room for the events of all controls that hear of it. Want of memory
-/// changes nothing.
+/// Does a call of the control with a number on its printer (chapter POS Printer):
 ///
-/// `printNormal` and `cutPaper` are done at once, or queued with AsyncMode true; `printImmediate` is done at once in
-/// every state, before all that is queued, also while the first request has failed; `clearOutput` deletes what is
-/// queued (chapter POS Printer).
+/// - `printNormal` and `cutPaper` are done at once, or queued if AsyncMode is true.
+/// - `printImmediate` is done at once in every state, before all that is queued, even if the first request has failed.
+/// - `clearOutput` deletes what is queued.
 ///
-/// Refused with E_CLOSED where the control is closed, E_ILLEGAL for a call that printers don't have, E_CLAIMED where
-/// another control holds the printer, E_NOTCLAIMED where nobody does, E_DISABLED where the control is disabled; with
-/// E_ILLEGAL for another station than the receipt's, a text that printers don't take, a percentage that isn't 0 to 100;
-/// with E_BUSY for a synchronous request while others are queued, but for `printImmediate`; then with E_FAILURE where
-/// no OutputID is left or the printer's line fails, E_OFFLINE where it is off, E_EXTENDED for an open cover or too
-/// little paper.
+/// # Errors
+///
+/// [`NoMemory`] if there is none for a copy of the text, for the queue or for the events, or the printer ran out of it.
+/// Then nothing has changed. Refused in this order:
+///
+/// - E_CLOSED: the control is closed.
+/// - E_ILLEGAL: printers don't have the call.
+/// - E_CLAIMED: another control holds the printer.
+/// - E_NOTCLAIMED: nobody holds it.
+/// - E_DISABLED: the control is disabled.
+/// - E_ILLEGAL: the station isn't the receipt's, printers don't take the text, or the percentage isn't 0 to 100.
+/// - E_BUSY: the request is synchronous, isn't `printImmediate`, and others are queued.
+/// - E_FAILURE: no OutputID is left for a request to be queued, or the printer's line failed.
+/// - E_OFFLINE: the printer is off.
+/// - E_EXTENDED: the cover is open, or there is too little paper.
 pub fn call<P: Peripheral>(
     alloc: Global,
     controls: &mut [Control],
@@ -58,11 +66,15 @@ pub fn call<P: Peripheral>(
     }
 }
 
-/// What a call that printers have comes to, for its control. Its text, if any, is copied once its arguments are found
-/// good.
+/// Returns what a call that printers have comes to, for its control. Its text, if any, is copied once its arguments are
+/// checked.
 ///
-/// Refused with E_ILLEGAL for another station than the receipt's, a text that printers don't take, a percentage that
-/// isn't 0 to 100; then with E_BUSY for a synchronous request while others are queued, but for `printImmediate`.
+/// # Errors
+///
+/// `NoMemory` if there is none for that copy, and within:
+///
+/// - E_ILLEGAL: the station isn't the receipt's, printers don't take the text, or the percentage isn't 0 to 100.
+/// - E_BUSY: the request is synchronous, isn't `printImmediate`, and others are queued.
 fn plan(alloc: Global, control: &Control, call: &Call) -> Result<Result<Deed, Code>, NoMemory>
     requires { has_call category.PosPrinter call.now ≡ true }
     ensures { Plans (printer_rows control.now.control call.now) (printer_deed control.now.control call.now) PrintersDo
@@ -77,7 +89,11 @@ fn plan(alloc: Global, control: &Control, call: &Call) -> Result<Result<Deed, Co
     }
 }
 
-/// `printNormal`, with the number of a station and the text.
+/// Returns what `printNormal` comes to, with the number of a station and the text.
+///
+/// # Errors
+///
+/// As of `plan`.
 fn print_normal(
     alloc: Global,
     control: &Control,
@@ -98,7 +114,11 @@ fn print_normal(
     Ok(Ok(request(control, Order::Print { bytes })))
 }
 
-/// `printImmediate`, with the number of a station and the text.
+/// Returns what `printImmediate` comes to, with the number of a station and the text.
+///
+/// # Errors
+///
+/// As of `plan`, without E_BUSY.
 fn print_immediate(
     alloc: Global,
     station: i128,
@@ -114,7 +134,11 @@ fn print_immediate(
     Ok(Ok(Deed::Gives(Order::Print { bytes }, Change::Nothing)))
 }
 
-/// `cutPaper`, by so many percent.
+/// Returns what `cutPaper` comes to, with 0 to 100 percent.
+///
+/// # Errors
+///
+/// E_ILLEGAL if the percentage is another one, and E_BUSY if it is synchronous and requests are queued.
 fn cut_paper(control: &Control, percentage: i128) -> Result<Deed, Code>
     ensures { let asked = Call.CutPaper percentage in
         Plans (printer_rows control.now.control asked) (printer_deed control.now.control asked) PrintersDo asked
@@ -132,7 +156,7 @@ fn cut_paper(control: &Control, percentage: i128) -> Result<Deed, Code>
     Ok(request(control, order))
 }
 
-/// What a request comes to: with AsyncMode true it is queued, else it is done at once.
+/// Returns what a request comes to: it is queued if AsyncMode is true, otherwise done at once.
 fn request(control: &Control, order: Order) -> Deed
     requires { PrintersTake order }
     ensures deed { result ≡ request_of control.now.control order }
@@ -144,7 +168,7 @@ fn request(control: &Control, order: Order) -> Deed
     Deed::Gives(order, Change::Nothing)
 }
 
-/// Whether a station is that of the receipt.
+/// Returns whether a station is the receipt's: PTR_S_RECEIPT, 2.
 fn is_receipt(station: i128) -> bool
     ensures { result ≡ is_receipt station }
 {
@@ -154,7 +178,7 @@ fn is_receipt(station: i128) -> bool
     }
 }
 
-/// Whether a synchronous request is asked for while others are queued.
+/// Returns whether a synchronous request has to be refused, because others are queued.
 fn is_busy(control: &Control) -> bool
     ensures { result ≡ is_busy control.now.control }
 {

@@ -1,3 +1,4 @@
+//! What happens at a receipt printer from outside.
 ghost use Rattle.std.specs.Prelude.{◌≡◌, false, true};
 ghost use Rattle.pos_service.specs.Hardware.{StaysInService, TakenAt, hardware_of};
 ghost use Rattle.pos_service.specs.Kinds.{is_printer};
@@ -8,9 +9,12 @@ use pos_common::{Control, take_input};
 use pos_service::{Input, NoMemory, Peripheral};
 use std::alloc::Global;
 
-/// Something happens at the printer of the device at a place: its cover is moved, it is loaded with paper, or it is
-/// switched on or off. Each control that has the device open and enabled hears of it, once there is room for the events
-/// of all. Want of memory changes nothing (chapter POS Printer).
+/// Passes an input on to the printer of the device at a place: a cover is moved, paper is loaded, or power is switched.
+/// Each control that has the device open and enabled gets the StatusUpdateEvent of it (chapter POS Printer).
+///
+/// # Errors
+///
+/// [`NoMemory`] if memory ran out. Then nothing has changed.
 pub fn input<P: Peripheral>(
     alloc: Global,
     controls: &mut [Control],

@@ -1,3 +1,4 @@
+//! The work on the output that is queued for a printer.
 ghost use Rattle.std.specs.Prelude.{◌≡◌, ◌<◌, true, false, Some, IsSome, MatchOption, is_some, length, slice_get, slice_set};
 ghost use Rattle.std.specs.Option.{option_and_then};
 ghost use Rattle.pos_service.specs.Claims.{holder_at};
@@ -14,16 +15,24 @@ ghost use Rattle.pos_printer.specs.Requests.{HasRequest};
 use pos_common::{Claims, Control, WORK_EVENTS, hear_all, room_all};
 use pos_service::{Code, NoMemory, Peripheral, Reply, Worked};
 
-/// Works on the first request of the control that holds the printer at a place. There is nothing to do at a device that
-/// is no printer, where nobody holds it, where the holder is disabled, where it has no request, and while its first one
-/// has failed (common chapter, asynchronous output).
+/// Works on the first request of the control that holds the printer at a place (common chapter, asynchronous output).
+/// It does nothing at another device, if nobody holds the printer, or if the holder is disabled. The same holds if
+/// there is no request or the first has failed.
 ///
-/// The room for all events is made before the order is given. Once it is done, each control that has the printer open
-/// and enabled hears the statuses that have changed; then the request is removed, and an OutputCompleteEvent enqueued.
-/// Where the printer doesn't do it, the request stays the first, the output error state stands, and an ErrorEvent with
-/// EL_OUTPUT is enqueued: with E_FAILURE where the line fails, E_OFFLINE where the printer is off, E_EXTENDED
-/// EPTR_COVER_OPEN where the cover is open, else EPTR_REC_EMPTY where the paper doesn't suffice. Want of memory changes
-/// nothing.
+/// Once the printer has done the order, the request is removed. Each control that has the printer open and enabled gets
+/// the StatusUpdateEvents of what has changed, then the holder an OutputCompleteEvent.
+///
+/// If the printer doesn't do it, the request stays the first, and the output error state begins. An ErrorEvent with
+/// EL_OUTPUT then has one of these codes:
+///
+/// - E_FAILURE: the printer's line failed.
+/// - E_OFFLINE: the printer is off.
+/// - E_EXTENDED with EPTR_COVER_OPEN: the cover is open.
+/// - E_EXTENDED with EPTR_REC_EMPTY: there is too little paper.
+///
+/// # Errors
+///
+/// [`NoMemory`] if there is no room for the events, or the printer ran out of memory. Then nothing has changed.
 pub fn work<P: Peripheral>(
     controls: &mut [Control],
     place: usize,
@@ -60,7 +69,7 @@ pub fn work<P: Peripheral>(
     }
 }
 
-/// Whether the control with a number has a request that is to be done now at a place.
+/// Returns whether the control with a number has a request that is to be done now at a place.
 fn has_work(controls: &[Control], holder: usize, place: usize) -> bool
     ensures work { let held = slice_get (controls_of controls.now) holder in
         result ≡ is_some (option_and_then (first_request place) held) }
@@ -72,8 +81,11 @@ fn has_work(controls: &[Control], holder: usize, place: usize) -> bool
     }
 }
 
-/// Gives the printer at a place the order of the request that a control has to be done now. Want of memory changes
-/// nothing.
+/// Gives the printer at a place the order of the request that a control has to be done now.
+///
+/// # Errors
+///
+/// `NoMemory` if memory ran out. Then nothing has changed, but the order may have been counted.
 fn ask_for<P: Peripheral>(
     control: &Control,
     place: usize,
@@ -92,7 +104,7 @@ fn ask_for<P: Peripheral>(
     }
 }
 
-/// The request that the control with a number had to be done now is done.
+/// Notes that the request that the control with a number had to be done now is done.
 fn complete(controls: &mut [Control], holder: usize) -> Worked
     requires within { holder < length controls.old }
     requires request { HasRequest holder controls.old }
@@ -103,7 +115,7 @@ fn complete(controls: &mut [Control], holder: usize) -> Worked
     Worked::Done(controls[holder].complete_request())
 }
 
-/// The request that the control with a number had to be done now has failed.
+/// Notes that the request that the control with a number had to be done now has failed.
 fn fail(controls: &mut [Control], holder: usize, code: Code, extended: u32) -> Worked
     requires within { holder < length controls.old }
     requires request { HasRequest holder controls.old }

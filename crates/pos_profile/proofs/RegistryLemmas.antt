@@ -1,18 +1,18 @@
 -- The devices of a registry, where the peripheral of one changes.
 use Rattle.pos_profile.proofs.Common.{AllByRecursion, Device, Entry, HasKindInRange, IfSome, IsInRange, IsInUse, IsIndexOf, IsNamed, IsPut, IsRegistrySound, IsServed}
-use Rattle.pos_profile.proofs.Common.{IsSoundEntry, List, MayServe, Option, PeripheralState, Planned, Some, [], ap, arith, common_steps, cons_option, device_of}
+use Rattle.pos_profile.proofs.Common.{IsSoundEntry, List, MayServe, None, Option, PeripheralState, Planned, Some, [], ap, arith, common_steps, cons_option, device_of}
 use Rattle.pos_profile.proofs.Common.{devices, devices_of, drop, get_or, get_or-map, gets, is_some, kind_of, length, length-map, map, map-set, parked}
 use Rattle.pos_profile.proofs.Common.{place_of, planned_for, planned_of, refl, set, slice_get, slice_get-map, slice_get_past, standing_at, suc, sym, take, take_more, true}
 use Rattle.pos_profile.proofs.Common.{vacant, vacant_devices, with_peripheral, zero, ℕ, ◌++◌, ◌+◌, ◌<◌, ◌∙◌, ◌∷◌, ◌≡◌, ◌≤◌}
 use Rattle.pos_profile.proofs.PlaceLemmas.{name_there}
-use Rattle.pos_profile.specs.Registries.{names_of}
+use Rattle.pos_profile.specs.Registries.{AreParked, names_of, parked_state}
 use Rattle.std.proofs.lemmas.Simd.{map-map}
 use Rattle.pos_profile.specs.declared.registry.Registry.{Registry}
 use Rattle.pos_profile.specs.declared.slot.Slot.{Slot}
 use Rattle.pos_service.specs.declared.kind.Kind.{Kind}
 use Rattle.pos_service.specs.declared.peripheral.Peripheral.{Ghosts}
 use Rattle.std.proofs.lemmas.List.Edits.{map_over_more}
-use Rattle.std.proofs.lemmas.List.Elements.{filter_map-append, recursion_from_All}
+use Rattle.std.proofs.lemmas.List.Elements.{All-map, filter_map-append, recursion_from_All}
 use Rattle.std.proofs.lemmas.Option.{same_Some}
 use Rattle.std.specs.List.{All}
 use Rattle.std.specs.Option.{option_map}
@@ -140,3 +140,12 @@ parked_more peripherals slots olds place old new within same front at parks =
 -- once the place is behind the last, all are out of service
 pub parked_whole : (list olds : List Device) (place : ℕ) → length olds ≤ place → list ≡ map parked (take place olds) ++ drop place olds → list ≡ map parked olds
 parked_whole list olds place past front = grind (arith, common_steps)
+
+-- what was taken out of service is out of service
+out_of_service : (o : Option PeripheralState) → IfSome (option_map parked_state o) (λ state. state.is_parked ≡ true)
+out_of_service None = tt
+out_of_service (Some state) = refl
+
+pub all_parked : (list : List Device) → AreParked (map parked list)
+all_parked list = All-map (λ (d : Device). IfSome d.peripheral (λ state. state.is_parked ≡ true)) parked list
+    (λ k d lt. out_of_service (get_or list k d).peripheral)

@@ -1,5 +1,5 @@
 -- What contracts see of a registry: its devices in the profile's order, each with the peripheral that serves it.
-use Rattle.std.specs.Prelude.{◌≡◌, ℕ, zero, suc, Bool, true, false, List, [], ◌∷◌, Option, Some, None, Result, Ok, Err, IfSome, map, option_and_then, slice_get, slice_set}
+use Rattle.std.specs.Prelude.{◌≡◌, ℕ, zero, suc, All, Bool, true, false, List, [], ◌∷◌, Option, Some, None, Result, Ok, Err, IfSome, map, option_and_then, slice_get, slice_set}
 use Rattle.std.specs.List.{AllByRecursion, filter_map}
 use Rattle.std.specs.Option.{option_map}
 use Rattle.pos_service.specs.declared.kind.Kind.{Kind}
@@ -62,6 +62,10 @@ parked_state state = record state { is_parked = true }
 -- a device whose peripheral is out of service
 abbrev pub parked : Device → Device
 parked device = record device { peripheral = option_map parked_state device.peripheral }
+
+-- each peripheral that there is, is out of service
+abbrev pub AreParked : List Device → Type 0
+AreParked devices = All (λ device. IfSome device.peripheral (λ state. state.is_parked ≡ true)) devices
 
 -- the kind of the device at a place
 abbrev pub kind_at : List Device → ℕ → Option Kind

@@ -1,10 +1,12 @@
 //! How a registry's devices end.
+ghost use Rattle.pos_profile.specs.Registries.{AreParked, devices_of};
+
 use crate::slot::Slot;
 use pos_service::Ends;
 
-/// Ends the entries of a registry that was taken apart, each with what serves it.
+/// Ends the entries of a registry that was taken apart, each with what served it, which is out of service.
 pub fn end_all<P: Ends>(mut entries: Vec<Slot<P>>)
-    requires { Unit {0} }
+    requires { AreParked (devices_of P.Peripheral entries.items) }
 {
     while let Some(entry) = entries.pop() {
         let Slot {

@@ -5,7 +5,7 @@ ghost use Rattle.std.specs.Borrow.{sem};
 ghost use Rattle.pos_service.specs.Hardware.{StaysInService};
 ghost use Rattle.pos_profile.specs.Lending.{registry_lends, registry_with};
 ghost use Rattle.pos_profile.specs.Places.{IsIndexOf, place_of};
-ghost use Rattle.pos_profile.specs.Registries.{Attaches, Detaches, IsNamed, IsPut, IsRegistrySound, MayServe, PutsInto, device_of, devices, devices_of, kind_at, names_of, parked, planned_of, standing_at, vacant, vacant_devices, with_peripheral};
+ghost use Rattle.pos_profile.specs.Registries.{AreParked, Attaches, Detaches, IsNamed, IsPut, IsRegistrySound, MayServe, PutsInto, device_of, devices, devices_of, kind_at, names_of, parked, planned_of, standing_at, vacant, vacant_devices, with_peripheral};
 
 use crate::laws::is_profile;
 use crate::places::Places;
@@ -251,7 +251,8 @@ impl<P: Peripheral> Registry<P> {
     /// taken out of service, and are otherwise as they were. It takes no memory.
     pub fn into_entries(self) -> Vec<Slot<P>>
         requires { Unit {0} }
-        ensures { devices_of P.Peripheral result.items ≡ map parked (devices P.Peripheral self) }
+        ensures entries { devices_of P.Peripheral result.items ≡ map parked (devices P.Peripheral self) }
+        ensures parked { AreParked (devices_of P.Peripheral result.items) }
     {
         let Registry {
             places: _,

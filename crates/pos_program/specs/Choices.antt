@@ -1,11 +1,12 @@
 -- The program's command line, and what words ask for (docs/reference/console.md, "The program").
-use Rattle.std.specs.Prelude.{◌≡◌, ◌≢◌, ◌⊎◌, List, [], Option, Some, None, true, codes, Result, Ok, Err, unwrap_or, ⊤}
+use Rattle.std.specs.Prelude.{◌≡◌, ◌≢◌, ◌⊎◌, List, [], Option, Some, None, true, codes, Result, Ok, Err, unwrap_or}
 use Rattle.std.specs.declared.io.ErrorKind.{ErrorKind as IoKind}
 use Rattle.std.specs.declared.io.ErrorKind.TheVariants as io
 use Rattle.clap.specs.Words.{App, IsAmong, Row, Rule, Text, fault_of, first_of, kind_of, new_app, new_rule, subcommand_of, with_rule, with_subcommand}
 use Rattle.clap.specs.Simple.{on_top}
 use Rattle.clap.specs.declared.builder.ArgAction.TheVariants.{Set}
 use Rattle.clap.specs.declared.error.Error.{Error}
+use Rattle.clap.specs.declared.error.kind.ErrorKind.{ErrorKind}
 use Rattle.clap.specs.declared.error.kind.ErrorKind.TheVariants.{DisplayHelp, OutOfMemory}
 use Rattle.pos_program.specs.declared.words.Task.{Task}
 use Rattle.pos_program.specs.declared.words.Task.TheVariants.{Demo, Run, Format, Migrate, Files}
@@ -25,12 +26,12 @@ run_line = with_rule (with_rule (new_app (codes "run")) (path_rule (codes "profi
 abbrev pub disk_line : Text → App
 disk_line command = with_rule (new_app command) (path_rule (codes "disk"))
 
--- the program's, which has no command yet: its name isn't among the words, and `help` is no command
+-- the program's, which has no command yet: its name isn't among the words, `help` is no command, and it asks for one
 abbrev pub bare_line : App
-bare_line =
-    on_top (λ s. record s { no_binary_name = true; disable_help_subcommand = true }) (new_app (codes "pos_console"))
+bare_line = on_top (λ s. record s { no_binary_name = true; disable_help_subcommand = true; subcommand_required = true })
+    (new_app (codes "pos_console"))
 
--- no words, or those of one of the four commands
+-- the words of one of the four commands
 abbrev pub program_line : App
 program_line = with_subcommand (with_subcommand (with_subcommand (with_subcommand bare_line run_line.top)
     (disk_line (codes "format")).top) (disk_line (codes "migrate")).top) (disk_line (codes "files")).top
@@ -47,14 +48,13 @@ path_in option rows = unwrap_or (first_of option rows) []
 abbrev pub IsCommand : Text → Type 0
 IsCommand name = (name ≡ codes "run") ⊎ (name ≡ codes "format") ⊎ (name ≡ codes "migrate") ⊎ (name ≡ codes "files")
 
--- the command that was found, if there is one, is one of the program's
+-- a command was found, and is one of the program's
 abbrev pub IsKnown : Option (Text × List Row) → Type 0
-IsKnown None = ⊤
+IsKnown None = ⊥
 IsKnown (Some found) = IsCommand found.0
 
 -- what the command that was found asks for, with the paths in its matches
 abbrev pub Asks : Option (Text × List Row) → Task → Type 0
-Asks None Demo = ⊤
 Asks (Some found) (Run profile disk) = (found.0 ≡ codes "run") × (profile.now ≡ path_in (codes "profile") found.1)
     × (disk.now ≡ path_in (codes "disk") found.1)
 Asks (Some found) (Format disk) = (found.0 ≡ codes "format") × (disk.now ≡ path_in (codes "disk") found.1)
@@ -62,13 +62,19 @@ Asks (Some found) (Migrate disk) = (found.0 ≡ codes "migrate") × (disk.now �
 Asks (Some found) (Files disk) = (found.0 ≡ codes "files") × (disk.now ≡ path_in (codes "disk") found.1)
 Asks found other = ⊥
 
--- what the words ask for, in which `clap` finds no fault; or why they ask for nothing, which is a fault that it finds
+-- there are words, and `clap` finds a fault of this kind in them
+abbrev pub HasFault : List Text → ErrorKind → Type 0
+HasFault words kind = (words ≢ []) × IsAmong kind (fault_of program_line words)
+
+-- what the words ask for: the demonstration if there are none, else the command in which `clap` finds no fault; or why
+-- they ask for nothing. Want of memory needs words too
 abbrev pub Chooses : List Text → Result Task ChoiceFault → Type 0
+Chooses words (Ok Demo) = words ≡ []
 Chooses words (Ok task) = (fault_of program_line words ≡ []) × Asks (command_in words) task
-Chooses words (Err (Words Help)) = IsAmong DisplayHelp (fault_of program_line words)
-Chooses words (Err (Words (Refused error))) = IsAmong (kind_of error) (fault_of program_line words)
+Chooses words (Err (Words Help)) = HasFault words DisplayHelp
+Chooses words (Err (Words (Refused error))) = HasFault words (kind_of error)
 Chooses words (Err (Words NotUtf8)) = ⊥
-Chooses words (Err NoMemory) = ⊤
+Chooses words (Err NoMemory) = words ≢ []
 
 -- what an error of `clap` is told as: want of memory, a call for help, or itself
 abbrev pub TellsWhy : Error → ChoiceFault → Type 0

@@ -4,16 +4,16 @@ use crate::first_paragraph::FirstParagraph;
 use std::fmt;
 use std::fmt::Write;
 
-/// What words ask for something, as it is told with each fault of them.
+/// The words that ask for something, as each fault of words prints them.
 const USAGE: &str = "give no words, `run --profile FILE --disk FILE`, `format --disk FILE`, \
     `migrate --disk FILE` or `files --disk FILE`";
 
 /// Why the program does nothing for the words of the command line.
 #[derive(Drop)]
 pub enum ChoiceFault {
-    /// They ask for nothing that it does.
+    /// The words ask for nothing that it does.
     Words(WordsFault),
-    /// There was no memory to read them.
+    /// Memory ran out while they were read.
     NoMemory,
 }
 
@@ -22,9 +22,9 @@ pub enum ChoiceFault {
 pub enum WordsFault {
     /// They ask for help.
     Help,
-    /// `clap` refuses them, and says why.
+    /// `clap` refuses them. Its error says why.
     Refused(clap::Error),
-    /// One of them is no UTF-8.
+    /// One of them is not UTF-8.
     NotUtf8,
 }
 

@@ -9,11 +9,11 @@ use crate::profile_fault::ProfileFileFault;
 use std::fmt;
 use std::fmt::Write;
 
-/// Why the program ends with another status than 0. A fault is told in one line, whatever the paths and the file have
-/// in them. docs/reference/console.md, "The program".
+/// Why the program ends with another status than 0. A fault prints as one line, whatever characters the paths and the
+/// file have. docs/reference/console.md, "The program".
 #[derive(Drop)]
 pub enum Fault<'a> {
-    /// The words ask for nothing.
+    /// The words ask for nothing that the program does, or memory ran out while they were read.
     Words(ChoiceFault),
     /// The profile's file gives no profile.
     Profile {
@@ -22,7 +22,7 @@ pub enum Fault<'a> {
         /// Why.
         cause: ProfileFileFault,
     },
-    /// The disk's file can't serve, or not be formatted, moved to layout 2 or told of.
+    /// The disk's file can't serve, or can't be formatted, moved to layout 2 or read.
     Disk {
         /// Its path, as its word stood.
         path: &'a str,
@@ -33,11 +33,11 @@ pub enum Fault<'a> {
     Read,
     /// The answers, or what a file holds, can't be written.
     Write,
-    /// There was no memory.
+    /// Memory ran out.
     NoMemory,
 }
 
-// The status where the words ask for nothing.
+// Returns the status of a fault of the words.
 fn choice_status(fault: &ChoiceFault) -> u8
     ensures { result ≡ choice_status fault.now }
 {
@@ -47,7 +47,7 @@ fn choice_status(fault: &ChoiceFault) -> u8
     }
 }
 
-// The status of a profile's fault.
+// Returns the status of a profile's fault.
 fn profile_status(cause: &ProfileFileFault) -> u8
     ensures { result ≡ profile_status cause.now }
 {
@@ -57,7 +57,7 @@ fn profile_status(cause: &ProfileFileFault) -> u8
     }
 }
 
-// The status of a fault of the disk's file.
+// Returns the status of a fault of the disk's file.
 fn disk_status(cause: &FileFault) -> u8
     ensures { result ≡ disk_status cause.now }
 {
@@ -68,8 +68,13 @@ fn disk_status(cause: &FileFault) -> u8
 }
 
 impl Fault<'_> {
-    /// The status that the program ends with: 2 for its words, 3 for the profile, 4 for the disk's file, 5 where the
-    /// script can't be read or the answers not be written, and 6 for want of memory, for whichever of them.
+    /// Returns the status that the program ends with:
+    ///
+    /// - 2 for its words.
+    /// - 3 for the profile.
+    /// - 4 for the disk's file.
+    /// - 5 if the script can't be read or the answers can't be written.
+    /// - 6 if memory ran out, for whichever of them.
     pub fn status(&self) -> u8
         ensures { result ≡ status self.now }
     {
@@ -83,7 +88,7 @@ impl Fault<'_> {
     }
 }
 
-/// The status that the program ends with: 0 where nothing was at fault.
+/// Returns the status that the program ends with: 0 if nothing was at fault, and otherwise the fault's, 2 to 6.
 pub fn status_of(outcome: &Result<(), Fault<'_>>) -> u8
     ensures { result ≡ status_of outcome.now }
 {

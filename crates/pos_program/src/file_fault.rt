@@ -3,14 +3,13 @@
 use std::io;
 use thiserror::Error;
 
-/// Why a file can't serve as a disk, or not be formatted, moved to layout 2 or told of, with what the system says of
-/// it.
+/// Why a file can't serve as a disk, or can't be formatted, moved to layout 2 or read, with what the system says of it.
 #[derive(Clone, Copy, Debug, Error)]
 pub enum FileFault {
-    /// No memory was found to open it, or to tell what it holds.
+    /// Memory ran out while it was opened or read.
     #[error("no memory to open it")]
     NoMemory,
-    /// It isn't there, or may not be read and written.
+    /// It isn't there, or can't be opened for reading and writing.
     #[error("can't be opened for reading and writing: {0}")]
     Open(io::Error),
     /// Another program has it open.
@@ -19,10 +18,10 @@ pub enum FileFault {
     /// The system gives no lock on it.
     #[error("can't be locked: {0}")]
     Lock(io::Error),
-    /// The system doesn't tell how long it is.
+    /// The system doesn't report how long it is.
     #[error("its length can't be told: {0}")]
     Measure(io::Error),
-    /// The folder that it lies in can't be read, or not be synced.
+    /// The folder that it is in can't be opened or synced.
     #[error("its folder can't be opened and synced: {0}")]
     Folder(io::Error),
     /// It is shorter than a disk and can't be lengthened.
@@ -34,10 +33,10 @@ pub enum FileFault {
     /// The device may not have what was written to it before.
     #[error("can't be synced: check the device that it is on")]
     NotSynced,
-    /// Its bytes can't be read, or not all that it is said to have.
+    /// Its bytes can't be read, or fewer than it is said to have.
     #[error("can't be read whole: check the device that it is on")]
     NotRead,
-    /// Totals are there already, which formatting would end. Nothing was written.
+    /// It has totals already, which formatting would delete. Nothing was written.
     #[error("is formatted already: remove it first if its totals may go")]
     Formatted,
     /// A read, a write or a sync failed while it was formatted.
@@ -52,25 +51,25 @@ pub enum FileFault {
     /// Its totals have layout 2 already. Nothing was written.
     #[error("has layout 2 already: there is nothing to do")]
     Moved,
-    /// No memory was found to move its totals to layout 2. Nothing was written.
+    /// Memory ran out while its totals were to be moved to layout 2. Nothing was written.
     #[error("no memory to move it to layout 2: free some and move it again")]
     NoMemoryToMove,
-    /// A read, a write or a sync failed while its totals were moved to layout 2. They are there by one layout or the
+    /// A read, a write or a sync failed while its totals were moved to layout 2. It has them by one layout or the
     /// other.
     #[error("a read, a write or a sync failed while it was moved to layout 2: its files stay, so move it again")]
     Move,
     /// It isn't there, or can't be read.
     #[error("can't be read: {0}")]
     Unreadable(io::Error),
-    /// It is shorter than a disk.
+    /// It is shorter than a disk of totals, which has 327,680 bytes.
     #[error("is shorter than a totals file, which has 327680 bytes")]
     Short,
-    /// Its totals are damaged: the bytes from this place on, counted from its first, break a rule.
+    /// Its totals are damaged: the bytes from this place on break a rule.
     #[error("its totals are damaged at byte {at}: {rule}")]
     Broken {
-        /// The place.
+        /// The place of the first such byte, counted from 0.
         at: u64,
-        /// The rule, in words.
+        /// The rule that they break, in words.
         rule: &'static str,
     },
 }

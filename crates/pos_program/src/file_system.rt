@@ -9,43 +9,43 @@ use std::fs::{File, OpenFile, OpenOptions};
 use std::rt::Files;
 use std::{fs, io};
 
-/// A file system. Contracts of functions over it say what is made of what it answers; what it answers itself is for
-/// each such type to say. Of the system's own no contract can say anything.
+/// A file system. Contracts of functions over it say what they make of its answers, and each type with this trait
+/// defines what it may answer. No contract can say anything of the system's own.
 pub trait FileSystem {
     /// An open file.
     type File: BlockFile + Drop;
 
-    /// What reading a file may answer.
+    /// What reading the file at a path may answer.
     ghost reads: { Self → List ℕ → Result (List ℕ) Error → Type 0 } = { λ _ _ _. ⊤ };
 
-    /// What opening a file may answer.
+    /// What opening the file at a path may answer.
     ghost opens: { Self → Options → List ℕ → Result Self.File Error → Type 0 } = { λ _ _ _ _. ⊤ };
 
-    /// What syncing a folder may answer.
+    /// What syncing the folder at a path may answer.
     ghost syncs: { Self → List ℕ → Result (Unit {0}) Error → Type 0 } = { λ _ _ _. ⊤ };
 
-    /// Reads the bytes of the file at a path.
+    /// Returns the bytes of the file at a path.
     ///
     /// # Errors
     ///
-    /// What the system says.
+    /// The system's error, which says why the file can't be read.
     fn read(&self, path: &str) -> io::Result<Vec<u8>>
         ensures { reads self.now path.now (bytes_of result) };
 
-    /// Opens the file at a path. It wasn't asked anything yet.
+    /// Opens the file at a path, and returns it. No call of it was made yet.
     ///
     /// # Errors
     ///
-    /// What the system says.
+    /// The system's error, which says why the file can't be opened.
     fn open(&self, how: &OpenOptions, path: &str) -> io::Result<Self::File>
         ensures opened { opens self.now how.now path.now result }
         ensures new { IfOk result (λ file. ⟦<Self::File as BlockFile>⟧.calls file ≡ []) };
 
-    /// Makes the entries of the folder at a path stay.
+    /// Makes the entries of the folder at a path stay after a crash.
     ///
     /// # Errors
     ///
-    /// What the system says.
+    /// The system's error, which says why the folder can't be opened or synced.
     fn sync(&self, folder: &str) -> io::Result<()>
         ensures { syncs self.now folder.now result };
 }

@@ -2,8 +2,8 @@
 use std::fmt;
 use std::fmt::Write;
 
-/// A writer of text that passes on its first paragraph alone, as one line: each end of a line, with the spaces behind
-/// it, is one space, and what follows an empty line is left out.
+/// A writer of text that passes on the first paragraph alone, as one line. Each line end, with the spaces after it,
+/// becomes one space, and what follows an empty line is left out.
 #[derive(Drop)]
 pub struct FirstParagraph<'a, W> {
     out: &'a mut W,
@@ -12,7 +12,7 @@ pub struct FirstParagraph<'a, W> {
 }
 
 impl<'a, W: Write> FirstParagraph<'a, W> {
-    /// Over a writer.
+    /// Returns a writer that passes text on to this one.
     pub fn over(out: &'a mut W) -> FirstParagraph<'a, W> {
         FirstParagraph {
             out,

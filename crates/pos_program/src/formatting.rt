@@ -13,8 +13,15 @@ use pos_disk::Disk;
 use pos_file::BlockFile;
 use pos_image::{ImageFault, Images};
 
-/// Puts no files on a disk that is long enough. `Formatted` where totals are there, which stay as they are; `Device`
-/// where the disk failed. A refusal hands the disk back.
+/// Formats a disk that is long enough, and returns it: it has totals without files then. docs/reference/totals-file.md,
+/// "Formatting".
+///
+/// # Errors
+///
+/// - `Formatted` if the disk has totals. They stay as they are.
+/// - `Device` if the disk failed.
+///
+/// A refusal returns the disk.
 pub fn format_disk<D: Disk + Drop>(disk: D) -> Result<D, (FileFault, D)>
     requires { disk_size ≤ D.size disk }
     ensures formatted { D.honest disk → IfOk result (λ formatted. IsFormatted (D.state disk) (D.state formatted)) }
@@ -28,11 +35,11 @@ pub fn format_disk<D: Disk + Drop>(disk: D) -> Result<D, (FileFault, D)>
     }
 }
 
-/// Formats totals in a file, as `format_disk` does. The file is written and synced as the disk is, and closed then.
+/// Formats the totals in a file, as `format_disk` does. The file is written and synced as the disk is, and then closed.
 ///
 /// # Errors
 ///
-/// `Formatted` and `Device`.
+/// `Formatted` and `Device`, as `format_disk` has them.
 pub fn format_totals<F: BlockFile + Drop>(totals: TotalsDisk<F>) -> Result<(), FileFault>
     requires new { IsNewMirror totals }
     requires large { disk_size ≤ length totals.memory.present.reading }
@@ -50,11 +57,11 @@ pub fn format_totals<F: BlockFile + Drop>(totals: TotalsDisk<F>) -> Result<(), F
     }
 }
 
-/// Formats the totals in a file, which is made where it isn't there.
+/// Formats the totals in the file at a path, which is made if it isn't there.
 ///
 /// # Errors
 ///
-/// Those of `NamedFiles::make_disk` and of `format_totals`.
+/// Those of `NamedFiles::make_disk`, and those of `format_totals`.
 pub fn format_file<F: NamedFiles>(files: &F, path: &str) -> Result<(), FileFault>
     ensures { FormatsFile F.NamedFiles ⟦<F::File as BlockFile>⟧.calls files.now path.now result }
 {

@@ -1,5 +1,13 @@
-//! What the program `pos_console` needs of words, files and profiles: what its words ask for, a disk in a file, a
-//! file that is formatted, moved to layout 2 or read, the profile in a file, and the faults that it ends with.
+//! What the program `pos_console` needs of words, files and profiles.
+//!
+//! - [`choice`] returns the [`Task`] that the words of the command line ask for.
+//! - [`FileSystem`] and [`NamedFiles`] are the files that those words name. [`TotalsDisk`] is the disk in one of them.
+//! - [`format_file`], [`migrate_file`] and [`NamedFiles::read_disk`] format a totals file, move it to layout 2, and
+//!   read it. [`profile_of_bytes`] and [`open_run`] read a profile.
+//! - [`Fault`] is what the program ends with, and [`Fault::status`] its exit status.
+//!
+//! The layer above relies on this: a file is locked before anything in it is read or written, and its calls make the
+//! disk that the mirror shows. Each fault names its cause and prints as one line.
 #![tactic(auto)]
 
 mod choice_fault;
@@ -35,6 +43,7 @@ pub use profile_fault::ProfileFileFault;
 pub use profile_file::{profile_of_bytes, profile_of_text, read_profile};
 pub use totals_disk::{
     TotalsDisk, disk_over, disk_to_read, lengthened, make_totals, mirrored, open_totals,
+    sync_folder,
 };
-pub use totals_file::read_totals;
+pub use totals_file::{open_file, read_totals};
 pub use words::{Task, choice, read_words};

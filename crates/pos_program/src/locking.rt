@@ -4,7 +4,7 @@ ghost use Rattle.pos_program.specs.Locks.{TellsUnlocked};
 use crate::file_fault::FileFault;
 use std::io;
 
-/// Why a file isn't locked.
+/// Returns why a file isn't locked: `NoMemory` if memory ran out, and otherwise `Lock` with the system's error.
 pub(crate) fn fault_of_lock(cause: io::Error) -> FileFault
     ensures { TellsUnlocked cause result }
 {

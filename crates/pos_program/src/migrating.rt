@@ -17,14 +17,17 @@ use pos_file::BlockFile;
 use pos_store::{Store, StoreFault};
 use std::alloc::Global;
 
-/// Moves the totals on a disk to layout 2, in place, and gives the disk back: their files stay as they are, and may be
-/// more and longer from then on. It recovers them first. The slots of layout 1 are not written, and a crash at any
-/// moment leaves the same files by one layout or the other. docs/reference/totals-file.md, "The move to layout 2".
+/// Moves the totals on a disk to layout 2, in place, and returns the disk. Their files stay as they are, and may be
+/// more and longer from then on. docs/reference/totals-file.md, "The move to layout 2".
+///
+/// It recovers the totals first. It doesn't write the slots of layout 1, and a crash at any moment leaves the same
+/// files by one layout or the other.
 ///
 /// # Errors
 ///
-/// `Unformatted`, `Damaged`, `AlreadyLayout2` where the disk has it, and `NoMemory`: the bytes are as they were.
-/// `Device` where the disk failed: it has the files by layout 1 or by layout 2, and may be moved again.
+/// - `Unformatted`, `Damaged`, `AlreadyLayout2` if the disk has layout 2, and `NoMemory` if memory ran out. The bytes
+///   are as they were.
+/// - `Device` if the disk failed. It has the files by layout 1 or by layout 2, and may be moved again.
 pub fn migrate_disk<D: Disk>(alloc: Global, disk: D) -> (D, Result<(), StoreFault>)
     ensures moves { D.honest disk → MovesAny (D.state disk) (D.state result.0) result.1 }
 
@@ -44,7 +47,7 @@ pub fn migrate_disk<D: Disk>(alloc: Global, disk: D) -> (D, Result<(), StoreFaul
     (store.into_disk(), outcome)
 }
 
-// A store's fault of a move, as a fault of the disk's file.
+// Returns a store's fault of a move as a fault of the disk's file.
 fn tell_fault(fault: StoreFault) -> FileFault
     ensures { result ≡ told_as fault }
 {
@@ -57,7 +60,7 @@ fn tell_fault(fault: StoreFault) -> FileFault
     }
 }
 
-// What a move answers, without the disk.
+// Returns what a move answers, as an answer of the disk's file.
 fn tell_outcome(outcome: Result<(), StoreFault>) -> Result<(), FileFault>
     ensures { result ≡ told_of outcome }
 {
@@ -67,12 +70,14 @@ fn tell_outcome(outcome: Result<(), StoreFault>) -> Result<(), FileFault>
     }
 }
 
-/// Moves totals in a file to layout 2, as `migrate_disk` does. The file is written and synced as the disk is, and then
-/// closed.
+/// Moves the totals in a file to layout 2, as `migrate_disk` does. The file is written and synced as the disk is, and
+/// then closed.
 ///
 /// # Errors
 ///
-/// `Unformatted`, `Damaged`, `Moved`, `NoMemoryToMove` and `Move`.
+/// - `Unformatted`, `Damaged`, `Moved` if they have layout 2, and `NoMemoryToMove` if memory ran out. The bytes are as
+///   they were.
+/// - `Move` if the file failed. It has the files by one layout or the other.
 pub fn migrate_totals<F: BlockFile + Drop>(
     alloc: Global,
     totals: TotalsDisk<F>,
@@ -85,11 +90,11 @@ pub fn migrate_totals<F: BlockFile + Drop>(
     tell_outcome(outcome)
 }
 
-/// Moves the totals in a file that is there to layout 2.
+/// Moves the totals in the file at a path, which is there, to layout 2.
 ///
 /// # Errors
 ///
-/// Those of `NamedFiles::open_disk` and of `migrate_totals`.
+/// Those of `NamedFiles::open_disk`, and those of `migrate_totals`.
 pub fn migrate_file<F: NamedFiles>(alloc: Global, files: &F, path: &str) -> Result<(), FileFault>
     ensures { MigratesFile F.NamedFiles ⟦<F::File as BlockFile>⟧.calls files.now path.now result }
 {

@@ -6,8 +6,8 @@ ghost use Rattle.pos_program.specs.MirroredFiles.{CutMayLeave, IsMirrored};
 use pos_file::{BlockFile, FileDisk};
 use pos_mirror::MirrorDisk;
 
-/// The calls of the file since the mirror read it make the disk that the mirror shows. So a power cut at any moment
-/// since then leaves, of a file that keeps the crash model, what a crash may have left of the mirror.
+/// States that the calls of the file since the mirror read it make the disk that the mirror shows. So a power cut at
+/// any moment since then leaves, of a file that keeps the crash model, what a crash may have left of the mirror.
 pub fn file_is_mirrored<F: BlockFile + Drop>(mirror: &MirrorDisk<FileDisk<F>>)
     ensures file { IsMirrored F.BlockFile.calls mirror.now }
     ensures cut { (is : IsMirrored F.BlockFile.calls mirror.now) (bytes : List ℕ) → CutMayLeave is bytes

@@ -18,8 +18,8 @@ use crate::totals_file::read_totals;
 use pos_file::BlockFile;
 use pos_profile::Profile;
 
-/// Files that the program's words name by their paths. Contracts of functions over them say what is made of what they
-/// answer; what they answer themselves is for each such type to say.
+/// The files that the program's words name by their paths. Contracts of functions over them say what they make of their
+/// answers, and each type with this trait defines what it may answer.
 pub trait NamedFiles {
     /// A file of totals.
     type File: BlockFile + Drop;
@@ -36,36 +36,54 @@ pub trait NamedFiles {
     /// What opening the totals in a file that is only read may answer.
     ghost reads_disk: { Self → List ℕ → Result (Mirror (FileDisk Self.File)) FileFault → Type 0 } = { λ _ _ _. ⊤ };
 
-    /// The profile in a file.
+    /// Returns the profile in the file at a path.
+    ///
+    /// # Errors
+    ///
+    /// `Unreadable` if the file can't be read, and those of `profile_of_bytes`.
     fn read_profile(&self, path: &str) -> Result<Profile, ProfileFileFault>
         ensures { gives_profile self.now path.now result };
 
-    /// The totals in a file that is there, mirrored in memory.
+    /// Opens the totals in the file at a path, which is there, and returns them mirrored in memory.
+    ///
+    /// # Errors
+    ///
+    /// - `Open` if the file can't be opened for reading and writing, and `InUse` if another program has locked it.
+    /// - `Lock`, `Measure`, `NotSynced`, `NotRead` and `NoMemory`.
     fn open_disk(&self, path: &str) -> Result<TotalsDisk<Self::File>, FileFault>
         ensures given { gives_disk self.now path.now result }
         ensures new { IfOk result (λ totals. IsNewMirror totals) };
 
-    /// The totals in a file, which is made where it isn't there, and lengthened to the length of a disk of totals where
-    /// it is shorter; mirrored in memory.
+    /// Opens the totals in the file at a path, and returns them mirrored in memory. The file is made if it isn't there.
+    /// A file with fewer than 327,680 bytes, the length of a disk of totals, is lengthened to that.
+    ///
+    /// # Errors
+    ///
+    /// Those of `open_disk`, `Folder` if the file's folder can't be synced, and `Lengthen` and `Sync` if the file can't
+    /// be lengthened.
     fn make_disk(&self, path: &str) -> Result<TotalsDisk<Self::File>, FileFault>
         ensures given { makes_disk self.now path.now result }
         ensures new { IfOk result (λ totals. IsNewMirror totals) }
         ensures length { IfOk result (λ totals. disk_size ≤ length totals.memory.present.reading) };
 
-    /// The totals in a file that is there and is only read, mirrored in memory, as `read_totals` has them.
+    /// Opens the totals in the file at a path, which is there, for reading alone, and returns them mirrored in memory.
+    ///
+    /// # Errors
+    ///
+    /// Those of `read_totals`.
     fn read_disk(&self, path: &str) -> Result<TotalsDisk<Self::File>, FileFault>
         ensures given { reads_disk self.now path.now result }
         ensures read { IfOk result (AreRead ⟦<Self::File as BlockFile>⟧.calls) };
 }
 
-/// The files of a file system: what they answer is made of what the file system answers.
+/// The files of a file system. What they answer is made of what the file system answers.
 #[derive(Drop)]
 pub struct SystemFiles<'a, S> {
     system: &'a S,
 }
 
 impl<'a, S> SystemFiles<'a, S> {
-    /// Those of a file system.
+    /// Returns the files of a file system.
     pub fn of(system: &'a S) -> SystemFiles<'a, S>
         ensures { result.system ≡ system.entry }
     {

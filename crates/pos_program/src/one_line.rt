@@ -3,22 +3,21 @@
 use std::fmt;
 use std::fmt::Write;
 
-/// A writer of text that passes on what it is given, but for control characters and the line and paragraph separators
-/// of Unicode: these are written as Rust escapes them, a line feed as `\n`, so that the text stays on one line, and a
-/// terminal takes none of it as an order.
+/// A writer of text that stays on one line. Control characters, and the line and paragraph separators of Unicode, are
+/// written as Rust escapes them, a line feed as `\n`. So a terminal takes none of the text as an order.
 #[derive(Drop)]
 pub struct OneLine<'a, W> {
     out: &'a mut W,
 }
 
 impl<'a, W: Write> OneLine<'a, W> {
-    /// Over a writer.
+    /// Returns a writer that passes text on to this one.
     pub fn over(out: &'a mut W) -> OneLine<'a, W> {
         OneLine { out }
     }
 }
 
-// Whether a character ends a line, or a terminal could take it as an order.
+// Returns whether a character ends a line, or a terminal could take it as an order.
 fn breaks_line(character: char) -> bool {
     character.is_control() || character == '\u{2028}' || character == '\u{2029}'
 }

@@ -10,7 +10,7 @@ use crate::profile_fault::ProfileFileFault;
 use crate::totals_disk::TotalsDisk;
 use pos_profile::Profile;
 
-// What a run needs, of what both files gave; or the first fault, which is the profile's where both are at fault.
+// Returns what both files gave, or the first fault: the profile's if both are at fault.
 fn first_fault<'a, D: Drop>(
     profile_path: &'a str,
     profile: Result<Profile, ProfileFileFault>,
@@ -32,7 +32,11 @@ fn first_fault<'a, D: Drop>(
     }
 }
 
-/// The profile in one file, and the disk in another. Where both files are at fault, the profile's fault is told.
+/// Returns the profile in one file, and the disk in another.
+///
+/// # Errors
+///
+/// `Profile` if the profile's file is at fault, also if both are, and otherwise `Disk` if the disk's is.
 pub fn open_run<'a, F: NamedFiles>(
     files: &F,
     profile_path: &'a str,

@@ -3,12 +3,12 @@
 use pos_profile::{Mistake, Place, Text};
 use std::{fmt, io};
 
-/// Why a file gives no profile, for its writer.
+/// Why a file gives no profile, for the profile's writer.
 #[derive(Drop)]
 pub enum ProfileFileFault {
     /// It can't be read.
     Unreadable(io::Error),
-    /// The bytes of this line, counted from 1, are no UTF-8.
+    /// The bytes of this line are not UTF-8.
     NotUtf8 {
         /// The line.
         line: usize,
@@ -20,11 +20,11 @@ pub enum ProfileFileFault {
         /// Why it stopped.
         error: toml::de::Error,
     },
-    /// Something in the document isn't sound.
+    /// Something in the document isn't sound. The mistake says what and where.
     Unsound(Mistake),
     /// Two devices have this name.
     Duplicate(Text),
-    /// No memory was found to read it.
+    /// Memory ran out while it was read.
     NoMemory,
 }
 

@@ -12,7 +12,7 @@ use pos_service::NoMemory;
 use std::alloc::Global;
 use std::{io, str};
 
-// The line in which a place of a text lies, counted from 1.
+// Returns the line in which a place of a text lies, counted from 1.
 fn line_at(text: &[u8], place: usize) -> usize
     requires { place ≤ length text.now }
     ensures { result ≡ line_at text.entry.now place }
@@ -21,7 +21,7 @@ fn line_at(text: &[u8], place: usize) -> usize
     ends + 1
 }
 
-// Why a text that is no TOML document is none.
+// Returns why a text that is no TOML document is none.
 fn explain_text(alloc: Global, text: &str) -> ProfileFileFault
     requires { parse_document text.now ≡ None }
     ensures { Reads (parse_document text.entry.now) (Err result) }
@@ -38,7 +38,7 @@ fn explain_text(alloc: Global, text: &str) -> ProfileFileFault
     }
 }
 
-// Why a document that isn't sound is no profile.
+// Returns why a document that isn't sound is no profile.
 fn explain_document(alloc: Global, text: &str) -> ProfileFileFault
     requires { ¬ (Explains (parse_document text.now) None) }
     ensures { Reads (parse_document text.entry.now) (Err result) }
@@ -50,7 +50,15 @@ fn explain_document(alloc: Global, text: &str) -> ProfileFileFault
     }
 }
 
-/// The profile that a text is. Its refusal says what `Profile::from_text` says, and why.
+/// Returns the profile that a text is.
+///
+/// # Errors
+///
+/// The text is refused as `Profile::from_text` refuses it, and the fault says why:
+///
+/// - `NotToml` if it is no TOML document, and `Unsound` if something in the document isn't sound.
+/// - `Duplicate` if two devices have one name.
+/// - `NoMemory` if memory ran out.
 pub fn profile_of_text(alloc: Global, text: &str) -> Result<Profile, ProfileFileFault>
     ensures { Reads (parse_document text.entry.now) result }
 {
@@ -63,7 +71,7 @@ pub fn profile_of_text(alloc: Global, text: &str) -> Result<Profile, ProfileFile
     }
 }
 
-// Why a file can't be read.
+// Returns why a file can't be read.
 fn fault_of_read(cause: io::Error) -> ProfileFileFault
     ensures { TellsRead cause result }
 {
@@ -73,7 +81,11 @@ fn fault_of_read(cause: io::Error) -> ProfileFileFault
     ProfileFileFault::Unreadable(cause)
 }
 
-/// The profile that the bytes of a file are: that of their text, if they are UTF-8.
+/// Returns the profile that the bytes of a file are: that of their text.
+///
+/// # Errors
+///
+/// `NotUtf8` if they are not UTF-8, and those of `profile_of_text`.
 pub fn profile_of_bytes(alloc: Global, bytes: &[u8]) -> Result<Profile, ProfileFileFault>
     ensures { ReadsBytes bytes.entry.now result }
 {
@@ -85,7 +97,7 @@ pub fn profile_of_bytes(alloc: Global, bytes: &[u8]) -> Result<Profile, ProfileF
     }
 }
 
-// The profile that was read from a file, or why it wasn't.
+// Returns the profile that was read from a file, or why there is none.
 fn profile_of_read(alloc: Global, read: io::Result<Vec<u8>>) -> Result<Profile, ProfileFileFault>
     ensures { ReadsFile (bytes_of read) result }
 {
@@ -95,7 +107,7 @@ fn profile_of_read(alloc: Global, read: io::Result<Vec<u8>>) -> Result<Profile, 
     }
 }
 
-/// The profile in a file.
+/// Returns the profile in the file at a path.
 ///
 /// # Errors
 ///

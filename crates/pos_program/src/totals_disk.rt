@@ -23,7 +23,7 @@ const LENGTH: u64 = 327_680;
 /// The totals in a file, mirrored in memory.
 pub type TotalsDisk<F> = MirrorDisk<FileDisk<F>>;
 
-// How a file is opened: for reading and writing, and made if it isn't there and may be made.
+// Returns how a file is opened: for reading and writing, and made if it isn't there and may be made.
 fn options(may_make: bool) -> OpenOptions
     ensures { result ≡ to_write may_make }
 {
@@ -32,7 +32,7 @@ fn options(may_make: bool) -> OpenOptions
     options
 }
 
-// Why a file can't be opened.
+// Returns why a file can't be opened.
 fn fault_of_open(cause: io::Error) -> FileFault
     ensures { TellsOpen cause result }
 {
@@ -42,7 +42,7 @@ fn fault_of_open(cause: io::Error) -> FileFault
     FileFault::Open(cause)
 }
 
-// Opens a file, and makes it if it isn't there and may be made.
+// Opens a file and returns it. It is made if it isn't there and may be made.
 fn open_file<S: FileSystem>(files: &S, path: &str, may_make: bool) -> Result<S::File, FileFault>
     ensures { OpensFile S.FileSystem TellsOpen files.now (to_write may_make) path.now result }
 {
@@ -52,7 +52,7 @@ fn open_file<S: FileSystem>(files: &S, path: &str, may_make: bool) -> Result<S::
     }
 }
 
-// The folder in which the file at a path lies.
+// Returns the folder in which the file at a path lies.
 fn folder_of(path: &str) -> &str
     ensures { result.now ≡ folder_of path.now }
 {
@@ -62,8 +62,12 @@ fn folder_of(path: &str) -> &str
     }
 }
 
-// Makes the entry of a file in its folder stay.
-fn sync_folder<S: FileSystem>(files: &S, path: &str) -> Result<(), FileFault>
+/// Makes the entry of a file in its folder stay after a crash.
+///
+/// # Errors
+///
+/// `Folder` if the folder can't be synced.
+pub fn sync_folder<S: FileSystem>(files: &S, path: &str) -> Result<(), FileFault>
     ensures { SyncsFolder S.FileSystem files.now path.now result }
 {
     match files.sync(folder_of(path)) {
@@ -72,7 +76,7 @@ fn sync_folder<S: FileSystem>(files: &S, path: &str) -> Result<(), FileFault>
     }
 }
 
-// Why a file can't serve as a disk.
+// Returns why a file can't serve as a disk.
 fn fault_of_disk(cause: DiskFileFault) -> FileFault
     ensures { TellsDisk cause result }
 {
@@ -89,7 +93,8 @@ fn fault_of_disk(cause: DiskFileFault) -> FileFault
 ///
 /// # Errors
 ///
-/// `InUse` if another program has locked the file; `Lock`, `Measure` and `NoMemory`.
+/// - `InUse` if another program has locked the file.
+/// - `Lock` if the system gives no lock, `Measure` if it doesn't report the length, and `NoMemory` if memory ran out.
 pub fn disk_over<F: BlockFile + Drop>(file: F) -> Result<FileDisk<F>, FileFault>
     ensures { OpensDisk lock_call F.calls file result }
 {
@@ -103,7 +108,8 @@ pub fn disk_over<F: BlockFile + Drop>(file: F) -> Result<FileDisk<F>, FileFault>
 ///
 /// # Errors
 ///
-/// `InUse` if another program has locked the file for itself; `Lock`, `Measure` and `NoMemory`.
+/// - `InUse` if another program has locked the file for itself.
+/// - `Lock` if the system gives no lock, `Measure` if it doesn't report the length, and `NoMemory` if memory ran out.
 pub fn disk_to_read<F: BlockFile + Drop>(file: F) -> Result<FileDisk<F>, FileFault>
     ensures { OpensDisk share_call F.calls file result }
 {
@@ -113,11 +119,11 @@ pub fn disk_to_read<F: BlockFile + Drop>(file: F) -> Result<FileDisk<F>, FileFau
     }
 }
 
-/// Returns the disk, lengthened with zero bytes to the length of a disk of totals if it is shorter.
+/// Returns the disk, lengthened with zero bytes to the length of a disk of totals, 327,680 bytes, if it is shorter.
 ///
 /// # Errors
 ///
-/// `Lengthen`, and `Sync` if the device may not have the new length.
+/// `Lengthen` if the file can't be lengthened, and `Sync` if the device may not have the new length.
 pub fn lengthened<F: BlockFile + Drop>(disk: FileDisk<F>) -> Result<FileDisk<F>, FileFault>
     requires { disk.has_failed ≡ false }
     ensures { LengthensDisk F.calls disk result }
@@ -132,7 +138,7 @@ pub fn lengthened<F: BlockFile + Drop>(disk: FileDisk<F>) -> Result<FileDisk<F>,
 ///
 /// # Errors
 ///
-/// `NotSynced`, `NotRead` and `NoMemory`.
+/// `NotSynced` if the sync failed, `NotRead` if the bytes can't all be read, and `NoMemory` if memory ran out.
 pub fn mirrored<D: Disk + Drop>(alloc: Global, disk: D) -> Result<MirrorDisk<D>, FileFault>
     ensures { MirrorsDisk D.Disk disk result }
 {
@@ -144,11 +150,12 @@ pub fn mirrored<D: Disk + Drop>(alloc: Global, disk: D) -> Result<MirrorDisk<D>,
     }
 }
 
-/// Opens the totals in a file that is there. The file is locked for this program alone until the disk ends.
+/// Opens the totals in the file at a path, which is there, and returns them. The file is locked for this program alone
+/// until the disk ends.
 ///
 /// # Errors
 ///
-/// `Open`, and those of `disk_over` and `mirrored`.
+/// `Open` if the file can't be opened for reading and writing, and those of `disk_over` and `mirrored`.
 pub fn open_totals<S: FileSystem + AllocGlobal>(
     files: &S,
     path: &str,
@@ -178,12 +185,13 @@ fn long_enough<S: FileSystem>(
     lengthened(disk)
 }
 
-/// Opens the totals in a file, which is made if it isn't there. A file with fewer bytes than a disk of totals is
-/// lengthened with zero bytes. A longer one keeps its length. It is locked before anything in it changes.
+/// Opens the totals in the file at a path, which is made if it isn't there, and returns them. A file with fewer bytes
+/// than a disk of totals is lengthened with zero bytes. A longer one keeps its length. It is locked before anything in
+/// it changes.
 ///
 /// # Errors
 ///
-/// `Folder`, those of `open_totals`, and `Lengthen` and `Sync`.
+/// `Folder` if the file's folder can't be synced, those of `open_totals`, and those of `lengthened`.
 pub fn make_totals<S: FileSystem + AllocGlobal>(
     files: &S,
     path: &str,

@@ -10,7 +10,7 @@ use pos_file::BlockFile;
 use std::fs::{File, OpenOptions};
 use std::io;
 
-// Why a file can't be read.
+// Returns why a file can't be read.
 fn fault_of_read(cause: io::Error) -> FileFault
     ensures { TellsUnreadable cause result }
 {
@@ -20,7 +20,7 @@ fn fault_of_read(cause: io::Error) -> FileFault
     FileFault::Unreadable(cause)
 }
 
-// How a file is opened: for reading alone.
+// Returns how a file is opened: for reading alone.
 fn options() -> OpenOptions
     ensures { result ≡ to_read }
 {
@@ -29,8 +29,12 @@ fn options() -> OpenOptions
     options
 }
 
-// Opens a file that is there, for reading alone.
-fn open_file<S: FileSystem>(files: &S, path: &str) -> Result<S::File, FileFault>
+/// Opens a file that is there for reading alone, and returns it. Nothing was asked of it yet.
+///
+/// # Errors
+///
+/// `Unreadable` if it can't be opened, and `NoMemory` if memory ran out.
+pub fn open_file<S: FileSystem>(files: &S, path: &str) -> Result<S::File, FileFault>
     ensures opens { OpensFile S.FileSystem TellsUnreadable files.now to_read path.now result }
     ensures new { IfOk result (λ file. ⟦<S::File as BlockFile>⟧.calls file ≡ []) }
 {
@@ -40,14 +44,15 @@ fn open_file<S: FileSystem>(files: &S, path: &str) -> Result<S::File, FileFault>
     }
 }
 
-/// Opens the totals in a file that is there and is only read: its first 327,680 bytes, or all if it is shorter. The
-/// file is locked for reading until the totals end, so other programs may read it too. It is synced and then read
-/// once, and nothing is written to it.
+/// Opens the totals in a file that is there and is only read, and returns them: its first 327,680 bytes, or all if it
+/// is shorter. The file is locked for reading until the totals end, so other programs may read it too. It is synced and
+/// then read once, and nothing is written to it.
 ///
 /// # Errors
 ///
-/// `Unreadable` if it can't be opened, `InUse` if another program has locked it for itself, and nothing was read then;
-/// and those of `disk_to_read` and `mirrored`.
+/// - `Unreadable` if the file can't be opened for reading.
+/// - `InUse` if another program has locked it for itself. Then nothing was read.
+/// - Those of `disk_to_read` and `mirrored`.
 pub fn read_totals<S: FileSystem + AllocGlobal>(
     files: &S,
     path: &str,

@@ -14,7 +14,7 @@ use std::convert::AsStr;
 use std::rt::Env;
 use std::{env, io};
 
-/// What the words of the command line ask for. A path is its word as it stands.
+/// What the words of the command line ask for. A path is its word, unchanged.
 #[derive(Clone, Copy, PartialEq, Eq)]
 pub enum Task<'a> {
     /// No words: to run a script over the built-in profile and a formatted disk in memory.
@@ -25,11 +25,11 @@ pub enum Task<'a> {
     Format { disk: &'a str },
     /// `migrate --disk FILE`: to move the totals on the disk in a file to layout 2.
     Migrate { disk: &'a str },
-    /// `files --disk FILE`: to tell what a totals file holds.
+    /// `files --disk FILE`: to print what a totals file holds.
     Files { disk: &'a str },
 }
 
-// Why the words can't be read.
+// Returns why the words can't be read.
 fn fault_of_unread(cause: &io::Error) -> ChoiceFault
     ensures { TellsUnread (error_kind cause.now) result }
 {
@@ -43,7 +43,7 @@ fn fault_of_unread(cause: &io::Error) -> ChoiceFault
 ///
 /// # Errors
 ///
-/// `Words` if one is no UTF-8, and `NoMemory`.
+/// `Words` if one is not UTF-8, and `NoMemory` if memory ran out.
 pub fn read_words<R: Env + AllocGlobal>(rt: &R) -> Result<Vec<String>, ChoiceFault>
     ensures { IfErr result AreUnread }
 {
@@ -57,7 +57,7 @@ pub fn read_words<R: Env + AllocGlobal>(rt: &R) -> Result<Vec<String>, ChoiceFau
     }
 }
 
-// An option `--NAME FILE` that has to be there.
+// Returns an option `--NAME FILE` that must be given.
 fn path_option<'a>(alloc: Global, name: &'a str) -> Arg<'a>
     ensures rule { rule_of result ≡ path_rule name.entry.now }
     ensures local { result.global ≡ false }
@@ -68,7 +68,7 @@ fn path_option<'a>(alloc: Global, name: &'a str) -> Arg<'a>
         .action(ArgAction::Set)
 }
 
-// The command line of `run`.
+// Returns the command line of `run`.
 fn run_line<'a>(alloc: Global) -> Result<Command<'a>, AllocError>
     ensures app { IfOk result (λ line. app_of line ≡ run_line) }
     ensures local { IfOk result (λ line. (fields_of line).has_globals ≡ false) }
@@ -77,7 +77,7 @@ fn run_line<'a>(alloc: Global) -> Result<Command<'a>, AllocError>
     started.arg(path_option(alloc, "disk"))
 }
 
-// The command line of a command that has a disk alone.
+// Returns the command line of a command that has a disk alone.
 fn disk_line<'a>(alloc: Global, command: &'a str) -> Result<Command<'a>, AllocError>
     ensures app { IfOk result (λ line. app_of line ≡ disk_line command.entry.now) }
     ensures local { IfOk result (λ line. (fields_of line).has_globals ≡ false) }
@@ -85,19 +85,20 @@ fn disk_line<'a>(alloc: Global, command: &'a str) -> Result<Command<'a>, AllocEr
     Command::new(alloc, command).arg(path_option(alloc, "disk"))
 }
 
-// The command line of the program.
+// Returns the command line of the program.
 fn program_line<'a>(alloc: Global) -> Result<Command<'a>, AllocError>
     ensures { IfOk result (λ line. app_of line ≡ program_line) }
 {
     let bare = Command::new(alloc, "pos_console").no_binary_name(true);
-    let started = bare.disable_help_subcommand(true);
+    let plain = bare.disable_help_subcommand(true);
+    let started = plain.subcommand_required(true);
     let runs = started.subcommand(run_line(alloc)?)?;
     let formats = runs.subcommand(disk_line(alloc, "format")?)?;
     let migrates = formats.subcommand(disk_line(alloc, "migrate")?)?;
     migrates.subcommand(disk_line(alloc, "files")?)
 }
 
-// Why `clap` gave no matches.
+// Returns why `clap` gave no matches.
 fn fault_of_error(error: clap::Error) -> ChoiceFault
     ensures { TellsWhy error result }
 {
@@ -111,7 +112,7 @@ fn fault_of_error(error: clap::Error) -> ChoiceFault
     ChoiceFault::Words(WordsFault::Refused(error))
 }
 
-// The path that the matches of a command hold of an option.
+// Returns the path that the matches of a command hold of an option.
 fn path_in<'a>(found: &ArgMatches<'a>, option: &str) -> &'a str
     ensures { result.now ≡ path_in option.now (rows_of (found_of found.now)) }
 {
@@ -121,13 +122,13 @@ fn path_in<'a>(found: &ArgMatches<'a>, option: &str) -> &'a str
     }
 }
 
-// What `clap`'s matches of the words ask for.
+// Returns what `clap`'s matches of the words ask for.
 fn task_of<'a>(matches: &ArgMatches<'a>) -> Task<'a>
     requires { IsKnown (subcommand_rows_of matches.now) }
     ensures { Asks (subcommand_rows_of matches.now) result }
 {
     let Some((command, found)) = matches.subcommand() else {
-        return Task::Demo;
+        unreachable!();
     };
     let disk = path_in(found, "disk");
     if command == "run" {
@@ -144,14 +145,17 @@ fn task_of<'a>(matches: &ArgMatches<'a>) -> Task<'a>
 }
 
 /// Returns what the words after the program's name ask for, as `clap` reads them: its matches have the command, and the
-/// path of each option. docs/reference/console.md, "The program".
+/// path of each option. Only no words ask for [`Task::Demo`]. docs/reference/console.md, "The program".
 ///
 /// # Errors
 ///
-/// `Words` if `clap` refuses the words, or they ask for help; `NoMemory` if there was none to read them.
+/// `Words` if `clap` refuses the words or they ask for help, and `NoMemory` if memory ran out.
 pub fn choice<'a, S: AsStr>(alloc: Global, words: &'a [S]) -> Result<Task<'a>, ChoiceFault>
     ensures { Chooses (map S.text words.entry.now) result }
 {
+    if words.is_empty() {
+        return Ok(Task::Demo);
+    }
     let Ok(line) = program_line(alloc) else {
         return Err(ChoiceFault::NoMemory);
     };

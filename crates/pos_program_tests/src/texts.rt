@@ -280,6 +280,21 @@ fn words_of_no_command(rt: HostRuntime) -> Result<(), Fail> {
             "error: unexpected argument '--version' found: give",
         ),
         ("help", "error: unrecognized subcommand 'help': give"),
+        (
+            "--",
+            "error: 'pos_console' requires a subcommand but one was not provided \
+                [subcommands: run, format, migrate, files]: give",
+        ),
+        ("-- --", "error: unrecognized subcommand '--': give"),
+        ("-- run", "error: unexpected argument 'run' found: give"),
+        (
+            "-- run --profile p --disk d",
+            "error: unexpected argument 'run' found: give",
+        ),
+        (
+            "--disk x",
+            "error: unexpected argument '--disk' found: give",
+        ),
         ("-h", "usage: "),
         ("run --help", "usage: "),
         ("format -h", "usage: "),

@@ -1,6 +1,7 @@
 pub mod Common
 pub mod NameLemmas
 pub mod SpareLemmas
+pub mod ResponseLemmas
 pub mod Sessions
 pub mod Finishing
 pub mod ReadLemmas

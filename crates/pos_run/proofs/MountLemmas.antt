@@ -1,6 +1,6 @@
 -- What serves the devices of a counter, and the spares, is mounted for entries of a profile.
 use Rattle.pos_run.proofs.Common.{Counter, Device, Entry, Ghosts, IfSome, List, None, Option, Some, [], ap, device_for, get_or, inl, inr, kind_of}
-use Rattle.pos_run.proofs.Common.{length, map, new_totals, option_map, refl, set, slice_get, subst, suc, sym, zero, ℕ, ◌++◌, ◌<◌, ◌∙◌, ◌∷◌, ◌≡◌}
+use Rattle.pos_run.proofs.Common.{length, map, new_totals, option_map, refl, set, subst, suc, sym, zero, ℕ, ◌++◌, ◌<◌, ◌∙◌, ◌∷◌, ◌≡◌}
 use Rattle.pos_counter.specs.KeptDevices.{device_of, slots_in, totals_devices, totals_name}
 use Rattle.pos_counter.specs.Machine.{Machine}
 use Rattle.pos_counter.specs.Counters.{Begins}

@@ -44,7 +44,8 @@ pub record CarriesOutAsking {D P : Type 0} (bound : DiskGhosts D) (peripherals :
   pub carried : CarriesOut (IsAsked bound peripherals) old (AskingBecomes session asking) (Some (reply_text reply))
       left new
 
--- What was read of a line's words is asked, or why they weren't is told, and the reply is written as far as it can be.
+-- What was read of a line's words is asked, or the reason why they weren't read is the reply. The reply is written as
+-- far as it can be.
 pub record CarriesOutRead {D P E : Type 0} (bound : DiskGhosts D) (peripherals : Ghosts P) (old : Counter D P)
     (session : Session) (read : Result LineRequest LineFault) (before after : Given)
     (result : Result (Unit {0}) E) (left : Session) (new : Counter D P) : Type 0 where
@@ -76,8 +77,8 @@ abbrev pub CarriesOutPrinted : {D P E : Type 0} → DiskGhosts D → Ghosts P
 CarriesOutPrinted bound peripherals old session line before after result left new = (bytes : List ℕ) → IsLine line bytes
     → CarriesOutLines bound peripherals old session (bytes ∷ []) before after result left new
 
--- behind what was read a piece ends lines, which are carried out; where they all are, what is held then stands for
--- what is unfinished
+-- A piece after what was read ends lines, which are carried out. If they all are, what is held then stands for what is
+-- unfinished.
 abbrev pub CarriesOutPiece : {D P E : Type 0} → DiskGhosts D → Ghosts P
     → Counter D P → Session → Kept → List ℕ → Given → Given → Result (Unit {0}) E → Kept → Session
     → Counter D P → Type 0
@@ -107,9 +108,9 @@ CarriesOutEnd bound peripherals old session buffered before after result left ne
     (λ fault. Stops (IsRun bound peripherals) old session lines before.given after.given left new
     ⊎ FinishesUnflushed (IsRun bound peripherals) old session lines before.given after.given left new)
 
--- from an old counter to a new one, a run; and for all that the disk may leave before it, a crash at any moment of the
--- run leaves what may be left before or after one of its steps, and one after the run what may be left after the last;
--- and whatever the disk is, each request that spares it is a step
+-- From an old counter to a new one, a run, for all that the disk may leave before it. A crash at any moment of the run
+-- leaves what may be left before or after one of its steps. A crash after the run leaves what may be left after the
+-- last. Whatever the disk is, each request that spares it is a step.
 abbrev pub RunsThrough : {D P : Type 0} → DiskGhosts D → Ghosts P
     → Counter D P → List (Request × Response) → Counter D P → Type 0
 RunsThrough bound peripherals old steps new =
@@ -118,8 +119,8 @@ RunsThrough bound peripherals old steps new =
     × ((left : List Standing) (failures : ℕ) → IsSettled old.totals.totals left
     → RunsAnyhow peripherals left failures old steps new)
 
--- What a run of a script leaves of a counter, however it ended: what all lines that were carried out asked is one run,
--- in a step of which a crash at any moment since the start lies.
+-- What a run of a script leaves of a counter, however it ended. What all lines that were carried out asked is one run.
+-- A crash at any moment since the start is in one of its steps.
 pub record CarriesOutScript {D P : Type 0} (bound : DiskGhosts D) (peripherals : Ghosts P) (old : Counter D P)
     (session : Session) (streams : Streams) (result : Result (Unit {0}) RunFault) (left : Session) (new : Counter D P)
     : Type 0 where

@@ -16,6 +16,6 @@ number_named names name = lookup (bytes_eq name) names
 abbrev pub names_of : Names → ControlNames
 names_of names = map (λ entry. (entry.0.items, entry.1)) names.numbers.entries
 
--- for how many further names there is room
+-- how many more names there is room for
 abbrev pub room_of : Names → ℕ
 room_of names = spare names.numbers

@@ -44,8 +44,8 @@ pub record StopsAt {C : Type 0} (Runs : Leads C) (old : C) (session : Session) (
   pub carried : CarriesOut Runs old (LineBecomes session line) reply left new
   pub cut : IsCut before after (printed reply)
 
--- A write failed at a line: the earlier lines were carried out and their text was given; the line was carried out too,
--- and of what it prints a front was given, but not all; no later line was carried out.
+-- A write failed at a line. The earlier lines were carried out and their text was given. The line was carried out too,
+-- and of what it prints a front was given, but not all. No later line was carried out.
 pub record Stops {C : Type 0} (Runs : Leads C) (old : C) (session : Session) (lines : List (List ℕ))
     (before after : Given) (left : Session) (new : C) : Type 0 where
   pub earlier : List (List ℕ)
@@ -64,8 +64,8 @@ lines_read Open bytes = complete_lines bytes
 lines_read Ended bytes = lines_of bytes
 lines_read Failed bytes = complete_lines bytes
 
--- what a run leaves, by its result, of the lines that it read: all that they print was given to the sink, which was
--- flushed, unless a write or a flush failed; then it stopped at a line, or behind all; want of memory changes nothing
+-- What a run leaves, by its result, of the lines that it read. All that they print was given to the sink, which was
+-- flushed. If a write or a flush failed, it stopped at a line, or after all. If memory ran out, nothing has changed.
 abbrev pub ScriptLeaves : {C : Type 0} → Leads C → C → Session → List (List ℕ) → Writing → Writing
     → Result (Unit {0}) RunFault → Session → C → Type 0
 ScriptLeaves Runs old session lines before after (Ok u) left new =
@@ -127,7 +127,7 @@ off_over disk = record {
   totals = record { layout = Layout1; mode = Off; tail = 0; next = 1; area = None; transactions = [] };
 }
 
--- totals that are off, over a disk that may leave these and has failed so often
+-- totals that are off, over a disk that may leave these and has failed this often
 abbrev pub new_totals : List Standing → ℕ → TotalsPart
 new_totals left failures = record {
   totals = record { layout = Layout1; mode = Off; tail = 0; next = 1; area = None; transactions = [] };

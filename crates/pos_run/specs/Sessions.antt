@@ -16,7 +16,7 @@ pub record IsSessionSound {D P : Type 0} (peripherals : Ghosts P) (session : Run
   pub counter : IsCounterSound peripherals session.counter.now
   pub spares : AreSparesSound peripherals session.spares.now
 
--- It is sound still, and has the very counter, names and spares that it had, as they are now.
+-- It is still sound, and has the very counter, names and spares that it had, as they are now.
 pub record KeepsSession {D P : Type 0} (peripherals : Ghosts P) (old new : Running D P) : Type 0 where
   pub sound : IsSessionSound peripherals new
   pub counter : new.counter.ghost_name ≡ old.counter.ghost_name

@@ -55,7 +55,7 @@ state_of (simulation.Display display) = state_of_display display
 state_of (simulation.Ring ring) = state_of_ring ring
 state_of (simulation.Printer printer) = state_of_printer printer
 
--- the states of what is simulated without a wrapper, and of what stands behind a line that fails
+-- the states of what is simulated without a wrapper, and of what is on a line that fails
 abbrev pub simulations : Ghosts Simulation
 simulations = record { state = λ device. state_of device }
 
@@ -81,8 +81,8 @@ abbrev pub is_ring : Simulation → Bool
 is_ring (simulation.Ring ring) = true
 is_ring _ = false
 
--- what is simulated of a kind, physically: a closed drawer, a scanner, a blank display, or a printer with so many lines
--- of paper that has printed nothing
+-- what is simulated of a kind, physically: a closed drawer, a scanner, a blank display, or a printer with this much
+-- paper and no receipt
 abbrev pub new_form : Kind → ℕ → Form
 new_form kind.Drawer lines = form.Drawer false
 new_form kind.Scanner lines = form.Scanner
@@ -108,7 +108,7 @@ pub record IsDisplay (rows columns : ℕ) (turns : Bool) (device : Simulation) :
   pub state : state_of device ≡ display_state (blank_display rows columns) false
   pub ring : is_ring device ≡ turns
 
--- what is simulated for an entry before it is wrapped: its rows are a ring where the entry says so
+-- what is simulated for an entry before it is wrapped: its rows are a ring if the entry says so
 pub record IsDeviceFor (entry : Entry) (device : Option Simulation) : Type 0 where
   pub state : option_map state_of device ≡ simulated_for entry
   pub ring : IfSome device (λ device. is_ring device ≡ entry.ring)
@@ -119,7 +119,7 @@ pub record IsSimulatedFor (entry : Entry) (made : Option Wrapped) : Type 0 where
   pub simulates : IsDeviceFor entry device
   pub wrapped : made ≡ option_map (wrapped_by entry.flaky entry.recorded) device
 
--- what a simulated peripheral is put into, by the entry that it is simulated for
+-- what a simulated peripheral is mounted in, by the entry that it is simulated for
 abbrev pub Mounts : Type 0 → Type 1
 Mounts P = Entry → Wrapped → P → Type 0
 
@@ -162,7 +162,7 @@ Offers old name peripheral new =
 abbrev pub simulated_all : List Entry → SpareStates
 simulated_all entries = map simulated_for entries
 
--- a truth value holds only where it may
+-- a truth value is true only if it may be
 abbrev pub HoldsOnlyIf : Bool → Bool → Type 0
 HoldsOnlyIf true holds = ⊤
 HoldsOnlyIf false holds = holds ≡ false
@@ -177,7 +177,7 @@ pub record IsSimulable (entry : Entry) : Type 0 where
 abbrev pub device_for : Option PeripheralState → Entry → Option Device
 device_for state entry = option_map (λ kind. device_with entry.name kind state) (kind_of entry)
 
--- the devices of entries in order, each served by what is simulated for it, and behind them that of Hard Totals
+-- the devices of entries in order, each served by what is simulated for it, and after them that of Hard Totals
 abbrev pub simulated_devices : List Entry → List Device
 simulated_devices entries =
     filter_map (λ entry. device_for (simulated_for entry) entry) entries ++ totals_devices (totals_name entries)
@@ -228,8 +228,8 @@ pub record RunsThroughProfile (contents : Contents) (left : List Standing) (disk
   pub any_moment : LeavesOnly disk after (IsLeftDuring (begun_over contents left disk) (script_steps text.run) end run)
   pub leaves : LeavesOneOf end.totals.left after
 
--- what a run over a profile and a disk leaves: for all that an honest disk may leave before it, a run of the machine,
--- and the disk is honest after it; and whatever the disk is, one in which each request that spares it is a step
+-- What a run over a profile and a disk leaves. For all that an honest disk may leave before it, it is a run of the
+-- machine, and the disk is honest after it. Whatever the disk is, each request that spares it is a step.
 abbrev pub ProfileRuns : {D : Type 0} → DiskGhosts D → Contents → D → Streams → Result (Unit {0}) RunFault → D → Type 0
 ProfileRuns bound contents disk streams result after =
     ((left : List Standing) → bound.honest disk → LeavesOneOf left (bound.state disk)
@@ -247,8 +247,8 @@ ProfileLeaves bound contents disk streams result after =
 abbrev pub wrapped_devices : Ghosts Wrapped
 wrapped_devices = record { state = λ device. wrapped_state device }
 
--- A run over a profile is one of a counter of the profile's devices with its spares, each of them what is simulated for
--- its entry, in the wrappers that the entry asks for; and the disk that is left is that counter's.
+-- A run over a profile is one of a counter of the profile's devices with its spares. Each of them is what is simulated
+-- for its entry, in the wrappers that the entry asks for. The disk that is left is that counter's.
 pub record RunsSimulated {D : Type 0} (bound : DiskGhosts D) (contents : Contents) (disk : D) (streams : Streams)
     (result : Result (Unit {0}) RunFault) (after : D) : Type 0 where
   pub counter : Counter D Wrapped

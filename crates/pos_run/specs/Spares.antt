@@ -4,7 +4,7 @@ use Rattle.pos_service.specs.declared.peripheral.Peripheral.{Ghosts}
 use Rattle.pos_service.specs.Peripherals.{PeripheralState}
 use Rattle.pos_run.specs.declared.spares.Spares.{Spares}
 
--- the spares in the order of their numbers; the place of one that was attached is empty
+-- the spares in the order of their numbers, with an empty place for one that was attached
 abbrev pub SpareStates : Type 0
 SpareStates = List (Option PeripheralState)
 

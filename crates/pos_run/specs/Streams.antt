@@ -27,20 +27,20 @@ found (Ok zero) = Ended
 found (Ok (suc count)) = Open
 found (Err fault) = Failed
 
--- How the reader of a script stands: what was taken from its source, how often it read, and what the last read found.
+-- The state of a script's reader: what was taken from its source, how often it read, and what the last read found.
 pub record Reading : Type 0 where
   pub taken : Taken
   pub reads : ℕ
   pub state : ReadState
 
--- How the writer of answers stands: all that it was given and how often its sink failed, what of it it holds back, and
--- what its sink was given since it was last flushed.
+-- The state of the writer of answers: all that it was given, how often its sink failed, and what it holds back. It also
+-- has what its sink was given since it was last flushed.
 pub record Writing : Type 0 where
   pub given : Given
   pub held : List ℕ
   pub unflushed : List ℕ
 
--- how a reader stands
+-- the state of a reader
 abbrev pub reading_of : {R : Type 0} → SourceGhosts R → ScriptReader R → Reading
 reading_of source reader = record {
   taken = source.taken reader.reader;
@@ -52,7 +52,7 @@ reading_of source reader = record {
 abbrev pub answers_of : {W : Type 0} → SinkGhosts W → AnswerWriter W → Given
 answers_of sink answers = given_after (sink.given answers.writer) answers.held.items
 
--- how a writer stands
+-- the state of a writer
 abbrev pub writing_of : {W : Type 0} → SinkGhosts W → AnswerWriter W → Writing
 writing_of sink answers = record {
   given = answers_of sink answers;
@@ -64,15 +64,15 @@ writing_of sink answers = record {
 abbrev pub IsFlushed : Writing → Type 0
 IsFlushed writing = (writing.held ≡ []) × (writing.unflushed ≡ [])
 
--- a read asks the source, counts, and keeps what it found; if a script may be read no more, each read fails and changes
--- nothing
+-- A read asks the source, counts, and keeps what it found. If a script may be read no more, each read fails and changes
+-- nothing.
 abbrev pub ReadsScript : Reading → List ℕ → Result ℕ ReadFault → Reading → Type 0
 ReadsScript old buffer result new =
     MatchBool (may_read old.state old.reads)
     (TakesBytes old.taken buffer result new.taken × (new.reads ≡ old.reads + 1) × (new.state ≡ found result))
     ((is_err result ≡ true) × (new ≡ old))
 
--- all of these bytes were given; or so many of them, and then a write failed
+-- all of these bytes were given, or this many of them, and then a write failed
 abbrev pub WritesFront : Given → List ℕ → ℕ → Result (Unit {0}) WriteFault → Given → Type 0
 WritesFront old bytes count (Ok u) new = (count ≡ length bytes) × Appends old new bytes
 WritesFront old bytes count (Err fault) new = Fails old new (take count bytes)
@@ -82,8 +82,8 @@ abbrev pub ReadsToEnd : List ℕ → Reading → Reading → Type 0
 ReadsToEnd input old new =
     (new.state ≡ Ended) × (new.taken ≡ end_after (taken_after old.taken input)) × IsWhole new.taken
 
--- these bytes were taken, and then a read failed; or the script was read as often as it may be; or a read had failed
--- before, and nothing was read; so it may be read no more
+-- These bytes were taken, and then the script may be read no more. A read failed, it was read as often as it may be, or
+-- a read had failed before, and nothing was read.
 abbrev pub ReadsToFault : List ℕ → Reading → Reading → Type 0
 ReadsToFault input old new = (may_read new.state new.reads ≡ false)
     × ((new.taken ≡ read_fault_after (taken_after old.taken input))
@@ -96,14 +96,14 @@ ReadsOn input old new =
     ((new.taken ≡ taken_after old.taken input) ⊎ (new.taken ≡ end_after (taken_after old.taken input)))
     × (new.state ≡ Failed → new ≡ old)
 
--- How a reader and a writer stand before a run, and after it.
+-- The states of a reader and a writer before a run, and after it.
 pub record Streams : Type 0 where
   pub reader : Reading
   pub reader_after : Reading
   pub writer : Writing
   pub writer_after : Writing
 
--- how these stand before and after
+-- the states of these before and after
 abbrev pub streams_of : {R W : Type 0} → SourceGhosts R → ScriptReader R → ScriptReader R
     → SinkGhosts W → AnswerWriter W → AnswerWriter W → Streams
 streams_of source reader reader_after sink writer writer_after = record {

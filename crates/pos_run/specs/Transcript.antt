@@ -39,7 +39,7 @@ request_of session (Attach device number) =
     option_map (λ spare. Attach device (hardware_of spare)) (spare_at session.spares number)
 request_of session (Detach device) = Some (Detach device)
 
--- what a line prints that asks nothing of the machine
+-- what a line that asks nothing of the machine prints
 abbrev pub rebuke : LineRequest → List ℕ
 rebuke (Attach device number) = reply_text reply.BadSpare
 rebuke asking = reply_text reply.BadControl
@@ -79,7 +79,7 @@ responded session asking request response = record {
   session = session_after session asking response;
 }
 
--- a request has one response; or there was no memory for the name that the line gives
+-- a request has one response, unless there was no memory for the name that the line gives
 abbrev pub RequestBecomes : Session → LineRequest → Request → Outcome → Type 0
 RequestBecomes session asking request outcome =
     (IsTrue (gives_name asking) × (outcome ≡ turned_down session (reply_text reply.Memory)))
@@ -91,7 +91,7 @@ AskingBecomes session asking outcome =
     MatchOption (request_of session asking) (outcome ≡ turned_down session (rebuke asking))
     (λ request. RequestBecomes session asking request outcome)
 
--- what becomes of a line as it was read: there may have been no memory for what is kept of it
+-- what becomes of a line as it was read, for which there may have been no memory
 abbrev pub ReadingBecomes : Session → Reading LineRequest → Outcome → Type 0
 ReadingBecomes session reading outcome =
     MatchOption reading.value (outcome ≡ turned_down session (reply_text reply.BadLine))
@@ -103,7 +103,7 @@ abbrev pub asked_as : {A : Type 0} → (A → LineRequest) → Result A LineFaul
 asked_as make (Ok value) = Ok (make value)
 asked_as make (Err why) = Err why
 
--- what becomes of a line that asks this, or by why its words weren't read
+-- what becomes of a line that asks this, or whose words weren't read for this reason
 abbrev pub ReadBecomes : Session → Result LineRequest LineFault → Outcome → Type 0
 ReadBecomes session (Ok asking) outcome = AskingBecomes session asking outcome
 ReadBecomes session (Err why) outcome = outcome ≡ turned_down session (fault_text why)

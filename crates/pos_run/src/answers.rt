@@ -25,7 +25,7 @@ fn write_front<W: Sink>(writer: &mut W, bytes: &[u8]) -> (usize, Result<(), Writ
     (done, Ok(()))
 }
 
-/// Removes so many bytes at the front of a list.
+/// Removes this many bytes at the front of a list.
 fn remove_front(bytes: &mut Vec<u8>, count: usize)
     requires { count ≤ length bytes.old.items }
     ensures { bytes.new.items ≡ drop count bytes.old.items }
@@ -35,7 +35,7 @@ fn remove_front(bytes: &mut Vec<u8>, count: usize)
     bytes.truncate(len - count);
 }
 
-/// A writer of answers. It gathers them in a buffer that is made at the start, and gives them to its sink when that is
+/// A writer of answers. It gathers them in a buffer that is made at the start, and writes them to its sink when that is
 /// full and at a flush. Each failed write of the sink is a fault. What is held back when it ends is not written.
 #[derive(Drop)]
 pub struct AnswerWriter<W> {
@@ -45,6 +45,10 @@ pub struct AnswerWriter<W> {
 
 impl<W: Sink + Drop> AnswerWriter<W> {
     /// Returns a writer that holds nothing back.
+    ///
+    /// # Errors
+    ///
+    /// [`AllocError`] if there is no memory for its buffer.
     pub fn new(alloc: Global, writer: W) -> Result<Self, AllocError>
         ensures writer { IfOk result (λ answers. answers.writer ≡ writer) }
         ensures held { IfOk result (λ answers. answers.held.items ≡ []) }
@@ -55,7 +59,11 @@ impl<W: Sink + Drop> AnswerWriter<W> {
 }
 
 impl<W: Sink> AnswerWriter<W> {
-    /// Gives the sink what is held back. At a fault the rest of it stays.
+    /// Writes what is held back to the sink.
+    ///
+    /// # Errors
+    ///
+    /// [`WriteFault`] if a write failed. The rest is still held back.
     fn hand_on(&mut self) -> Result<(), WriteFault>
         ensures given { Flushes (answers_of W.Sink self.old) result (answers_of W.Sink self.new) }
         ensures held { OnOk result (self.new.held.items ≡ []) }
@@ -65,8 +73,12 @@ impl<W: Sink> AnswerWriter<W> {
         result
     }
 
-    /// Gives the sink what is held back. Then it holds these bytes back, or gives them to the sink if there is no room
-    /// for them. On its own, since it is rare.
+    /// Writes what is held back to the sink. Then it holds these bytes back, or writes them to the sink if there is no
+    /// room for them. It is a function of its own, since this is rare.
+    ///
+    /// # Errors
+    ///
+    /// [`WriteFault`] if a write failed.
     #[inline(never)]
     fn write_first(&mut self, bytes: &[u8]) -> Result<usize, WriteFault>
         requires { 0 < length bytes.now }

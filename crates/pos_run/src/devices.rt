@@ -10,7 +10,7 @@ ghost use Rattle.pos_service.specs.Hardware.{hardware_of};
 
 use pos_counter::Counter;
 use pos_disk::Disk;
-use pos_service::{Ends, Peripheral};
+use pos_service::{Ends, Peripheral, park_and_end};
 
 /// Attaches a peripheral in service to the device of a name. One that is refused is ended.
 pub fn offer<D: Disk, P: Peripheral + Ends>(counter: &mut Counter<D, P>, name: &[u8], peripheral: P)
@@ -22,12 +22,12 @@ pub fn offer<D: Disk, P: Peripheral + Ends>(counter: &mut Counter<D, P>, name: &
     ensures sound { IsCounterSound P.Peripheral counter.new }
 {
     if let Err((_, refused)) = counter.attach(name, peripheral) {
-        refused.end();
+        park_and_end(refused);
     }
 }
 
-/// Shuts a counter down, ends what is left of it, its peripherals out of service, and returns its disk, which is at
-/// rest if the totals were ready.
+/// Shuts a counter down, ends its peripherals out of service, and returns its disk. That is at rest if the totals were
+/// ready.
 pub fn end_counter<D: Disk, P: Peripheral + Ends>(counter: Counter<D, P>) -> D
     requires { IsCounterSound P.Peripheral counter }
     ensures disk { result ≡ counter.totals.disk }

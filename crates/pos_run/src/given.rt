@@ -17,6 +17,10 @@ use pos_streams::{Sink, WriteFault};
 use std::alloc::Global;
 
 /// Carries out the lines of a text in a session, and writes what each prints.
+///
+/// # Errors
+///
+/// [`WriteFault`] if a write failed.
 #[tactic(auto, using(crate::proofs::Sessions::keeps_on))]
 fn carry_out_text<W: Sink, D: Disk, P: Peripheral + Ends>(
     alloc: Global,
@@ -39,11 +43,13 @@ fn carry_out_text<W: Sink, D: Disk, P: Peripheral + Ends>(
 }
 
 /// Carries out the lines of a text in order, each whole before the next, and writes what each prints
-/// (docs/reference/console.md). What stands behind the last line feed is a line too, where it isn't empty. What a
-/// buffer held before is forgotten.
+/// (docs/reference/console.md). What is after the last line feed is a line too, unless it is empty. What the buffer
+/// held before is dropped.
 ///
-/// At a fault of the writer the earlier lines were carried out and the line at which it came, and no later one; of what
-/// they print a front is written, and not all.
+/// # Errors
+///
+/// [`WriteFault`] if a write failed. The line at which it failed and all before it were carried out, and no later one.
+/// A front of what they print was written.
 pub fn carry_out_lines<W: Sink, D: Disk, P: Peripheral + Ends>(
     alloc: Global,
     lines: &[u8],

@@ -1,5 +1,12 @@
-//! Scripts of requests run over the devices of a shop counter, with spares beside them; and over the devices of a
-//! profile, which are simulated (docs/reference/console.md).
+//! Runs of scripts over the devices of a shop counter, with spares beside them (docs/reference/console.md).
+//!
+//! - [`run`] carries out a script from a source over a counter, and [`carry_out_lines`] lines that a caller has whole.
+//! - [`run_over_profile`] and [`simulate_profile`] make the counter and the [`Spares`] of a profile, with a simulated
+//!   peripheral for each entry.
+//! - [`ScriptReader`] and [`AnswerWriter`] keep to their limits, and [`Names`] has the numbers of a script's controls.
+//!
+//! The layer above relies on this: each line is carried out whole before the next, as steps of the device machine, and
+//! prints their responses. A crash at any moment leaves what it may leave in a step of these lines.
 #![tactic(auto)]
 
 mod answers;

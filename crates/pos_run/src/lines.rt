@@ -1,6 +1,7 @@
-//! A line of a script, from its words to what it prints. What is read by one kind of verb and answered to it doesn't go
-//! through room that is large enough for all of them: the kinds of most lines are carried out in place where they are
-//! read, the others are not.
+//! A line of a script, from its words to what it prints.
+//!
+//! The kinds of most lines are carried out in place where they are read, and the rare ones in functions of their own.
+//! So no line needs room for the largest of them.
 ghost use Rattle.pos_script.specs.Arguments.{Reads, from_none};
 ghost use Rattle.pos_script.specs.Commands.{line_of, request_of_words};
 ghost use Rattle.pos_script.specs.Lines.{words_of};
@@ -18,14 +19,22 @@ use pos_service::{Ends, Peripheral};
 use pos_streams::{Sink, WriteFault};
 use std::alloc::Global;
 
-/// The verb of a line that has no more words.
+/// Returns the verb of a line that has no more words.
+///
+/// # Errors
+///
+/// [`LineFault`] if it has more.
 fn read_alone(by: DeviceVerb, words: &[u8]) -> Result<DeviceVerb, LineFault>
     ensures { Reads (from_none by (words_of words.now)) result }
 {
     read_none(words).map(|_| by)
 }
 
-/// Asks what was read of a line behind its name, and writes the reply; or why it was not read.
+/// Asks what was read of a line after its name, and writes the reply, or why it was not read.
+///
+/// # Errors
+///
+/// [`WriteFault`] if a write failed.
 #[inline(always)]
 #[tactic(auto, using(crate::proofs::Sessions::asks_nothing_unread))]
 fn carry_out_read<W: Sink, D: Disk, P: Peripheral, A: Asks<D, P>>(
@@ -46,7 +55,11 @@ fn carry_out_read<W: Sink, D: Disk, P: Peripheral, A: Asks<D, P>>(
     }
 }
 
-/// Likewise, on its own, since it is rare.
+/// Does the same as `carry_out_read`, in a function of its own, since it is rare.
+///
+/// # Errors
+///
+/// [`WriteFault`] if a write failed.
 #[inline(never)]
 fn carry_out_rare<W: Sink, D: Disk, P: Peripheral, A: Asks<D, P>>(
     writer: &mut W,
@@ -64,6 +77,10 @@ fn carry_out_rare<W: Sink, D: Disk, P: Peripheral, A: Asks<D, P>>(
 }
 
 /// Carries out a line that was taken apart, and writes what it prints.
+///
+/// # Errors
+///
+/// [`WriteFault`] if a write failed.
 #[inline(always)]
 #[tactic(auto, using(crate::proofs::Sessions::asks_by_words))]
 fn carry_out_command<W: Sink, D: Disk, P: Peripheral + Ends>(
@@ -110,6 +127,10 @@ fn carry_out_command<W: Sink, D: Disk, P: Peripheral + Ends>(
 }
 
 /// Carries out a line that is well spelled and not quiet, and writes what it prints.
+///
+/// # Errors
+///
+/// [`WriteFault`] if a write failed.
 #[inline(always)]
 #[tactic(auto, using(crate::proofs::Sessions::asks_nothing_misshapen))]
 pub(crate) fn carry_out_words<W: Sink, D: Disk, P: Peripheral + Ends>(

@@ -1,4 +1,4 @@
-//! What the simulated peripherals of a profile are put into.
+//! What the simulated peripherals of a profile are mounted in.
 ghost use Rattle.std.specs.Prelude.{◌≡◌, IfOk};
 ghost use Rattle.pos_run.specs.Simulating.{Mounts, as_it_is, wrapped_state};
 
@@ -6,13 +6,17 @@ use crate::wrapped::Wrapped;
 use pos_profile::Entry;
 use pos_service::{NoMemory, Peripheral};
 
-/// What makes the peripherals of a counter of those that are simulated for a profile's entries.
+/// Makes the peripherals of a counter from those that are simulated for a profile's entries.
 pub trait Mount<P: Peripheral> {
-    /// What peripheral a simulated one is put into, by the entry that it is simulated for.
+    /// The relation of an entry, the peripheral that is simulated for it, and what that is mounted in.
     ghost mounts: { Mounts P };
 
-    /// The peripheral that what is simulated for an entry, and was given no order yet, is put into. It is in the same
-    /// state. Want of memory ends what is simulated.
+    /// Returns the peripheral that a simulated one is mounted in, for its entry. The simulated one was given no order
+    /// yet, and the other is in the same state.
+    ///
+    /// # Errors
+    ///
+    /// [`NoMemory`] if memory ran out. Then what is simulated is ended.
     fn mount(&self, entry: &Entry, simulation: Wrapped) -> Result<P, NoMemory>
         requires fresh { (wrapped_state simulation).orders ≡ 0 }
         ensures state { IfOk result (λ mounted. P.Peripheral.state mounted ≡ wrapped_state simulation) }

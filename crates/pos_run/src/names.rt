@@ -7,8 +7,8 @@ use pos_service::NoMemory;
 use std::alloc::Global;
 use std::cell::Cell;
 
-/// The controls of a script: their numbers by their names, and the place of the name that was found last, since a line
-/// mostly names the control of the line before.
+/// The controls of a script: their numbers by their names. It keeps the place of the name that was found last, since a
+/// line mostly names the control of the line before.
 #[derive(Drop)]
 pub struct Names {
     alloc: Global,
@@ -17,7 +17,7 @@ pub struct Names {
 }
 
 impl Names {
-    /// No control.
+    /// Returns the names of no controls.
     pub fn new(alloc: Global) -> Self
         ensures { names_of result ≡ [] }
     {
@@ -28,7 +28,7 @@ impl Names {
         }
     }
 
-    /// The number of the control with a name. That of the name that was found last is told without hashing it.
+    /// Returns the number of the control with a name. The name that was found last isn't hashed again.
     pub fn find(&self, name: &[u8]) -> Option<usize>
         ensures { result ≡ number_named (names_of self.now) name.now }
     {
@@ -46,7 +46,11 @@ impl Names {
         }
     }
 
-    /// A copy of a name, and room for it.
+    /// Returns a copy of a name, and makes room for it.
+    ///
+    /// # Errors
+    ///
+    /// [`NoMemory`] if memory ran out.
     pub fn make_room(&mut self, name: &[u8]) -> Result<Vec<u8>, NoMemory>
         ensures names { names_of self.new ≡ names_of self.old }
         ensures copy { IfOk result (λ copy. copy.items ≡ name.now) }

@@ -18,7 +18,12 @@ use pos_service::{Ends, NoMemory, Peripheral};
 use pos_streams::{Sink, Source};
 use std::alloc::Global;
 
-/// What is simulated for an entry, in the wrappers that its keys ask for, mounted.
+/// Returns what is simulated for an entry, in the wrappers that its keys ask for, and mounted. It is `None` for Hard
+/// Totals.
+///
+/// # Errors
+///
+/// [`NoMemory`] if memory ran out.
 #[tactic(auto, using(crate::proofs::Profiling::state_is_fresh))]
 fn simulate_mounted<P: Peripheral, M: Mount<P>>(
     alloc: Global,
@@ -35,12 +40,12 @@ fn simulate_mounted<P: Peripheral, M: Mount<P>>(
     }
 }
 
-/// Returns a counter whose devices are those of a profile, each with a simulated peripheral, and whose totals are on a
-/// disk; and the profile's spares, which are simulated too. Each of them is in the wrappers that its keys ask for, and
-/// mounted.
+/// Returns a counter over the devices of a profile and a disk, each device with a simulated peripheral, and the
+/// profile's spares, simulated too. Each of them is in the wrappers that its keys ask for, and mounted.
 ///
 /// # Errors
-/// [`NoMemory`] if there is not enough memory, with the disk as it was.
+///
+/// [`NoMemory`] if memory ran out, with the disk as it was.
 pub fn simulate_profile<D: Disk, P: Peripheral + Ends, M: Mount<P>>(
     alloc: Global,
     profile: &Profile,
@@ -78,12 +83,16 @@ pub fn simulate_profile<D: Disk, P: Peripheral + Ends, M: Mount<P>>(
     Ok((counter, Spares::new(spares)))
 }
 
-/// Runs a script over a counter whose devices and spares are those of a profile, each with a simulated peripheral, and
-/// whose totals are on a disk. Returns how the run ended, and the disk.
+/// Runs a script over a counter of a profile's devices and a disk, with the profile's spares. Each peripheral is
+/// simulated, in the wrappers that its keys ask for. Returns how the run ended, and the disk.
 ///
 /// A crash at any moment leaves what the machine may leave before, in or after a step of the lines that were carried
-/// out. The devices and the spares are in the wrappers that their keys ask for. Want of memory leaves the disk as it
-/// was, and nothing was read or written. However the run ends, the devices and the spares end out of service.
+/// out. However the run ends, the devices and the spares end out of service.
+///
+/// # Errors
+///
+/// As of [`run`]. `NoMemory` also if the counter can't be made: then nothing was read or written, and the disk is as it
+/// was.
 pub fn run_over_profile<R: Source, W: Sink, D: Disk>(
     alloc: Global,
     reader: &mut ScriptReader<R>,

@@ -13,15 +13,15 @@ pub enum ReadState {
     Open,
     /// The end.
     Ended,
-    /// A fault of the source; that it was interrupted is one too.
+    /// A fault of the source, which may have been interrupted.
     Failed,
 }
 
 /// How often a script is read, at most.
 const MOST_READS: u64 = 1_073_741_824;
 
-/// A reader of a script. It counts its reads and remembers what the last one found. After one that failed, and after
-/// 1,073,741,824 of them, each read fails and doesn't ask the source.
+/// A reader of a script. It counts its reads and remembers what the last one found. After a failed read, and after
+/// 1,073,741,824 reads, each read fails and doesn't ask the source.
 #[derive(Drop)]
 pub struct ScriptReader<R> {
     reader: R,
@@ -43,7 +43,11 @@ impl<R: Source> ScriptReader<R> {
         }
     }
 
-    /// Reads once into a buffer, after all answers were flushed. Returns how many bytes it read, none at the end.
+    /// Reads once into a buffer, after all answers were flushed. Returns how many bytes it read, 0 at the end.
+    ///
+    /// # Errors
+    ///
+    /// [`ReadFault`] if the read failed, one had failed before, or there were as many as there may be.
     pub fn read<W: Sink>(
         &mut self,
         answers: &AnswerWriter<W>,

@@ -1,4 +1,4 @@
-//! Scripts that are run.
+//! Runs of a script.
 ghost use Rattle.std.specs.Prelude.{[]};
 ghost use Rattle.pos_counter.specs.Counters.{IsCounterSound, IsRun};
 ghost use Rattle.pos_run.specs.Carried.{CarriesOutEnd, CarriesOutLast, CarriesOutPiece, CarriesOutPrinted, CarriesOutScript, session_of};
@@ -33,7 +33,7 @@ pub enum RunFault {
     /// A write or a flush failed or was interrupted, or a write took nothing.
     #[error("the answers can't be written")]
     Write,
-    /// There was no memory to read lines into.
+    /// There is no memory for the room that lines are read into.
     #[error("no memory")]
     NoMemory,
 }
@@ -42,6 +42,10 @@ pub enum RunFault {
 const PIECE: usize = 65_536;
 
 /// Carries out a line, and writes what it prints.
+///
+/// # Errors
+///
+/// [`WriteFault`] if a write failed.
 fn carry_out_and_print<W: Sink, D: Disk, P: Peripheral + Ends>(
     alloc: Global,
     line: Line<'_>,
@@ -62,6 +66,10 @@ fn carry_out_and_print<W: Sink, D: Disk, P: Peripheral + Ends>(
 }
 
 /// Carries out the lines that a piece ends, each before a later one, and writes what each prints.
+///
+/// # Errors
+///
+/// [`WriteFault`] if a write failed.
 #[tactic(auto, using(crate::proofs::Sessions::keeps_on))]
 pub(crate) fn carry_out_piece<W: Sink, D: Disk, P: Peripheral + Ends>(
     alloc: Global,
@@ -89,6 +97,10 @@ pub(crate) fn carry_out_piece<W: Sink, D: Disk, P: Peripheral + Ends>(
 }
 
 /// Carries out the last line of a script, which its end ends, if there is one, and writes what it prints.
+///
+/// # Errors
+///
+/// [`WriteFault`] if a write failed.
 pub(crate) fn carry_out_last<W: Sink, D: Disk, P: Peripheral + Ends>(
     alloc: Global,
     buffer: &LineBuffer,
@@ -107,7 +119,11 @@ pub(crate) fn carry_out_last<W: Sink, D: Disk, P: Peripheral + Ends>(
     carry_out_and_print(alloc, buffer.line(), writer, session)
 }
 
-/// Carries out the last line of a script, if there is one, and hands on and flushes all that was printed.
+/// Carries out the last line of a script, if there is one, and flushes all that was printed.
+///
+/// # Errors
+///
+/// [`WriteFault`] if a write or the flush failed.
 fn carry_out_end<W: Sink, D: Disk, P: Peripheral + Ends>(
     alloc: Global,
     buffer: &LineBuffer,
@@ -126,8 +142,12 @@ fn carry_out_end<W: Sink, D: Disk, P: Peripheral + Ends>(
     writer.flush()
 }
 
-/// Carries out the lines of a script from the first to the last. All that they print is handed on and flushed before
-/// each read, and at the end.
+/// Carries out the lines of a script from the first to the last. All that they print is flushed before each read, and
+/// at the end.
+///
+/// # Errors
+///
+/// As of `run`, but for `NoMemory`.
 #[tactic(auto, using(crate::proofs::Sessions::keeps_on))]
 fn carry_out_script<R: Source, W: Sink, D: Disk, P: Peripheral + Ends>(
     alloc: Global,
@@ -165,6 +185,10 @@ fn carry_out_script<R: Source, W: Sink, D: Disk, P: Peripheral + Ends>(
 }
 
 /// Carries out the lines of a script over a counter, with the names of its controls and its spares.
+///
+/// # Errors
+///
+/// As of `run`.
 fn run_named<R: Source, W: Sink, D: Disk, P: Peripheral + Ends>(
     alloc: Global,
     buffer: &mut LineBuffer,
@@ -195,11 +219,15 @@ fn run_named<R: Source, W: Sink, D: Disk, P: Peripheral + Ends>(
 /// Carries out the lines of a script in order, and writes what each prints (docs/reference/console.md), over a counter
 /// of any peripherals and any disk. One line is kept at a time, in room that is made before anything is read.
 ///
-/// Each line is carried out before more is read, and all that the lines before print is handed on and flushed by then.
-/// So it is where a read fails, or there were as many as may be: the lines that a line feed ended were carried out. At
-/// a fault of the writer the earlier lines were carried out and the line at which it came, and no later one. At want of
-/// memory nothing was read. However it ends, a crash at any moment leaves what it may leave inside a step of the lines
-/// that were carried out.
+/// Each line is carried out before more is read, and all that the lines before print is flushed by then. However the
+/// run ends, a crash at any moment leaves what it may leave inside a step of the lines that were carried out.
+///
+/// # Errors
+///
+/// - `Read`: a read failed, or there were as many as there may be. The lines that a line feed ended were carried out.
+/// - `Write`: a write or a flush failed. The line at which it failed and all before it were carried out, and no later
+///   one.
+/// - `NoMemory`: memory ran out, and nothing was read.
 pub fn run<R: Source, W: Sink, D: Disk, P: Peripheral + Ends>(
     alloc: Global,
     reader: &mut ScriptReader<R>,

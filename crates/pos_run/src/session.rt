@@ -1,4 +1,4 @@
-//! What the lines of a script ask of the session that carries them out, by what was read of their words.
+//! What the lines of a script ask of their session, by what was read of their words.
 ghost use Rattle.std.specs.Prelude.{List, ℕ};
 ghost use Rattle.pos_counter.specs.Steps.{NewControl, CallOf, InputTo, Deliver, Attach};
 ghost use Rattle.pos_script.specs.Commands.{LineRequest, asked_of};
@@ -7,7 +7,8 @@ ghost use Rattle.pos_run.specs.Sessions.{IsSessionSound, KeepsSession, session_i
 
 use crate::names::Names;
 use crate::spares::Spares;
-use pos_counter::{ControlFault, Counter, InputFault, SnapshotFault, WorkFault};
+use pos_counter::Counter;
+use pos_counter::responses::{of_call, of_control, of_input, of_snapshot, of_work};
 use pos_disk::Disk;
 use pos_script::{DeviceVerb, Reply};
 use pos_service::{Call, Category, Ends, ErrorReply, Input, Peripheral, Response};
@@ -20,11 +21,11 @@ pub(crate) struct Session<'a, D: Disk, P> {
     pub(crate) spares: &'a mut Spares<P>,
 }
 
-/// What is read of a line's words behind a name, by which the line asks something of a session.
+/// What is read of a line's words after a name, by which the line asks something of a session.
 pub(crate) trait Asks<D: Disk, P: Peripheral>: Sized + Drop {
     ghost asked: { List ℕ → Self → LineRequest };
 
-    /// Asks it, with the name of a control or a device.
+    /// Asks it, with the name of a control or a device, and returns the reply.
     fn ask(&self, name: &[u8], session: &mut Session<'_, D, P>) -> Reply
         requires { IsSessionSound P.Peripheral session.old }
         ensures asks { CarriesOutAsking D.Disk P.Peripheral session.old.counter.now
@@ -33,7 +34,7 @@ pub(crate) trait Asks<D: Disk, P: Peripheral>: Sized + Drop {
         ensures session { KeepsSession P.Peripheral session.old session.new };
 }
 
-/// A new control, under a name that no control has.
+/// Makes a control, under a name that no control has.
 impl<D: Disk, P: Peripheral> Asks<D, P> for Category {
     ghost asked = { λ name category. NewControl name category };
 
@@ -51,13 +52,12 @@ impl<D: Disk, P: Peripheral> Asks<D, P> for Category {
                 session.names.add(copy, number);
                 Reply::Responded(Response::Made(number))
             }
-            Err(ControlFault::Full) => Reply::Responded(Response::Full),
-            Err(ControlFault::NoMemory) => Reply::Responded(Response::OutOfMemory),
+            Err(fault) => Reply::Responded(of_control(Err(fault))),
         }
     }
 }
 
-/// A call on the control of a name.
+/// Calls the control of a name.
 impl<D: Disk, P: Peripheral> Asks<D, P> for Call {
     ghost asked = { λ name call. CallOf name call };
 
@@ -67,14 +67,11 @@ impl<D: Disk, P: Peripheral> Asks<D, P> for Call {
         let Some(number) = session.names.find(name) else {
             return Reply::BadControl;
         };
-        match session.counter.call(number, self) {
-            Ok(answer) => Reply::Responded(Response::Answered(answer)),
-            Err(_) => Reply::Responded(Response::OutOfMemory),
-        }
+        Reply::Responded(of_call(session.counter.call(number, self)))
     }
 }
 
-/// The delivery of an event to the control of a name.
+/// Delivers an event to the control of a name.
 impl<D: Disk, P: Peripheral> Asks<D, P> for ErrorReply {
     ghost asked = { λ name reply. Deliver name reply };
 
@@ -90,22 +87,17 @@ impl<D: Disk, P: Peripheral> Asks<D, P> for ErrorReply {
     }
 }
 
-/// What happens at a device.
+/// Passes an input on to a device.
 impl<D: Disk, P: Peripheral> Asks<D, P> for Input {
     ghost asked = { λ name input. InputTo name input };
 
     #[inline(always)]
     fn ask(&self, name: &[u8], session: &mut Session<'_, D, P>) -> Reply {
-        match session.counter.input(name, self) {
-            Ok(()) => Reply::Responded(Response::TakenIn),
-            Err(InputFault::NoDevice) => Reply::Responded(Response::NoDevice),
-            Err(InputFault::WrongInput) => Reply::Responded(Response::WrongInput),
-            Err(InputFault::NoMemory) => Reply::Responded(Response::OutOfMemory),
-        }
+        Reply::Responded(of_input(session.counter.input(name, self)))
     }
 }
 
-/// The spare of a number is to serve a device. One that is refused goes back to its place.
+/// Attaches the spare of a number to a device. One that is refused goes back to its place.
 impl<D: Disk, P: Peripheral> Asks<D, P> for u32 {
     ghost asked = { λ name number. Attach name number };
 
@@ -124,23 +116,15 @@ impl<D: Disk, P: Peripheral> Asks<D, P> for u32 {
     }
 }
 
-/// What a line of the verb asks of a device. A peripheral that is detached, which is out of service then, is ended.
+/// Does what a line's verb asks of a device. A peripheral that is detached is out of service, and is ended.
 impl<D: Disk, P: Peripheral + Ends> Asks<D, P> for DeviceVerb {
     ghost asked = { λ name by. asked_of by name };
 
     #[inline(always)]
     fn ask(&self, name: &[u8], session: &mut Session<'_, D, P>) -> Reply {
         match self {
-            DeviceVerb::Show => match session.counter.snapshot(name) {
-                Ok(snapshot) => Reply::Responded(Response::Shown(snapshot)),
-                Err(SnapshotFault::NoDevice) => Reply::Responded(Response::NoDevice),
-                Err(SnapshotFault::NoMemory) => Reply::Responded(Response::OutOfMemory),
-            },
-            DeviceVerb::Work => match session.counter.work(name) {
-                Ok(worked) => Reply::Responded(Response::Worked(worked)),
-                Err(WorkFault::NoDevice) => Reply::Responded(Response::NoDevice),
-                Err(WorkFault::NoMemory) => Reply::Responded(Response::OutOfMemory),
-            },
+            DeviceVerb::Show => Reply::Responded(of_snapshot(session.counter.snapshot(name))),
+            DeviceVerb::Work => Reply::Responded(of_work(session.counter.work(name))),
             DeviceVerb::Detach => match session.counter.detach(name) {
                 Ok(peripheral) => {
                     peripheral.end();

@@ -97,7 +97,11 @@ impl Peripheral for Simulation {
     }
 }
 
-/// A blank line display in service, whose rows are a ring or not.
+/// Returns a blank line display in service, whose rows are a ring or not.
+///
+/// # Errors
+///
+/// [`NoMemory`] if memory ran out.
 fn simulate_display(
     alloc: Global,
     rows: u32,
@@ -115,9 +119,16 @@ fn simulate_display(
     }
 }
 
-/// What is simulated for an entry before it is wrapped, in service: a closed drawer, a scanner, a blank display of its
-/// rows and columns, whose rows are a ring where the entry says so, or a printer of its characters a line with its
-/// lines of paper; none for Hard Totals.
+/// Returns what is simulated for an entry before it is wrapped, in service, or `None` for Hard Totals:
+///
+/// - a closed drawer,
+/// - a scanner,
+/// - a blank display of its rows and columns, whose rows are a ring if the entry says so,
+/// - a printer of its characters a line, with its lines of paper.
+///
+/// # Errors
+///
+/// [`NoMemory`] if memory ran out.
 fn simulate_device(alloc: Global, entry: &Entry) -> Result<Option<Simulation>, NoMemory>
     requires { IsSimulable entry.now }
     ensures { IfOk result (IsDeviceFor entry.now) }
@@ -137,8 +148,12 @@ fn simulate_device(alloc: Global, entry: &Entry) -> Result<Option<Simulation>, N
     }
 }
 
-/// What is simulated for an entry: its device, round it a line that fails by the entry's numbers, and round that a
-/// recorder, each where the entry says so.
+/// Returns what is simulated for an entry, or `None` for Hard Totals. If the entry says so, its device is on a line
+/// that fails by the entry's numbers, and a recorder is round that.
+///
+/// # Errors
+///
+/// [`NoMemory`] if memory ran out.
 pub fn simulate(alloc: Global, entry: &Entry) -> Result<Option<Wrapped>, NoMemory>
     requires { IsSimulable entry.now }
     ensures simulated { IfOk result (λ made. IsSimulatedFor entry.now made) }

@@ -2,16 +2,16 @@
 ghost use Rattle.std.specs.Prelude.{◌≡◌, false, None, Some, All, IfSome, option_map};
 ghost use Rattle.pos_run.specs.Spares.{AreSparesSound, IsEmptyAt, IsInService, spare_at, spares_in, states_in, with_spare};
 
-use pos_service::{Ends, Peripheral};
+use pos_service::{Ends, Peripheral, park_and_end};
 
 /// Peripherals in service that no device has, by their numbers, counted from 1. The place of one that was attached is
-/// empty. They are ended by `park_all`, or handed out by `into_peripherals`.
+/// empty. Only `park_all` or `into_peripherals` ends them.
 pub struct Spares<P> {
     peripherals: Vec<Option<P>>,
 }
 
 impl<P: Peripheral> Spares<P> {
-    /// Spares in the order of their numbers, each of which is in service. It takes no memory.
+    /// Returns spares in the order of their numbers, each of which is in service. It takes no memory.
     pub fn new(peripherals: Vec<Option<P>>) -> Self
         requires { All IsInService (states_in P.Peripheral peripherals.items) }
         ensures spares { spares_in P.Peripheral result ≡ states_in P.Peripheral peripherals.items }
@@ -21,8 +21,7 @@ impl<P: Peripheral> Spares<P> {
         Spares { peripherals }
     }
 
-    /// Takes the spare of a number, whose place is empty then. None where there is no such number, or its place is
-    /// empty.
+    /// Takes the spare of a number, and returns it. It is `None` if there is no such number, or its place is empty.
     pub fn take(&mut self, number: u32) -> Option<P>
         requires sound { AreSparesSound P.Peripheral self.old }
         ensures taken { option_map P.Peripheral.state result ≡ spare_at (spares_in P.Peripheral self.old) number }
@@ -51,7 +50,7 @@ impl<P: Peripheral> Spares<P> {
         }
     }
 
-    /// Hands out the spares that are left, in the order of their numbers. It takes no memory.
+    /// Returns the spares that are left, in the order of their numbers. It takes no memory.
     pub fn into_peripherals(self) -> Vec<Option<P>>
         requires { Unit {0} }
         ensures { states_in P.Peripheral result.items ≡ spares_in P.Peripheral self }
@@ -76,7 +75,7 @@ pub(crate) fn end_peripherals<P: Ends>(mut peripherals: Vec<Option<P>>)
 {
     while let Some(spare) = peripherals.pop() {
         if let Some(peripheral) = spare {
-            peripheral.end();
+            park_and_end(peripheral);
         }
     }
     peripherals.destroy_empty();

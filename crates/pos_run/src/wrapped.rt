@@ -7,19 +7,19 @@ use pos_service::{Ends, Input, Kind, NoMemory, Order, Peripheral, Reply, Signs, 
 use pos_sims::{Flaky, Recorder};
 
 /// A simulated peripheral with the wrappers that its entry asks for. One type has them all, so that a counter's devices
-/// are boxes of one type. It ends only parked: whoever lets it go has to show that.
+/// are boxes of one type. It ends only parked, which whoever lets it go has to show.
 pub enum Wrapped {
-    /// Without a wrapper.
+    /// A device without a wrapper.
     Bare(Simulation),
-    /// Behind a line that fails.
+    /// A device on a line that fails.
     Flaky(Flaky<Simulation>),
-    /// Whose orders are counted.
+    /// A device whose orders are counted.
     Recorded(Recorder<Simulation>),
-    /// Behind a line that fails, and its orders are counted before they reach the line.
+    /// A device on a line that fails. Its orders are counted before they reach the line.
     Both(Recorder<Flaky<Simulation>>),
 }
 
-/// The device in the wrappers: a line that fails by these two numbers, and a recorder round it.
+/// Returns the device in its wrappers: a line that fails by these two numbers, and a recorder round it.
 pub(crate) fn wrap(device: Simulation, flaky: Option<(u32, u32)>, recorded: bool) -> Wrapped
     requires { (state_of device).is_parked ≡ false }
     ensures { result ≡ wrapped_by flaky recorded device }
@@ -121,7 +121,6 @@ impl Drop for Wrapped {
 
 impl Ends for Wrapped {
     fn end(self) {
-        let mut ending = self;
-        ending.park();
+        drop(self);
     }
 }

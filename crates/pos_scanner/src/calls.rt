@@ -1,3 +1,4 @@
+//! The calls of a control on its scanner.
 ghost use Rattle.std.specs.Prelude.{◌≡◌, ◌<◌, false, true, Some, length};
 ghost use Rattle.pos_service.specs.declared.category.Category.TheVariants as category;
 ghost use Rattle.pos_service.specs.declared.kind.Kind.{Kind};
@@ -10,12 +11,20 @@ ghost use Rattle.pos_scanner.specs.ScannerCalls.{ScannerCall, ScannerOrders, sca
 use pos_common::{Claims, Control, carry_out};
 use pos_service::{Answer, Call, Category, Change, Deed, NoMemory, Peripheral};
 
-/// A call of the control with a number on its scanner, none of which gives an order or takes memory: `clearInput`
-/// deletes the caller's DataEvents and ErrorEvents of input and ends its input error state; `clearInputProperties`
-/// gives its ScanData, ScanDataLabel and ScanDataType their defaults (common chapter, chapter Scanner).
+/// Does a call of the control with a number on its scanner, which gives no order and takes no memory (common chapter,
+/// chapter Scanner):
 ///
-/// Refused with E_CLOSED where the control is closed, E_ILLEGAL for a call that scanners don't have, E_CLAIMED where
-/// another control holds the scanner, E_NOTCLAIMED where nobody does.
+/// - `clearInput` deletes the caller's DataEvents and ErrorEvents of input, and ends its input error state.
+/// - `clearInputProperties` gives its ScanData, ScanDataLabel and ScanDataType their defaults.
+///
+/// # Errors
+///
+/// Never [`NoMemory`]. Refused in this order:
+///
+/// - E_CLOSED: the control is closed.
+/// - E_ILLEGAL: scanners don't have the call.
+/// - E_CLAIMED: another control holds the scanner.
+/// - E_NOTCLAIMED: nobody holds it.
 pub fn call<P: Peripheral>(
     controls: &mut [Control],
     caller: usize,
@@ -39,7 +48,7 @@ pub fn call<P: Peripheral>(
     }
 }
 
-/// What a call that scanners have comes to: none gives an order.
+/// Returns what a call that scanners have comes to, which is never an order.
 fn plan(call: &Call) -> Deed
     requires { has_call category.Scanner call.now ≡ true }
     ensures deed { scanner_deed call.now ≡ Some result }

@@ -1,3 +1,4 @@
+//! What a scanner reads.
 ghost use Rattle.std.specs.Prelude.{◌≡◌, false, true};
 ghost use Rattle.pos_service.specs.Hardware.{StaysInService, TakenAt, hardware_of};
 ghost use Rattle.pos_service.specs.Peripherals.{input_fits};
@@ -7,11 +8,19 @@ use pos_common::{Control, take_input};
 use pos_service::{Input, Kind, NoMemory, Peripheral};
 use std::alloc::Global;
 
-/// Something happens at the scanner of the device at a place: it reads a bar code, fails to read, or is switched on or
-/// off. Of a scan each control that has the device open and enabled gets a copy of its own in a DataEvent, and is
-/// disabled under AutoDisable; of a failed scan its input error state stands. All copies, and the room for all events,
-/// are made before the scanner is told. Want of memory changes nothing (common chapter, data events and error handling;
-/// chapter Scanner).
+/// Passes an input on to the scanner of the device at a place: a scan, a scan that failed, or a change of power. Each
+/// control that has the device open and enabled takes it (common chapter, data events, error handling and device power
+/// reporting; chapter Scanner):
+///
+/// - A scan comes in a DataEvent, with a copy of its own. With AutoDisable the control is then disabled.
+/// - A failed scan puts it into the input error state.
+/// - A change of power comes in a StatusUpdateEvent, if the control is notified of it.
+///
+/// All copies, and the room for all events, are made before the scanner takes the input.
+///
+/// # Errors
+///
+/// [`NoMemory`] if memory ran out. Then nothing has changed.
 pub fn input<P: Peripheral>(
     alloc: Global,
     controls: &mut [Control],

@@ -44,7 +44,7 @@ pub use call::{Call, CallRow};
 pub use category::Category;
 pub use code::{Code, EPTR_COVER_OPEN, EPTR_REC_EMPTY, ETOT_NOROOM};
 pub use deed::{Change, Deed};
-pub use ending::Ends;
+pub use ending::{Ends, park_and_end};
 pub use event::{ErrorReply, Event, Locus};
 pub use exchange_fault::{AttachFault, DetachFault};
 pub use facts::{Facts, FileFacts};

@@ -1,7 +1,7 @@
 //! A peripheral of any type.
 ghost use Rattle.std.specs.Prelude.{◌≡◌, true, false};
 
-use crate::ending::Ends;
+use crate::ending::{Ends, park_and_end};
 use crate::input::{Input, Taken};
 use crate::kind::Kind;
 use crate::memory::NoMemory;
@@ -58,7 +58,7 @@ impl Drop for PeripheralBox {
 
 impl Ends for PeripheralBox {
     fn end(self) {
-        PeripheralBox::end(self);
+        drop(self);
     }
 }
 
@@ -75,7 +75,6 @@ impl PeripheralBox {
     pub fn end(self)
         requires { Unit {0} }
     {
-        let mut ending = self;
-        ending.park();
+        park_and_end(self);
     }
 }

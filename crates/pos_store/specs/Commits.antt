@@ -25,25 +25,25 @@ use Rattle.pos_store.specs.declared.fault.StoreFault.TheVariants as fault
 abbrev pub IsLast : ℕ → Type 0
 IsLast sequence = sequence + 1 ≡ 2 ^ 64
 
--- a group of these changes fits behind records that end at this place: its record, and the gate behind it, end in the
+-- a group of these changes fits after records that end at this place: its record, and the gate after it, end in the
 -- slot
 abbrev pub fits_behind : Layout → ℕ → List Change → Bool
 fits_behind layout tail changes = nat_le (end_of tail (length (group_spelling changes))) (slot_size layout)
 
--- the sequence after a group: the same where it fits behind the records, else the next one, of a new image
+-- the sequence after a group: the same if it fits after the records, else the next one, of a new image
 abbrev pub sequence_after : Layout → ℕ → List Change → ℕ → ℕ
 sequence_after layout tail changes sequence = if fits_behind layout tail changes then sequence else sequence + 1
 
--- where the records end then
+-- the place at which the records end then
 abbrev pub tail_after : Layout → ℕ → List Change → ℕ
 tail_after layout tail changes =
     if fits_behind layout tail changes then tail + 5 + length (group_spelling changes) else log_place layout
 
--- the group wants a new image, and there is no sequence for it
+-- the group needs a new image, and there is no sequence for it
 abbrev pub IsExhausted : Layout → ℕ → List Change → ℕ → Type 0
 IsExhausted layout tail changes sequence = (fits_behind layout tail changes ≡ false) × IsLast sequence
 
--- what goes to the disk for a group: its record where it fits, else the body that spells the files after it
+-- what goes to the disk for a group: its record if it fits, else the body that spells the files after it
 abbrev pub IsDraft : Layout → ℕ → List Change → ℕ → List File → Draft → Type 0
 IsDraft layout tail changes sequence after (draft.Record text) =
     (fits_behind layout tail changes ≡ true) × (text.items ≡ group_spelling changes)
@@ -51,14 +51,14 @@ IsDraft layout tail changes sequence after (draft.Image body) =
     (fits_behind layout tail changes ≡ false) × ¬ (IsLast sequence) × IsDirectory (limits_of layout) after
     × (body.items ≡ spelling after) × (length body.items ≤ body_limit (limits_of layout))
 
--- why none is made of an applicable group: memory, or it wants a new image, for which there is no sequence
+-- why none is made of an applicable group: memory ran out, or it needs a new image and there is no sequence for it
 abbrev pub IsUnmade : Layout → ℕ → List Change → ℕ → StoreFault → Type 0
 IsUnmade layout tail changes sequence cause =
     (cause ≡ fault.NoMemory) ⊎ ((cause ≡ fault.Exhausted) × IsExhausted layout tail changes sequence)
 
--- what a commit of an applicable group answers: at Ok the files after it, behind the records or in a new image, and
--- want of memory changes nothing; else it is Exhausted exactly where a new image has no sequence, and only a fault of
--- the disk turns it off
+-- what a commit of an applicable group answers: at Ok the files after it are on the disk, after the records or in a new
+-- image. Want of memory changes nothing. It is Exhausted exactly if a new image has no sequence, and only a fault of
+-- the disk turns the store off.
 abbrev pub PutsDown : {D : Type 0} → ℕ → List File → StoreView D → List Change → Result (Unit {0}) StoreFault
     → StoreView D → Type 0
 PutsDown sequence after old changes (Ok _) new =
@@ -77,8 +77,8 @@ abbrev pub IsApplicable : Layout → StoreState → List Change → Type 0
 IsApplicable layout Off changes = ⊤
 IsApplicable layout (Ready files sequence) changes = IsOk (outcome_of_all (limits_of layout) files changes)
 
--- what a commit answers, and the store after it, by the state before it: a store that is off says so, and else the
--- group, which is applicable, is put down
+-- what a commit answers, and the store after it, by the state before it: a store that is off answers Off, and else the
+-- group, which is applicable, is put on the disk
 abbrev pub Answers : {D : Type 0} → StoreState → StoreView D → List Change → Result (Unit {0}) StoreFault
     → StoreView D → Type 0
 Answers Off old changes result new = (result ≡ Err fault.Off) × (new ≡ old)
@@ -93,36 +93,37 @@ before_or_after layout files sequence then_sequence (Ok after) =
     Stands layout files sequence ∷ Stands layout after then_sequence ∷ []
 before_or_after layout files sequence then_sequence (Err refusal) = Stands layout files sequence ∷ []
 
--- the same of a group behind records that end at this place
+-- the same for a group after records that end at this place
 abbrev pub left_by : Layout → List File → ℕ → ℕ → List Change → List Standing
 left_by layout files sequence tail changes = before_or_after layout files sequence
     (sequence_after layout tail changes sequence) (outcome_of_all (limits_of layout) files changes)
 
--- what a crash leaves around a group that a store is to put down, by its states before and after: its files before
--- it, and then the files that it has; where it is off then, those before the group or those after the whole of it
+-- what a crash leaves around a group that a store is to put on the disk, by its states before and after: its files
+-- before it, and then the files that it has; if it is off then, those before the group or those after the whole of it
 abbrev pub LeavesBeforeOrAfter : Layout → StoreState → ℕ → List Change → StoreState → DiskState → DiskState → Type 0
 LeavesBeforeOrAfter layout Off tail changes now old new = ⊤
 LeavesBeforeOrAfter layout (Ready files sequence) tail changes now old new =
     Passes old new (Stands layout files sequence ∷ [])
     (settled layout now (left_by layout files sequence tail changes))
 
--- What a commit does. Of the disk itself, and of what a crash may leave, it speaks where the disk is honest.
+-- What a commit does. About the disk itself, and about what a crash may leave, it says something only if the disk is
+-- honest.
 pub record Commits {D : Type 0} (bound : Ghosts D) (old : StoreView D) (changes : List Change)
     (result : Result (Unit {0}) StoreFault) (new : StoreView D) : Type 0 where
   pub answer : Answers old.state old changes result new
   -- the layout stays
   pub layout : new.layout ≡ old.layout
-  -- but after a fault of the disk, a refusal changes nothing and hasn't touched the disk
+  -- a refusal changes nothing and hasn't used the disk, except after a fault of the disk
   pub unchanged : IsErr result → IsErrOf result fault.Device ⊎ (new ≡ old)
-  -- a crash at any moment of the call leaves the files before the group or those after the whole of it, and a crash
-  -- now the files that the store has alone; after a fault of the disk the group is in doubt
+  -- a crash at any moment of the call leaves the files before the group or those after the whole of it, and a crash now
+  -- exactly the files that the store has; after a fault of the disk it leaves either
   pub crash : bound.honest old.disk
       → LeavesBeforeOrAfter old.layout old.state old.tail changes new.state
       (bound.state old.disk) (bound.state new.disk)
-  -- the disk failed where its fault is answered
+  -- the disk failed if its fault is answered
   pub device : bound.honest old.disk → IsErrOf result fault.Device
       → Rises (bound.state old.disk).failures (bound.state new.disk).failures
-  -- and it fails only where its fault is answered
+  -- and it fails only if its fault is answered
   pub counts : bound.honest old.disk
       → IsErrOf result fault.Device ⊎ HasNotFailed (bound.state old.disk) (bound.state new.disk)
   pub keeps : KeepsDisk bound old.disk new.disk

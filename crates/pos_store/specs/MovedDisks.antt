@@ -8,7 +8,7 @@ use Rattle.pos_store.specs.Standing.{Standing, Unformatted, Damaged, Stands, IsO
 use Rattle.pos_store.specs.declared.fault.StoreFault.{StoreFault}
 use Rattle.pos_store.specs.declared.fault.StoreFault.TheVariants as fault
 
--- for what bytes stand once their files were moved: the same files by layout 2, with sequence 1
+-- what bytes stand for after their files were moved: the same files by layout 2, with sequence 1
 abbrev pub moved : Standing → Standing
 moved (Stands layout files sequence) = Stands Layout2 files 1
 moved other = other

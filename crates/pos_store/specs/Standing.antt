@@ -34,7 +34,7 @@ Applies limits files (text ∷ texts) last =
     (next : List File) × IsStep limits files text next × Applies limits next texts last
 
 -- The bytes hold these files by this layout: those that the body of the current image spells, after the groups of the
--- records behind it, within the limits of the layout.
+-- records after it, within the limits of the layout.
 pub record HoldsFiles (layout : Layout) (files : List File) (sequence : ℕ) (bytes : List ℕ) : Type 0 where
   pub base : List File
   pub texts : List (List ℕ)
@@ -43,7 +43,7 @@ pub record HoldsFiles (layout : Layout) (files : List File) (sequence : ℕ) (by
   pub log : HoldsRecords texts (image.log_of bytes)
   pub applies : Applies (limits_of layout) base texts files
 
--- the bytes stand for this; they are damaged where they have a formatted slot and hold no files
+-- the bytes stand for this; they are damaged if they have a formatted slot and hold no files
 abbrev pub StandsFor : Standing → List ℕ → Type 0
 StandsFor Unformatted bytes = image.image_on bytes ≡ image.NoImage
 StandsFor Damaged bytes =

@@ -13,21 +13,21 @@ use Rattle.pos_store.specs.declared.disk_or_log.DiskOrLog.TheVariants as which
 use Rattle.pos_store.specs.declared.mode.Mode.{Mode}
 use Rattle.pos_store.specs.declared.mode.Mode.TheVariants as mode
 
--- Off, or ready with these files and the sequence of the image that they stand on
+-- Off, or ready with these files and the sequence of the image that they are from
 pub data StoreState : Type 0 where
   Off : StoreState
   Ready : (files : List File) (sequence : ℕ) → StoreState
 
--- The disk, the layout that was found or made last, that of a new disk before the first recovery, what the store has
--- of the disk, and, where it is ready, the place in the current slot behind its records, at which the gate of the next
--- one stands; else 0.
+-- The disk, the layout that was found or made last (before the first recovery that of a new disk), and what the store
+-- has of the disk. If it is ready, also the place in the current slot after its records, where the gate of the next one
+-- is; else 0.
 pub record StoreView (D : Type 0) : Type 0 where
   pub disk : D
   pub layout : Layout
   pub state : StoreState
   pub tail : ℕ
 
--- the files, where it is ready
+-- the files, if it is ready
 abbrev pub files_of : StoreState → Option (List File)
 files_of Off = None
 files_of (Ready files sequence) = Some files
@@ -37,22 +37,22 @@ abbrev pub mode_of : StoreState → Mode
 mode_of Off = mode.Off
 mode_of (Ready files sequence) = mode.Ready sequence
 
--- P, where it is off
+-- P, if it is off
 abbrev pub WhenOff : StoreState → Type 0 → Type 0
 WhenOff Off P = P
 WhenOff (Ready files sequence) P = ⊤
 
--- P, where it is ready
+-- P, if it is ready
 abbrev pub WhenReady : StoreState → Type 0 → Type 0
 WhenReady Off P = ⊤
 WhenReady (Ready files sequence) P = P
 
--- for what the bytes stand that a crash leaves: where it is ready, for its files alone, and else for one of others
+-- what the bytes stand for that a crash leaves: exactly its files if it is ready, else one of others
 abbrev pub settled : Layout → StoreState → List Standing → List Standing
 settled layout Off otherwise = otherwise
 settled layout (Ready files sequence) otherwise = Stands layout files sequence ∷ []
 
--- where it is ready, a crash at this moment leaves its files and their sequence alone
+-- if it is ready, a crash at this moment leaves exactly its files and their sequence
 abbrev pub LeavesItsFiles : Layout → StoreState → DiskState → Type 0
 LeavesItsFiles layout Off disk = ⊤
 LeavesItsFiles layout (Ready files sequence) disk = LeavesOneOf (Stands layout files sequence ∷ []) disk
@@ -67,7 +67,7 @@ view_of (which.Ready log directory) = record {
   tail = log.tail;
 }
 
--- where it is ready, so is its log, the disk holds the files, and the directory has the limits of its layout
+-- if it is ready, so is its log, the disk holds the files, and the directory has the limits of its layout
 abbrev pub HasItsFiles : {D : Type 0} → Ghosts D → DiskOrLog D → Type 0
 HasItsFiles bound (which.Off disk layout) = ⊤
 HasItsFiles bound (which.Ready log directory) =

@@ -1,4 +1,4 @@
-// A change of the files, from one whole store to the next.
+//! A change of the files, from one whole store to the next.
 ghost use Rattle.std.specs.Prelude.{◌≡◌, ◌<◌, Ok, OnErr, IsOk, MatchResult, length};
 ghost use Rattle.pos_dir.specs.Changes.{outcome_of_all};
 ghost use Rattle.pos_image.specs.Layout.{layout_of};
@@ -16,9 +16,8 @@ use pos_disk::Disk;
 use pos_log::Log;
 use std::alloc::Global;
 
-// Applies a group that is applicable to the files, and makes what goes to the disk for it: its record where that fits
-// behind the log, else the body of a new image. The disk has no part in it, and all memory that the commit takes is
-// taken here.
+// Applies an applicable group to the files, and makes what goes to the disk for it: its record if that fits after the
+// log, else the body of a new image. It doesn't use the disk, and takes all the memory of the commit.
 fn make_draft<D: Disk>(
     alloc: Global,
     log: &Log<D>,
@@ -55,8 +54,15 @@ fn make_draft<D: Disk>(
     }
 }
 
-/// Commits a group that is applicable: its record goes behind the current image where it fits, else a new image has
+/// Commits a group that is applicable: its record goes after the current image if it fits there, else a new image has
 /// the files after it.
+///
+/// # Errors
+///
+/// - `Off` if the store is off.
+/// - `NoMemory` if memory ran out.
+/// - `Exhausted` if the group needs a new image and the sequence is the last one.
+/// - `Device` if the disk failed. The store is off then.
 pub fn commit_group<D: Disk>(
     disk_or_log: DiskOrLog<D>,
     call: (Global, &Group<'_>),

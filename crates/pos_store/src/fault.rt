@@ -1,3 +1,4 @@
+//! Why a store refuses a call.
 ghost use Rattle.std.specs.Prelude.{◌≡◌, ◌≢◌};
 ghost use Rattle.pos_store.specs.Faults.{broken, Tells, TellsLog};
 
@@ -6,24 +7,24 @@ use pos_image::ImageFault;
 use pos_log::LogFault;
 use thiserror::Error;
 
-/// Why a store refuses a call. Nothing has changed then, but that after `Device` in a commit or a
-/// migration the store is off.
+/// Why a store refuses a call. A refusal changes nothing, except that `Device` in a commit or a migration turns the
+/// store off.
 #[derive(Clone, Copy, Debug, PartialEq, Eq, Error)]
 pub enum StoreFault {
     /// The store is off: its files are not known.
     #[error("the store is off")]
     Off,
-    /// The group isn't applicable to the files: the fault of its first change that isn't.
+    /// A change of the group isn't applicable to the files: the fault of the first such change.
     #[error("the group is refused: {0}")]
     Refused(DirectoryFault),
-    /// The group doesn't fit behind the log, and the sequence is 18,446,744,073,709,551,615, the last one.
+    /// The group doesn't fit after the log, and the sequence is 18,446,744,073,709,551,615, the last one.
     #[error("the sequences have run out")]
     Exhausted,
-    /// The disk has no image, or it has fewer than 327,680 bytes.
+    /// The disk has no image, or fewer than 327,680 bytes.
     #[error("the disk isn't formatted")]
     Unformatted,
-    /// The gates, sequences and lengths on the disk don't fit together, the current body spells no
-    /// directory, or a record behind it doesn't fit or spells no group that is applicable and not empty.
+    /// What is on the disk isn't sound: the gates, sequences and lengths don't fit together, or the current body spells
+    /// no directory. Or a record after it doesn't fit, or spells no group that is applicable and not empty.
     #[error("the disk is damaged")]
     Damaged,
     /// Memory ran out.
@@ -32,12 +33,12 @@ pub enum StoreFault {
     /// The disk failed.
     #[error("the disk failed")]
     Device,
-    /// A disk that is to be moved to layout 2 has it.
+    /// The disk that is to be moved to layout 2 has it already.
     #[error("the disk has layout 2 already")]
     AlreadyLayout2,
 }
 
-/// Why images refuse a call, in a store's words.
+/// Returns the store's fault for a refusal by the images.
 pub fn tell_images(fault: ImageFault) -> StoreFault
     requires new { fault ≢ ImageFault.AlreadyFormatted }
     requires short { fault ≢ ImageFault.TooLarge }
@@ -53,7 +54,7 @@ pub fn tell_images(fault: ImageFault) -> StoreFault
     }
 }
 
-/// Why a log can't be opened, in a store's words.
+/// Returns the store's fault for a log that can't be opened.
 pub fn tell_log(fault: LogFault) -> StoreFault
     requires { fault ≢ LogFault.Full }
     ensures { TellsLog fault result }
@@ -66,7 +67,7 @@ pub fn tell_log(fault: LogFault) -> StoreFault
     }
 }
 
-/// Why the group of a record isn't applied, in a store's words.
+/// Returns the store's fault for a record whose group isn't applied: `Damaged`, unless memory ran out.
 pub fn tell_broken(fault: DirectoryFault) -> StoreFault
     ensures { result ≡ broken fault }
 {

@@ -1,4 +1,4 @@
-// The move of the files to layout 2, from one whole store to the next.
+//! The move of the files to layout 2, from one whole store to the next.
 ghost use Rattle.pos_store.specs.Migrations.{Migrates};
 ghost use Rattle.pos_store.specs.StoreViews.{HasItsFiles, view_of};
 
@@ -12,6 +12,13 @@ use pos_image::{ImageFault, Layout};
 use std::alloc::Global;
 
 /// Moves the files of a disk of layout 1 to layout 2: the first image of layout 2 has them.
+///
+/// # Errors
+///
+/// - `Off` if the store is off.
+/// - `AlreadyLayout2` if the disk has layout 2.
+/// - `NoMemory` if memory ran out.
+/// - `Device` if the disk failed. The store is off then.
 pub fn migrate_files<D: Disk>(
     disk_or_log: DiskOrLog<D>,
     alloc: Global,

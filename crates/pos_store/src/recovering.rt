@@ -1,4 +1,4 @@
-// A recovery of the files, from one whole store to the next.
+//! A recovery of the files, from one whole store to the next.
 ghost use Rattle.std.specs.Prelude.{◌≡◌, ◌⊎◌, List, length, map, OnOk, OnErr, IfErr, IsErrOf};
 ghost use Rattle.pos_dir.specs.declared.file.File.{File};
 ghost use Rattle.pos_store.specs.StoreViews.{HasItsFiles, view_of};
@@ -14,7 +14,7 @@ use pos_image::Images;
 use pos_log::Log;
 use std::alloc::Global;
 
-// Applies the group that a text spells.
+// Applies the group that a text spells. The text is damaged if it spells no group that is applicable and not empty.
 fn apply_text(alloc: Global, directory: &mut Directory, text: &[u8]) -> Result<(), StoreFault>
     ensures ok { OnOk result (IsStep directory.old.limits directory.old.files text.now directory.new.files) }
     ensures limits { directory.new.limits ≡ directory.old.limits }
@@ -59,7 +59,16 @@ fn apply_texts(
     Ok(())
 }
 
-/// Recovers the files of a disk. A store that is ready has them.
+/// Recovers the files of a disk. A store that is ready has them already.
+///
+/// # Errors
+///
+/// - `Unformatted` if the disk has no image, or fewer than 327,680 bytes.
+/// - `Damaged` if the image, its body or a record after it isn't sound.
+/// - `NoMemory` if memory ran out.
+/// - `Device` if the disk failed.
+///
+/// The store is still off then.
 pub fn recover_files<D: Disk>(
     disk_or_log: DiskOrLog<D>,
     alloc: Global,

@@ -1,3 +1,4 @@
+//! A store: the files of a totals disk, and their changes.
 ghost use Rattle.std.specs.Prelude.{◌≡◌, ◌<◌, length, IfSome};
 
 use crate::committing::commit_group;
@@ -13,9 +14,10 @@ use pos_image::Layout;
 use std::alloc::Global;
 use std::marker::Model;
 
-/// The files of a totals disk, changed by whole groups. Contracts see the disk and its layout, the files with
-/// their sequence, or Off, and the place behind its records. docs/reference/totals-file.md, "The log" and "The
-/// layouts".
+/// The files of a totals disk, changed by whole groups.
+///
+/// Contracts see the disk, its layout and the place after its records. They see the files with their sequence, or
+/// `Off`. docs/reference/totals-file.md, "The log" and "The layouts".
 #[derive(Drop)]
 pub struct Store<D: Disk> {
     alloc: Global,
@@ -42,7 +44,7 @@ impl<D: Disk> Store<D> {
     ghost use Rattle.pos_store.specs.Migrations.{Migrates};
     ghost use Rattle.pos_store.specs.Recoveries.{Recovers};
 
-    /// A store that is off, over a disk. Nothing is read yet.
+    /// Returns a store over a disk. It is off: nothing is read yet.
     pub fn new(alloc: Global, disk: D) -> Store<D>
         ensures { result ≡ record { disk = disk; layout = Layout1; state = Off; tail = 0 } }
     {
@@ -52,31 +54,41 @@ impl<D: Disk> Store<D> {
         }
     }
 
-    /// Reads the files of the disk, where the store is off; where it is ready it succeeds and does
-    /// nothing. It may crash too, and may be called again: the disk then has what it had.
+    /// Reads the files of the disk if the store is off. If it is ready, the call succeeds and does nothing.
+    ///
+    /// It never changes what the disk has. So a recovery may crash too, and you may call it again.
     ///
     /// # Errors
     ///
-    /// `Unformatted` where the disk has no image or is too small, `Damaged` where the image is
-    /// damaged, its body spells no directory, or a record behind it doesn't fit or its group is
-    /// malformed, empty or not applicable; `NoMemory`, and `Device` where the disk failed. The store
-    /// is still off.
+    /// - `Unformatted` if the disk has no image, or fewer than 327,680 bytes.
+    /// - `Damaged` if the image is damaged or its body spells no directory. A record after it that doesn't fit, or
+    ///   whose group is malformed, empty or not applicable, is damage too.
+    /// - `NoMemory` if memory ran out.
+    /// - `Device` if the disk failed.
+    ///
+    /// The store is still off then.
     pub fn recover(&mut self) -> Result<(), StoreFault>
         ensures { Recovers D.Disk self.old result self.new }
     {
         replace_with(&mut self.disk_or_log, self.alloc, recover_files)
     }
 
-    /// Checks a group, which isn't empty, and carries out all its changes or none. At Ok they are on the disk: as a
-    /// record behind the current image if it fits there, which leaves the sequence, else in a new image. An append
-    /// takes no time for the bytes of other files.
+    /// Checks a group, which isn't empty, and applies all its changes or none.
+    ///
+    /// At `Ok` they are on the disk: as a record after the current image if it fits there, which leaves the sequence,
+    /// else in a new image. An append takes no time for the bytes of other files.
     ///
     /// # Errors
     ///
-    /// `Off` if the store is off, else `Refused` with the fault of the first change that isn't applicable to the files
-    /// that the changes before it made (`NoFile`, `Exists`, `Range` or `NoRoom`); then `NoMemory`, and `Exhausted` if
-    /// the group doesn't fit and the sequence is the last one: nothing has changed, and the disk wasn't used. `Device`
-    /// if the disk failed: the store is off, and the next recovery finds the files before the group or those after it.
+    /// - `Off` if the store is off.
+    /// - `Refused` if a change isn't applicable to the files that those before it made. It has the first fault:
+    ///   `NoFile`, `Exists`, `Range` or `NoRoom`.
+    /// - `NoMemory` if memory ran out.
+    /// - `Exhausted` if the group doesn't fit and the sequence is the last one.
+    /// - `Device` if the disk failed. The store is off, and the next recovery finds the files before the group or those
+    ///   after it.
+    ///
+    /// Any refusal but `Device` changes nothing and doesn't use the disk.
     pub fn commit(&mut self, group: &Group<'_>) -> Result<(), StoreFault>
         requires some { 0 < length group.now }
         ensures { CommitsIfApplicable D.Disk self.old group.now result self.new }
@@ -87,19 +99,19 @@ impl<D: Disk> Store<D> {
         self.commit_applicable(group)
     }
 
-    // Why the files refuse a group; nothing does while the store is off.
+    // Returns why the files refuse a group, or `None` if they don't. While the store is off it returns `None`.
     fn refusal(&self, group: &Group<'_>) -> Option<DirectoryFault>
         ensures { result ≡ refusal_of self.now.layout self.now.state group.now }
     {
         check_group(self.files()?, group).err()
     }
 
-    /// Commits a group as `commit` does, without checking it again: the caller knows that it is applicable to the
-    /// files (`pos_dir::check_group` returns whether it is).
+    /// Commits a group as `commit` does, without checking it again. The caller knows that it is applicable to the
+    /// files: `pos_dir::check_group` returns whether it is.
     ///
     /// # Errors
     ///
-    /// Those of `commit`, but for `Refused`.
+    /// Those of `commit`, except `Refused`.
     pub fn commit_applicable(&mut self, group: &Group<'_>) -> Result<(), StoreFault>
         requires some { 0 < length group.now }
         requires applicable { IsApplicable self.old.layout self.old.state group.now }
@@ -108,22 +120,27 @@ impl<D: Disk> Store<D> {
         replace_with(&mut self.disk_or_log, (self.alloc, group), commit_group)
     }
 
-    /// Moves a disk of layout 1 to layout 2, in place: the files stay, and are in the first image of layout 2
-    /// then, with sequence 1. The slots of layout 1 are not written, and a crash at any moment leaves the
-    /// files by one layout or the other. There is no way back to layout 1.
+    /// Moves a disk of layout 1 to layout 2, in place. There is no way back to layout 1.
+    ///
+    /// The files stay, and are in the first image of layout 2 then, with sequence 1. The slots of layout 1 are not
+    /// written. A crash at any moment leaves the files by one layout or the other.
     ///
     /// # Errors
     ///
-    /// `Off` where the store is off, else `AlreadyLayout2` where the disk has it; `NoMemory`: nothing has
-    /// changed, and the disk has not been called. `Device` where the disk failed: the store is off, and the
-    /// next recovery finds the files by layout 1 or by layout 2.
+    /// - `Off` if the store is off.
+    /// - `AlreadyLayout2` if the disk has layout 2.
+    /// - `NoMemory` if memory ran out.
+    /// - `Device` if the disk failed. The store is off, and the next recovery finds the files by layout 1 or by layout
+    ///   2.
+    ///
+    /// Any refusal but `Device` changes nothing and doesn't use the disk.
     pub fn migrate(&mut self) -> Result<(), StoreFault>
         ensures { Migrates D.Disk self.old result self.new }
     {
         replace_with(&mut self.disk_or_log, self.alloc, migrate_files)
     }
 
-    /// The files, within the limits of its layout, or None while the store is off.
+    /// Returns the files, within the limits of the layout, or `None` while the store is off.
     pub fn files(&self) -> Option<&Directory>
         ensures files { option_map (λ directory. directory.now.files) result ≡ files_of self.now.state }
         ensures limits { IfSome result (λ directory. directory.now.limits ≡ limits_of self.now.layout) }
@@ -134,7 +151,7 @@ impl<D: Disk> Store<D> {
         }
     }
 
-    /// The layout of the disk, as it was found or made last: layout 1 before the first recovery.
+    /// Returns the layout of the disk, as it was found or made last. Before the first recovery it is layout 1.
     pub fn layout(&self) -> Layout
         ensures { result ≡ self.now.layout }
     {
@@ -144,7 +161,7 @@ impl<D: Disk> Store<D> {
         }
     }
 
-    /// Whether the store is ready, and with which sequence.
+    /// Returns whether the store is ready, and with which sequence.
     pub fn mode(&self) -> Mode
         ensures { result ≡ mode_of self.now.state }
     {
@@ -156,7 +173,7 @@ impl<D: Disk> Store<D> {
         }
     }
 
-    /// Gives the disk as it is, at rest where the store is ready.
+    /// Returns the disk as it is, at rest if the store is ready.
     pub fn into_disk(self) -> D
         ensures disk { result ≡ self.disk }
         ensures at_rest { D.honest self.disk → WhenReady self.state (IsAtRest (D.state self.disk)) }

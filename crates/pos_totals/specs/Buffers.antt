@@ -67,7 +67,7 @@ MayHold (Ready files sequence) next transaction = IfSome transaction (AllByRecur
 abbrev pub HaveBuffers : Mode → ℕ → List (Option (List Change)) → Type 0
 HaveBuffers mode next transactions = AllByRecursion (MayHold mode next) transactions
 
--- a change is the edit of the file with this handle, where there is the edit
+-- a change is the edit of the file with this handle, if there is the edit
 abbrev pub IsEdit : Change → Option ℕ → Option FileEdit → Type 0
 IsEdit change named None = ⊤
 IsEdit change None (Some edit) = ⊥
@@ -90,7 +90,7 @@ pub record MayBuffer (transactions : List (Option (List Change))) (control : ℕ
   pub is : edit_in made.change ≡ Some edit
   pub left : HasLeft (transaction_at transactions control) (edit_cost edit)
 
--- the transactions with one more change behind those that a control has buffered
+-- the transactions with one more change after those that a control has buffered
 abbrev pub with_buffered : List (Option (List Change)) → ℕ → Change → List (Option (List Change))
 with_buffered transactions control change =
     slice_set transactions control (option_map (λ buffer. buffer ++ change ∷ []) (transaction_at transactions control))

@@ -27,17 +27,16 @@ before_or_after layout next (Ready files sequence) (change ∷ changes) =
     let after = plain (files_after_all next files (change ∷ changes)) in
     Stands layout (plain files) sequence ∷ map (λ follows. Stands layout after follows) (next_sequences sequence)
 
--- for what the bytes stand that a crash leaves: while the totals are ready, for their files alone, and else for one of
--- others
+-- what the bytes stand for that a crash leaves: exactly their files while the totals are ready, else one of others
 abbrev pub settled : Layout → Mode → List Standing → List Standing
 settled layout mode otherwise = store.settled layout (stored mode) otherwise
 
--- the same where the disk failed in a group: while the totals were off, what it was before it
+-- the same if the disk failed in a group: while the totals were off, what it was before it
 abbrev pub in_doubt : Layout → ℕ → List Standing → List Change → Mode → List Standing
 in_doubt layout next left changes Off = left
 in_doubt layout next left changes (Ready files sequence) = before_or_after layout next (Ready files sequence) changes
 
--- the same after a group, by the totals before it and the mode now: the files that the totals have; where they are off,
+-- the same after a group, by the totals before it and the mode now: the files that the totals have; if they are off,
 -- those before or after the group
 abbrev pub left_after : Totals → List Standing → List Change → Mode → List Standing
 left_after old left changes now = settled old.layout now (in_doubt old.layout old.next left changes old.mode)
@@ -67,20 +66,20 @@ IsDone (Err want) = ⊥
 abbrev pub HasFailed : {D : Type 0} → Ghosts D → D → D → Type 0
 HasFailed bound old new = bound.honest old → Rises (bound.state old).failures (bound.state new).failures
 
--- What a call does that puts changes on the disk as one group. Of the disk itself, and of what a crash may leave, it
--- speaks where the disk is honest.
+-- What a call does that puts changes on the disk as one group. About the disk itself, and about what a crash may leave,
+-- it says something only if the disk is honest.
 pub record PutsGroup {D : Type 0} (bound : Ghosts D) (old : TotalsView D) (changes : List Change)
     (outcome : Result Answer NoMemory) (new : TotalsView D) : Type 0 where
   pub group : IsOneGroup old.totals changes
-  -- a call without changes doesn't touch the disk
+  -- a call without changes doesn't use the disk
   pub untouched : changes ≡ [] → new.disk ≡ old.disk
-  -- nor does one that isn't done, but after a fault of the disk; it changes nothing
+  -- nor does one that isn't done, except after a fault of the disk; it changes nothing
   pub unchanged : ¬ (IsDone outcome) → TurnsOff old.totals.mode new.totals.mode ⊎ (new ≡ old)
-  -- a crash at any moment of the call leaves the files before the group or those after the whole of it, and a crash
-  -- now the files that the totals have alone; after a fault of the disk the group is in doubt
+  -- a crash at any moment of the call leaves the files before the group or those after the whole of it, and a crash now
+  -- exactly the files that the totals have; after a fault of the disk it leaves either
   pub crash : bound.honest old.disk
       → LeavesBeforeOrAfter old.totals changes new.totals.mode (bound.state old.disk) (bound.state new.disk)
-  -- the disk fails only where that turns the totals off
+  -- the disk fails only if that turns the totals off
   pub counts : bound.honest old.disk
       → TurnsOff old.totals.mode new.totals.mode ⊎ HasNotFailed (bound.state old.disk) (bound.state new.disk)
   pub kept : KeepsDisk bound old.disk new.disk
@@ -97,7 +96,7 @@ pub record CommitsBuffer {D : Type 0} (bound : Ghosts D) (old : TotalsView D) (c
   pub answer : Committed (HasFailed bound old.disk new.disk) old.totals control outcome new.totals
   pub disk : PutsGroup bound old (group_by_commit old.totals control) outcome new
 
--- What an arrangement does. It doesn't touch the disk.
+-- What an arrangement does. It doesn't use the disk.
 pub record Arranged {D : Type 0} (old : TotalsView D) (control : ℕ) (arrangement : Arrangement) (result : Answer)
     (new : TotalsView D) : Type 0 where
   pub answer : Arranges old.totals control arrangement result new.totals

@@ -83,7 +83,8 @@ pub record FindsFile (test : File → Bool) (files : List File) (found : Option 
   pub index : IfSome found (λ f. f.index ≡ index_of test files)
   pub small : IfSome found (λ f. length f.bytes.now ≤ LAYOUT_2.bytes)
 
--- a question about files that are known is answered by its table, and then told; memory is wanted only behind the table
+-- a question about files that are known is answered by its table, and then by its value; memory runs out only after the
+-- table
 abbrev pub TellsIn : List File → ℕ → Question → Answer → Type 0
 TellsIn files control question result =
     Decided (question_rows files control question) result (Unit {0}) (result ≡ answer.Done (told_of files question))
@@ -120,7 +121,7 @@ ChecksAt totals control change (Ok made) =
 ChecksAt totals control change (Err refusal) =
     first_refusal (refusals_of_change totals control change) ≡ Some refusal
 
--- what a check of an arrangement of a file by its table finds: the handle, where nothing refuses it
+-- what a check of an arrangement of a file by its table finds: the handle, if nothing refuses it
 abbrev pub LetsThrough : Option ℕ → Option (Option (List Change)) → List File → ℕ → Arrangement → ℤ
     → Result ℕ Answer → Type 0
 LetsThrough area place files control arrangement handle (Ok number) =
@@ -141,7 +142,7 @@ pub record Gathers (files : List File) (transaction : Option (List Change)) (gro
   pub buffered : transaction ≡ Some (first ∷ others)
   pub made : group ≡ group_of files (first ∷ others)
 
--- what a commit comes to, by its table; memory is wanted only behind it
+-- what is to be done for a commit, by its table; memory runs out only after it
 abbrev pub Plans : List Row → List File → Option (List Change) → Result Plan NoMemory → Type 0
 Plans rows files transaction (Ok (plan.Refused refusal)) = first_refusal rows ≡ Some refusal
 Plans rows files transaction (Ok plan.Nothing) = (first_refusal rows ≡ None) × (transaction ≡ Some [])

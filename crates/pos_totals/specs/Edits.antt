@@ -18,7 +18,7 @@ pub data FileEdit : Type 0 where
   Write : (offset : ℤ) (bytes : List ℕ) → FileEdit
   SetAll : (value : ℤ) → FileEdit
 
--- the edit that a call asks for, with the handle of its file, where it asks for one
+-- the edit that a call asks for, with the handle of its file, if it asks for one
 abbrev pub edit_asked : Call → Option (ℤ × FileEdit)
 edit_asked (call.Write handle offset bytes) = Some (handle, Write offset bytes)
 edit_asked (call.SetAll handle n) = Some (handle, SetAll n)
@@ -29,7 +29,7 @@ abbrev pub fits : ℕ → FileEdit → Bool
 fits size (Write offset bytes) = is_range size offset (pos (length bytes))
 fits size (SetAll n) = is_up_to 255 n
 
--- what it costs, where it is buffered
+-- what it costs, if it is buffered
 abbrev pub edit_cost : FileEdit → ℕ
 edit_cost (Write offset bytes) = length bytes + 16
 edit_cost (SetAll n) = 16
@@ -48,7 +48,7 @@ abbrev pub edit_change : ℕ → FileEdit → FileChange
 edit_change index (Write offset bytes) = file.Write index (nat_abs offset) bytes
 edit_change index (SetAll n) = file.SetAll index (nat_abs n)
 
--- the edit that a change of the directory is, where it is one
+-- the edit that a change of the directory is, if it is one
 abbrev pub edit_in : FileChange → Option FileEdit
 edit_in (file.Write index offset bytes) = Some (Write (pos offset) bytes)
 edit_in (file.SetAll index n) = Some (SetAll (pos n))

@@ -7,8 +7,8 @@ use Rattle.pos_image.specs.declared.layout.Layout.{Layout}
 use Rattle.pos_store.specs.Layouts.{limits_of}
 use Rattle.pos_totals.specs.Edits.{FileEdit}
 
--- How much totals may hold, which goes by the layout of their disk: the most bytes of all files in sum (TotalsSize),
--- the most files, and the most that the changes of one transaction may cost in sum.
+-- How much totals may hold, which goes by the layout of their disk: the most bytes of all files in total (TotalsSize),
+-- the most files, and the most that the changes of one transaction may cost in total.
 pub record TotalsLimits : Type 0 where
   pub bytes : ℕ
   pub files : ℕ
@@ -27,7 +27,7 @@ totals_limits layout = record {
 abbrev pub last_number : ℕ
 last_number = 18446744073709551615
 
--- the sequences to which a group of changes may lead from one: it stays where the group goes behind the image that is
+-- the sequences to which a group of changes may lead from one: it stays if the group goes after the image that is
 -- there, and a new image has the next one; the last sequence has none
 abbrev pub next_sequences : ℕ → List ℕ
 next_sequences sequence =
@@ -45,7 +45,7 @@ pub record File : Type 0 where
   pub bytes : List ℕ
   pub claim : Option ℕ
 
--- off, or ready with the files in the order of their creation and the sequence of the image that they stand on
+-- off, or ready with the files in the order of their creation and the sequence of the image that they are from
 pub data Mode : Type 0 where
   Off : Mode
   Ready : (files : List File) (sequence : ℕ) → Mode
@@ -57,10 +57,10 @@ pub data Change : Type 0 where
   Rename : (handle : ℤ) (name : List ℕ) → Change
   Edit : (handle : ℤ) (edit : FileEdit) → Change
 
--- The totals: the layout that the last recovery found which succeeded, that of a new disk before the first; what is
--- known of the files, the place in the disk's current slot behind its records, or 0 while the files aren't known, the
--- handle that the next new file gets, the control that has claimed the area (the whole device), and, by the controls'
--- numbers, the changes that each has buffered, in their order; a control that is in no transaction has None.
+-- The totals: the layout that the last recovery found that succeeded (before the first that of a new disk); what is
+-- known of the files; the place in the disk's current slot after its records, or 0 while the files aren't known; the
+-- handle that the next new file gets; and the control that has claimed the area (the whole device). By the controls'
+-- numbers, also the changes that each has buffered, in their order, or None for a control that is in no transaction.
 pub record Totals : Type 0 where
   pub layout : Layout
   pub mode : Mode
@@ -69,7 +69,7 @@ pub record Totals : Type 0 where
   pub area : Option ℕ
   pub transactions : List (Option (List Change))
 
--- what a control has buffered: None where it is in no transaction
+-- what a control has buffered, or None if it is in no transaction
 abbrev pub transaction_at : List (Option (List Change)) → ℕ → Option (List Change)
 transaction_at transactions control = option_flatten (slice_get transactions control)
 
@@ -85,7 +85,7 @@ abbrev pub is_ready : Mode → Bool
 is_ready Off = false
 is_ready (Ready files sequence) = true
 
--- the files, where they are known
+-- the files, if they are known
 abbrev pub files_of : Mode → List File
 files_of Off = []
 files_of (Ready files sequence) = files
@@ -110,7 +110,7 @@ abbrev pub with_transaction : Totals → ℕ → Option (List Change) → Totals
 with_transaction totals control transaction =
     record totals { transactions = slice_set totals.transactions control transaction }
 
--- the sequence of the image that the files stand on: 0 where they aren't known
+-- the sequence of the image that the files are from, or 0 if they aren't known
 abbrev pub sequence_of : Mode → ℕ
 sequence_of Off = 0
 sequence_of (Ready files sequence) = sequence
@@ -125,7 +125,7 @@ abbrev pub changes_in : Option (List Change) → List Change
 changes_in None = []
 changes_in (Some buffer) = buffer
 
--- the mode with other files, where there are files
+-- the mode with other files, if there are files
 abbrev pub with_files : (List File → List File) → Mode → Mode
 with_files change Off = Off
 with_files change (Ready files sequence) = Ready (change files) sequence

@@ -26,8 +26,8 @@ numbered next (file ∷ files) = called (new_tag next) file ∷ numbered (next +
 abbrev pub AreLeft : ℕ → ℕ → Type 0
 AreLeft next count = next + count ≤ last_number
 
--- The layout is the one that was found, and so is the place behind the records; and the files that were found have the
--- handles from the next one on, which is behind them.
+-- The layout is the one that was found, and so is the place after the records. The files that were found have the
+-- handles from the next one on, and the next one is after them.
 pub record HasFound (P : Standing → Type 0) (old new : Totals) : Type 0 where
   pub layout : Layout
   pub files : List PlainFile
@@ -42,7 +42,7 @@ pub record HasFound (P : Standing → Type 0) (old new : Totals) : Type 0 where
     next = old.next + length files;
   }
 
--- Files were found that are more than the handles that are left.
+-- More files were found than handles are left.
 pub record HasTooMany (P : Standing → Type 0) (next : ℕ) : Type 0 where
   pub layout : Layout
   pub files : List PlainFile
@@ -50,7 +50,7 @@ pub record HasTooMany (P : Standing → Type 0) (next : ℕ) : Type 0 where
   pub found : P (Stands layout files sequence)
   pub handles : ¬ (AreLeft next (length files))
 
--- what a recovery of totals that are off answers, and the totals after it, where P tells what is found
+-- what a recovery of totals that are off answers, and the totals after it; P says what is found
 abbrev pub FindsFiles : (Standing → Type 0) → Totals → Result (Unit {0}) RecoveryFault → Totals → Type 0
 FindsFiles P old (Ok _) new = HasFound P old new
 FindsFiles P old (Err fault.Unformatted) new = P Unformatted × (new ≡ old)
@@ -75,10 +75,11 @@ abbrev pub RecoversAny : DiskState → DiskState → Totals → Result (Unit {0}
 RecoversAny old new before result after =
     (candidates : List Standing) → LeavesOneOf candidates old → RecoversOneOf candidates old new before result after
 
--- What a recovery does. Of the disk itself, and of what a crash may leave, it speaks where the disk is honest.
+-- What a recovery does. About the disk itself, and about what a crash may leave, it says something only if the disk is
+-- honest.
 pub record Recovers {D : Type 0} (bound : Ghosts D) (old : TotalsView D) (result : Result (Unit {0}) RecoveryFault)
     (new : TotalsView D) : Type 0 where
-  -- where the totals are ready it succeeds and does nothing
+  -- if the totals are ready it succeeds and does nothing
   pub ready : WhenReady old.totals.mode ((result ≡ Ok tt) × (new ≡ old))
   -- else it finds what the bytes of the disk stand for
   pub answer : WhenOff old.totals.mode (FindsFiles (ReadsAs bound old.disk) old.totals result new.totals)
@@ -86,10 +87,10 @@ pub record Recovers {D : Type 0} (bound : Ghosts D) (old : TotalsView D) (result
       (RecoversAny (bound.state old.disk) (bound.state new.disk) old.totals result new.totals)
   -- whatever it answers, the bytes of the disk are what they were
   pub reading : bound.honest old.disk → (bound.state new.disk).reading ≡ (bound.state old.disk).reading
-  -- a crash now leaves the files that were found alone
+  -- a crash now leaves exactly the files that were found
   pub now : bound.honest old.disk → LeavesTheirFiles new.totals.layout new.totals.mode (bound.state new.disk)
   pub device : IsErrOf result fault.Device → HasFailed bound old.disk new.disk
-  -- and it fails only where its fault is answered
+  -- and it fails only if its fault is answered
   pub counts : bound.honest old.disk
       → IsErrOf result fault.Device ⊎ HasNotFailed (bound.state old.disk) (bound.state new.disk)
   pub kept : KeepsDisk bound old.disk new.disk
@@ -102,7 +103,7 @@ code_of fault.Handles = Some code.Failure
 code_of fault.NoMemory = None
 code_of fault.Device = Some code.Failure
 
--- a store's fault of a recovery, in the totals' words; a recovery has no other
+-- the totals' fault for a store's fault of a recovery; a recovery has no other
 abbrev pub told_as : StoreFault → Option RecoveryFault
 told_as store.Off = None
 told_as (store.Refused cause) = None

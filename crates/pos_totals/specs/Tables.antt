@@ -1,4 +1,4 @@
--- What the totals keep beside the files of the disk.
+-- What the totals keep besides the files of the disk.
 use Rattle.std.specs.Prelude.{ℕ, Bool, List, Option, None, nat_eq, if◌then◌else◌}
 use Rattle.pos_service.specs.Claims.{is_own}
 use Rattle.pos_totals.specs.declared.handles.Tag.{Tag}
@@ -15,7 +15,7 @@ abbrev pub is_meant : Whose → Tag → Bool
 is_meant (whose.File handle) tag = nat_eq tag.handle handle
 is_meant (whose.Control control) tag = is_own control tag.claim
 
--- the tag with another claim, where it is meant
+-- the tag, with another claim if it is meant
 abbrev pub reclaimed : Whose → Option ℕ → Tag → Tag
 reclaimed whose claim tag = if is_meant whose tag then record tag { claim = claim } else tag
 

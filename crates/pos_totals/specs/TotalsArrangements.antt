@@ -33,7 +33,7 @@ arrangement_of (asked.ReleaseFile handle) = ReleaseFile handle
 arrangement_of asked.BeginTrans = BeginTrans
 arrangement_of asked.Rollback = Rollback
 
--- the arrangement that a call makes, where it makes one
+-- the arrangement that a call makes, if it makes one
 abbrev pub arrangement_asked : Call → Option Arrangement
 arrangement_asked (call.ClaimFile handle timeout) = Some (ClaimFile handle timeout)
 arrangement_asked (call.ReleaseFile handle) = Some (ReleaseFile handle)

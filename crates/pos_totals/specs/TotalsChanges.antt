@@ -22,14 +22,14 @@ use Rattle.pos_totals.specs.Edits.{FileEdit, edit_asked, fits, edit_cost, edited
 use Rattle.pos_totals.specs.TotalsFiles.{is_name, is_named, is_called, has_file, is_foreign_file, has_room, with_each}
 use Rattle.pos_totals.specs.TotalsRows.{when_no_room, while_ready, when_foreign_area}
 
--- the change that a call asks for, where it asks for one; error detection has no effect
+-- the change that a call asks for, if it asks for one; error detection has no effect
 abbrev pub change_asked : Call → Option Change
 change_asked (call.Create name size detection) = Some (Create name size)
 change_asked (call.Delete name) = Some (Delete name)
 change_asked (call.Rename handle name) = Some (Rename handle name)
 change_asked asked = option_map (λ edit. Edit edit.0 edit.1) (edit_asked asked)
 
--- the file that a change is of, where there is the file; a new one isn't there yet
+-- the file that a change is of, if there is the file; a new one isn't there yet
 abbrev pub changed_file : List File → Change → Option File
 changed_file files (Create name size) = None
 changed_file files (Delete name) = find (is_named name) files
@@ -48,11 +48,11 @@ cost_of (Delete name) = 0
 cost_of (Rename handle name) = 0
 cost_of (Edit handle edit) = edit_cost edit
 
--- what changes cost in sum
+-- what changes cost in total
 abbrev pub cost_of_all : List Change → ℕ
 cost_of_all changes = sum_by cost_of changes
 
--- what a control's buffered changes cost in sum: None where it is in no transaction
+-- what a control's buffered changes cost in total, or None if it is in no transaction
 abbrev pub spent_by : Totals → ℕ → Option ℕ
 spent_by totals control = option_map cost_of_all (transaction_of totals control)
 
@@ -61,7 +61,7 @@ abbrev pub is_over : TotalsLimits → Option ℕ → ℕ → Bool
 is_over limits None cost = false
 is_over limits (Some spent) cost = not (nat_le (spent + cost) limits.cost)
 
--- The refusals of each change that a control asks for, in their order; what it has spent is known where it is in a
+-- The refusals of each change that a control asks for, in their order; what it has spent is known if it is in a
 -- transaction.
 abbrev pub change_rows : TotalsLimits → List File → ℕ → Option ℕ → Change → List Row
 change_rows limits files control spent (Create name size) =
@@ -92,8 +92,8 @@ refusals_of_change totals control change =
     when_foreign_area totals control
     ∷ while_ready totals.mode (λ files. change_rows limits files control (spent_by totals control) change)
 
--- The files after each change: a new file of zero bytes behind the others, one file less, or one file with another
--- name or with other bytes.
+-- The files after each change: a new file of zero bytes after the others, one file less, or one file with another name
+-- or with other bytes.
 abbrev pub files_after : ℕ → List File → Change → List File
 files_after next files (Create name size) =
     files ++ record { handle = next; name = name; bytes = replicate (nat_abs size) 0; claim = None } ∷ []
@@ -123,20 +123,20 @@ abbrev pub next_after_all : ℕ → List Change → ℕ
 next_after_all next [] = next
 next_after_all next (change ∷ changes) = next_after_all (next_after next change) changes
 
--- a change gives the new file's handle, where it makes one
+-- a change gives the new file's handle, if it makes one
 abbrev pub given_by : ℕ → Change → Value
 given_by next change = if is_create change then value.Number (pos next) else value.Empty
 
--- the group of changes of these totals fits behind the records of the disk, by its layout; else it needs a new image
+-- the group of changes of these totals fits after the records of the disk, by its layout; else it needs a new image
 abbrev pub fits_behind : Totals → List Change → Bool
 fits_behind totals changes = store.fits_behind totals.layout totals.tail (group_of (files_of totals.mode) changes)
 
--- the sequence after changes: the same where their group fits behind the records, else the next one, of a new image
+-- the sequence after changes: the same if their group fits after the records, else the next one, of a new image
 abbrev pub sequence_then : Totals → List Change → ℕ
 sequence_then totals changes =
     if fits_behind totals changes then sequence_of totals.mode else sequence_of totals.mode + 1
 
--- where the records end then
+-- the place at which the records end then
 abbrev pub tail_then : Totals → List Change → ℕ
 tail_then totals changes = store.tail_after totals.layout totals.tail (group_of (files_of totals.mode) changes)
 
@@ -150,33 +150,34 @@ after_changes totals changes sequence =
     let mode = mode_after totals.next totals.mode changes sequence in
     record totals { mode = mode; tail = tail_then totals changes; next = next_after_all totals.next changes }
 
--- Changes are done together, and lead to one of the next sequences, by whether their group fits behind the records.
+-- Changes are done together, and lead to one of the next sequences, by whether their group fits after the records.
 pub record DoesTogether (old : Totals) (changes : List Change) (new : Totals) : Type 0 where
   pub sequence : ℕ
   pub follows : IsAmong sequence (sequences_after old.mode)
   pub is : sequence ≡ sequence_then old changes
   pub totals : new ≡ after_changes old changes sequence
 
--- E_FAILURE where the handle that a new file needs has run out
+-- E_FAILURE if the handle that a new file needs has run out
 abbrev pub number_rows : Totals → Change → List Row
 number_rows totals change = when (is_create change && nat_eq totals.next last_number) code.Failure ∷ []
 
--- A group of changes finds no sequence for a new image. That comes only at the last sequence, and only where the group
--- needs a new image: one that fits behind the records is done.
+-- A group of changes finds no sequence for a new image. That happens only at the last sequence, and only if the group
+-- needs a new image: one that fits after the records is done.
 abbrev pub RunsOut : Totals → List Change → Answer → Totals → Type 0
 RunsOut old changes result new =
     (is_last old.mode ≡ true) × (fits_behind old changes ≡ false) × (result ≡ answer.Refused code.Failure 0)
     × (new ≡ old)
 
--- A group of changes is done whole, or the disk fails in it, which comes only where DiskFailed holds: the disk's
--- count of failures rose in the call.
+-- A group of changes is done whole, or the disk fails in it. It fails only if DiskFailed holds: the disk's count of
+-- failures rose in the call.
 abbrev pub Done : Type 0 → Totals → List Change → Value → Answer → Totals → Type 0
 Done DiskFailed old changes given result new =
     ((result ≡ answer.Done given) × DoesTogether old changes new)
     ⊎ ((result ≡ answer.Refused code.Failure 0) × DiskFailed × (new ≡ after_disk_fault old))
 
--- A change that its table lets through is buffered in the transaction of the control that asks for it, behind what that
--- has buffered, and else it is answered by the handle that it needs, and then done, where the sequences don't run out.
+-- A change that its table allows is buffered in the transaction of the control that asks for it, after what that has
+-- buffered. Outside a transaction it is answered by the handle that it needs, and then done, if the sequences don't run
+-- out.
 abbrev pub DoesChange : Type 0 → Totals → ℕ → Change → Answer → Totals → Type 0
 DoesChange DiskFailed old control change result new = MatchOption (transaction_of old control)
     (Decided (number_rows old change) result (new ≡ old)
@@ -184,8 +185,8 @@ DoesChange DiskFailed old control change result new = MatchOption (transaction_o
     ⊎ Done DiskFailed old (change ∷ []) (given_by old.next change) result new))
     (λ buffer. (result ≡ answer.Done value.Empty) × (new ≡ with_transaction old control (Some (buffer ++ change ∷ []))))
 
--- A change is answered by its table, and then does what it does. Want of memory comes only behind the table, and
--- changes nothing.
+-- A change is answered by its table, and then does what it does. Memory runs out only after the table, and then nothing
+-- changes.
 abbrev pub Changed : Type 0 → Totals → ℕ → Change → Result Answer NoMemory → Totals → Type 0
 Changed DiskFailed old control change outcome new = MatchResult outcome
     (λ result.
@@ -193,7 +194,7 @@ Changed DiskFailed old control change outcome new = MatchResult outcome
     (DoesChange DiskFailed old control change result new))
     (λ want. (first_refusal (refusals_of_change old control change) ≡ None) × (new ≡ old))
 
--- the group of changes that a change puts on the disk: none where it is refused, and none where it is buffered
+-- the group of changes that a change puts on the disk: none if it is refused, and none if it is buffered
 abbrev pub group_by_change : Totals → ℕ → Change → List Change
 group_by_change totals control change =
     if is_none (first_refusal (refusals_of_change totals control change)) && not (in_transaction totals control)

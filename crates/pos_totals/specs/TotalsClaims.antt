@@ -17,13 +17,13 @@ abbrev pub is_area_taken : Totals → ℕ → Bool
 is_area_taken totals control =
     is_foreign control totals.area || list_any (is_foreign_claim control) (files_of totals.mode)
 
--- A claim of the area: E_TIMEOUT where another control has claimed it or a file.
+-- A claim of the area: E_TIMEOUT if another control has claimed it or a file.
 abbrev pub ClaimsArea : Totals → ℕ → Result (Unit {0}) Code → Totals → Type 0
 ClaimsArea old control (Ok _) new = (is_area_taken old control ≡ false) × (new ≡ record old { area = Some control })
 ClaimsArea old control (Err refusal) new =
     (is_area_taken old control ≡ true) × (refusal ≡ code.Timeout) × (new ≡ old)
 
--- A release of the area: E_ILLEGAL where the control hasn't claimed it. Files that it has claimed stay so.
+-- A release of the area: E_ILLEGAL if the control hasn't claimed it. Files that it has claimed stay claimed.
 abbrev pub ReleasesArea : Totals → ℕ → Result (Unit {0}) Code → Totals → Type 0
 ReleasesArea old control (Ok _) new = (is_own control old.area ≡ true) × (new ≡ record old { area = None })
 ReleasesArea old control (Err refusal) new =

@@ -33,15 +33,15 @@ refusals_of_commit totals control =
     when_foreign_area totals control
     ∷ while_ready totals.mode (λ files. commit_rows files control (transaction_of totals control))
 
--- A commit that its table lets through ends the transaction. Without changes it does no more; else all changes are done
--- together, in their order, where the sequences don't run out.
+-- A commit that its table allows ends the transaction. Without changes it does no more; else all changes are done
+-- together, in their order, if the sequences don't run out.
 abbrev pub DoesCommit : Type 0 → Totals → Totals → List Change → Answer → Totals → Type 0
 DoesCommit DiskFailed old ended [] result new = (result ≡ answer.Done value.Empty) × (new ≡ ended)
 DoesCommit DiskFailed old ended (change ∷ changes) result new =
     RunsOut old (change ∷ changes) result new ⊎ Done DiskFailed ended (change ∷ changes) value.Empty result new
 
--- A commit is answered by its table, and then does what it does. Want of memory comes only behind the table, and
--- changes nothing.
+-- A commit is answered by its table, and then does what it does. Memory runs out only after the table, and then nothing
+-- changes.
 abbrev pub Committed : Type 0 → Totals → ℕ → Result Answer NoMemory → Totals → Type 0
 Committed DiskFailed old control outcome new = MatchResult outcome
     (λ result.
@@ -50,7 +50,7 @@ Committed DiskFailed old control outcome new = MatchResult outcome
     result new))
     (λ want. (first_refusal (refusals_of_commit old control) ≡ None) × (new ≡ old))
 
--- the group of changes that a commit puts on the disk: none where it is refused
+-- the group of changes that a commit puts on the disk: none if it is refused
 abbrev pub group_by_commit : Totals → ℕ → List Change
 group_by_commit totals control =
     if is_none (first_refusal (refusals_of_commit totals control)) then changes_in (transaction_of totals control)

@@ -33,7 +33,7 @@ file_at files (negsuc n) = None
 abbrev pub has_file : (File → Bool) → List File → Bool
 has_file test files = is_some (find test files)
 
--- the bytes of all files in sum
+-- the bytes of all files in total
 abbrev pub size_in_sum : List File → ℕ
 size_in_sum files = sum_by (λ file. length file.bytes) files
 
@@ -54,7 +54,7 @@ is_foreign_file control (Some file) = is_foreign control file.claim
 abbrev pub has_room : TotalsLimits → List File → ℤ → Bool
 has_room limits files size = is_up_to (free_data limits files) size && nat_lt (length files) limits.files
 
--- a range of the file's bytes, where there is the file
+-- a range of the file's bytes, if there is the file
 abbrev pub is_range_of : Option File → ℤ → ℤ → Bool
 is_range_of None offset count = false
 is_range_of (Some file) offset count = is_range (length file.bytes) offset count

@@ -29,14 +29,14 @@ question_of (asked.Find name) = Find name.now
 question_of (asked.FindByIndex index) = FindByIndex index
 question_of (asked.Read handle offset count) = Read handle offset count
 
--- the question that a call asks, where it asks one
+-- the question that a call asks, if it asks one
 abbrev pub question_asked : Call → Option Question
 question_asked (call.Find name) = Some (Find name)
 question_asked (call.FindByIndex index) = Some (FindByIndex index)
 question_asked (call.Read handle offset count) = Some (Read handle offset count)
 question_asked other = None
 
--- what a question is told takes memory: a name, or bytes
+-- the answer to a question takes memory: a name, or bytes
 abbrev pub is_told_in_memory : Question → Bool
 is_told_in_memory (Find name) = false
 is_told_in_memory (FindByIndex index) = true
@@ -55,7 +55,7 @@ abbrev pub refusals_of_question : Totals → ℕ → Question → List Row
 refusals_of_question totals control question =
     when_foreign_area totals control ∷ while_ready totals.mode (λ files. question_rows files control question)
 
--- the value that is told of a file, where there is the file
+-- the value that a question gets of a file, if there is the file
 abbrev pub told : Option File → (File → Value) → Value
 told None tell = value.Empty
 told (Some file) tell = tell file
@@ -68,13 +68,13 @@ told_of files (FindByIndex index) = told (file_at files index) (λ file. value.B
 told_of files (Read handle offset count) =
     told (find (is_called handle) files) (λ file. value.Bytes (take (nat_abs count) (drop (nat_abs offset) file.bytes)))
 
--- A question is answered by its table, and then told. Nothing changes.
+-- A question is answered by its table, and then by its value. Nothing changes.
 abbrev pub Tells : Totals → ℕ → Question → Answer → Type 0
 Tells totals control question result =
     Decided (refusals_of_question totals control question) result (Unit {0})
     (result ≡ answer.Done (told_of (files_of totals.mode) question))
 
--- The same where memory may be wanted: by a question that is told in it alone, and only behind the table.
+-- The same if memory may run out: only for a question whose answer takes memory, and only after the table.
 abbrev pub MayTell : Totals → ℕ → Question → Result Answer NoMemory → Type 0
 MayTell totals control question outcome =
     MatchResult outcome (λ result. Tells totals control question result)

@@ -15,6 +15,6 @@ abbrev pub while_ready : Mode → (List File → List Row) → List Row
 while_ready Off rows = when true code.Failure ∷ []
 while_ready (Ready files sequence) rows = rows files
 
--- E_CLAIMED where another control has claimed the area
+-- E_CLAIMED if another control has claimed the area
 abbrev pub when_foreign_area : Totals → ℕ → Row
 when_foreign_area totals control = when (is_foreign control totals.area) code.Claimed

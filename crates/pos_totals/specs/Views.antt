@@ -51,12 +51,12 @@ abbrev pub stored : Mode → State
 stored Off = StoreOff
 stored (Ready files sequence) = StoreReady (plain files) sequence
 
--- P, where the totals are off
+-- P, if the totals are off
 abbrev pub WhenOff : Mode → Type 0 → Type 0
 WhenOff Off P = P
 WhenOff (Ready files sequence) P = ⊤
 
--- P, where they are ready
+-- P, if they are ready
 abbrev pub WhenReady : Mode → Type 0 → Type 0
 WhenReady Off P = ⊤
 WhenReady (Ready files sequence) P = P
@@ -71,7 +71,7 @@ abbrev pub TurnsOff : Mode → Mode → Type 0
 TurnsOff old Off = IsReady old
 TurnsOff old (Ready files sequence) = ⊥
 
--- where they are ready, a crash at this moment leaves their files alone
+-- if they are ready, a crash at this moment leaves exactly their files
 abbrev pub LeavesTheirFiles : Layout → Mode → DiskState → Type 0
 LeavesTheirFiles layout mode disk = LeavesItsFiles layout (stored mode) disk
 
@@ -86,12 +86,12 @@ abbrev pub mode_of : List Tag → State → Mode
 mode_of tags StoreOff = Off
 mode_of tags (StoreReady files sequence) = Ready (with_tags tags files) sequence
 
--- the place behind the records of a store's disk, where it is ready, and else 0
+-- the place after the records of a store's disk, if it is ready, and else 0
 abbrev pub tail_of : State → ℕ → ℕ
 tail_of StoreOff tail = 0
 tail_of (StoreReady files sequence) tail = tail
 
--- what a store's state, the place behind its records, and the holdings mean
+-- what a store's state, the place after its records, and the holdings mean
 abbrev pub totals_at : State → ℕ → Holdings → Totals
 totals_at state tail holdings = record {
   layout = holdings.layout;
@@ -120,32 +120,31 @@ pub record AreHandles (tags : List Tag) (files : List PlainFile) (next : ℕ) : 
   pub distinct : AreDistinct (numbers_of tags)
   pub below : AllByRecursion (λ handle. handle < next) (numbers_of tags)
 
--- where a store is ready, its files have their handles
+-- if a store is ready, its files have their handles
 abbrev pub HasHandles : State → List Tag → ℕ → Type 0
 HasHandles StoreOff tags next = ⊤
 HasHandles (StoreReady files sequence) tags next = AreHandles tags files next
 
--- where a store is ready, and a control has claimed the area, no other has claimed a file
+-- if a store is ready, and a control has claimed the area, no other has claimed a file
 abbrev pub AreApart : State → Option ℕ → List Tag → Type 0
 AreApart StoreOff area tags = ⊤
 AreApart (StoreReady files sequence) area tags =
     IfSome area (λ holder. AllByRecursion (λ tag. is_foreign holder tag.claim ≡ false) tags)
 
--- where a store is ready, its layout is the one that was found
+-- if a store is ready, its layout is the one that was found
 abbrev pub HasLayout : Layout → State → Layout → Type 0
 HasLayout layout StoreOff found = ⊤
 HasLayout layout (StoreReady files sequence) found = layout ≡ found
 
--- Where a store is ready, its layout is the one that was found, its files have their handles, buffered changes fit
--- their files, and where a control has claimed the area, no other has claimed a file; where it is off, nothing is
--- buffered.
+-- If a store is ready, its layout is the one that was found, its files have their handles, and buffered changes fit
+-- their files; and if a control has claimed the area, no other has claimed a file. If it is off, nothing is buffered.
 pub record IsSound (layout : Layout) (state : State) (holdings : Holdings) : Type 0 where
   pub found : HasLayout layout state holdings.layout
   pub handles : HasHandles state holdings.handles.given holdings.handles.next
   pub buffers : HaveBuffers (mode_of holdings.handles.given state) holdings.handles.next holdings.transactions
   pub apart : AreApart state holdings.area holdings.handles.given
 
--- where a store is ready, its files are those of a directory within the limits of a layout
+-- if a store is ready, its files are those of a directory within the limits of a layout
 abbrev pub HasDirectory : Layout → State → Type 0
 HasDirectory layout StoreOff = ⊤
 HasDirectory layout (StoreReady files sequence) = IsDirectory (limits_of layout) files
@@ -157,8 +156,8 @@ pub record AreTheirFiles (layout : Layout) (files : List File) (next : ℕ) : Ty
   pub below : AllByRecursion (λ handle. handle < next) (handles_of files)
   pub directory : IsDirectory (limits_of layout) (plain files)
 
--- Where the totals are ready, so are their files, and what is buffered fits them; where they are off, nothing is
--- buffered. Where a control has claimed the area, no other has claimed a file.
+-- If the totals are ready, so are their files, and what is buffered fits them; if they are off, nothing is buffered. If
+-- a control has claimed the area, no other has claimed a file.
 pub record HasItsFiles (totals : Totals) : Type 0 where
   pub files : WhenReady totals.mode (AreTheirFiles totals.layout (files_of totals.mode) totals.next)
   pub buffers : HaveBuffers totals.mode totals.next totals.transactions

@@ -1,4 +1,4 @@
-//! What a control arranges for itself, by its table.
+//! Arrangements: what a control arranges for itself, without the disk.
 ghost use Rattle.std.specs.Prelude.{◌≡◌};
 ghost use Rattle.std.specs.Option.{option_map};
 ghost use Rattle.pos_totals.specs.TotalsArrangements.{Arranges, arrangement_asked, arrangement_of};
@@ -15,29 +15,31 @@ use std::alloc::Global;
 /// What a control arranges for itself, as a call asks for it. It takes no memory, and doesn't use the disk.
 #[derive(Clone, Copy)]
 pub enum Arrangement {
-    /// `claimFile`: claims a file for a control; where it has it already, nothing changes. The timeout is at least -1,
-    /// and nothing is waited for.
+    /// `claimFile`: claims a file for a control. If the control has it already, nothing changes. The timeout is in
+    /// milliseconds, -1 for no end, and nothing is waited for.
     ///
-    /// Refused with E_ILLEGAL where no file has the handle, or for a timeout below -1, E_TIMEOUT where another control
-    /// has claimed the area or the file.
+    /// Refused with:
+    ///
+    /// - E_ILLEGAL if no file has the handle, or the timeout is below -1.
+    /// - E_TIMEOUT if another control has claimed the area or the file.
     ClaimFile { handle: i128, timeout: i128 },
     /// `releaseFile`: ends a control's claim of a file.
     ///
-    /// Refused with E_ILLEGAL where no file has the handle, or the control hasn't claimed it.
+    /// Refused with E_ILLEGAL if no file has the handle, or the control hasn't claimed it.
     ReleaseFile { handle: i128 },
-    /// `beginTrans`: begins a transaction of a control, in which changes of bytes are buffered until it ends. The
-    /// control's place was made by `add_control`.
+    /// `beginTrans`: begins a transaction of a control, in which changes of bytes are buffered until it ends.
+    /// `add_control` made the control's place for it.
     ///
-    /// Refused with E_ILLEGAL where the control is in a transaction, or has no place for one.
+    /// Refused with E_ILLEGAL if the control is in a transaction, or has no place for one.
     BeginTrans,
     /// `rollback`: drops what a control has buffered, and ends the transaction.
     ///
-    /// Refused with E_ILLEGAL where the control is in no transaction.
+    /// Refused with E_ILLEGAL if the control is in no transaction.
     Rollback,
 }
 
 impl Arrangement {
-    /// The arrangement that a call makes, where it makes one.
+    /// Returns the arrangement that a call makes, or `None` if it makes none.
     pub(crate) fn of(call: &Call) -> Option<Arrangement>
         ensures { option_map arrangement_of result ≡ arrangement_asked call.now }
     {
@@ -54,7 +56,7 @@ impl Arrangement {
     }
 }
 
-/// Makes an arrangement, where its table lets it.
+/// Makes an arrangement if its table allows it, and returns its answer.
 pub fn arrange<D: Disk>(
     alloc: Global,
     store: &Store<D>,

@@ -1,4 +1,4 @@
-//! The questions about the files, by their tables.
+//! Questions about the files.
 ghost use Rattle.std.specs.Prelude.{◌≡◌, IfSome};
 ghost use Rattle.std.specs.Option.{option_map};
 ghost use Rattle.pos_service.specs.Calls.{takes_memory};
@@ -22,29 +22,36 @@ use std::alloc::Global;
 pub enum Question<'a> {
     /// `find`: the handle and the size of the file with a name. It takes no memory.
     ///
-    /// Refused with E_NOEXIST where no file has the name.
+    /// Refused with E_NOEXIST if no file has the name.
     Find {
+        /// The name.
         name: &'a [u8],
     },
-    /// `findByIndex`: the name of the file at an index, counted from 0 in the order of creation.
+    /// `findByIndex`: the name of the file at an index.
     ///
-    /// Refused with E_ILLEGAL where no file has the index.
+    /// Refused with E_ILLEGAL if no file has the index.
     FindByIndex {
+        /// The index, counted from 0 in the order of creation.
         index: i128,
     },
     /// `read`: so many bytes of a file from an offset on.
     ///
-    /// Refused with E_ILLEGAL where no file has the handle, or the range doesn't lie within the file, E_CLAIMED where
-    /// another control has claimed the file.
+    /// Refused with:
+    ///
+    /// - E_ILLEGAL if no file has the handle, or the range isn't within the file.
+    /// - E_CLAIMED if another control has claimed the file.
     Read {
+        /// The handle of the file.
         handle: i128,
+        /// The offset of the first byte, from 0.
         offset: i128,
+        /// How many bytes to read.
         count: i128,
     },
 }
 
 impl<'a> Question<'a> {
-    /// The question that a call asks, where it asks one.
+    /// Returns the question that a call asks, or `None` if it asks none.
     pub(crate) fn of(call: &'a Call) -> Option<Question<'a>>
         ensures question { option_map question_of result ≡ question_asked call.now }
         ensures memory { IfSome result (λ question. is_told_in_memory (question_of question) ≡ takes_memory call.now) }
@@ -64,7 +71,11 @@ impl<'a> Question<'a> {
     }
 }
 
-/// What a question is answered, by its table.
+/// Answers a question by its table.
+///
+/// # Errors
+///
+/// [`NoMemory`] if nothing refuses the question and memory ran out. `find` takes none.
 pub fn ask<D: Disk>(
     alloc: Global,
     store: &Store<D>,
@@ -84,7 +95,7 @@ pub fn ask<D: Disk>(
     }
 }
 
-/// The same where the totals are ready.
+// Answers a question while the totals are ready.
 fn ask_in(
     alloc: Global,
     files: Files<'_>,
@@ -105,7 +116,7 @@ fn ask_in(
     }
 }
 
-/// The handle and the size of the file with a name.
+// Returns the handle and the size of the file with a name.
 fn find(files: Files<'_>, control: usize, name: &[u8]) -> Answer
     requires { AreFiles files }
     ensures { TellsIn (files_in files.entry) control (Find name.now) result }
@@ -119,7 +130,7 @@ fn find(files: Files<'_>, control: usize, name: &[u8]) -> Answer
     }
 }
 
-/// The name of the file at an index.
+// Returns the name of the file at an index.
 fn find_by_index(
     alloc: Global,
     files: Files<'_>,
@@ -135,7 +146,7 @@ fn find_by_index(
     Ok(Answer::Done(Value::Bytes(Bytes::from_slice(alloc, found.name)?)))
 }
 
-/// The file at an index that a call names.
+// Returns the file at an index that a call names, if there is one.
 fn file_by_index<'a>(files: Files<'a>, index: i128) -> Option<Found<'a>>
     requires { AreFiles files }
     ensures { option_map file_of result ≡ file_at (files_in files.entry) index }
@@ -149,7 +160,7 @@ fn file_by_index<'a>(files: Files<'a>, index: i128) -> Option<Found<'a>>
     get_file(files, index as usize)
 }
 
-/// A range of the bytes of the file with a handle.
+// Returns a range of the bytes of the file with a handle.
 fn read(
     alloc: Global,
     files: Files<'_>,

@@ -1,5 +1,5 @@
-//! The calls of Hard Totals by their names (chapter Hard Totals). Each does what `Totals::call` does for it, of the
-//! control with a number, and takes the arguments of the standard in their order.
+//! The calls of Hard Totals by their names (chapter Hard Totals). Each does what `Totals::call` does for it, for the
+//! control with a number. It takes the arguments of the standard in their order.
 ghost use Rattle.std.specs.Prelude.{Ok};
 ghost use Rattle.pos_service.specs.declared.call.Call.TheVariants as call;
 ghost use Rattle.pos_totals.specs.TotalsCalls.{Calls, file_call};
@@ -13,12 +13,12 @@ use pos_disk::Disk;
 use pos_service::{Answer, NoMemory};
 
 impl<D: Disk> Totals<D> {
-    /// Adds a file of so many zero bytes behind the others, and answers its handle (`create`). Error detection has no
-    /// effect. Refused as `Request::Create` is.
+    /// Adds a file of `size` zero bytes after the others, and answers its handle (`create`). Error detection has no
+    /// effect. It is refused as [`Request::Create`] is.
     ///
     /// # Errors
     ///
-    /// `NoMemory`, which changes nothing.
+    /// [`NoMemory`] if memory ran out. Nothing changes then.
     pub fn create(
         &mut self,
         control: usize,
@@ -32,19 +32,19 @@ impl<D: Disk> Totals<D> {
         self.change(control, Request::Create { name, size })
     }
 
-    /// Removes the file with a name (`delete`). Refused as `Request::Delete` is.
+    /// Removes the file with a name (`delete`). It is refused as [`Request::Delete`] is.
     ///
     /// # Errors
     ///
-    /// `NoMemory`, which changes nothing.
+    /// [`NoMemory`] if memory ran out. Nothing changes then.
     pub fn delete(&mut self, control: usize, name: &[u8]) -> Result<Answer, NoMemory>
         ensures { Calls D.Disk self.old control (file_call (call.Delete name.now)) result self.new }
     {
         self.change(control, Request::Delete { name })
     }
 
-    /// Answers the handle and the size of the file with a name (`find`). Refused as `Question::Find` is. It takes no
-    /// memory.
+    /// Answers the handle and the size of the file with a name (`find`). It is refused as [`Question::Find`] is, and
+    /// takes no memory.
     pub fn find(&self, control: usize, name: &[u8]) -> Answer
         ensures { Calls D.Disk self.now control (file_call (call.Find name.now)) (Ok result) self.now }
     {
@@ -54,22 +54,23 @@ impl<D: Disk> Totals<D> {
         }
     }
 
-    /// Answers the name of the file at an index, counted from 0 (`findByIndex`). Refused as `Question::FindByIndex` is.
+    /// Answers the name of the file at an index, counted from 0 (`findByIndex`). It is refused as
+    /// [`Question::FindByIndex`] is.
     ///
     /// # Errors
     ///
-    /// `NoMemory`.
+    /// [`NoMemory`] if memory ran out.
     pub fn find_by_index(&self, control: usize, index: i128) -> Result<Answer, NoMemory>
         ensures { Calls D.Disk self.now control (file_call (call.FindByIndex index)) result self.now }
     {
         self.ask(control, Question::FindByIndex { index })
     }
 
-    /// Answers so many bytes of a file from an offset on (`read`). Refused as `Question::Read` is.
+    /// Answers `count` bytes of a file from an offset on (`read`). It is refused as [`Question::Read`] is.
     ///
     /// # Errors
     ///
-    /// `NoMemory`.
+    /// [`NoMemory`] if memory ran out.
     pub fn read(
         &self,
         control: usize,
@@ -87,11 +88,11 @@ impl<D: Disk> Totals<D> {
         self.ask(control, read)
     }
 
-    /// Puts bytes into a file from an offset on (`write`). Refused as `Edit` is.
+    /// Puts bytes into a file from an offset on (`write`). It is refused as [`Edit`] is.
     ///
     /// # Errors
     ///
-    /// `NoMemory`, which changes nothing.
+    /// [`NoMemory`] if memory ran out. Nothing changes then.
     pub fn write(
         &mut self,
         control: usize,
@@ -105,11 +106,11 @@ impl<D: Disk> Totals<D> {
         self.change(control, Request::Edit { handle, edit })
     }
 
-    /// Makes each byte of a file the same, 0 to 255 (`setAll`). Refused as `Edit` is.
+    /// Makes each byte of a file the same, 0 to 255 (`setAll`). It is refused as [`Edit`] is.
     ///
     /// # Errors
     ///
-    /// `NoMemory`, which changes nothing.
+    /// [`NoMemory`] if memory ran out. Nothing changes then.
     pub fn set_all(&mut self, control: usize, handle: i128, value: i128) -> Result<Answer, NoMemory>
         ensures { Calls D.Disk self.old control (file_call (call.SetAll handle value)) result self.new }
     {
@@ -117,42 +118,43 @@ impl<D: Disk> Totals<D> {
         self.change(control, Request::Edit { handle, edit })
     }
 
-    /// Gives a file another name (`rename`). Refused as `Request::Rename` is.
+    /// Gives a file another name (`rename`). It is refused as [`Request::Rename`] is.
     ///
     /// # Errors
     ///
-    /// `NoMemory`, which changes nothing.
+    /// [`NoMemory`] if memory ran out. Nothing changes then.
     pub fn rename(&mut self, control: usize, handle: i128, name: &[u8]) -> Result<Answer, NoMemory>
         ensures { Calls D.Disk self.old control (file_call (call.Rename handle name.now)) result self.new }
     {
         self.change(control, Request::Rename { handle, name })
     }
 
-    /// Claims a file for the control (`claimFile`). The timeout is in milliseconds, -1 for one without end; nothing is
-    /// waited for. Refused as `Arrangement::ClaimFile` is. It takes no memory.
+    /// Claims a file for the control (`claimFile`). The timeout is in milliseconds, -1 for no end; nothing is waited
+    /// for. It is refused as [`Arrangement::ClaimFile`] is, and takes no memory.
     pub fn claim_file(&mut self, control: usize, handle: i128, timeout: i128) -> Answer
         ensures { Calls D.Disk self.old control (file_call (call.ClaimFile handle timeout)) (Ok result) self.new }
     {
         self.arrange(control, Arrangement::ClaimFile { handle, timeout })
     }
 
-    /// Ends the control's claim of a file (`releaseFile`). Refused as `Arrangement::ReleaseFile` is. It takes no
-    /// memory.
+    /// Ends the control's claim of a file (`releaseFile`). It is refused as [`Arrangement::ReleaseFile`] is, and takes
+    /// no memory.
     pub fn release_file(&mut self, control: usize, handle: i128) -> Answer
         ensures { Calls D.Disk self.old control (file_call (call.ReleaseFile handle)) (Ok result) self.new }
     {
         self.arrange(control, Arrangement::ReleaseFile { handle })
     }
 
-    /// Begins a transaction of the control (`beginTrans`). Refused as `Arrangement::BeginTrans` is. It takes no memory.
+    /// Begins a transaction of the control (`beginTrans`). It is refused as [`Arrangement::BeginTrans`] is, and takes
+    /// no memory.
     pub fn begin_trans(&mut self, control: usize) -> Answer
         ensures { Calls D.Disk self.old control (file_call call.BeginTrans) (Ok result) self.new }
     {
         self.arrange(control, Arrangement::BeginTrans)
     }
 
-    /// Ends the control's transaction, and drops what is buffered in it (`rollback`). Refused as
-    /// `Arrangement::Rollback` is. It takes no memory.
+    /// Ends the control's transaction, and drops what is buffered in it (`rollback`). It is refused as
+    /// [`Arrangement::Rollback`] is, and takes no memory.
     pub fn rollback(&mut self, control: usize) -> Answer
         ensures { Calls D.Disk self.old control (file_call call.Rollback) (Ok result) self.new }
     {

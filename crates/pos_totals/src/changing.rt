@@ -21,7 +21,12 @@ use pos_store::laws::leaves_its_files;
 use pos_store::{Store, StoreFault};
 use std::alloc::Global;
 
-/// Carries out a change: by its table, then want of memory, then the handle, then the disk.
+/// Makes a change if its table allows it, and returns its answer. It finds want of memory after the table, then want of
+/// a handle, and then uses the disk.
+///
+/// # Errors
+///
+/// [`NoMemory`] if memory ran out. Nothing changes then.
 pub fn change<D: Disk>(
     alloc: Global,
     store: &mut Store<D>,
@@ -58,7 +63,7 @@ pub fn change<D: Disk>(
     }
 }
 
-/// Puts a group that is applicable on the disk. A fault of the disk ends all transactions.
+// Puts a group that is applicable on the disk. A fault of the disk ends all transactions.
 fn put_group<D: Disk>(
     store: &mut Store<D>,
     transactions: &mut Transactions,
@@ -89,7 +94,11 @@ pub fn end_at(fault: StoreFault, transactions: &mut Transactions)
     }
 }
 
-/// What a call is answered whose group the store refuses.
+/// Returns the answer to a call whose group the store refuses.
+///
+/// # Errors
+///
+/// [`NoMemory`] if memory ran out in the store.
 pub fn answer_fault(fault: StoreFault) -> Result<Answer, NoMemory>
     ensures { result ≡ answer_of fault }
 {
@@ -99,7 +108,7 @@ pub fn answer_fault(fault: StoreFault) -> Result<Answer, NoMemory>
     }
 }
 
-/// Adds a change to those that a control has buffered.
+// Adds a change to those that a control has buffered.
 fn buffer_change(
     alloc: Global,
     transactions: &mut Transactions,
@@ -117,7 +126,7 @@ fn buffer_change(
     Ok(Answer::Done(Value::Empty))
 }
 
-/// Checks a change by its table.
+// Checks a change by its table.
 fn check_request<'a, D: Disk>(
     store: &Store<D>,
     holdings: &Holdings,
@@ -139,7 +148,7 @@ fn check_request<'a, D: Disk>(
     }
 }
 
-/// The group of one change.
+// Returns the group of one change.
 fn make_group<'a>(alloc: Global, change: Change<'a>) -> Result<Group<'a>, NoMemory>
     requires { flaw_of change ≡ None }
     ensures { IfOk result (λ group. group ≡ change.entry ∷ []) }

@@ -1,4 +1,4 @@
-//! The tables of the changes: what is refused, and what is to be done where nothing is.
+//! The tables of the changes: what is refused, and what is to be done otherwise.
 ghost use Rattle.std.specs.Prelude.{◌≡◌};
 ghost use Rattle.pos_totals.specs.HardTotals.{Create, Delete, Rename, totals_limits};
 ghost use Rattle.pos_totals.specs.HardTotals as model;
@@ -15,7 +15,11 @@ use pos_service::claims::is_foreign;
 use pos_service::numbers::to_natural;
 use pos_service::{Answer, Code, ETOT_NOROOM};
 
-/// Checks a change by its table.
+/// Checks a change by its table, and returns it as a change of the directory.
+///
+/// # Errors
+///
+/// The refusal by the first row of the table that applies.
 pub fn check<'a>(
     files: Files<'_>,
     caller: Caller,
@@ -32,7 +36,7 @@ pub fn check<'a>(
     }
 }
 
-/// A good name that no file has, a size not below 0, and room.
+// Checks a `create`: a good name that no file has, a size not below 0, and room.
 fn check_create<'a>(
     files: Files<'_>,
     caller: Caller,
@@ -66,7 +70,7 @@ fn check_create<'a>(
     })
 }
 
-/// A file with the name.
+// Checks a `delete`: a file with the name.
 fn check_delete<'a>(files: Files<'_>, caller: Caller, name: &'a [u8]) -> Result<Checked<'a>, Answer>
     requires { AreFiles files }
     ensures { Checks (limits_in files.entry) (files_in files.entry) caller (Delete name.now) result }
@@ -86,7 +90,7 @@ fn check_delete<'a>(files: Files<'_>, caller: Caller, name: &'a [u8]) -> Result<
     })
 }
 
-/// A file with the handle, and a good name that no file has.
+// Checks a `rename`: a file with the handle, and a good name that no file has.
 fn check_rename<'a>(
     files: Files<'_>,
     caller: Caller,
@@ -120,7 +124,7 @@ fn check_rename<'a>(
     })
 }
 
-/// A file with the handle, which the edit fits.
+// Checks an edit: a file with the handle, which the edit fits.
 fn check_edit<'a>(
     files: Files<'_>,
     caller: Caller,
@@ -149,7 +153,7 @@ fn check_edit<'a>(
     })
 }
 
-/// Whether a cost is more than is left to the transaction in which so much is spent.
+// Returns whether a cost is more than is left to a transaction that has spent `spent`. Outside one there is no limit.
 fn is_too_costly(layout: Layout, spent: Option<usize>, cost: usize) -> bool
     ensures { result ≡ is_over (totals_limits layout) spent cost }
 {

@@ -16,17 +16,17 @@ use pos_service::claims::{is_foreign, is_own, is_timeout};
 use pos_service::{Answer, Code, Value};
 use pos_store::Store;
 
-/// What a control asks for of the claim of a file.
+/// What a control asks for about the claim of a file.
 #[derive(Clone, Copy)]
 pub enum Claiming {
-    /// To make it. The timeout is at least -1, and nothing is waited for.
+    /// To make it. The timeout is in milliseconds, -1 for no end, and nothing is waited for.
     Claim { timeout: i128 },
     /// To end it.
     Release,
 }
 
 impl Claiming {
-    /// The claim that a control then has.
+    // Returns the claim of the file after it.
     fn claim(self, control: usize) -> Option<usize>
         ensures { result ≡ claim_after control self }
     {
@@ -37,7 +37,7 @@ impl Claiming {
     }
 }
 
-/// Makes or ends the claim of the file with a handle.
+/// Makes or ends the claim of the file with a handle, if its table allows it, and returns the answer.
 pub fn claim_file<D: Disk>(
     store: &Store<D>,
     holdings: &mut Holdings,
@@ -60,7 +60,7 @@ pub fn claim_file<D: Disk>(
     }
 }
 
-/// Checks it by its table, and gives the file's handle.
+// Checks it by its table, and returns the file's handle.
 fn check_claim<D: Disk>(
     store: &Store<D>,
     holdings: &Holdings,
@@ -78,7 +78,7 @@ fn check_claim<D: Disk>(
     }
 }
 
-/// Checks it where the totals are ready.
+// Checks it while the totals are ready.
 fn check_claim_in(
     files: Files<'_>,
     area: Option<usize>,
@@ -111,7 +111,11 @@ fn check_claim_in(
     }
 }
 
-/// Claims the area.
+/// Claims the area for a control.
+///
+/// # Errors
+///
+/// E_TIMEOUT if another control has claimed the area, or a file. Nothing changes then.
 pub fn claim_area<D: Disk>(
     store: &Store<D>,
     holdings: &mut Holdings,
@@ -129,7 +133,7 @@ pub fn claim_area<D: Disk>(
     Ok(())
 }
 
-/// Whether another control has claimed the area, or a file.
+// Returns whether another control has claimed the area, or a file.
 fn is_area_taken<D: Disk>(store: &Store<D>, holdings: &Holdings, control: usize) -> bool
     requires sound { IsSound store.now.layout store.now.state holdings.now }
     ensures { result ≡ is_area_taken (totals_of store.now holdings.now) control }
@@ -143,14 +147,18 @@ fn is_area_taken<D: Disk>(store: &Store<D>, holdings: &Holdings, control: usize)
     }
 }
 
-/// Whether another control has claimed a file.
+// Returns whether another control has claimed a file.
 fn has_foreign_claim(tags: &[Tag], control: usize) -> bool
     ensures { result ≡ list_any (λ tag. is_foreign control tag.claim) tags.now }
 {
     tags.iter().any(|tag| is_foreign(control, tag.claim))
 }
 
-/// Ends the claim of the area.
+/// Ends a control's claim of the area.
+///
+/// # Errors
+///
+/// E_ILLEGAL if the control hasn't claimed the area. Nothing changes then.
 pub fn release_area<D: Disk>(
     store: &Store<D>,
     holdings: &mut Holdings,

@@ -21,25 +21,34 @@ use pos_store::laws::leaves_its_files;
 use pos_store::{Store, StoreFault};
 use std::alloc::Global;
 
-/// What a commit comes to: it is refused, there is nothing to do, or there is a group to be put on the disk.
+/// What is to be done for a commit.
 #[derive(Drop)]
 pub enum Plan<'a> {
+    /// Its table refuses it, with this answer.
     Refused(Answer),
+    /// No change is buffered, so there is nothing to do.
     Nothing,
+    /// This group is to be put on the disk.
     Group(Group<'a>),
 }
 
-/// What became of a commit: it was refused, it is done, with a group on the disk or with nothing to do, or the store
-/// refused its group.
+/// What became of a commit.
 #[derive(Drop)]
 pub enum Commitment {
+    /// Its table refused it, with this answer.
     Refused(Answer),
+    /// It is done: its group is on the disk, or no change was buffered.
     Done,
+    /// The store refused its group.
     Failed(StoreFault),
 }
 
-/// Commits what a control has buffered: by its table, then want of memory, then the disk. A fault of the disk ends all
-/// transactions.
+/// Commits what a control has buffered, if its table allows it, and returns the answer. It finds want of memory after
+/// the table, and then uses the disk. A fault of the disk ends all transactions.
+///
+/// # Errors
+///
+/// [`NoMemory`] if memory ran out. Nothing changes then.
 pub fn commit_trans<D: Disk>(
     alloc: Global,
     store: &mut Store<D>,
@@ -66,7 +75,7 @@ pub fn commit_trans<D: Disk>(
     }
 }
 
-/// Puts what a control has buffered on the disk, as one group.
+// Puts what a control has buffered on the disk, as one group.
 fn commit_buffer<D: Disk>(
     alloc: Global,
     store: &mut Store<D>,
@@ -88,7 +97,7 @@ fn commit_buffer<D: Disk>(
     }
 }
 
-/// What a commit comes to.
+// Returns what is to be done for a commit.
 fn make_plan<'a, D: Disk>(
     alloc: Global,
     store: &Store<D>,
@@ -112,7 +121,7 @@ fn make_plan<'a, D: Disk>(
     }
 }
 
-/// What a commit of these changes comes to.
+// Returns what is to be done for a commit of these changes.
 fn plan_in<'a>(
     alloc: Global,
     files: Files<'_>,
@@ -136,7 +145,7 @@ fn plan_in<'a>(
     }
 }
 
-/// What refuses a commit of these changes: a file that is gone, or else one that another control has claimed.
+// Returns what refuses a commit of these changes: a file that is gone, or else one that another control has claimed.
 fn refuse_commit(files: Files<'_>, control: usize, changes: &[Buffered]) -> Option<Answer>
     requires { AreFiles files }
     ensures { result ≡ first_refusal (commit_rows (files_in files.entry) control (Some changes.now)) }
@@ -154,7 +163,7 @@ fn refuse_commit(files: Files<'_>, control: usize, changes: &[Buffered]) -> Opti
     None
 }
 
-/// The file of a buffered change, where it is still there.
+// Returns the file of a buffered change, if it is still there.
 fn find_changed<'a>(files: Files<'a>, change: &Buffered) -> Option<Found<'a>>
     requires { AreFiles files }
     ensures { option_map file_of result ≡ changed_file (files_in files.entry) change.now }
@@ -162,7 +171,7 @@ fn find_changed<'a>(files: Files<'a>, change: &Buffered) -> Option<Found<'a>>
     find_handle(files, change.handle() as i128)
 }
 
-/// The group of changes, each of which is a change of the directory.
+// Returns the group of changes, each as a change of the directory.
 fn group_changes<'a>(
     alloc: Global,
     files: Files<'_>,
@@ -180,7 +189,7 @@ fn group_changes<'a>(
     Ok(group)
 }
 
-/// The change of the directory that a buffered change is.
+// Returns the change of the directory for a buffered change.
 fn place_change<'a>(files: Files<'_>, change: &'a Buffered) -> Change<'a>
     requires { AreFiles files }
     ensures { result ≡ file_change (files_in files.entry) change.now }

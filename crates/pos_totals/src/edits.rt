@@ -1,4 +1,4 @@
-//! Edits: changes of a file that is there, whose size stays. The other files know an edit only by what it answers here.
+//! Edits: changes of the bytes of a file, whose size stays. The other files use an edit only by its functions here.
 ghost use Rattle.std.specs.Prelude.{◌≡◌, ◌≤◌, ◌+◌, true, false, pos, length, is_some, IfOk, IfSome, MatchOption, Some};
 ghost use Rattle.std.specs.Option.{option_map};
 ghost use Rattle.pos_dir.specs.declared.limits.TheConstants.{LAYOUT_2};
@@ -10,25 +10,29 @@ use pos_dir::{Bytes, Change, LentBytes};
 use pos_service::{Call, NoMemory};
 use std::alloc::Global;
 
-/// What an edit costs beside its bytes.
+// What an edit costs besides its bytes.
 const COST_OF_EDIT: usize = 16;
 
 /// An edit of a file, as a call asks for it.
 ///
-/// Refused with E_ILLEGAL where no file has the handle, or the edit doesn't fit the file, E_CLAIMED where another
-/// control has claimed it; in a transaction of the control E_EXTENDED ETOT_NOROOM where it costs more than is left (at
-/// most TotalsSize in sum); else E_FAILURE where no sequence is left or the disk fails.
+/// Refused with:
+///
+/// - E_ILLEGAL if no file has the handle, or the edit doesn't fit the file.
+/// - E_CLAIMED if another control has claimed the file.
+/// - E_EXTENDED ETOT_NOROOM if the control is in a transaction, and the edit costs more than is left in it. All edits
+///   of a transaction cost at most TotalsSize in total.
+/// - E_FAILURE if no sequence is left or the disk fails.
 #[derive(Clone, Copy)]
 pub enum Edit<'a> {
-    /// `write`: puts bytes in the place of those of the file from an offset on. It fits where they lie within the file,
-    /// and costs the number of bytes and 16.
+    /// `write`: puts bytes in the place of those of the file from an offset on, counted from 0. It fits if they are all
+    /// within the file. It costs the number of bytes plus 16.
     Write { offset: i128, bytes: &'a [u8] },
-    /// `setAll`: makes each byte of the file the same. It fits where the value is 0 to 255, and costs 16.
+    /// `setAll`: makes each byte of the file the same. It fits if the value is 0 to 255. It costs 16.
     SetAll { value: i128 },
 }
 
 impl<'a> Edit<'a> {
-    /// The edit that a call asks for, with the handle of its file, where it asks for one.
+    /// Returns the edit that a call asks for, with the handle of its file, or `None` if it asks for none.
     pub(crate) fn of(call: &'a Call) -> Option<(i128, Edit<'a>)>
         ensures edit { option_map (λ asked. (asked.0, edit_of asked.1)) result ≡ edit_asked call.now }
         ensures memory { IfSome result (λ asked. takes_memory call.now ≡ true) }
@@ -43,7 +47,8 @@ impl<'a> Edit<'a> {
         }
     }
 
-    /// The change of the directory that it is, of the file at an index, where it fits the file's size.
+    /// Returns the edit as a change of the directory, for the file at an index, or `None` if it doesn't fit the file's
+    /// size.
     pub(crate) fn place(&self, index: u16, size: usize) -> Option<Change<'a>>
         requires { size ≤ LAYOUT_2.bytes }
         ensures { MatchOption result (fits size (edit_of self.now) ≡ false) (IsPlaced size (edit_of self.now) index) }
@@ -69,7 +74,7 @@ impl<'a> Edit<'a> {
         }
     }
 
-    /// What it costs, where it fits a file.
+    /// Returns what an edit costs that fits a file.
     pub(crate) fn cost(&self) -> usize
         requires { edit_cost (edit_of self.now) ≤ LAYOUT_2.bytes + 16 }
         ensures { result ≡ edit_cost (edit_of self.now) }
@@ -84,12 +89,18 @@ impl<'a> Edit<'a> {
 /// An edit that fits, with bytes of its own.
 #[derive(Drop)]
 pub enum OwnedEdit {
+    /// Puts bytes in the place of those of the file from an offset on, counted from 0.
     Write { offset: u32, bytes: Bytes },
+    /// Makes each byte of the file the same.
     SetAll { value: u8 },
 }
 
 impl OwnedEdit {
-    /// The edit that a change of the directory is, its bytes copied.
+    /// Returns the edit that a change of the directory is, with its bytes copied.
+    ///
+    /// # Errors
+    ///
+    /// [`NoMemory`] if memory ran out.
     pub fn copy(alloc: Global, change: &Change<'_>) -> Result<OwnedEdit, NoMemory>
         requires { is_some (edit_in change.now) ≡ true }
         ensures { IfOk result (λ edit. edit_in change.now ≡ Some (edit_owned edit)) }
@@ -109,7 +120,7 @@ impl OwnedEdit {
         }
     }
 
-    /// The change of the directory that it is, of the file at an index.
+    /// Returns the edit as a change of the directory, for the file at an index. The bytes are lent.
     pub fn lend(&self, index: u16) -> Change<'_>
         ensures { result ≡ edit_change index (edit_owned self.now) }
     {
@@ -126,7 +137,7 @@ impl OwnedEdit {
         }
     }
 
-    /// What it costs.
+    /// Returns what the edit costs.
     pub fn cost(&self) -> usize
         requires { edit_cost (edit_owned self.now) ≤ LAYOUT_2.bytes }
         ensures { result ≡ edit_cost (edit_owned self.now) }

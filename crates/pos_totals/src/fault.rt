@@ -1,3 +1,4 @@
+//! Why a recovery finds no files.
 ghost use Rattle.std.specs.Prelude.{◌≡◌};
 ghost use Rattle.std.specs.Result.{result_ok};
 ghost use Rattle.pos_totals.specs.Recoveries.{code_of};
@@ -5,16 +6,16 @@ ghost use Rattle.pos_totals.specs.Recoveries.{code_of};
 use pos_service::{Code, NoMemory};
 use thiserror::Error;
 
-/// Why a recovery has found no files. The totals are still off, and the disk has what it had.
+/// Why a recovery finds no files. The totals are still off, and the disk has what it had.
 #[derive(Clone, Copy, Debug, PartialEq, Eq, Error)]
 pub enum RecoveryFault {
-    /// The disk has no image, or it has fewer than 327,680 bytes.
+    /// The disk has no image, or fewer than 327,680 bytes.
     #[error("the disk isn't formatted")]
     Unformatted,
     /// The disk is damaged.
     #[error("the disk is damaged")]
     Damaged,
-    /// The files are more than the handles that are left.
+    /// There are more files than handles left.
     #[error("the file handles have run out")]
     Handles,
     /// Memory ran out.
@@ -26,8 +27,12 @@ pub enum RecoveryFault {
 }
 
 impl RecoveryFault {
-    /// The result code of the call that asked for the recovery: E_NOHARDWARE where the disk isn't formatted, else
-    /// E_FAILURE. Want of memory has none.
+    /// Returns the result code of the call that asked for the recovery: E_NOHARDWARE if the disk isn't formatted, else
+    /// E_FAILURE.
+    ///
+    /// # Errors
+    ///
+    /// [`NoMemory`] if memory ran out, which has no result code.
     pub fn code(self) -> Result<Code, NoMemory>
         ensures { result_ok result ≡ code_of self }
     {

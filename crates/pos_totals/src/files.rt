@@ -1,3 +1,4 @@
+//! The files of the totals as calls see them, with their handles and claims.
 ghost use Rattle.std.specs.Prelude.{◌≡◌, ◌≤◌, pos, length, position, IfSome, slice_get, nat_eq};
 ghost use Rattle.std.specs.Option.{option_map};
 ghost use Rattle.pos_dir.specs.declared.limits.TheConstants.{LAYOUT_2};
@@ -16,25 +17,33 @@ use pos_image::Layout;
 use pos_service::numbers::to_natural;
 use pos_store::{Store, limits_of};
 
-/// The files of the totals: the layout of their disk, what the directory has of them, and their tags in index order.
+/// The files of the totals that are ready.
 #[derive(Clone, Copy)]
 pub struct Files<'a> {
+    /// The layout of their disk.
     pub layout: Layout,
+    /// Their names and bytes.
     pub directory: &'a Directory,
+    /// Their handles and claims, in index order.
     pub tags: &'a [Tag],
 }
 
-/// A file, and the index at which it stands.
+/// A file that was found.
 #[derive(Clone, Copy)]
 pub struct Found<'a> {
+    /// Its index, from 0.
     pub index: u16,
+    /// Its handle.
     pub handle: u64,
+    /// Its name.
     pub name: &'a [u8],
+    /// Its bytes.
     pub bytes: &'a [u8],
+    /// The control that has claimed it, if one has.
     pub claim: Option<usize>,
 }
 
-/// The files of a store that is ready, with their tags.
+/// Returns the files of a store that is ready, with their tags, or `None` while it is off.
 pub fn see_files<'a, D: Disk>(store: &'a Store<D>, holdings: &'a Holdings) -> Option<Files<'a>>
     requires { IsSound store.now.layout store.now.state holdings.now }
     ensures seen { IsSeen (mode_of holdings.now.handles.given store.now.state) (option_map files_in result) }
@@ -53,7 +62,7 @@ pub fn see_files<'a, D: Disk>(store: &'a Store<D>, holdings: &'a Holdings) -> Op
     })
 }
 
-/// The file at an index.
+/// Returns the file at an index, if there is one.
 #[tactic(auto, using(crate::proofs::Pairs::placed))]
 pub fn get_file<'a>(files: Files<'a>, index: usize) -> Option<Found<'a>>
     requires { AreFiles files }
@@ -80,7 +89,7 @@ pub fn get_file<'a>(files: Files<'a>, index: usize) -> Option<Found<'a>>
     })
 }
 
-/// The file with a name.
+/// Returns the file with a name, if there is one.
 #[tactic(auto, using(crate::proofs::Found::searched))]
 pub fn find_name<'a>(files: Files<'a>, name: &[u8]) -> Option<Found<'a>>
     requires { AreFiles files }
@@ -92,7 +101,7 @@ pub fn find_name<'a>(files: Files<'a>, name: &[u8]) -> Option<Found<'a>>
     }
 }
 
-/// The file with a handle.
+/// Returns the file with a handle, if there is one.
 pub fn find_handle<'a>(files: Files<'a>, handle: i128) -> Option<Found<'a>>
     requires { AreFiles files }
     ensures finds { FindsFile (is_called handle) (files_in files.entry) result }
@@ -104,7 +113,7 @@ pub fn find_handle<'a>(files: Files<'a>, handle: i128) -> Option<Found<'a>>
     find_number(files, handle)
 }
 
-/// The same of a handle that isn't below 0.
+// Returns the file with a handle that isn't below 0.
 #[tactic(auto, using(crate::proofs::Found::searched))]
 fn find_number<'a>(files: Files<'a>, handle: u128) -> Option<Found<'a>>
     requires { AreFiles files }
@@ -116,7 +125,7 @@ fn find_number<'a>(files: Files<'a>, handle: u128) -> Option<Found<'a>>
     }
 }
 
-/// The index of the file with a handle; without one it is the number of files.
+/// Returns the index of the file with a handle, or the number of files if there is none.
 #[tactic(auto, using(crate::proofs::Found::searched))]
 pub fn find_index(files: Files<'_>, handle: u64) -> u16
     requires { AreFiles files }
@@ -128,14 +137,14 @@ pub fn find_index(files: Files<'_>, handle: u64) -> u16
     }
 }
 
-/// The index of a handle.
+// Returns the index of a handle.
 fn search(tags: &[Tag], handle: u128) -> Option<usize>
     ensures { result ≡ position (λ tag. nat_eq tag.handle handle) tags.now }
 {
     tags.iter().position(|tag| tag.handle as u128 == handle)
 }
 
-/// FreeData: how many bytes are left for new files.
+/// Returns FreeData: how many bytes are left for new files.
 #[tactic(auto, using(crate::proofs::Grouped::paired_size))]
 pub fn measure_free(files: Files<'_>) -> usize
     requires { AreFiles files }
@@ -144,7 +153,7 @@ pub fn measure_free(files: Files<'_>) -> usize
     totals_size(files.layout) - files.directory.size()
 }
 
-/// NumberOfFiles.
+/// Returns NumberOfFiles.
 #[tactic(auto, using(crate::proofs::Pairs::paired))]
 pub fn count_files(files: Files<'_>) -> usize
     requires { AreFiles files }
@@ -153,7 +162,7 @@ pub fn count_files(files: Files<'_>) -> usize
     files.directory.len()
 }
 
-/// Whether there is room for one more file, of this size.
+/// Returns whether there is room for one more file, of `size` bytes.
 pub fn has_room(files: Files<'_>, size: u128) -> bool
     requires { AreFiles files }
     ensures { result ≡ has_room (limits_in files.entry) (files_in files.entry) (pos size) }
@@ -161,14 +170,14 @@ pub fn has_room(files: Files<'_>, size: u128) -> bool
     size <= measure_free(files) as u128 && count_files(files) < most_files(files.layout)
 }
 
-/// TotalsSize on a disk of a layout: the most bytes of all files in sum. A transaction may cost as much.
+/// Returns TotalsSize on a disk of a layout: the most bytes of all files in total. A transaction may cost as much.
 pub fn totals_size(layout: Layout) -> usize
     ensures { result ≡ (totals_limits layout).bytes }
 {
     limits_of(layout).bytes as usize
 }
 
-/// The most files on a disk of a layout.
+// Returns the most files on a disk of a layout.
 fn most_files(layout: Layout) -> usize
     ensures { result ≡ (totals_limits layout).files }
 {

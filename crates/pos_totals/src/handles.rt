@@ -1,3 +1,4 @@
+//! The handles of files, and their claims.
 ghost use Rattle.std.specs.Prelude.{◌≡◌, ◌<◌, ◌≤◌, ◌+◌, ◌^◌, [], map};
 ghost use Rattle.pos_dir.specs.declared.limits.TheConstants.{LAYOUT_2};
 ghost use Rattle.pos_totals.specs.HardTotals.{last_number};
@@ -13,14 +14,16 @@ use std::marker::Model;
 /// The most files on a disk of any layout.
 pub const MOST_FILES: usize = LAYOUT_2.files as usize;
 
-/// What the totals keep beside a file: its handle, and the control that has claimed it.
+/// What the totals keep for a file besides the directory.
 #[derive(Clone, Copy, Default)]
 pub struct Tag {
+    /// Its handle.
     pub handle: u64,
+    /// The control that has claimed it, if one has.
     pub claim: Option<usize>,
 }
 
-/// Which claims are meant.
+/// The claims that a change of claims applies to.
 #[derive(Clone, Copy)]
 pub enum Whose {
     /// That of the file with this handle.
@@ -29,8 +32,8 @@ pub enum Whose {
     Control(usize),
 }
 
-/// The tags of the files in index order, and the handle that the next new file gets. 18,446,744,073,709,551,615 there
-/// means that none is left.
+/// The tags of the files in index order, and the handle that the next new file gets. The handle
+/// 18,446,744,073,709,551,615 there means that none is left.
 #[derive(Drop)]
 pub struct Handles {
     given: ArrayVec<Tag, MOST_FILES>,
@@ -46,7 +49,7 @@ impl Model for Handles {
 }
 
 impl Handles {
-    /// No files yet.
+    /// Returns the handles of no files. The next new file gets the handle `next`.
     pub fn new(next: u64) -> Self
         ensures { result ≡ record { given = []; next = next } }
     {
@@ -56,14 +59,14 @@ impl Handles {
         }
     }
 
-    /// The tags in index order.
+    /// Returns the tags in index order.
     pub fn as_slice(&self) -> &[Tag]
         ensures { result.now ≡ self.now.given }
     {
         self.given.as_slice()
     }
 
-    /// Whether a change needs a handle where none is left.
+    /// Returns whether a change needs a handle and none is left.
     pub fn lack(&self, change: &Change<'_>) -> bool
         ensures lacks { result ≡ lacks self.now.next change.now }
         ensures bound { self.now.next ≤ last_number }
@@ -75,7 +78,7 @@ impl Handles {
         }
     }
 
-    /// The tags after a change that was done, and what it gives.
+    /// Updates the tags after a change that was done, and returns the value of its answer.
     pub fn keep(&mut self, change: &Change<'_>) -> Value
         requires { HasPlace self.old.given self.old.next change.now }
         ensures given { self.new.given ≡ given_after self.old.given self.old.next change.now }
@@ -100,14 +103,15 @@ impl Handles {
         }
     }
 
-    /// Gives each file that is meant another claim.
+    /// Gives each file that `whose` means another claim.
     pub fn reclaim(&mut self, whose: Whose, claim: Option<usize>)
         ensures { self.new ≡ record { given = map (reclaimed whose claim) self.old.given; next = self.old.next } }
     {
         reclaim_tags(self.given.as_mut_slice(), whose, claim);
     }
 
-    /// Gives so many files handles from the next one on, where so many are left.
+    /// Gives `count` files handles from the next one on, and returns true. If fewer are left, it returns false and
+    /// gives none.
     pub fn number(&mut self, count: usize) -> bool
         requires { count ≤ LAYOUT_2.files }
         ensures { Numbers self.old.given self.old.next count result self.new.given self.new.next }
@@ -121,7 +125,7 @@ impl Handles {
     }
 }
 
-/// Gives each tag that is meant another claim.
+// Gives each tag that `whose` means another claim.
 fn reclaim_tags(tags: &mut [Tag], whose: Whose, claim: Option<usize>)
     ensures { tags.new ≡ map (reclaimed whose claim) tags.old }
 {
@@ -130,7 +134,7 @@ fn reclaim_tags(tags: &mut [Tag], whose: Whose, claim: Option<usize>)
     }
 }
 
-/// The tag with another claim, where it is meant.
+// Returns the tag, with another claim if `whose` means it.
 fn reclaim(tag: Tag, whose: Whose, claim: Option<usize>) -> Tag
     ensures { result ≡ reclaimed whose claim tag }
 {
@@ -143,7 +147,7 @@ fn reclaim(tag: Tag, whose: Whose, claim: Option<usize>) -> Tag
     }
 }
 
-/// Whether a tag's claim is meant.
+// Returns whether `whose` means a tag's claim.
 fn is_meant(whose: Whose, tag: Tag) -> bool
     ensures { result ≡ is_meant whose tag }
 {
@@ -153,7 +157,7 @@ fn is_meant(whose: Whose, tag: Tag) -> bool
     }
 }
 
-/// The tags of so many files that have the handles from the first one on.
+// Returns the tags of `count` files, with the handles from the first one on.
 fn count_from(first: u64, count: usize) -> ArrayVec<Tag, MOST_FILES>
     requires few { count ≤ LAYOUT_2.files }
     requires left { first + count < 2 ^ 64 }

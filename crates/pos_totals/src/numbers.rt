@@ -1,4 +1,4 @@
-//! The numbers of calls.
+//! The numbers of calls, as bytes and as ranges.
 ghost use Rattle.std.specs.Prelude.{◌≡◌, ◌<◌, pos, false, MatchOption};
 ghost use Rattle.pos_totals.specs.Ranges.{is_range};
 ghost use Rattle.pos_service.specs.Numbers.{is_up_to};
@@ -6,7 +6,7 @@ ghost use Rattle.pos_totals.specs.Checks.{IsRange};
 
 use pos_service::numbers::{to_count, to_natural};
 
-/// A number of a call, where it is the value of a byte.
+/// Returns a number of a call as a byte, or `None` if it isn't 0 to 255.
 pub fn to_byte(number: i128) -> Option<u8>
     ensures { MatchOption result (is_up_to 255 number ≡ false) (λ n. (number ≡ pos n) × (n < 256)) }
 {
@@ -16,7 +16,7 @@ pub fn to_byte(number: i128) -> Option<u8>
     Some(number as u8)
 }
 
-/// A range of so many bytes from an offset on, where it is within a size.
+/// Returns the offset and the count of a range of bytes, or `None` if it isn't within `size` bytes.
 pub fn to_range(size: usize, offset: i128, count: i128) -> Option<(usize, usize)>
     ensures { MatchOption result (is_range size offset count ≡ false) (λ r. IsRange size offset count r.0 r.1) }
 {

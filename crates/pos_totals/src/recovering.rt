@@ -14,7 +14,15 @@ use pos_store::laws::leaves_its_files;
 use pos_store::{Mode, Store, StoreFault};
 use std::alloc::Global;
 
-/// Recovers the files of totals that are off, and gives them handles. Totals that are ready have them.
+/// Recovers the files of totals that are off, and gives them handles. Totals that are ready have them already.
+///
+/// # Errors
+///
+/// - `Unformatted`, `Damaged` or `Device` if the store finds no files for this reason.
+/// - `NoMemory` if memory ran out.
+/// - `Handles` if there are more files than handles left.
+///
+/// The totals are still off then.
 pub fn recover<D: Disk>(
     alloc: Global,
     store: &mut Store<D>,
@@ -32,7 +40,7 @@ pub fn recover<D: Disk>(
     }
 }
 
-/// Recovers the files of totals that are off, and gives them handles.
+// Recovers the files of totals that are off, and gives them handles.
 fn recover_off<D: Disk>(
     alloc: Global,
     store: &mut Store<D>,
@@ -63,7 +71,7 @@ fn recover_off<D: Disk>(
     Err(RecoveryFault::Handles)
 }
 
-/// Why a store finds no files, in the totals' words.
+// Returns the totals' fault for a store that finds no files.
 fn tell_fault(fault: StoreFault) -> RecoveryFault
     requires { IsSome (told_as fault) }
     ensures { told_as fault ≡ Some result }
@@ -80,7 +88,7 @@ fn tell_fault(fault: StoreFault) -> RecoveryFault
     }
 }
 
-/// The same disk under a store that is off.
+// Returns a store that is off over the same disk.
 fn turn_off<D: Disk>(store: Store<D>, alloc: Global) -> (Store<D>, ())
     ensures { result.0 ≡ record { disk = store.disk; layout = Layout.Layout1; state = Off; tail = 0 } }
 {

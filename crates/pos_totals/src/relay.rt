@@ -1,4 +1,4 @@
-//! The disk of the totals, and what it keeps for its owner.
+//! The disk of the totals, and the errands that it keeps for its owner.
 ghost use Rattle.std.specs.Prelude.{◌≡◌};
 ghost use Rattle.pos_disk.specs.Keeps.{KeepsState};
 
@@ -6,7 +6,7 @@ use crate::totals::Totals;
 use pos_disk::{Disk, Relay};
 
 impl<D: Disk> Totals<D> {
-    /// The disk, to be looked at.
+    /// Returns the disk, to be looked at.
     pub fn disk(&self) -> &D
         ensures { result.now ≡ self.now.disk }
     {
@@ -15,7 +15,8 @@ impl<D: Disk> Totals<D> {
 }
 
 impl<D: Relay> Totals<D> {
-    /// Takes out the oldest thing that the disk keeps for its owner. All else is as it was.
+    /// Takes out the oldest errand that the disk keeps for its owner, and returns it, or `None` if there is none. All
+    /// else is as it was.
     pub fn next(&mut self) -> Option<D::Errand>
         ensures same { self.new ≡ record self.old { disk = self.new.disk } }
         ensures state { KeepsState D.Disk self.old.disk self.new.disk }

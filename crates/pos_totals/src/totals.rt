@@ -1,3 +1,4 @@
+//! The totals: files with their handles, claims and transactions, and their calls.
 ghost use Rattle.std.specs.Prelude.{◌≡◌, [], length, true, None, OnOk, OnErr};
 
 use crate::arranging::{Arrangement, arrange};
@@ -20,20 +21,28 @@ use pos_store::{Mode, Store};
 use std::alloc::Global;
 use std::marker::Model;
 
-/// The totals: files of a fixed size on a disk, each with a handle (chapter Hard Totals). A handle is given once, and
-/// a recovery gives its files new ones. A control may claim a file, or the area, which is the whole device. Contracts
-/// see the disk, the files with their handles and claims, or Off, the next handle, the control that has claimed the
-/// area, and what each control has buffered in a transaction.
+/// The totals: files of fixed sizes on a disk, each with a handle (chapter Hard Totals).
 ///
-/// Changes, questions and commits answer E_CLAIMED where another control has claimed the area; these and arrangements
-/// then answer E_FAILURE while the totals are off, then by their tables of
-/// refusals, and want of memory behind those. A refused call changes nothing and doesn't touch the disk. Where the disk
-/// fails in a change, the answer is E_FAILURE, the totals are off, and the next recovery finds the files before the
-/// change or those after the whole of it; all transactions end, and no file is claimed any more. No sequence is left
-/// where a change needs a new image and the sequence is the last one, 18,446,744,073,709,551,615.
+/// A handle is given once, and a recovery gives its files new ones. A control may claim a file, or the area, which is
+/// the whole device.
 ///
-/// Between `beginTrans` and `commitTrans` a control's changes of bytes are buffered: the disk and the files stay as
+/// A call is checked in this order, before it takes memory:
+///
+/// - A change, a question or a commit answers E_CLAIMED if another control has claimed the area.
+/// - These and arrangements answer E_FAILURE while the totals are off.
+/// - Then the call answers by its table of refusals.
+///
+/// A refused call changes nothing and doesn't use the disk. If the disk fails in a change, the answer is E_FAILURE and
+/// the totals are off. The next recovery finds the files before the change or those after the whole of it. All
+/// transactions end, and no file is claimed any more.
+///
+/// No sequence is left if a change needs a new image and the sequence is the last one, 18,446,744,073,709,551,615.
+///
+/// Between `beginTrans` and `commitTrans` a control's changes of bytes are buffered. The disk and the files stay as
 /// they are, for `read` too.
+///
+/// Contracts see the disk and the files with their handles and claims, or `Off`. They see the next handle, the control
+/// that has claimed the area, and what each control has buffered.
 #[derive(Drop)]
 pub struct Totals<D: Disk> {
     alloc: Global,
@@ -69,8 +78,9 @@ impl<D: Disk> Totals<D> {
     ghost use Rattle.pos_totals.specs.Recoveries.{Recovers};
     ghost use Rattle.pos_totals.specs.Views.{IsReady, WhenReady};
 
-    /// Totals that are off, over a disk. Nothing is read yet: their layout is that of a new disk. The first file gets
-    /// the first handle; 18,446,744,073,709,551,615 there means that no handle is left.
+    /// Returns totals over a disk. They are off: nothing is read yet, and their layout is that of a new disk.
+    ///
+    /// The first file gets the handle `first_handle`. If that is 18,446,744,073,709,551,615, no handle is left.
     pub fn new(alloc: Global, disk: D, first_handle: u64) -> Totals<D>
         ensures { result ≡ record {
           disk = disk;
@@ -96,21 +106,31 @@ impl<D: Disk> Totals<D> {
         }
     }
 
-    /// Reads the files of the disk, where the totals are off, and gives them handles from the next one on; where they
-    /// are ready it succeeds and does nothing. It may crash too, and may be called again: the disk then has what it
-    /// had.
+    /// Reads the files of the disk if the totals are off, and gives them handles from the next one on. If they are
+    /// ready, the call succeeds and does nothing.
+    ///
+    /// It never changes what the disk has. So a recovery may crash too, and you may call it again.
     ///
     /// # Errors
     ///
-    /// `Unformatted`, `Damaged`, `Handles` where the files are more than the handles that are left, `NoMemory`, and
-    /// `Device` where the disk failed. The totals are still off, and their layout and the next handle are as they were.
+    /// - `Unformatted` if the disk has no image, or fewer than 327,680 bytes.
+    /// - `Damaged` if the disk is damaged.
+    /// - `Handles` if there are more files than handles left.
+    /// - `NoMemory` if memory ran out.
+    /// - `Device` if the disk failed.
+    ///
+    /// The totals are still off then, and their layout and the next handle are as they were.
     pub fn recover(&mut self) -> Result<(), RecoveryFault>
         ensures { Recovers D.Disk self.old result self.new }
     {
         recover(self.alloc, &mut self.store, &mut self.holdings)
     }
 
-    /// A call of the totals' own: the question, the change or the arrangement that it asks for, or a commit.
+    /// Answers a call of the totals' own: the question, the change or the arrangement that it asks for, or a commit.
+    ///
+    /// # Errors
+    ///
+    /// [`NoMemory`] if the call takes memory and it ran out. Nothing changes then.
     pub fn call(&mut self, control: usize, call: &Call) -> Result<Answer, NoMemory>
         requires own { has_call category.HardTotals call.now ≡ true }
         ensures calls { Calls D.Disk self.old control (file_call call.now) result self.new }
@@ -132,13 +152,21 @@ impl<D: Disk> Totals<D> {
     }
 
     /// Answers a question about the files.
+    ///
+    /// # Errors
+    ///
+    /// [`NoMemory`] if memory ran out. `find` takes none.
     pub fn ask(&self, control: usize, question: Question<'_>) -> Result<Answer, NoMemory>
         ensures { MayTell self.now.totals control (question_of question.entry) result }
     {
         ask(self.alloc, &self.store, &self.holdings, control, question)
     }
 
-    /// Carries out a change of the files, or buffers it in the transaction of the control.
+    /// Answers a change of the files.
+    ///
+    /// # Errors
+    ///
+    /// [`NoMemory`] if memory ran out. Nothing changes then.
     pub fn change(&mut self, control: usize, request: Request<'_>) -> Result<Answer, NoMemory>
         ensures { Changes D.Disk self.old control (change_of request.entry) result self.new }
     {
@@ -164,12 +192,12 @@ impl<D: Disk> Totals<D> {
         )
     }
 
-    /// `claim`: claims the area, which is the whole device, for a control; where it has it already, nothing changes. It
-    /// takes no memory.
+    /// Claims the area, which is the whole device, for a control (`claim`). If the control has it already, nothing
+    /// changes. It takes no memory.
     ///
     /// # Errors
     ///
-    /// E_TIMEOUT where another control has claimed the area, or a file. Nothing changes then.
+    /// E_TIMEOUT if another control has claimed the area, or a file. Nothing changes then.
     pub fn claim_area(&mut self, control: usize) -> Result<(), Code>
         ensures claims { ClaimsArea self.old.totals control result self.new.totals }
         ensures disk { self.new.disk ≡ self.old.disk }
@@ -177,11 +205,11 @@ impl<D: Disk> Totals<D> {
         claim_area(&self.store, &mut self.holdings, control)
     }
 
-    /// `release`: ends a control's claim of the area. Files that it has claimed stay so. It takes no memory.
+    /// Ends a control's claim of the area (`release`). Files that it has claimed stay claimed. It takes no memory.
     ///
     /// # Errors
     ///
-    /// E_ILLEGAL where the control hasn't claimed the area. Nothing changes then.
+    /// E_ILLEGAL if the control hasn't claimed the area. Nothing changes then.
     pub fn release_area(&mut self, control: usize) -> Result<(), Code>
         ensures releases { ReleasesArea self.old.totals control result self.new.totals }
         ensures disk { self.new.disk ≡ self.old.disk }
@@ -189,23 +217,32 @@ impl<D: Disk> Totals<D> {
         release_area(&self.store, &mut self.holdings, control)
     }
 
-    /// `commitTrans`: does all that a control has buffered together, in its order, and ends the transaction. Where
-    /// nothing is buffered the disk isn't used.
+    /// Puts all changes that a control has buffered on the disk together, in their order, and ends the transaction
+    /// (`commitTrans`). If nothing is buffered, the disk isn't used.
     ///
-    /// Refused with E_ILLEGAL where the control is in no transaction, E_NOEXIST where a file of what is buffered is
-    /// gone, E_CLAIMED where another control has claimed one, E_FAILURE where no sequence is left: the transaction goes
-    /// on. Where the disk fails, with E_FAILURE, all transactions end.
+    /// Refused with:
+    ///
+    /// - E_ILLEGAL if the control is in no transaction.
+    /// - E_NOEXIST if the file of a buffered change is gone.
+    /// - E_CLAIMED if another control has claimed the file of a buffered change.
+    /// - E_FAILURE if no sequence is left or the disk fails.
+    ///
+    /// After a refusal the transaction continues, but if the disk fails, all transactions end.
+    ///
+    /// # Errors
+    ///
+    /// [`NoMemory`] if memory ran out. Nothing changes then.
     pub fn commit_trans(&mut self, control: usize) -> Result<Answer, NoMemory>
         ensures { CommitsBuffer D.Disk self.old control result self.new }
     {
         commit_trans(self.alloc, &mut self.store, &mut self.holdings, control)
     }
 
-    /// Makes a place for the transaction of one more control; the controls are numbered from 0.
+    /// Makes a place for the transaction of one more control. Controls are numbered from 0.
     ///
     /// # Errors
     ///
-    /// `NoMemory`, which changes nothing.
+    /// [`NoMemory`] if memory ran out. Nothing changes then.
     pub fn add_control(&mut self) -> Result<(), NoMemory>
         ensures ok { OnOk result (self.new.totals ≡ with_control self.old.totals) }
         ensures err { OnErr result (self.new ≡ self.old) }
@@ -223,36 +260,36 @@ impl<D: Disk> Totals<D> {
         drop_control(&self.store, &mut self.holdings, control);
     }
 
-    /// The control that has claimed the area.
+    /// Returns the control that has claimed the area, if one has.
     pub fn area(&self) -> Option<usize>
         ensures { result ≡ self.now.totals.area }
     {
         self.holdings.area
     }
 
-    /// TransactionInProgress: whether a control is in a transaction.
+    /// Returns TransactionInProgress: whether a control is in a transaction.
     pub fn in_transaction(&self, control: usize) -> bool
         ensures { result ≡ in_transaction self.now.totals control }
     {
         self.holdings.transactions.is_open(control)
     }
 
-    /// Whether the files are known.
+    /// Returns whether the files are known.
     pub fn is_ready(&self) -> bool
         ensures { result ≡ is_ready self.now.totals.mode }
     {
         self.store.mode() != Mode::Off
     }
 
-    /// TotalsSize: the most bytes of all files in sum, by the layout that the last recovery found which succeeded; that
-    /// of a new disk before the first.
+    /// Returns TotalsSize: the most bytes of all files in total. It goes by the layout that the last recovery found
+    /// that succeeded, or by that of a new disk before the first.
     pub fn size(&self) -> usize
         ensures { result ≡ (totals_limits self.now.totals.layout).bytes }
     {
         totals_size(self.holdings.layout)
     }
 
-    /// FreeData: how many bytes are left for new files. The totals are ready.
+    /// Returns FreeData: how many bytes are left for new files. The totals must be ready.
     pub fn free(&self) -> usize
         requires { IsReady self.now.totals.mode }
         ensures { result ≡ free_data (totals_limits self.now.totals.layout) (files_of self.now.totals.mode) }
@@ -263,7 +300,7 @@ impl<D: Disk> Totals<D> {
         }
     }
 
-    /// NumberOfFiles. The totals are ready.
+    /// Returns NumberOfFiles. The totals must be ready.
     pub fn count(&self) -> usize
         requires { IsReady self.now.totals.mode }
         ensures { result ≡ length (files_of self.now.totals.mode) }
@@ -274,7 +311,7 @@ impl<D: Disk> Totals<D> {
         }
     }
 
-    /// Gives the disk as it is, at rest where the totals are ready.
+    /// Returns the disk as it is, at rest if the totals are ready.
     pub fn into_disk(self) -> D
         ensures disk { result ≡ self.disk }
         ensures at_rest { D.honest self.disk → WhenReady self.totals.mode (IsAtRest (D.state self.disk)) }

@@ -1,4 +1,4 @@
-//! The calls that begin a transaction and that drop one.
+//! The beginning and the end of transactions without a commit.
 ghost use Rattle.std.specs.Prelude.{◌≡◌};
 ghost use Rattle.pos_totals.specs.TotalsClaims.{foreign_area, without_control};
 ghost use Rattle.pos_totals.specs.TotalsArrangements.{Arranges, BeginTrans, Rollback};
@@ -13,7 +13,7 @@ use pos_service::{Answer, Code, Value};
 use pos_store::{Mode, Store};
 use std::alloc::Global;
 
-/// Begins a transaction.
+/// Begins a transaction of a control, if its table allows it, and returns the answer.
 pub fn begin_trans<D: Disk>(
     alloc: Global,
     store: &Store<D>,
@@ -35,7 +35,7 @@ pub fn begin_trans<D: Disk>(
     Answer::Done(Value::Empty)
 }
 
-/// Drops a transaction.
+/// Drops a control's transaction, if its table allows it, and returns the answer.
 pub fn rollback<D: Disk>(store: &Store<D>, holdings: &mut Holdings, control: usize) -> Answer
     requires sound { IsSound store.now.layout store.now.state holdings.old }
     ensures sound { IsSound store.now.layout store.now.state holdings.new }
@@ -64,7 +64,7 @@ pub fn drop_control<D: Disk>(store: &Store<D>, holdings: &mut Holdings, control:
     holdings.transactions.set(control, None);
 }
 
-/// A claim, where another control has made it.
+// Returns a claim if another control has made it, else `None`.
 fn keep_foreign(claim: Option<usize>, control: usize) -> Option<usize>
     ensures { result ≡ foreign_area control claim }
 {

@@ -31,28 +31,28 @@ impl Model for Buffered {
 }
 
 impl Buffered {
-    /// The edit of the file with a handle.
+    /// Returns the buffered edit of the file with a handle.
     pub fn new(handle: u64, edit: OwnedEdit) -> Self
         ensures { result ≡ buffered_change handle edit }
     {
         Buffered { handle, edit }
     }
 
-    /// The handle of its file.
+    /// Returns the handle of its file.
     pub fn handle(&self) -> u64
         ensures { IsOf self.now result }
     {
         self.handle
     }
 
-    /// The change of the directory that it is, the file's index being known.
+    /// Returns it as a change of the directory, for the file at an index.
     pub fn lend(&self, index: u16) -> Change<'_>
         ensures { result ≡ placed_change index self.now }
     {
         self.edit.lend(index)
     }
 
-    /// What it costs.
+    /// Returns what it costs.
     pub fn cost(&self) -> usize
         requires { cost_of self.now ≤ LAYOUT_2.bytes }
         ensures { result ≡ cost_of self.now }
@@ -81,7 +81,7 @@ impl Model for Buffer {
 }
 
 impl Buffer {
-    /// No changes.
+    /// Returns a buffer without changes.
     pub fn new(alloc: Global) -> Self
         ensures { result ≡ [] }
     {
@@ -91,21 +91,25 @@ impl Buffer {
         }
     }
 
-    /// What the changes cost in sum.
+    /// Returns what the changes cost in total.
     pub fn cost(&self) -> usize
         ensures { result ≡ cost_of_all self.now }
     {
         self.cost
     }
 
-    /// The changes.
+    /// Returns the changes.
     pub fn as_slice(&self) -> &[Buffered]
         ensures { result.now ≡ self.now }
     {
         &self.changes
     }
 
-    /// Adds a change behind the others. Want of memory changes nothing.
+    /// Adds a change after the others.
+    ///
+    /// # Errors
+    ///
+    /// [`NoMemory`] if memory ran out. Nothing changes then.
     pub fn push(&mut self, change: Buffered) -> Result<(), NoMemory>
         requires { cost_of_all self.old + cost_of change ≤ LAYOUT_2.bytes }
         ensures ok { OnOk result (self.new ≡ self.old ++ change ∷ []) }
@@ -122,7 +126,7 @@ impl Buffer {
     }
 }
 
-/// What each control has buffered, by the controls' numbers: None outside a transaction. Contracts see the list.
+/// What each control has buffered, by the controls' numbers, or `None` outside a transaction. Contracts see the list.
 #[derive(Drop)]
 pub struct Transactions {
     places: Vec<Option<Buffer>>,
@@ -138,7 +142,7 @@ impl Model for Transactions {
 }
 
 impl Transactions {
-    /// No controls.
+    /// Returns the transactions of no controls.
     pub fn new(alloc: Global) -> Self
         ensures { result ≡ [] }
     {
@@ -147,7 +151,11 @@ impl Transactions {
         }
     }
 
-    /// Makes a place for one more control. Want of memory changes nothing.
+    /// Makes a place for one more control.
+    ///
+    /// # Errors
+    ///
+    /// [`NoMemory`] if memory ran out. Nothing changes then.
     pub fn add(&mut self) -> Result<(), NoMemory>
         ensures ok { OnOk result (self.new ≡ self.old ++ None ∷ []) }
         ensures err { OnErr result (self.new ≡ self.old) }
@@ -158,14 +166,14 @@ impl Transactions {
         }
     }
 
-    /// Whether a control may begin a transaction: it has a place for one, and is in none.
+    /// Returns whether a control may begin a transaction: it has a place for one, and is in none.
     pub fn may_begin(&self, control: usize) -> bool
         ensures { result ≡ may_begin (slice_get self.now control) }
     {
         matches!(self.places.get(control), Some(None))
     }
 
-    /// What a control has buffered, where it is in a transaction.
+    /// Returns what a control has buffered, or `None` if it is in no transaction.
     pub fn buffer(&self, control: usize) -> Option<&Buffer>
         ensures { option_copied result ≡ transaction_at self.now control }
     {
@@ -175,14 +183,14 @@ impl Transactions {
         }
     }
 
-    /// Whether a control is in a transaction.
+    /// Returns whether a control is in a transaction.
     pub fn is_open(&self, control: usize) -> bool
         ensures { result ≡ is_some (transaction_at self.now control) }
     {
         self.buffer(control).is_some()
     }
 
-    /// What a control's buffered changes cost in sum, where it is in a transaction.
+    /// Returns what a control's buffered changes cost in total, or `None` if it is in no transaction.
     pub fn spent(&self, control: usize) -> Option<usize>
         ensures { result ≡ option_map cost_of_all (transaction_at self.now control) }
     {
@@ -192,7 +200,7 @@ impl Transactions {
         }
     }
 
-    /// Another transaction of a control, or None; a control that has no place gets none.
+    /// Sets the transaction of a control, or `None` for no transaction. A control that has no place gets none.
     pub fn set(&mut self, control: usize, transaction: Option<Buffer>)
         ensures { self.new ≡ slice_set self.old control transaction }
     {
@@ -201,7 +209,11 @@ impl Transactions {
         }
     }
 
-    /// Adds a change to those that a control has buffered. Want of memory changes nothing.
+    /// Adds a change to those that a control has buffered.
+    ///
+    /// # Errors
+    ///
+    /// [`NoMemory`] if memory ran out. Nothing changes then.
     pub fn push(&mut self, control: usize, change: Buffered) -> Result<(), NoMemory>
         requires { HasLeft (transaction_at self.old control) (cost_of change) }
         ensures ok { OnOk result (self.new ≡ with_buffered self.old control change) }

@@ -89,6 +89,14 @@ extern "C" {
         text_len: usize,
         needed: *mut usize,
     ) -> u32;
+    pub(crate) fn kijolvar_control(
+        till: Raw,
+        out: *mut *mut c_void,
+        name: *const u8,
+        name_len: usize,
+        control: *mut usize,
+    ) -> u32;
+    pub(crate) fn kijolvar_next_event(till: Raw, out: *mut *mut c_void, from: usize, control: *mut usize) -> u32;
     pub(crate) fn kijolvar_close(till: Raw);
     pub(crate) fn linkat(from: c_int, old: *const c_char, to: c_int, new: *const c_char, flags: c_int) -> c_int;
 }

@@ -10,33 +10,33 @@ pub(crate) mod library {
     pub(crate) const DISK_LENGTH: u64 = 327680;
     /// The call did what it says.
     pub(crate) const OK: u32 = 0;
-    /// There was no memory, and nothing was done.
+    /// Memory ran out, and nothing was done.
     pub(crate) const NO_MEMORY: u32 = 1;
     /// The profile is refused (docs/reference/profile.md).
     pub(crate) const BAD_PROFILE: u32 = 2;
-    /// What is told is longer than the room for it.
+    /// The room is too short for what would be written.
     pub(crate) const SHORT: u32 = 3;
-    /// There was no memory for the whole answer.
+    /// Memory ran out for the answer, of which a front is kept.
     pub(crate) const CUT: u32 = 4;
-    /// The lines were carried out, and their answer waits for the errands that the host has in its file.
+    /// The lines were carried out, and their answer waits until the host has done its errands.
     pub(crate) const ERRANDS: u32 = 5;
-    /// Errands of the lines before are left, so these were not carried out.
+    /// Errands of earlier lines are left, so these lines were not carried out.
     pub(crate) const UNDONE: u32 = 6;
-    /// The file fell behind: an errand failed, or there was no memory for one. The till can only be closed.
+    /// The file isn't as the totals are: an errand failed, or memory ran out for one. The till can only be closed.
     pub(crate) const DISK_FAILED: u32 = 7;
-    /// Totals are in the file already.
+    /// The file has totals already.
     pub(crate) const FORMATTED: u32 = 8;
-    /// The file is shorter than a disk.
+    /// The file is shorter than a disk of totals.
     pub(crate) const TOO_SMALL: u32 = 9;
     /// The errand writes bytes at a place.
     pub(crate) const WRITE: u32 = 10;
     /// The errand makes what was written stay.
     pub(crate) const SYNC: u32 = 11;
-    /// An order is told.
+    /// An order was written.
     pub(crate) const ORDER: u32 = 12;
     /// No device of the name has orders.
     pub(crate) const NO_DEVICE: u32 = 13;
-    /// The profile isn't text, or is no TOML document.
+    /// The profile isn't UTF-8, or is no TOML document.
     pub(crate) const BAD_TEXT: u32 = 14;
     /// The file isn't formatted.
     pub(crate) const UNFORMATTED: u32 = 15;
@@ -44,6 +44,10 @@ pub(crate) mod library {
     pub(crate) const DAMAGED: u32 = 16;
     /// The totals in the file have layout 2 already.
     pub(crate) const MOVED: u32 = 17;
+    /// A control has an event to deliver.
+    pub(crate) const EVENT: u32 = 18;
+    /// No control has the name.
+    pub(crate) const NO_CONTROL: u32 = 19;
 }
 
 /// A result code of the standard (ErrorCode) by which a control refuses a call.

@@ -22,10 +22,11 @@ pub const BUILT_PROFILE: &str = "";
 /// A call of the library that makes a till over a file's bytes.
 type Begin = unsafe extern "C" fn(*const u8, usize, *const u8, usize, *mut *mut c_void) -> u32;
 
-/// A control that the library has: its name and category, and whether it may be handed out again.
+/// A control that the library has: its name, its category and its number, and whether it may be handed out again.
 struct Entry {
     name: String,
     category: Category,
+    number: usize,
     is_free: bool,
 }
 
@@ -168,12 +169,51 @@ impl Inner {
             let made = name.map_or_else(|| format!("k{}", self.names), str::to_string);
             let answer = self.ask(&Line::new("new").name(&made).word(category.word()))?;
             match value_of(&answer, None) {
-                Ok(_) => self.controls.push(Entry { name: made, category, is_free: false }),
+                Ok(_) => {}
                 Err(Cause::NameInUse) if name.is_none() => continue,
                 Err(cause) => return Err(cause),
             }
+            let number = self.number_of(&made)?;
+            self.controls.push(Entry { name: made, category, number, is_free: false });
             return Ok(self.controls.len() - 1);
         }
+    }
+
+    /// The library's number of the control of a name.
+    fn number_of(&mut self, name: &str) -> Result<usize, Cause> {
+        let mut number = 0;
+        let (till, out) = (self.at, &mut self.at.0);
+        // SAFETY: the pointer is the one that was written last, and the name and the place are lent for the call.
+        match unsafe { kijolvar_control(till, out, name.as_ptr(), name.len(), &mut number) } {
+            library::OK => Ok(number),
+            _ => Err(Cause::BadAnswer(name.to_string())),
+        }
+    }
+
+    /// The lowest number, from one on, of a control that has an event to deliver.
+    fn next_event(&mut self, from: usize) -> Result<Option<usize>, Cause> {
+        let mut number = 0;
+        let (till, out) = (self.at, &mut self.at.0);
+        // SAFETY: the pointer is the one that was written last, and the place is lent for the call.
+        match unsafe { kijolvar_next_event(till, out, from, &mut number) } {
+            library::EVENT => Ok(Some(number)),
+            library::OK => Ok(None),
+            _ => Err(Cause::DiskFailed),
+        }
+    }
+
+    /// The first control, by its number, that has an event to deliver: its name and category. Lines may have made
+    /// controls that aren't in the list, and those are passed over.
+    fn control_with_event(&mut self) -> Result<Option<(String, Category)>, Cause> {
+        let mut from = 0;
+        while let Some(number) = self.next_event(from)? {
+            if let Ok(place) = self.controls.binary_search_by_key(&number, |entry| entry.number) {
+                let entry = &self.controls[place];
+                return Ok(Some((entry.name.clone(), entry.category)));
+            }
+            from = number + 1;
+        }
+        Ok(None)
     }
 
     /// Takes out the oldest order of the host's devices: its line.
@@ -325,24 +365,17 @@ impl Till {
         inner.controls[place].is_free = true;
     }
 
-    /// Delivers the next event of any control, in the order in which the controls were made: the control's name, and
-    /// the event.
+    /// Delivers the next event of any control: the control's name, and the event. Of several controls with an event it
+    /// is the one that was made first. This asks the library once, however many controls there are. Controls that lines
+    /// made are passed over.
     ///
     /// # Errors
     ///
     /// [`Cause::DiskFailed`], [`Cause::NoAnswer`], [`Cause::BadAnswer`].
     pub fn next_event(&self) -> Result<Option<(String, Event)>, Error> {
-        let count = self.inner.borrow().controls.len();
-        for place in 0..count {
-            let (name, category) = {
-                let inner = self.inner.borrow();
-                (inner.controls[place].name.clone(), inner.controls[place].category)
-            };
-            if let Some(event) = Event::deliver(self, &name, category, None)? {
-                return Ok(Some((name, event)));
-            }
-        }
-        Ok(None)
+        let found = self.inner.borrow_mut().control_with_event().map_err(|cause| Error::new("next_event", cause))?;
+        let Some((name, category)) = found else { return Ok(None) };
+        Ok(Event::deliver(self, &name, category, None)?.map(|event| (name, event)))
     }
 
     /// Returns an iterator that delivers the events of all controls, until none is left.

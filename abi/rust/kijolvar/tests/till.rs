@@ -194,6 +194,31 @@ fn a_reply_decides() {
 }
 
 #[test]
+fn the_next_event_is_of_any_control() {
+    let till = till();
+    let first = till.cash_drawer("d1").unwrap().enabled().unwrap();
+    till.carry_out("new raw CashDrawer\nopen raw d1\nset raw DeviceEnabled true").unwrap();
+    let scanner = till.scanner("s1").unwrap().enabled().unwrap();
+    let last = till.cash_drawer("d1").unwrap().enabled().unwrap();
+    let next = || till.next_event().unwrap().map(|(name, _)| name);
+    assert_eq!(next(), None);
+    till.input_drawer("d1", true).unwrap();
+    first.set_freeze_events(true).unwrap();
+    till.input_scan("s1", 104, "a", "a").unwrap();
+    assert_eq!((next().as_deref(), next()), (Some(last.name()), None));
+    till.input_scan_fault("s1").unwrap();
+    scanner.set_data_event_enabled(true).unwrap();
+    let Some((name, Event::Error(error))) = till.next_event().unwrap() else { panic!("no ErrorEvent") };
+    assert_eq!((name.as_str(), error.locus), (scanner.name(), ErrorLocus::InputData));
+    first.set_freeze_events(false).unwrap();
+    assert_eq!(next().as_deref(), Some(first.name()));
+    let all: Vec<_> = till.events().map(|event| event.unwrap()).collect();
+    assert_eq!(all, [(scanner.name().to_string(), Event::Data)]);
+    assert_eq!(till.carry_out("deliver raw").unwrap(), "event StatusUpdateEvent 1\n");
+    assert_eq!(next(), None);
+}
+
+#[test]
 fn orders_come_once_and_in_order() {
     let till = till();
     for device in ["d1", "p1", "r1"] {

@@ -1,6 +1,7 @@
-ghost use Rattle.std.specs.Prelude.{◌≡◌, ⊤, Some};
+//! The methods that every category has, and the check before each call.
+ghost use Rattle.std.specs.Prelude.{◌≡◌, ◌<◌, ⊤, IfSome, Some, length};
 ghost use Rattle.pos_service.specs.Calls.{place_found, open_rows, close_rows};
-ghost use Rattle.pos_service.specs.Claims.{holder_at, is_own, is_foreign, claim_rows, release_rows, after_release};
+ghost use Rattle.pos_service.specs.Claims.{holder_at, is_own, is_foreign, claim_rows, claimed_by, release_rows, released_by, after_release};
 ghost use Rattle.pos_service.specs.Controls.{opened, closed, stopped};
 ghost use Rattle.pos_service.specs.Refusals.{Decided};
 ghost use Rattle.pos_common.specs.Checks.{Checks};
@@ -14,10 +15,12 @@ use pos_service::display_text::Cursor;
 use pos_service::{Answer, Call, Category, ClaimNeed, Code, Finding, Needs, Settings, Value};
 
 impl Control {
-    /// `open`: it is for the device that was found from now on (common chapter).
+    /// `open`: opens it for the device that was found, with all properties at their defaults (common chapter).
     ///
-    /// Refused with E_ILLEGAL where it is open, E_NOEXIST where there is no such device, E_NOSERVICE where nothing
-    /// stands behind it.
+    /// # Errors
+    ///
+    /// Refused with E_ILLEGAL if it is open, E_NOEXIST if there is no such device, and E_NOSERVICE if the device has no
+    /// peripheral.
     pub fn open(&mut self, found: Finding) -> Answer
         ensures { TurnsInto (open_rows self.old.control found) result self.old self.new
             (opened self.old.control (place_found found)) }
@@ -35,7 +38,7 @@ impl Control {
         }
     }
 
-    /// Is for the device at this place, with all properties as they are by default, and with no events.
+    /// Opens it for the device at this place, with all properties at their defaults, and without events.
     fn start_over(&mut self, place: usize)
         ensures { self.new.control ≡ opened self.old.control (Some place) }
     {
@@ -47,7 +50,7 @@ impl Control {
         self.stop();
     }
 
-    /// Is disabled, without events, without requests of output, and without an error.
+    /// Disables it, and deletes its events, its requests of output and its error states.
     fn stop(&mut self)
         ensures { self.new.control ≡ stopped self.old.control }
     {
@@ -56,10 +59,11 @@ impl Control {
         self.events.clear();
     }
 
-    /// `close`: it is for no device any more. It is disabled, and its events and its output are deleted (common
-    /// chapter).
+    /// `close`: closes it, disables it, and deletes its events and its output (common chapter).
     ///
-    /// Refused with E_CLOSED where it is closed.
+    /// # Errors
+    ///
+    /// Refused with E_CLOSED if it is closed.
     pub fn close(&mut self) -> Answer
         ensures { TurnsInto (close_rows self.old.control) result self.old self.new (closed self.old.control) }
     {
@@ -71,12 +75,39 @@ impl Control {
         Answer::Done(Value::Empty)
     }
 
-    /// `claim`: whether it may hold its device, by its number and the number of the control that holds the device now,
-    /// if any (common chapter). The timeout is in milliseconds, -1 for one without end; nothing is waited for.
+    /// `claim`: makes it the holder of its device, by its number and the claims of all devices (common chapter). The
+    /// timeout is in milliseconds, -1 for no end. It never waits.
     ///
-    /// Refused with E_CLOSED where it is closed, E_ILLEGAL for a timeout below -1, E_TIMEOUT where another control
+    /// # Errors
+    ///
+    /// As of `claim_by`. Then nothing has changed.
+    pub fn claim(&self, number: usize, claims: &mut Claims, timeout: i128) -> Answer
+        requires { IfSome self.now.control.device (λ place. place < length claims.old) }
+        ensures { let device = self.now.control.device in
+            Decided (claim_rows self.now.control (is_foreign number (holder_at claims.old device)) timeout)
+            result (claims.new ≡ claims.old)
+            ((result ≡ Answer.Done Value.Empty) × (claims.new ≡ claimed_by claims.old device number)) }
+    {
+        let Some(place) = self.device else {
+            return Answer::Refused(Code::Closed, 0);
+        };
+        match self.claim_by(number, claims.holder(Some(place)), timeout) {
+            Answer::Done(value) => {
+                claims.claim(place, number);
+                Answer::Done(value)
+            }
+            refusal => refusal,
+        }
+    }
+
+    /// Returns whether it may hold its device, as `claim` does, by its number and the number of the holder, if any. For
+    /// Hard Totals, whose claim the totals have.
+    ///
+    /// # Errors
+    ///
+    /// Refused with E_CLOSED if it is closed, E_ILLEGAL if the timeout is below -1, and E_TIMEOUT if another control
     /// holds the device.
-    pub fn claim(&self, number: usize, holder: Option<usize>, timeout: i128) -> Answer
+    pub fn claim_by(&self, number: usize, holder: Option<usize>, timeout: i128) -> Answer
         ensures { Decided (claim_rows self.now.control (is_foreign number holder) timeout) result ⊤
             (result ≡ Answer.Done Value.Empty) }
     {
@@ -92,12 +123,34 @@ impl Control {
         Answer::Done(Value::Empty)
     }
 
-    /// `release`: what it is once it has released its device, by its number and the number of the control that holds
-    /// the device now, if any (common chapter). The control of a sharable device stays as it is. That of an
-    /// exclusive-use device is disabled, and its events and its output are deleted.
+    /// `release`: ends its claim of its device, by its number and the claims of all devices (common chapter). A control
+    /// of an exclusive-use device is disabled, and its events and its output are deleted. That of a sharable device
+    /// stays as it is.
     ///
-    /// Refused with E_CLOSED where it is closed, E_ILLEGAL where it doesn't hold the device.
-    pub fn release(&mut self, number: usize, holder: Option<usize>) -> Answer
+    /// # Errors
+    ///
+    /// As of `release_by`. Then nothing has changed.
+    pub fn release(&mut self, number: usize, claims: &mut Claims) -> Answer
+        ensures { let device = self.old.control.device in
+            Decided (release_rows self.old.control (is_own number (holder_at claims.old device))) result
+            ((self.new ≡ self.old) × (claims.new ≡ claims.old))
+            ((result ≡ Answer.Done Value.Empty)
+            × (self.new.control ≡ after_release self.old.control.category self.old.control)
+            × (claims.new ≡ released_by claims.old device number)) }
+    {
+        let device = self.device;
+        let answer = self.release_by(number, claims.holder(device));
+        claims.release(device, number);
+        answer
+    }
+
+    /// Changes it as `release` does, by its number and that of the holder, if any. For Hard Totals, whose claim the
+    /// totals have.
+    ///
+    /// # Errors
+    ///
+    /// Refused with E_CLOSED if it is closed, and E_ILLEGAL if it doesn't hold the device.
+    pub fn release_by(&mut self, number: usize, holder: Option<usize>) -> Answer
         ensures { let control = self.old.control in
             TurnsInto (release_rows control (is_own number holder)) result self.old self.new
             (after_release control.category control) }
@@ -114,10 +167,12 @@ impl Control {
         Answer::Done(Value::Empty)
     }
 
-    /// The place of its device, for a call of a category's own, by its number and the claims of all devices (common
-    /// chapter).
+    /// Returns the place of its device, if it is as a call of a category's own requires. It is checked by its number
+    /// and the claims of all devices (common chapter).
     ///
-    /// Refused as `check` says.
+    /// # Errors
+    ///
+    /// The [`Code`] of the refusal, as of `check_by`.
     pub fn check_call(
         &self,
         number: usize,
@@ -134,22 +189,30 @@ impl Control {
         }
     }
 
-    /// Whether it is as a call or a property asks it to be, by its number and the claims of all devices (common
-    /// chapter). Of Hard Totals, whose area the totals hold, `check_by` says so.
+    /// Checks that it is as a call or a property requires, by its number and the claims of all devices (common
+    /// chapter). For Hard Totals, whose claim the totals have, use `check_by`.
     ///
-    /// Refused as `check_by` says.
+    /// # Errors
+    ///
+    /// The [`Code`] of the refusal, as of `check_by`.
     pub fn check(&self, number: usize, claims: &Claims, needs: Needs) -> Result<(), Code>
         ensures { Checks number (holder_at claims.now self.now.control.device) self.now.control needs result }
     {
         self.check_by(number, claims.holder(self.device), needs)
     }
 
-    /// Whether it is as a call or a property asks it to be, by its number and the number of the control that holds its
-    /// device, if any (common chapter).
+    /// Checks that it is as a call or a property requires, by its number and the number of its device's holder, if any
+    /// (common chapter).
     ///
-    /// Refused with E_CLOSED where it has to be open and isn't; with E_ILLEGAL where its category doesn't have what is
-    /// asked; with E_CLAIMED where no other control may hold the device, and one does; with E_NOTCLAIMED where it has
-    /// to hold the device itself, and nobody does; then with E_DISABLED where the device has to be enabled and isn't.
+    /// # Errors
+    ///
+    /// The [`Code`] of the first refusal that applies, in this order:
+    ///
+    /// - E_CLOSED: it has to be open, and isn't.
+    /// - E_ILLEGAL: its category doesn't have what is asked.
+    /// - E_CLAIMED: no other control may hold the device, and one does.
+    /// - E_NOTCLAIMED: it has to hold the device itself, and nobody does.
+    /// - E_DISABLED: the device has to be enabled, and isn't.
     pub fn check_by(&self, number: usize, holder: Option<usize>, needs: Needs) -> Result<(), Code>
         ensures { Checks number holder self.now.control needs result }
     {

@@ -1,4 +1,5 @@
-ghost use Rattle.std.specs.Prelude.{◌≡◌, ◌≤◌, ◌+◌, OnOk, OnErr};
+//! The events of a control: what enqueues them, deletes them and delivers them.
+ghost use Rattle.std.specs.Prelude.{◌≡◌, ◌≤◌, ◌+◌, OnOk, OnErr, is_some};
 ghost use Rattle.pos_service.specs.Controls.{listens, if_listening, heard, read, failed, is_held_back, deliverable, delivered, without_input, without_scan};
 ghost use Rattle.pos_service.specs.Statuses.{changed_status, heard_signs};
 ghost use Rattle.pos_common.specs.KeptControls.{HasRoom, sign_events, scan_events, fault_events};
@@ -7,27 +8,30 @@ use super::Control;
 use crate::status::{cover_status, drawer_status, paper_status, power_status};
 use pos_service::{ErrorReply, Event, NoMemory, Scan, Signs};
 
-/// The most status events that one change of a device's signs has: drawer, cover, paper, power.
+/// The most StatusUpdateEvents that one change of a device's signs has: drawer, cover, paper, power.
 pub const SIGN_EVENTS: usize = 4;
 
-/// The most events that an input has: those of a change of signs; a scan has one, a failed scan two (ErrorEvents with
-/// EL_INPUT_DATA and with EL_INPUT).
+/// The most events that an input has: those of a change of signs. A scan has one, and a failed scan two (ErrorEvents
+/// with EL_INPUT_DATA and EL_INPUT).
 pub const INPUT_EVENTS: usize = 4;
 
-/// The most events that a request of output has which is worked on: those of a change of signs, and one that it is
-/// done, or has failed.
+/// The most events that the work on a request of output has: those of a change of signs, and one of its success or
+/// failure.
 pub const WORK_EVENTS: usize = 5;
 
 impl Control {
-    /// Whether it has the device at this place open and enabled.
+    /// Returns whether it has the device at this place open and enabled.
     pub fn listens(&self, place: usize) -> bool
         ensures { result ≡ listens place self.now.control }
     {
         self.is_enabled && self.device == Some(place)
     }
 
-    /// Makes room for so many events, if it has the device at this place open and enabled and has less room. Want of
-    /// memory changes nothing that the machine sees.
+    /// Makes room for this many events, if it has the device at this place open and enabled and has less room.
+    ///
+    /// # Errors
+    ///
+    /// [`NoMemory`] if memory ran out. Then nothing but that room has changed.
     pub fn room_for(&mut self, place: usize, count: usize) -> Result<(), NoMemory>
         ensures room { OnOk result (HasRoom place count self.new) }
         ensures full { OnErr result (¬ (HasRoom place count self.old)) }
@@ -39,9 +43,9 @@ impl Control {
         Ok(())
     }
 
-    /// Enqueues the statuses that have changed, in the order drawer, cover, paper, power, if it has the device at this
-    /// place open and enabled; that of power only if it is to be notified of it (common chapter, StatusUpdateEvent and
-    /// device power reporting).
+    /// Enqueues a StatusUpdateEvent for each sign that has changed, if it has the device at this place open and
+    /// enabled. The order is drawer, cover, paper, power. That of power comes only if the control is notified of it
+    /// (common chapter, StatusUpdateEvent and device power reporting).
     pub fn hear(&mut self, place: usize, old: Signs, new: Signs)
         requires { HasRoom place sign_events self.old }
         ensures heard { self.new.control ≡ if_listening place (heard_signs old new) self.old.control }
@@ -71,8 +75,8 @@ impl Control {
         }
     }
 
-    /// A scan has come, if it has the device at this place open and enabled: a DataEvent is enqueued, and it is
-    /// disabled under AutoDisable. In the input error state the scan is ignored (common chapter, data events).
+    /// Enqueues the DataEvent of a scan, if it has the device at this place open and enabled. With AutoDisable the
+    /// control is then disabled. In the input error state the scan is ignored (common chapter, data events).
     pub fn read(&mut self, place: usize, scan: Scan)
         requires { HasRoom place scan_events self.old }
         ensures { self.new.control ≡ if_listening place (read scan) self.old.control }
@@ -86,8 +90,8 @@ impl Control {
         self.events.data(scan);
     }
 
-    /// Its input has failed, if it has the device at this place open and enabled: the input error state stands from now
-    /// on, with its ErrorEvents. In that state nothing changes (common chapter, error handling).
+    /// Puts it into the input error state, with its ErrorEvents, if it has the device at this place open and enabled.
+    /// In that state already, nothing changes (common chapter, error handling).
     pub fn fail_input(&mut self, place: usize)
         requires { HasRoom place fault_events self.old }
         ensures { self.new.control ≡ if_listening place failed self.old.control }
@@ -97,7 +101,7 @@ impl Control {
         }
     }
 
-    /// `clearInput`: the DataEvents and the ErrorEvents of input are deleted, and the input error state ends (common
+    /// `clearInput`: deletes the DataEvents and the ErrorEvents of input, and ends the input error state (common
     /// chapter).
     pub(crate) fn clear_input(&mut self)
         ensures { self.new.control ≡ without_input self.old.control }
@@ -105,7 +109,7 @@ impl Control {
         self.events.clear_input();
     }
 
-    /// `clearInputProperties`: ScanData, ScanDataLabel and ScanDataType have their defaults again (common chapter,
+    /// `clearInputProperties`: gives ScanData, ScanDataLabel and ScanDataType their defaults again (common chapter,
     /// chapter Scanner).
     pub(crate) fn clear_input_properties(&mut self)
         ensures { self.new.control ≡ without_scan self.old.control }
@@ -113,17 +117,27 @@ impl Control {
         self.shown.clear();
     }
 
-    /// Whether no event may be delivered: it is closed, or its events are frozen.
+    /// Returns whether no event may be delivered, because it is closed or its events are frozen.
     fn is_held_back(&self) -> bool
         ensures { result ≡ is_held_back self.now.control }
     {
         self.device.is_none() || self.settings.freeze_events
     }
 
-    /// Takes the event that may be delivered now (common chapter, event queue): none while the control is closed or its
-    /// events are frozen, else the first while data events are enabled, and the first that is neither a DataEvent nor
-    /// an error of input while they aren't. The reply is the application's to an ErrorEvent. With a DataEvent
-    /// its scan is shown, as DecodeData says now, and data events are disabled.
+    /// Returns whether `deliver` would return an event now. It takes no memory.
+    pub fn has_deliverable(&self) -> bool
+        ensures { result ≡ is_some (deliverable self.now.control) }
+    {
+        self.events
+            .has_deliverable(self.settings.data_event_enabled, self.is_held_back())
+    }
+
+    /// Takes the event that may be delivered now, and returns it (common chapter, event queue). The reply is the
+    /// application's to an ErrorEvent.
+    ///
+    /// There is none while the control is closed or its events are frozen. While data events are enabled it is the
+    /// first, otherwise the first that is neither a DataEvent nor an error of input. With a DataEvent its scan is
+    /// shown, as DecodeData says now, and data events are disabled.
     pub fn deliver(&mut self, reply: ErrorReply) -> Option<Event>
         ensures event { result ≡ deliverable self.old.control }
         ensures rest { self.new.control ≡ delivered reply self.old.control }

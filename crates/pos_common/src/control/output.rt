@@ -1,3 +1,4 @@
+//! The asynchronous output of a control.
 ghost use Rattle.std.specs.Prelude.{◌≡◌, ◌≤◌, ◌==◌, ◌∷◌, [], Some, MatchResult, IfSome, IsSome, option_map};
 ghost use Rattle.pos_service.specs.Controls.{completed, output_failed, queued, without_output};
 ghost use Rattle.pos_service.specs.Output.{is_outstanding, request_to_do};
@@ -11,24 +12,25 @@ use pos_output::PutFault;
 use pos_service::{Answer, Code, NoMemory, Order, Value};
 
 impl Control {
-    /// AsyncMode: whether requests are queued and done later (chapter POS Printer).
+    /// Returns AsyncMode: whether requests are queued and done later (chapter POS Printer).
     pub fn is_async(&self) -> bool
         ensures { result ≡ self.now.control.settings.async_mode }
     {
         self.settings.async_mode
     }
 
-    /// Whether it has requests that are still to do.
+    /// Returns whether it has requests that are still to do.
     pub fn has_output(&self) -> bool
         ensures { result ≡ is_outstanding self.now.control.writer.output }
     {
         self.writer.is_outstanding()
     }
 
-    /// Queues a request, which gets the next OutputID (common chapter, asynchronous output). Want of memory changes
-    /// nothing.
+    /// Queues a request, which gets the next OutputID (common chapter, asynchronous output).
     ///
-    /// Refused with E_FAILURE where no OutputID is left.
+    /// # Errors
+    ///
+    /// [`NoMemory`] if memory ran out. Refused with E_FAILURE if no OutputID is left. Then nothing has changed.
     pub fn queue(&mut self, order: Order) -> Result<Answer, NoMemory>
         requires { PrintersTake order }
         ensures { MatchResult result
@@ -42,8 +44,8 @@ impl Control {
         }
     }
 
-    /// The request that is to be done now, with its OutputID: the first, if it has the device at this place open and
-    /// enabled and no output error stands. Every printer takes its order.
+    /// Returns the request that is to be done now, with its OutputID: the first one. It is `None` unless the control
+    /// has the device at this place open and enabled, and is in no output error state. Every printer takes its order.
     pub fn first_request(&self, place: usize) -> Option<(u64, &Order)>
         ensures request { let told = option_map (λ request. (request.0, request.1.now)) result in
             told ≡ first_request place self.now.control }
@@ -55,8 +57,8 @@ impl Control {
         self.writer.first()
     }
 
-    /// The request that was to be done is done: it is removed, and an OutputCompleteEvent with its OutputID is enqueued
-    /// (common chapter, asynchronous output). The OutputID is given.
+    /// Removes the request that was to be done, because it is done, and returns its OutputID. An OutputCompleteEvent
+    /// with that OutputID is enqueued (common chapter, asynchronous output).
     pub fn complete_request(&mut self) -> u64
         requires request { IsSome (request_to_do self.old.control.writer.output) }
         requires room { 1 ≤ self.old.spare }
@@ -68,8 +70,8 @@ impl Control {
         id
     }
 
-    /// The request that was to be done has failed: it stays the first, the output error state stands, and an ErrorEvent
-    /// with EL_OUTPUT is enqueued (common chapter, error handling).
+    /// Notes that the request that was to be done has failed. It stays the first, the output error state begins, and an
+    /// ErrorEvent with EL_OUTPUT is enqueued (common chapter, error handling).
     pub fn fail_request(&mut self, code: Code, extended: u32)
         requires request { IsSome (request_to_do self.old.control.writer.output) }
         requires room { 1 ≤ self.old.spare }
@@ -79,7 +81,7 @@ impl Control {
         self.events.output_error(code, extended);
     }
 
-    /// `clearOutput`: all requests and the ErrorEvents of output are deleted, and the output error state ends.
+    /// `clearOutput`: deletes all requests and the ErrorEvents of output, and ends the output error state.
     /// OutputCompleteEvents stay (common chapter).
     pub(crate) fn clear_output(&mut self)
         ensures { self.new.control ≡ without_output self.old.control }

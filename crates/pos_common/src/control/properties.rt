@@ -1,3 +1,4 @@
+//! The properties of a control: how each is set and read.
 ghost use Rattle.std.specs.Prelude.{◌≡◌, ◌&&◌, ◌∷◌, [], ⊤, true, false, not, is_none, Option};
 ghost use Rattle.pos_service.specs.declared.kind.Kind.{Kind};
 ghost use Rattle.pos_service.specs.Controls.{state_of};
@@ -17,16 +18,22 @@ use pos_service::{
 };
 
 impl Control {
-    /// Sets a property, by the control's number, the number of the control that holds its device, if any, and what its
-    /// device's peripheral is and shows, where it has one (common chapter, chapter Line Display). The value that it has
-    /// is checked like any other. Where DeviceEnabled becomes true and the control is to be notified of its device's
-    /// power, a StatusUpdateEvent tells it how that is, for which memory may be wanted; that changes nothing (common
-    /// chapter, device power reporting).
+    /// Sets a property (common chapter, chapter Line Display). The number is the control's, and the holder is the
+    /// number of the control that holds the device. The kind and the signs are those of the device's peripheral, if it
+    /// has one.
     ///
-    /// Refused with E_CLOSED where the control is closed, E_ILLEGAL where its category doesn't have the property or it
-    /// can't be set; for DeviceEnabled of an exclusive-use device with E_CLAIMED where another control holds the
-    /// device, E_NOTCLAIMED where nobody does; with E_ILLEGAL for a value of another type or out of range, for another
-    /// PowerNotify than it is while the device is enabled, and for PN_ENABLED where the power isn't reported.
+    /// A value is checked even if the property has it already. If DeviceEnabled becomes true and the control is
+    /// notified of its device's power, a StatusUpdateEvent reports that (common chapter, device power reporting).
+    ///
+    /// # Errors
+    ///
+    /// [`NoMemory`] if there is no room for that event. Then nothing has changed. Refused in this order:
+    ///
+    /// - E_CLOSED: the control is closed.
+    /// - E_ILLEGAL: its category doesn't have the property, or it isn't writable.
+    /// - E_CLAIMED or E_NOTCLAIMED: DeviceEnabled of an exclusive-use device, which another control holds, or nobody.
+    /// - E_ILLEGAL: the value is of another type or out of range.
+    /// - E_ILLEGAL: PowerNotify would change while the device is enabled, or be PN_ENABLED though power isn't reported.
     pub fn set(
         &mut self,
         number: usize,
@@ -46,9 +53,12 @@ impl Control {
         }
     }
 
-    /// Sets a property, by what the device's peripheral is and shows. Want of memory changes nothing.
+    /// Sets a property, by what the device's peripheral is and shows.
     ///
-    /// Refused with E_ILLEGAL for a value of another type or out of range, or that PowerNotify can't have now.
+    /// # Errors
+    ///
+    /// [`NoMemory`] if memory ran out. Then nothing has changed. Refused with E_ILLEGAL if the value is of another type
+    /// or out of range, or if PowerNotify can't have it now.
     fn set_value(
         &mut self,
         kind: Option<Kind>,
@@ -73,8 +83,12 @@ impl Control {
         }
     }
 
-    /// Sets PowerNotify: 0 or 1, which while the device is enabled is what it is already, and 0 where the power isn't
-    /// reported; else it is refused with E_ILLEGAL.
+    /// Sets PowerNotify: 0 or 1.
+    ///
+    /// # Errors
+    ///
+    /// Refused with E_ILLEGAL if the number is another one, or changes while the device is enabled. So is 1 if power
+    /// isn't reported.
     fn set_power_notify(&mut self, number: i128) -> Answer
         ensures { let control = self.old.control in
             TurnsInto (when (not (is_up_to 1 number)) Code.Illegal
@@ -95,7 +109,11 @@ impl Control {
         Answer::Done(Value::Empty)
     }
 
-    /// Sets CursorRow: 0 to Rows - 1, else it is refused with E_ILLEGAL.
+    /// Sets CursorRow: 0 to Rows - 1 (chapter Line Display).
+    ///
+    /// # Errors
+    ///
+    /// Refused with E_ILLEGAL if the number is out of range.
     fn set_row(&mut self, kind: Option<Kind>, number: i128) -> Answer
         ensures { let control = self.old.control in
             TurnsInto (when (not (is_index (rows_of kind) number)) Code.Illegal ∷ []) result self.old self.new
@@ -108,7 +126,11 @@ impl Control {
         Answer::Done(Value::Empty)
     }
 
-    /// Sets CursorColumn: 0 to Columns, else it is refused with E_ILLEGAL.
+    /// Sets CursorColumn: 0 to Columns (chapter Line Display).
+    ///
+    /// # Errors
+    ///
+    /// Refused with E_ILLEGAL if the number is out of range.
     fn set_column(&mut self, kind: Option<Kind>, number: i128) -> Answer
         ensures { let control = self.old.control in
             TurnsInto (when (not (is_up_to (columns_of kind) number)) Code.Illegal ∷ []) result self.old self.new
@@ -121,9 +143,12 @@ impl Control {
         Answer::Done(Value::Empty)
     }
 
-    /// Sets a property that is a truth value, by what the device's peripheral shows. Want of memory changes nothing.
+    /// Sets a property that is a truth value, by what the device's peripheral shows.
     ///
-    /// Refused with E_ILLEGAL for a property that isn't one.
+    /// # Errors
+    ///
+    /// [`NoMemory`] if memory ran out. Then nothing has changed. Refused with E_ILLEGAL if the property isn't a truth
+    /// value.
     fn set_truth(
         &mut self,
         signs: Signs,
@@ -149,8 +174,12 @@ impl Control {
         Ok(Answer::Done(Value::Empty))
     }
 
-    /// Sets DeviceEnabled, by what the device's peripheral shows. Where it becomes true, and the control is to be
-    /// notified of the device's power, an event tells it how that is. Want of memory for the event changes nothing.
+    /// Sets DeviceEnabled. If it becomes true, and the control is notified of the device's power, a StatusUpdateEvent
+    /// reports that, as the peripheral shows it.
+    ///
+    /// # Errors
+    ///
+    /// [`NoMemory`] if there is no room for that event. Then nothing has changed.
     fn set_enabled(&mut self, signs: Signs, is_enabled: bool) -> Result<Answer, NoMemory>
         ensures { let control = self.old.control in let value = Value.Truth is_enabled in
             SetsTo [] (tells_power control Property.DeviceEnabled value) result self.old self.new
@@ -164,14 +193,20 @@ impl Control {
         Ok(Answer::Done(Value::Empty))
     }
 
-    /// A property, by the control's number, the number of the control that holds its device, if any, and what is known
-    /// of the device (common chapter, chapters Cash Drawer, Scanner, Line Display, POS Printer and Hard Totals). Bytes
-    /// are copied, for which memory may be wanted.
+    /// Returns the value of a property (common chapter, chapters Cash Drawer, Scanner, Line Display, POS Printer and
+    /// Hard Totals). The number is the control's, and the holder is the number of the control that holds the device.
+    /// The facts are what is known of the device. Bytes are copied.
     ///
-    /// Refused with E_CLOSED where the control is closed, but for State; with E_ILLEGAL where its category doesn't
-    /// have the property; with E_CLAIMED where the property is one for the control that holds the device, and another
-    /// one does, E_NOTCLAIMED where nobody does; with E_DISABLED where it is one of an enabled device and the device
-    /// is disabled; with E_FAILURE where the property is one of the files and the totals are off.
+    /// # Errors
+    ///
+    /// [`NoMemory`] if there is no memory for that copy. Refused in this order:
+    ///
+    /// - E_CLOSED: the control is closed, and the property isn't State.
+    /// - E_ILLEGAL: its category doesn't have the property.
+    /// - E_CLAIMED or E_NOTCLAIMED: the property is for the holder of the device alone, and another control holds it,
+    ///   or nobody.
+    /// - E_DISABLED: the property is of an enabled device, and the device is disabled.
+    /// - E_FAILURE: the property is of the files, and the totals are off.
     pub fn get(
         &self,
         number: usize,
@@ -188,10 +223,12 @@ impl Control {
         }
     }
 
-    /// The value of a property, by what is known of the control's device. Bytes are copied, for which memory may be
-    /// wanted.
+    /// Returns the value of a property, by what is known of the control's device. Bytes are copied.
     ///
-    /// Refused with E_FAILURE where it is one of the files and the totals are off.
+    /// # Errors
+    ///
+    /// [`NoMemory`] if there is no memory for that copy. Refused with E_FAILURE if the property is of the files and the
+    /// totals are off.
     fn tell_property(&self, property: Property, facts: &Facts) -> Result<Answer, NoMemory>
         ensures { Gets (when ((row_of property).is_of_files && is_none facts.now.files) Code.Failure ∷ []) property
             (property_of self.now.control facts.now property) result }
@@ -203,7 +240,7 @@ impl Control {
         }
     }
 
-    /// What it is at: closed 1, idle 2, busy 3, in error 4.
+    /// Returns State: S_CLOSED 1, S_IDLE 2, S_BUSY 3 or S_ERROR 4 (common chapter).
     fn state(&self) -> u32
         ensures { result ≡ state_of self.now.control }
     {
@@ -219,22 +256,23 @@ impl Control {
         2
     }
 
-    /// CapPowerReporting: PR_STANDARD 1 or PR_NONE 0.
+    /// Returns CapPowerReporting: PR_STANDARD 1 or PR_NONE 0 (common chapter).
     fn power_reporting(&self) -> u32
         ensures { result ≡ power_reporting (reports_power self.now.control.category) }
     {
         if self.category.reports_power() { 1 } else { 0 }
     }
 
-    /// PowerNotify: PN_ENABLED 1 or PN_DISABLED 0.
+    /// Returns PowerNotify: PN_ENABLED 1 or PN_DISABLED 0 (common chapter).
     fn notify_number(&self) -> u32
         ensures { result ≡ notify_number self.now.control.settings.power_notify }
     {
         if self.settings.power_notify { 1 } else { 0 }
     }
 
-    /// PowerState, by what the device's peripheral shows: PS_ONLINE 2001 or PS_OFF_OFFLINE 2004 while the device is
-    /// enabled and the control is to be notified of its power, else PS_UNKNOWN 2000.
+    /// Returns PowerState, by what the device's peripheral shows (common chapter). It is PS_ONLINE 2001 or
+    /// PS_OFF_OFFLINE 2004 while the device is enabled and the control is notified of its power, otherwise PS_UNKNOWN
+    /// 2000.
     fn power_state(&self, signs: Signs) -> u32
         ensures { result ≡ power_state self.now.control signs }
     {
@@ -244,9 +282,11 @@ impl Control {
         power_status(signs.powered)
     }
 
-    /// The value of a property but of one of bytes, by what is known of the control's device.
+    /// Returns the value of a property that isn't one of bytes, by what is known of the control's device.
     ///
-    /// Refused with E_FAILURE where it is one of the files and the totals are off.
+    /// # Errors
+    ///
+    /// Refused with E_FAILURE if the property is of the files and the totals are off.
     fn value_of(&self, property: Property, facts: &Facts) -> Answer
         requires { is_of_bytes property ≡ false }
         ensures { Decided (when ((row_of property).is_of_files && is_none facts.now.files) Code.Failure ∷ []) result ⊤
@@ -304,7 +344,7 @@ impl Control {
     }
 }
 
-/// The answer that gives these bytes.
+/// Returns the answer that has these bytes.
 fn done_with(bytes: Bytes) -> Answer
     ensures { result ≡ Answer.Done (Value.Bytes bytes) }
 {

@@ -1,5 +1,5 @@
 //! How events leave the queue.
-ghost use Rattle.std.specs.Prelude.{true, false, ◌≡◌, ◌≤◌, option_map};
+ghost use Rattle.std.specs.Prelude.{true, false, ◌≡◌, ◌≤◌, is_some, option_map};
 ghost use Rattle.pos_service.specs.Events.{deliverable, delivered, split, left_by, after_reply, input_error, clears_input};
 ghost use Rattle.pos_events.specs.Queue.{delivery_of};
 ghost use Rattle.pos_events.specs.Waiting.{first_waiting};
@@ -37,6 +37,17 @@ impl EventQueue {
             return self.take_first(reply);
         }
         self.take_told()
+    }
+
+    /// Returns whether `deliver` would return an event now. It takes no memory.
+    #[tactic(auto, using(crate::proofs::DeliverableLemmas::there))]
+    pub fn has_deliverable(&self, data_enabled: bool, frozen: bool) -> bool
+        ensures { result ≡ is_some (deliverable data_enabled frozen self.now.list) }
+    {
+        if !self.others.events.is_empty() {
+            return !frozen;
+        }
+        !frozen && data_enabled && (self.in_error || !self.scans.is_empty())
     }
 
     /// Takes the first event that doesn't wait.

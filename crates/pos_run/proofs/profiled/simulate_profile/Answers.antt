@@ -4,7 +4,7 @@ use Rattle.pos_profile.specs.declared.role.Role.TheVariants.{Device, Spare}
 use Rattle.pos_run.proofs.Filling.{begins_partly, ends_whole, serves_more, skips}
 use Rattle.pos_run.proofs.Profiling.{all_serve, one_more, simulable, spares_more}
 use Rattle.pos_run.proofs.MountLemmas.{mounted_as, offered_mounted, spares_mounted, vacant_mounted}
-use Rattle.pos_run.specs.Simulating.{AreSparesMounted, IsMountedFor}
+use Rattle.pos_run.specs.Simulating.{IsMountedFor}
 use Rattle.pos_counter.specs.KeptDevices.{slots_in}
 use Rattle.pos_run.proofs.profiled.simulate_profile.Goals as goal
 

@@ -4,8 +4,8 @@ use Rattle.pos_counter.proofs.Lifts.{decided_weaker, kept_at}
 use Rattle.pos_counter.proofs.Serving.{quiet_serves, stays_serves}
 use Rattle.pos_counter.proofs.counter.Counter.claim.Goals as goal
 
-pub claim_device-requires : goal.claim_device-requires
-claim_device-requires g c =
+pub claim-requires : goal.claim-requires
+claim-requires g c =
     let part = part_with c.args.self.now.totals.totals [] 0 in
     covered (machine g.P.Peripheral c.args.self.now part) c.args.number c.index-control.result.now.control (c.requires.sound.machine part)
     (kept_at _ _ _ c.requires.in_range c.index-control.ensures)
@@ -27,7 +27,7 @@ returns g c =
     let old = c.args.self.now in
     let table = of_devices c.index-control.result.now.control.category (sym c.is_totals.ensures ∙ c.if-is_totals.false) in
     let fits : SFits w128 c.args.timeout = c.ranges.timeout in
-    let decided = simp to_z-of_z at c.claim_device.ensures in
+    let decided = simp to_z-of_z at c.claim.ensures in
     stays_serves g.D.Disk g.P.Peripheral old _ _ _ (g.met.D.Disk.only_now _) c.requires.sound refl c.requires.sound.devices
     (λ part.
     let over = λ (claims : List (Option ℕ)). let o : Machine = record (machine g.P.Peripheral old part) { claims = claims } in o in

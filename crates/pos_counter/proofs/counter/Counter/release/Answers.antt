@@ -25,5 +25,5 @@ returns g c =
     let table = of_devices c.index_mut-control.result.now.control.category (sym c.is_totals.ensures ∙ c.if-is_totals.false) in
     stays_serves g.D.Disk g.P.Peripheral old _ _ _ (g.met.D.Disk.only_now _) c.requires.sound refl c.requires.sound.devices
     (λ part. rw (kept_at _ _ _ c.requires.in_range here, table.holds, table.releases) (decided_weaker
-    (λ done. (done.0, rw done.2 (set_machine old.controls.items _ _ part c.args.number c.release_device.new.control _ done.1)))
-    (λ same. rw same.1 (kept_machine old.controls.items _ _ part c.args.number c.release_device.new.control _ same.0 here)) c.release_device.ensures))
+    (λ done. (done.0, rw done.2 (set_machine old.controls.items _ _ part c.args.number c.release.new.self _ done.1)))
+    (λ same. rw same.1 (kept_machine old.controls.items _ _ part c.args.number c.release.new.self _ same.0 here)) c.release.ensures))

@@ -1,5 +1,5 @@
 use Rattle.pos_profile.proofs.Common.{arith, devices, devices_of, length, length-set, sym, ◌<◌, ◌∙◌, ◌≡◌, ◌≤◌}
-use Rattle.pos_profile.proofs.RegistryLemmas.{devices_count, parked_more, parked_whole}
+use Rattle.pos_profile.proofs.RegistryLemmas.{all_parked, devices_count, parked_more, parked_whole}
 use Rattle.pos_profile.proofs.registry.Registry.into_entries.Goals as goal
 
 pub loop-place-preserved : goal.loop-place-preserved
@@ -15,8 +15,11 @@ loop-place-preserved g c =
       whole = length-set slots c.loop-place.place c.park.new.self ∙ c.loop-place.invariant.whole;
     }
 
-pub returns : goal.returns
-returns g c =
+pub returns-clause-entries : goal.returns-clause-entries
+returns-clause-entries g c =
     let olds = devices g.P.Peripheral c.args.self in
     let all : length olds ≤ c.loop-place.place = omega (arith, devices_count g.P.Peripheral c.args.self.slots.items, c.args.self.slots.ok.0) in
     parked_whole (devices_of g.P.Peripheral c.loop-place.slots.items) olds c.loop-place.place all c.loop-place.invariant.front
+
+pub returns-clause-parked : goal.returns-clause-parked
+returns-clause-parked g c = rw (returns-clause-entries g c) (all_parked (devices g.P.Peripheral c.args.self))

@@ -1,4 +1,5 @@
-use Rattle.pos_run.proofs.Common.{ap, is_some, refl, sym, ◌∙◌}
+use Rattle.pos_run.proofs.Common.{Err, ap, is_some, refl, sym, ◌∙◌}
+use Rattle.pos_run.proofs.ResponseLemmas.{control_text, unmade}
 use Rattle.pos_run.proofs.Sessions.{asks_step}
 use Rattle.pos_run.proofs.session.CategoryAsks.ask.Goals as goal
 
@@ -7,14 +8,8 @@ returns-in-Ok-control-clause-asks g c =
     let unknown = sym (ap is_some c.find.ensures) ∙ (sym c.is_some.ensures ∙ c.if-is_some.false) in
     asks_step c.in-Ok-control.ensures.step (rw unknown refl) (rw (c.add.ensures, c.in-Ok.ensures.names, c.in-Ok.ensures.copy) refl) refl
 
-pub returns-in-Err-Full-clause-asks : goal.returns-in-Err-Full-clause-asks
-returns-in-Err-Full-clause-asks g c =
+pub returns-in-Err-clause-asks : goal.returns-in-Err-clause-asks
+returns-in-Err-clause-asks g c =
     let unknown = sym (ap is_some c.find.ensures) ∙ (sym c.is_some.ensures ∙ c.if-is_some.false) in
-    asks_step c.in-Err-Full.ensures.step (rw unknown refl) (rw (c.in-Ok.ensures.names, c.in-Err-Full.field-0-is) refl)
-    (rw c.in-Err-Full.field-0-is refl)
-
-pub returns-clause-asks : goal.returns-clause-asks
-returns-clause-asks g c =
-    let unknown = sym (ap is_some c.find.ensures) ∙ (sym c.is_some.ensures ∙ c.if-is_some.false) in
-    asks_step c.in-Err-NoMemory.ensures.step (rw unknown refl) (rw (c.in-Ok.ensures.names, c.in-Err-NoMemory.field-0-is) refl)
-    (rw c.in-Err-NoMemory.field-0-is refl)
+    asks_step c.in-Err.ensures.step (rw unknown refl) (rw c.in-Ok.ensures.names (sym (unmade _ c.args.name.now c.args.self.now c.in-Err.fault)))
+    (rw c.of_control.ensures (control_text (Err c.in-Err.fault)))

@@ -1,0 +1,53 @@
+-- Whether a delivery to a control gives an event.
+use Rattle.pos_counter.proofs.Common.{Control, Device, KeptControl, List, Machine, None, Option, Some, TotalsPart, arith, controls_of, false, get_or}
+use Rattle.pos_counter.proofs.Common.{is_some, length, length-map, machine_with, refl, slice_get, subst, true, ℕ, ◌+◌, ◌<◌, ◌≡◌, ◌≤◌, ⊎_elim}
+use Rattle.std.proofs.lemmas.Bool.{cases_lt}
+use Rattle.std.proofs.lemmas.Option.{slice_get_past}
+use Rattle.pos_counter.proofs.Lifts.{kept_at}
+use Rattle.pos_counter.specs.NextEvent.{GivesEvent, GivesNone}
+use Rattle.pos_service.specs.declared.event.Event.{Event}
+use Rattle.pos_service.specs.Controls.{deliverable}
+
+none_there : (event : Option Event) → is_some event ≡ false → event ≡ None
+none_there None none = refl
+none_there (Some event) none = grind arith
+
+-- each delivery to a control gives the event that may be delivered to it
+gives : (machine : Machine) (number : ℕ) (control : Control) → slice_get machine.controls number ≡ Some control
+    → is_some (deliverable control) ≡ true → GivesEvent machine number
+gives machine number control is some reply event after step = let given = rw is at step in rw given.0 some
+
+gives_none : (machine : Machine) (number : ℕ) (control : Control) → slice_get machine.controls number ≡ Some control
+    → is_some (deliverable control) ≡ false → GivesNone machine number
+gives_none machine number control is none reply event after step =
+    let given = rw is at step in rw given.0 (none_there (deliverable control) none)
+
+-- a control that isn't there gives none
+past_none : (machine : Machine) (number : ℕ) → slice_get machine.controls number ≡ None → GivesNone machine number
+past_none machine number is reply event after step = let given = rw is at step in given.0
+
+-- the same of the controls that a counter keeps
+pub kept_gives : (hs : List KeptControl) (cl : List (Option ℕ)) (ds : List Device) (part : TotalsPart) (number : ℕ) (h : KeptControl) → number < length hs
+    → h ≡ get_or hs number h → is_some (deliverable h.control) ≡ true → GivesEvent (machine_with hs cl ds part) number
+kept_gives hs cl ds part number h within is some = gives (machine_with hs cl ds part) number h.control (kept_at hs number h within is) some
+
+pub kept_none : (hs : List KeptControl) (cl : List (Option ℕ)) (ds : List Device) (part : TotalsPart) (number : ℕ) (h : KeptControl) → number < length hs
+    → h ≡ get_or hs number h → is_some (deliverable h.control) ≡ false → GivesNone (machine_with hs cl ds part) number
+kept_none hs cl ds part number h within is none = gives_none (machine_with hs cl ds part) number h.control (kept_at hs number h within is) none
+
+pub none_past : (hs : List KeptControl) (cl : List (Option ℕ)) (ds : List Device) (part : TotalsPart) (number : ℕ) → length hs ≤ number
+    → GivesNone (machine_with hs cl ds part) number
+none_past hs cl ds part number past =
+    past_none (machine_with hs cl ds part) number (slice_get_past (controls_of hs) number (rw (length-map hs (λ (held : KeptControl). held.control)) past))
+
+-- what is so of each number before one, and of that one, is so of each before the next
+pub each_more : (P : ℕ → Type 0) (from number : ℕ) → ((lower : ℕ) → from ≤ lower → lower < number → P lower) → P number
+    → (lower : ℕ) → from ≤ lower → lower < number + 1 → P lower
+each_more P from number before here lower above below =
+    ⊎_elim (λ less. before lower above less) (λ reached. subst P (omega (arith, below, reached)) here) (cases_lt lower number)
+
+-- what is so of each number before one, and of each from an earlier one on, is so of all
+pub each_all : (P : ℕ → Type 0) (from number end : ℕ) → ((lower : ℕ) → from ≤ lower → lower < number → P lower) → end ≤ number
+    → ((later : ℕ) → end ≤ later → P later) → (any : ℕ) → from ≤ any → P any
+each_all P from number end before over past any above =
+    ⊎_elim (λ less. before any above less) (λ reached. past any (omega (arith, over, reached))) (cases_lt any number)

@@ -1,0 +1,7 @@
+mod OrderLemmas
+mod PrinterLemmas
+mod DisplayLemmas
+mod InputLemmas
+mod LossLemmas
+mod ProgressLemmas
+mod ReplyLemmas

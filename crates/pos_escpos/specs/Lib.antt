@@ -1,0 +1,9 @@
+pub mod BegunReplies
+pub mod DisplayBytes
+pub mod Inputs
+pub mod PrinterBytes
+pub mod PrinterCommands
+pub mod Printers
+pub mod ReceiptProgress
+pub mod Replies
+pub mod Screens

@@ -1,0 +1,7 @@
+pub mod Answers
+pub mod Dump
+pub mod Files
+pub mod Json
+pub mod Load
+pub mod Salvage
+pub mod Texts

@@ -1,0 +1,88 @@
+-- What can be had of damaged totals (docs/reference/tool.md, "salvage").
+use Rattle.std.specs.Prelude.{◌≡◌, ◌++◌, ◌∷◌, ◌-◌, ℕ, List, [], length, true, false, Option, Some, None, Result, Ok, Err, codes, decimal, if◌then◌else◌}
+use Rattle.std.specs.Prelude.{Bool, nat_lt, replicate, slice_set, ⊤}
+use Rattle.pos_image.specs.Layout.{disk_size}
+use Rattle.pos_survey.specs.Damages.{Breaks}
+use Rattle.pos_survey.specs.Tellings.{Tells}
+use Rattle.pos_survey.specs.Words.{words_of}
+use Rattle.pos_survey.specs.declared.fault.Rule.{Rule}
+use Rattle.pos_survey.specs.declared.fault.Rule.TheVariants as rule
+use Rattle.pos_survey.specs.declared.fault.SurveyFault.{SurveyFault}
+use Rattle.pos_survey.specs.declared.fault.SurveyFault.TheVariants.{Damaged}
+use Rattle.pos_survey.specs.declared.survey.Survey.{Survey}
+use Rattle.pos_report.specs.Texts.{joined}
+
+-- where the slot begins in which a place is
+abbrev pub slot_start : ℕ → ℕ
+slot_start at =
+    if nat_lt at 32768 then 0 else if nat_lt at 65536 then 32768 else if nat_lt at 196608 then 65536 else 196608
+
+-- the gate of what breaks a rule at a place: of its slot, or of its record
+abbrev pub gate_of : ℕ → Rule → ℕ
+gate_of at rule.SameSequence = slot_start at
+gate_of at rule.LongBody = slot_start at
+gate_of at (rule.NoFiles flaw) = slot_start at
+gate_of at other = at
+
+-- bytes, with zero bytes behind them up to the length of totals
+abbrev pub padded : List ℕ → List ℕ
+padded bytes = bytes ++ replicate (disk_size - length bytes) 0
+
+-- the rules that were broken, and where, the last one first
+abbrev pub Found : Type 0
+Found = List (ℕ × Rule)
+
+-- bytes in which the gates were closed of what was found, the first one first
+abbrev pub closed : Found → List ℕ → List ℕ
+closed [] bytes = bytes
+closed (found ∷ earlier) bytes = slice_set (closed earlier bytes) (gate_of found.0 found.1) 0
+
+-- a gate that is closed, and why
+abbrev pub lost_line : ℕ → Rule → List ℕ
+lost_line at broken = joined (codes "closed gate " ∷ decimal (gate_of at broken) ∷ codes ", broken at "
+    ∷ decimal at ∷ codes ": " ∷ words_of broken ∷ codes "\n" ∷ [])
+
+-- a line for each of them
+abbrev pub lost_text : Found → List ℕ
+lost_text [] = []
+lost_text (found ∷ earlier) = lost_text earlier ++ lost_line found.0 found.1
+
+-- each rule was broken there, by the bytes in which the gates of those before it were closed
+abbrev pub AreBroken : Found → List ℕ → Type 0
+AreBroken [] bytes = ⊤
+AreBroken (found ∷ earlier) bytes =
+    AreBroken earlier bytes × Breaks (closed earlier bytes) (Damaged found.0 found.1)
+
+-- what is found in bytes: nothing that is damaged, in sound totals; or this rule is broken there
+abbrev pub Finds : List ℕ → Result (Option (ℕ × Rule)) SurveyFault → Type 0
+Finds bytes (Ok None) = (survey : Survey) × Tells bytes survey
+Finds bytes (Ok (Some found)) = Breaks bytes (Damaged found.0 found.1)
+Finds bytes (Err fault) = Breaks bytes fault
+
+-- what one step comes to: nothing is damaged; or something is, its gate is closed, and a line says so
+abbrev pub Steps : List ℕ → List ℕ → Result Bool SurveyFault → List ℕ → List ℕ → Type 0
+Steps old said (Ok true) new told = ((survey : Survey) × Tells new survey) × (new ≡ old) × (told ≡ said)
+Steps old said (Ok false) new told = (at : ℕ) × (broken : Rule) × Breaks old (Damaged at broken)
+    × (new ≡ slice_set old (gate_of at broken) 0) × (told ≡ said ++ lost_line at broken)
+Steps old said (Err fault) new told = Breaks old fault × (new ≡ old)
+
+-- The bytes are those of the source, in which gates were closed of what was damaged and nothing else was changed; and
+-- the text has a line for each.
+pub record IsClosed (source bytes lost : List ℕ) : Type 0 where
+  pub found : Found
+  pub broken : AreBroken found (padded source)
+  pub bytes_are : bytes ≡ closed found (padded source)
+  pub lost_is : lost ≡ lost_text found
+
+-- Such bytes that are sound.
+pub record IsSalvaged (source bytes lost : List ℕ) : Type 0 where
+  pub closes : IsClosed source bytes lost
+  pub survey : Survey
+  pub tells : Tells bytes survey
+
+-- Why no sound bytes are made: such bytes break a rule.
+pub record IsUnsalvaged (source : List ℕ) (fault : SurveyFault) : Type 0 where
+  pub bytes : List ℕ
+  pub lost : List ℕ
+  pub closes : IsClosed source bytes lost
+  pub breaks : Breaks bytes fault

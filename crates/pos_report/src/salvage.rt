@@ -1,0 +1,139 @@
+//! What can be had of damaged totals.
+ghost use Rattle.std.specs.Prelude.{◌≡◌, ◌++◌, IfErr, IfOk, OnOk};
+ghost use Rattle.pos_report.specs.Salvage.{Finds, IsSalvaged, IsUnsalvaged, Steps, gate_of, lost_line, padded, slot_start};
+
+use crate::texts::put_all;
+use itoa::Buffer;
+use pos_survey::{Rule, Survey, SurveyFault, words_of};
+use std::alloc::{AllocError, Global};
+
+// How many bytes totals have.
+const LENGTH: usize = 327_680;
+
+// How often a gate is closed, at most: each slot's, and one of each log.
+const MOST: u32 = 16;
+
+/// Totals that were made of damaged ones: their bytes, and what was lost, as lines of text.
+#[derive(Drop)]
+pub struct Salvaged {
+    /// The bytes.
+    pub bytes: Vec<u8>,
+    /// What was lost: a line for each gate that was closed.
+    pub lost: Vec<u8>,
+}
+
+// Where the slot begins in which a place is.
+fn slot_start(at: u64) -> u64
+    ensures { result ≡ slot_start at }
+{
+    if at < 32_768 {
+        return 0;
+    }
+    if at < 65_536 {
+        return 32_768;
+    }
+    if at < 196_608 {
+        return 65_536;
+    }
+    196_608
+}
+
+// The gate of what breaks a rule at a place: of its slot, or of its record.
+fn gate_of(at: u64, rule: Rule) -> u64
+    ensures { result ≡ gate_of at rule }
+{
+    match rule {
+        Rule::SameSequence | Rule::LongBody | Rule::NoFiles(_) => slot_start(at),
+        _ => at,
+    }
+}
+
+// Puts a line on a gate that is closed at the end of a text.
+fn put_lost(text: &mut Vec<u8>, at: u64, rule: Rule) -> Result<(), AllocError>
+    ensures { OnOk result (text.new.items ≡ text.old.items ++ lost_line at rule) }
+{
+    let mut gate = Buffer::new();
+    let mut place = Buffer::new();
+    put_all(
+        text,
+        &[
+            "closed gate ",
+            gate.format(gate_of(at, rule)),
+            ", broken at ",
+            place.format(at),
+            ": ",
+            words_of(rule),
+            "\n",
+        ],
+    )
+}
+
+// Where totals are damaged, and by which rule, if they are.
+fn find_damage(alloc: Global, bytes: &[u8]) -> Result<Option<(u64, Rule)>, SurveyFault>
+    ensures { Finds bytes.now result }
+{
+    match Survey::of(alloc, bytes) {
+        Ok(_) => Ok(None),
+        Err(SurveyFault::Damaged(at, rule)) => Ok(Some((at, rule))),
+        Err(fault) => Err(fault),
+    }
+}
+
+// Closes the gate of what is damaged in totals, if something is, and says so. Returns whether nothing was.
+fn step(alloc: Global, copy: &mut Vec<u8>, lost: &mut Vec<u8>) -> Result<bool, SurveyFault>
+    ensures { Steps copy.old.items lost.old.items result copy.new.items lost.new.items }
+{
+    let (at, rule) = match find_damage(alloc, copy.as_slice()) {
+        Ok(Some(found)) => found,
+        Ok(None) => return Ok(true),
+        Err(fault) => return Err(fault),
+    };
+    let gate = gate_of(at, rule) as usize;
+    if gate >= copy.len() {
+        return Err(SurveyFault::Damaged(at, rule));
+    }
+    put_lost(lost, at, rule)?;
+    copy[gate] = 0;
+    Ok(false)
+}
+
+// Bytes, with zero bytes behind them up to the length of totals.
+fn padded(alloc: Global, bytes: &[u8]) -> Result<Vec<u8>, AllocError>
+    ensures { IfOk result (λ copy. copy.items ≡ padded bytes.now) }
+{
+    let mut copy = Vec::from_slice(alloc, bytes)?;
+    if bytes.len() < LENGTH {
+        let zeros = vec![in alloc; 0; LENGTH - bytes.len()]?;
+        copy.extend_from_slice(&zeros)?;
+    }
+    Ok(copy)
+}
+
+/// Returns sound totals that are made of these bytes: gates are closed of what is damaged, one after another, until
+/// nothing is. Nothing else is changed, so each file that they hold is of an image and records of these bytes. Missing
+/// bytes at the end count as 0.
+///
+/// # Errors
+///
+/// `Unformatted` if no image is left, and `NoMemory`.
+pub fn salvage_totals(alloc: Global, bytes: &[u8]) -> Result<Salvaged, SurveyFault>
+    ensures ok { IfOk result (λ made. IsSalvaged bytes.now made.bytes.items made.lost.items) }
+    ensures refused { IfErr result (IsUnsalvaged bytes.now) }
+{
+    let Ok(mut copy) = padded(alloc, bytes) else {
+        return Err(SurveyFault::NoMemory);
+    };
+    let mut lost = Vec::new(alloc);
+    for _turn in 0..MOST {
+        match step(alloc, &mut copy, &mut lost) {
+            Ok(true) => return Ok(Salvaged { bytes: copy, lost }),
+            Ok(false) => {}
+            Err(fault) => return Err(fault),
+        }
+    }
+    match find_damage(alloc, copy.as_slice()) {
+        Ok(None) => Ok(Salvaged { bytes: copy, lost }),
+        Ok(Some((at, rule))) => Err(SurveyFault::Damaged(at, rule)),
+        Err(fault) => Err(fault),
+    }
+}

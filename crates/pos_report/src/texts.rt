@@ -1,0 +1,145 @@
+//! What a check and an explanation print.
+ghost use Rattle.std.specs.Prelude.{◌≡◌, ◌≢◌, ◌++◌, IfOk, OnOk, decimal, flat_map};
+ghost use Rattle.pos_survey.specs.declared.fault.SurveyFault.TheVariants.{NoMemory};
+ghost use Rattle.pos_report.specs.Texts.{broken_text, code_text, damage_text, explained, is_meant, layout_number, sound_text};
+
+use crate::codes::Code;
+use itoa::Buffer;
+use pos_image::Layout;
+use pos_survey::{Rule, Survey, SurveyFault, words_of};
+use std::alloc::{AllocError, Global};
+
+/// Puts parts at the end of a text, one after another.
+pub(crate) fn put_all(text: &mut Vec<u8>, parts: &[&str]) -> Result<(), AllocError>
+    ensures { OnOk result (text.new.items ≡ text.old.items ++ flat_map (λ part. part.now) parts.now) }
+{
+    for part in parts {
+        text.extend_from_slice(part.as_bytes())?;
+    }
+    Ok(())
+}
+
+/// Returns the number of a layout.
+pub(crate) fn layout_number(layout: Layout) -> u64
+    ensures { result ≡ layout_number layout }
+{
+    match layout {
+        Layout::Layout1 => 1,
+        Layout::Layout2 => 2,
+    }
+}
+
+/// Returns what a check prints of totals that are sound.
+///
+/// # Errors
+///
+/// [`AllocError`] if memory ran out.
+pub(crate) fn sound_text(alloc: Global, survey: &Survey) -> Result<Vec<u8>, AllocError>
+    ensures { IfOk result (λ text. text.items ≡ sound_text survey.now) }
+{
+    let mut layout = Buffer::new();
+    let mut sequence = Buffer::new();
+    let mut records = Buffer::new();
+    let mut files = Buffer::new();
+    let mut text = Vec::new(alloc);
+    put_all(
+        &mut text,
+        &[
+            "sound: layout ",
+            layout.format(layout_number(survey.slot.layout())),
+            ", sequence ",
+            sequence.format(survey.sequence),
+            ", records ",
+            records.format(survey.records as u64),
+            ", files ",
+            files.format(survey.directory.len() as u64),
+            "\n",
+        ],
+    )?;
+    Ok(text)
+}
+
+// What a check prints of damaged totals.
+fn damage_text(alloc: Global, at: u64, rule: Rule) -> Result<Vec<u8>, AllocError>
+    ensures { IfOk result (λ text. text.items ≡ damage_text at rule) }
+{
+    let mut place = Buffer::new();
+    let mut text = Vec::new(alloc);
+    put_all(
+        &mut text,
+        &["damaged at byte ", place.format(at), ": ", words_of(rule)],
+    )?;
+    text.extend_from_slice(
+        b"\nto do: copy the file before anything else, and let no till open it\n",
+    )?;
+    Ok(text)
+}
+
+/// Returns what a check prints of bytes that are no totals, or damaged ones.
+///
+/// # Errors
+///
+/// [`AllocError`] if memory ran out.
+pub(crate) fn broken_text(alloc: Global, fault: SurveyFault) -> Result<Vec<u8>, AllocError>
+    requires { fault ≢ NoMemory }
+    ensures { IfOk result (λ text. text.items ≡ broken_text fault) }
+{
+    let words = match fault {
+        SurveyFault::Damaged(at, rule) => return damage_text(alloc, at, rule),
+        SurveyFault::TooSmall => {
+            "no totals: shorter than a totals file, which has 327680 bytes\nto do: see that it is the right file\n"
+        }
+        _ => "no totals: not formatted\nto do: `kijolvar create FILE` makes totals without files\n",
+    };
+    Vec::from_slice(alloc, words.as_bytes())
+}
+
+// Whether a word is the number or the name of a code.
+fn is_meant(code: &Code<'_>, word: &str) -> bool
+    ensures { result ≡ is_meant word.now code.now }
+{
+    let mut buffer = Buffer::new();
+    if word == code.name {
+        return true;
+    }
+    word == buffer.format(code.number)
+}
+
+// Puts what a code means at the end of a text.
+fn put_code(text: &mut Vec<u8>, code: &Code<'_>) -> Result<(), AllocError>
+    ensures { OnOk result (text.new.items ≡ text.old.items ++ code_text code.now) }
+{
+    let mut number = Buffer::new();
+    put_all(
+        text,
+        &[
+            code.name,
+            " ",
+            number.format(code.number),
+            ", ",
+            code.kind,
+            ": ",
+            code.meaning,
+            "\nto do: ",
+            code.action,
+            "\n",
+        ],
+    )
+}
+
+/// Returns what all codes mean that have a number or a name.
+///
+/// # Errors
+///
+/// [`AllocError`] if memory ran out.
+pub fn explained(alloc: Global, codes: &[Code<'_>], word: &str) -> Result<Vec<u8>, AllocError>
+    ensures { IfOk result (λ text. text.items ≡ flat_map (explained word.now) codes.now) }
+{
+    let mut text = Vec::new(alloc);
+    for code in codes {
+        if is_meant(code, word) {
+            put_code(&mut text, code)?;
+        }
+    }
+    Ok(text)
+}

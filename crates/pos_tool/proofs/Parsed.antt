@@ -1,0 +1,76 @@
+-- What a parse of the program's words tells of them.
+use Rattle.std.proofs.Common.{◌≡◌, [], ◌∙◌, List, Err, Ok, true, refl, ap, inl, inr}
+use Rattle.std.specs.Prelude.{◌≢◌, Result, Some}
+use Rattle.std.specs.Borrow.{Bor}
+use Rattle.clap.specs.declared.parser.matches.ArgMatches.{ArgMatches}
+use Rattle.clap.specs.Words.{App, HasKind, HasMatchesOf, IsAmong, Text, fault_of, is_simple, is_simple_and_free, kind_of}
+use Rattle.clap.specs.Words.{app_of, new_app, subcommand_rows_of}
+use Rattle.clap.specs.Simple.{app_of_fields, on_top}
+use Rattle.clap.specs.declared.builder.command.Command.{Command}
+use Rattle.clap.specs.declared.builder.command.Command.TheViews.{out-Command as fields_of}
+use Rattle.clap.specs.declared.error.Error.{Error}
+use Rattle.clap.specs.declared.error.kind.ErrorKind.TheVariants.{OutOfMemory}
+use Rattle.clap.proofs.OnLiterals.{clap_on_literals}
+use Rattle.pos_tool.specs.Commands.{Chooses, TellsWhy, command_in}
+use Rattle.pos_tool.specs.Lines.{program_line}
+use Rattle.pos_tool.specs.declared.commands.Task.{Task}
+use Rattle.pos_tool.specs.declared.commands.Task.TheVariants.{Help, Version, Explain, Ask, Create, Migrate, Backup, Restore}
+use Rattle.pos_tool.specs.declared.commands.Task.TheVariants.{Diff, Load, Salvage}
+use Rattle.pos_tool.specs.declared.fault.WordsFault.{WordsFault}
+use Rattle.pos_tool.specs.declared.fault.WordsFault.TheVariants.{Refused, NotUtf8, NoMemory}
+
+-- the program's is a command line of which `clap` says when it refuses words and what it finds in them
+pub program_known : (is_simple_and_free program_line ≡ true) × (is_simple program_line ≡ true)
+unfolding clap_on_literals
+program_known = (refl, refl)
+
+module _ (app : App) (words : List Text) (same : app ≡ program_line) where
+  -- the command that was met is the one in the words
+  pub met : (m : ArgMatches) → HasMatchesOf app words m → subcommand_rows_of m ≡ command_in words
+  met m matches = rw same at (matches (rw same program_known.1)).1
+
+  -- matches come of words without a fault
+  pub accepted : (is_simple_and_free app ≡ true → fault_of app words ≡ []) → fault_of program_line words ≡ []
+  accepted kinds = rw same at (kinds (rw same program_known.0))
+
+  -- an error of another kind than memory is a fault in the words
+  among : (error : Error) → (is_simple_and_free app ≡ true → HasKind (fault_of app words) error) → kind_of error ≢ OutOfMemory
+      → IsAmong (kind_of error) (fault_of program_line words)
+  among error kinds other = by (rw same at (kinds (rw same program_known.0)))
+    where
+      by : HasKind (fault_of program_line words) error → IsAmong (kind_of error) (fault_of program_line words)
+      by (inl memory) = absurd (other memory)
+      by (inr is) = is
+
+  -- what is made of an error is what the words ask for
+  pub told : (error : Error) (result : Result Task WordsFault) → (is_simple_and_free app ≡ true → HasKind (fault_of app words) error)
+      → TellsWhy error result → Chooses words result
+  told error (Ok Help) kinds why = inr (rw why at (among error kinds (λ memory. cc)))
+  told error (Ok Version) kinds why = inr (rw why at (among error kinds (λ memory. cc)))
+  told error (Ok (Explain code)) kinds why = absurd why
+  told error (Ok (Ask file question)) kinds why = absurd why
+  told error (Ok (Create file)) kinds why = absurd why
+  told error (Ok (Migrate file)) kinds why = absurd why
+  told error (Ok (Backup file to)) kinds why = absurd why
+  told error (Ok (Restore from file replaces)) kinds why = absurd why
+  told error (Ok (Diff file other)) kinds why = absurd why
+  told error (Ok (Load text file)) kinds why = absurd why
+  told error (Ok (Salvage file to)) kinds why = absurd why
+  told error (Err (Refused refusal)) kinds why = rw why.0 (among error kinds why.1)
+  told error (Err NotUtf8) kinds why = absurd why
+  told error (Err NoMemory) kinds why = tt
+
+-- a program's command line as it begins: its name isn't among the words, and `clap`'s own `help` is no command
+pub begun : (name : Text) (new unnamed started : Command) → app_of new ≡ new_app name
+    → fields_of unnamed ≡ record (fields_of new) { no_binary_name = true }
+    → fields_of started ≡ record (fields_of unnamed) { disable_help_subcommand = true }
+    → app_of started ≡ on_top (λ s. record s { no_binary_name = true; disable_help_subcommand = true }) (new_app name)
+begun name new unnamed started is first second =
+    ap app_of_fields second
+    ∙ ap (on_top (λ s. record s { disable_help_subcommand = true }))
+    (ap app_of_fields first ∙ ap (on_top (λ s. record s { no_binary_name = true })) is)
+
+-- a version on a command line
+pub versioned : (text : Bor Text) (old new : Command) (before : App) → app_of old ≡ before → fields_of new ≡ record (fields_of old) { version = Some text }
+    → app_of new ≡ on_top (λ s. record s { has_version = true }) before
+versioned text old new before is third = ap app_of_fields third ∙ ap (on_top (λ s. record s { has_version = true })) is

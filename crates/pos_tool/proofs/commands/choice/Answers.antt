@@ -1,0 +1,19 @@
+use Rattle.std.proofs.Common.{inl, map, subst}
+use Rattle.clap.specs.Words.{app_of}
+use Rattle.pos_tool.proofs.Parsed.{accepted, met, told}
+use Rattle.pos_tool.specs.Commands.{Asks}
+use Rattle.pos_tool.proofs.commands.choice.Goals as goal
+
+pub returns-in-Ok-try_get_matches_from : goal.returns-in-Ok-try_get_matches_from
+returns-in-Ok-try_get_matches_from g c =
+    let words = map g.S.AsStr.text c.args.words.now in
+    let parse = c.in-Ok-try_get_matches_from in
+    inl (
+      accepted (app_of c.in-Ok.line) words c.in-Ok.ensures parse.ensures.kinds,
+      subst (λ found. Asks found c.task_of.result) (met (app_of c.in-Ok.line) words c.in-Ok.ensures parse.matches parse.ensures.matches) c.task_of.ensures,
+    )
+
+pub returns-in-Err : goal.returns-in-Err
+returns-in-Err g c =
+    told (app_of c.in-Ok.line) (map g.S.AsStr.text c.args.words.now) c.in-Ok.ensures c.in-Err.error c.task_of_error.result c.in-Err.ensures.kinds
+    c.task_of_error.ensures

@@ -1,0 +1,162 @@
+-- What copying totals files comes to (docs/reference/tool.md, "backup" and "restore").
+use Rattle.std.specs.Prelude.{◌≡◌, ◌≢◌, ◌⊎◌, ◌++◌, ◌∷◌, [], ℕ, List, length, Bool, true, false, Option, Some, None}
+use Rattle.std.specs.Prelude.{Result, Ok, Err, Vec}
+use Rattle.pos_file.specs.Calls.{Call, read_call}
+use Rattle.pos_file.specs.Disks.{Asks}
+use Rattle.pos_file.specs.declared.file_disk.FileDisk.{FileDisk}
+use Rattle.pos_image.specs.Layout.{disk_size}
+use Rattle.pos_mirror.specs.Mirror.{Mirror}
+use Rattle.pos_program.specs.Answers.{AnswersFor}
+use Rattle.pos_program.specs.Faults.{TellsUnreadable}
+use Rattle.pos_program.specs.TotalsDisks.{AreRead, OpensFile, OpensTotals, ReadsTotals, to_read}
+use Rattle.pos_program.specs.declared.file_fault.FileFault.{FileFault}
+use Rattle.pos_program.specs.declared.file_fault.FileFault.TheVariants as file
+use Rattle.pos_program.specs.declared.file_system.FileSystem.{Ghosts as SystemGhosts}
+use Rattle.pos_survey.specs.Damages.{Breaks}
+use Rattle.pos_survey.specs.Tellings.{Tells}
+use Rattle.pos_survey.specs.declared.fault.SurveyFault.{SurveyFault}
+use Rattle.pos_survey.specs.declared.survey.Survey.{Survey}
+use Rattle.pos_tool.specs.Telling.{EndsAtFile}
+use Rattle.pos_tool.specs.Whole.{Puts, Replaces}
+use Rattle.pos_tool.specs.declared.fault.Fault.{Fault}
+use Rattle.pos_tool.specs.declared.fault.Fault.TheVariants as fault
+use Rattle.pos_tool.specs.declared.folder.Folder.{Ghosts as FolderGhosts}
+use Rattle.pos_report.specs.declared.question.Finding.{Finding}
+use Rattle.pos_report.specs.declared.question.Finding.TheVariants.{Good}
+use Rattle.pos_tool.specs.declared.whole.WholeFault.{WholeFault}
+
+-- one read from the start of a file that gave all of these bytes
+abbrev pub front_read : List ℕ → Call
+front_read bytes = read_call 0 bytes (Some disk_size)
+
+-- a file was asked for its first bytes, and gave these, as many as totals have
+abbrev pub ReadsFront : {F : Type 0} → (F → List Call) → F → F → List ℕ → Type 0
+ReadsFront calls old new bytes = Asks calls old new (front_read bytes ∷ []) × (length bytes ≡ disk_size)
+
+-- the last two calls of a file are readings of its first bytes, and gave these
+abbrev pub LastGave : {F : Type 0} → (F → List Call) → F → List ℕ → List ℕ → Type 0
+LastGave calls file one other = (before : List Call) × (calls file ≡ before ++ front_read one ∷ front_read other ∷ [])
+
+-- the last two readings of a file gave the same bytes, as many as totals have
+abbrev pub IsSteady : {F : Type 0} → (F → List Call) → F → List ℕ → Type 0
+IsSteady calls file bytes = LastGave calls file bytes bytes × (length bytes ≡ disk_size)
+
+-- the last two readings of a file gave different bytes
+abbrev pub IsUnsteady : {F : Type 0} → (F → List Call) → F → Type 0
+IsUnsteady calls file = (one : List ℕ) × (other : List ℕ) × LastGave calls file one other × (one ≢ other)
+
+-- bytes that were given, or not, as a list
+abbrev pub lent : {A : Type 0} → Option (Vec ℕ A) → Option (List ℕ)
+lent None = None
+lent (Some bytes) = Some bytes.items
+
+-- a file was read twice: these are the bytes if both readings gave the same
+abbrev pub ReadsTwice : {F : Type 0} → (F → List Call) → F → Option (List ℕ) → Type 0
+ReadsTwice calls file (Some bytes) = IsSteady calls file bytes
+ReadsTwice calls file None = IsUnsteady calls file
+
+-- why the bytes of a file aren't read
+abbrev pub IsUnread : FileFault → Type 0
+IsUnread why = (why ≡ file.NoMemory) ⊎ (why ≡ file.Short) ⊎ (why ≡ file.NotRead)
+
+-- what reading the bytes of a file that may be written meanwhile comes to
+abbrev pub ReadsSteady : {F : Type 0} → (F → List Call) → F → Result (List ℕ) FileFault → Type 0
+ReadsSteady calls after (Ok bytes) = IsSteady calls after bytes
+ReadsSteady calls after (Err file.InUse) = IsUnsteady calls after
+ReadsSteady calls after (Err why) = IsUnread why
+
+-- what reading the bytes of an open file comes to, which wasn't asked anything yet
+abbrev pub ReadsOpened : {F : Type 0} → (F → List Call) → F → Result (List ℕ) FileFault → Type 0
+ReadsOpened {F} calls opened result = (calls opened ≡ []) × ((after : F) × ReadsSteady calls after result)
+
+-- what reading the totals file at a path comes to, which a till may be writing: it is opened to be read alone
+abbrev pub TakesSnapshot : {S F : Type 0} → SystemGhosts S F → (F → List Call) → S → List ℕ
+    → Result (List ℕ) FileFault → Type 0
+TakesSnapshot {F = F} system calls them path result =
+    (opened : Result F FileFault) × OpensFile system TellsUnreadable them to_read path opened
+    × AnswersFor (ReadsOpened calls) opened result
+
+-- whether bytes are those of sound totals: a survey tells what they hold, or which rule they break
+abbrev pub ChecksSound : List ℕ → Result (Unit {0}) SurveyFault → Type 0
+ChecksSound bytes (Ok u) = (survey : Survey) × Tells bytes survey
+ChecksSound bytes (Err cause) = Breaks bytes cause
+
+-- what is answered of a file that was to be made, to the program
+abbrev pub EndsCopy : List ℕ → Result (Unit {0}) WholeFault → Result Finding Fault → Type 0
+EndsCopy path (Ok u) result = result ≡ Ok Good
+EndsCopy path (Err cause) (Err (fault.Whole at why)) = (at.now ≡ path) × (why ≡ cause)
+EndsCopy path (Err cause) other = ⊥
+
+-- what is answered of the bytes of the totals file at a path, if they aren't sound
+abbrev pub EndsUnsound : List ℕ → SurveyFault → Result Finding Fault → Type 0
+EndsUnsound path cause (Err (fault.Totals at why)) = (at.now ≡ path) × (why ≡ cause)
+EndsUnsound path cause other = ⊥
+
+-- a file with these bytes is made at a path where none is
+abbrev pub PutsNew : {S F : Type 0} → SystemGhosts S F → FolderGhosts S → (F → List Call) → S → List ℕ → List ℕ
+    → Result Finding Fault → Type 0
+PutsNew system folder calls them path bytes result =
+    (answer : Result (Unit {0}) WholeFault) × Puts system folder calls them path bytes answer
+    × EndsCopy path answer result
+
+-- what becomes of the bytes of the totals file at a path, by whether they are sound
+abbrev pub CopiesSound : List ℕ → (Result Finding Fault → Type 0) → Result (Unit {0}) SurveyFault
+    → Result Finding Fault → Type 0
+CopiesSound from Copies (Ok u) result = Copies result
+CopiesSound from Copies (Err cause) result = EndsUnsound from cause result
+
+-- what becomes of them: they are copied if they are sound
+abbrev pub CopiesBytes : List ℕ → (List ℕ → Result Finding Fault → Type 0) → List ℕ → Result Finding Fault → Type 0
+CopiesBytes from Copies bytes result =
+    (sound : Result (Unit {0}) SurveyFault) × ChecksSound bytes sound × CopiesSound from (Copies bytes) sound result
+
+-- a file with these bytes takes the place of the one at a path, which is opened and locked for this program alone
+abbrev pub PutsOver : {S F : Type 0} → SystemGhosts S F → FolderGhosts S → (F → List Call) → S → List ℕ → List ℕ
+    → Result (Mirror (FileDisk F)) FileFault → Result Finding Fault → Type 0
+PutsOver system folder calls them path bytes (Ok held) result =
+    (answer : Result (Unit {0}) WholeFault) × Replaces system folder calls them path bytes answer
+    × EndsCopy path answer result
+PutsOver system folder calls them path bytes (Err cause) result = EndsAtFile path cause result
+
+-- a file with these bytes is put at a path
+abbrev pub PutsBack : {S F : Type 0} → SystemGhosts S F → FolderGhosts S → (F → List Call) → S → List ℕ → List ℕ
+    → Bool → Result Finding Fault → Type 0
+PutsBack system folder calls them path bytes false result = PutsNew system folder calls them path bytes result
+PutsBack {F = F} system folder calls them path bytes true result =
+    (held : Result (Mirror (FileDisk F)) FileFault) × OpensTotals system calls them path held
+    × PutsOver system folder calls them path bytes held result
+
+-- what putting the bytes of the totals file at one path to another comes to: they are sound, and the file has them
+abbrev pub CopiesTo : {S F : Type 0} → SystemGhosts S F → FolderGhosts S → (F → List Call) → S → List ℕ → List ℕ
+    → Bool → List ℕ → Result Finding Fault → Type 0
+CopiesTo system folder calls them from to replaces bytes result =
+    CopiesBytes from (λ bytes. PutsBack system folder calls them to bytes replaces) bytes result
+
+-- what becomes of the bytes of a totals file, if they could be read
+abbrev pub CopiesTaken : {S F : Type 0} → SystemGhosts S F → FolderGhosts S → (F → List Call) → S → List ℕ → List ℕ
+    → Result (List ℕ) FileFault → Result Finding Fault → Type 0
+CopiesTaken system folder calls them from to (Ok bytes) result =
+    CopiesTo system folder calls them from to false bytes result
+CopiesTaken system folder calls them from to (Err cause) result = EndsAtFile from cause result
+
+-- What a backup comes to: the bytes that two readings of the source gave, one right after the other, are those of sound
+-- totals, and a new file has them.
+abbrev pub BacksUp : {S F : Type 0} → SystemGhosts S F → FolderGhosts S → (F → List Call) → S → List ℕ → List ℕ
+    → Result Finding Fault → Type 0
+BacksUp system folder calls them from to result =
+    (taken : Result (List ℕ) FileFault) × TakesSnapshot system calls them from taken
+    × CopiesTaken system folder calls them from to taken result
+
+-- what becomes of totals that were only read
+abbrev pub RestoresRead : {S F : Type 0} → SystemGhosts S F → FolderGhosts S → (F → List Call) → S → List ℕ → List ℕ
+    → Bool → Result (Mirror (FileDisk F)) FileFault → Result Finding Fault → Type 0
+RestoresRead system folder calls them from to replaces (Ok totals) result = AreRead calls totals
+    × CopiesTo system folder calls them from to replaces totals.memory.present.reading result
+RestoresRead system folder calls them from to replaces (Err cause) result = EndsAtFile from cause result
+
+-- What putting a copy back comes to: the bytes that were read of it are those of sound totals, and the file has them.
+abbrev pub Restores : {S F : Type 0} → SystemGhosts S F → FolderGhosts S → (F → List Call) → S → List ℕ → List ℕ
+    → Bool → Result Finding Fault → Type 0
+Restores {F = F} system folder calls them from to replaces result =
+    (opened : Result (Mirror (FileDisk F)) FileFault) × ReadsTotals system calls them from opened
+    × RestoresRead system folder calls them from to replaces opened result

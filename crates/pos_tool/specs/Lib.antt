@@ -1,0 +1,10 @@
+pub mod Commands
+pub mod Copies
+pub mod Differing
+pub mod Faults
+pub mod Lines
+pub mod Making
+pub mod Outputs
+pub mod Program
+pub mod Telling
+pub mod Whole

@@ -1,0 +1,113 @@
+-- What the program does for its words, and how it ends (docs/reference/tool.md).
+use Rattle.std.specs.Prelude.{◌≡◌, ◌≢◌, ℕ, List, [], Result, Ok, Err, Vec, map, flat_map, ⊤}
+use Rattle.pos_file.specs.declared.block_file.BlockFile.{Ghosts as FileGhosts}
+use Rattle.pos_program.specs.Formatting.{FormatsFile}
+use Rattle.pos_program.specs.Migrating.{MigratesFile}
+use Rattle.pos_program.specs.declared.choice_fault.ChoiceFault.{ChoiceFault}
+use Rattle.pos_program.specs.declared.choice_fault.ChoiceFault.TheVariants as unread
+use Rattle.pos_program.specs.declared.file_fault.FileFault.{FileFault}
+use Rattle.pos_program.specs.declared.file_system.FileSystem.{Ghosts as SystemGhosts}
+use Rattle.pos_program.specs.declared.named_files.NamedFiles.{Ghosts}
+use Rattle.pos_tool.specs.Commands.{Chooses}
+use Rattle.pos_tool.specs.Copies.{BacksUp, Restores}
+use Rattle.pos_tool.specs.Differing.{TellsDifference}
+use Rattle.pos_tool.specs.Faults.{status_of}
+use Rattle.pos_tool.specs.Making.{Loads, Salvages}
+use Rattle.pos_tool.specs.Outputs.{Output}
+use Rattle.pos_tool.specs.Telling.{EndsAtFile, Prints, TellsFile}
+use Rattle.pos_report.specs.Texts.{explained}
+use Rattle.pos_report.specs.declared.codes.Code.{Code}
+use Rattle.pos_tool.specs.declared.commands.Task.{Task}
+use Rattle.pos_tool.specs.declared.commands.Task.TheVariants.{Help, Version, Explain, Ask, Create, Migrate, Backup, Restore}
+use Rattle.pos_tool.specs.declared.commands.Task.TheVariants.{Diff, Load, Salvage}
+use Rattle.pos_tool.specs.declared.fault.Fault.{Fault}
+use Rattle.pos_tool.specs.declared.fault.Fault.TheVariants as fault
+use Rattle.pos_tool.specs.declared.fault.WordsFault.{WordsFault}
+use Rattle.pos_tool.specs.declared.fault.WordsFault.TheVariants as words
+use Rattle.pos_tool.specs.declared.folder.Folder.{Ghosts as FolderGhosts}
+use Rattle.pos_tool.specs.declared.program.Pages.{Pages}
+use Rattle.pos_report.specs.declared.question.Finding.{Finding}
+use Rattle.pos_report.specs.declared.question.Finding.TheVariants.{Good}
+
+-- what some of these codes mean is printed, by a word for their number or name; nothing if it is none's
+abbrev pub Explains : List Code → List ℕ → Output → Output → Result Finding Fault → Type 0
+Explains known word old new (Err (fault.NoCode code)) =
+    (code.now ≡ word) × (flat_map (explained word) known ≡ []) × (new ≡ old)
+Explains known word old new (Err fault.NoMemory) = new ≡ old
+Explains known word old new result =
+    (flat_map (explained word) known ≢ []) × Prints (flat_map (explained word) known) old new result
+
+-- what is answered of the totals file at a path, to the program
+abbrev pub EndsAt : List ℕ → Result (Unit {0}) FileFault → Result Finding Fault → Type 0
+EndsAt path (Ok u) result = result ≡ Ok Good
+EndsAt path (Err cause) result = EndsAtFile path cause result
+
+-- it formats the totals in the file at a path
+abbrev pub EndsFormat : {F B : Type 0} → Ghosts F B → FileGhosts B → F → List ℕ → Result Finding Fault → Type 0
+EndsFormat files below them path result =
+    (answer : Result (Unit {0}) FileFault) × FormatsFile files below.calls them path answer
+    × EndsAt path answer result
+
+-- it moves the totals in the file at a path to layout 2
+abbrev pub EndsMove : {F B : Type 0} → Ghosts F B → FileGhosts B → F → List ℕ → Result Finding Fault → Type 0
+EndsMove files below them path result =
+    (answer : Result (Unit {0}) FileFault) × MigratesFile files below.calls them path answer
+    × EndsAt path answer result
+
+-- what it does for a task, over these files and pages, by how its output stood before, and after
+abbrev pub Does : {F B S G : Type 0} → Ghosts F B → FileGhosts B → F → SystemGhosts S G → FolderGhosts S → FileGhosts G
+    → S → Pages → Task → Output → Output → Result Finding Fault → Type 0
+Does files below them system folder under it pages Help old new result = Prints pages.help.now old new result
+Does files below them system folder under it pages Version old new result = Prints pages.version_line.now old new result
+Does files below them system folder under it pages (Explain code) old new result =
+    Explains pages.codes.now code.now old new result
+Does files below them system folder under it pages (Ask file question) old new result =
+    TellsFile files below them file.now question old new result
+Does files below them system folder under it pages (Create file) old new result =
+    EndsFormat files below them file.now result × (new ≡ old)
+Does files below them system folder under it pages (Migrate file) old new result =
+    EndsMove files below them file.now result × (new ≡ old)
+Does files below them system folder under it pages (Backup file to) old new result =
+    BacksUp system folder under.calls it file.now to.now result × (new ≡ old)
+Does files below them system folder under it pages (Restore from file replaces) old new result =
+    Restores system folder under.calls it from.now file.now replaces result × (new ≡ old)
+Does files below them system folder under it pages (Diff file other) old new result =
+    TellsDifference files below them file.now other.now old new result
+Does files below them system folder under it pages (Load text file) old new result =
+    Loads system folder under.calls it text.now file.now result × (new ≡ old)
+Does files below them system folder under it pages (Salvage file to) old new result =
+    Salvages system folder under.calls it file.now to.now old new result
+
+-- what it does for what the words ask for: nothing where they ask for nothing
+abbrev pub DoesChosen : (Task → Output → Output → Result Finding Fault → Type 0) → Result Task WordsFault → Output
+    → Output → Result Finding Fault → Type 0
+DoesChosen DoesTask (Ok task) old new result = DoesTask task old new result
+DoesChosen DoesTask (Err why) old new result = (result ≡ Err (fault.Words why)) × (new ≡ old)
+
+-- what it does for words
+abbrev pub DoesAsAsked : {F B S G : Type 0} → Ghosts F B → FileGhosts B → F → SystemGhosts S G → FolderGhosts S
+    → FileGhosts G → S → Pages → List (List ℕ) → Output → Output → Result Finding Fault → Type 0
+DoesAsAsked files below them system folder under it pages words old new result =
+    (chosen : Result Task WordsFault) × Chooses words chosen
+    × DoesChosen (Does files below them system folder under it pages) chosen old new result
+
+-- why words that couldn't be read ask for nothing
+abbrev pub fault_of_unread : ChoiceFault → WordsFault
+fault_of_unread unread.NoMemory = words.NoMemory
+fault_of_unread other = words.NotUtf8
+
+-- what it does for words that were read, or not
+abbrev pub DoesAsRead : {T A : Type 0} → (List (List ℕ) → Output → Output → Result Finding Fault → Type 0)
+    → (T → List ℕ) → Result (Vec T A) ChoiceFault → Output → Output → Result Finding Fault → Type 0
+DoesAsRead DoesWords text (Ok words) old new result = DoesWords (map text words.items) old new result
+DoesAsRead DoesWords text (Err why) old new result =
+    (result ≡ Err (fault.Words (fault_of_unread why))) × (new ≡ old)
+
+-- The whole program, by its words, its files, the file system that they are in, its pages, how its output stood before
+-- and after, and the status that it ends with.
+pub record Performs {F B S G T A : Type 0} (files : Ghosts F B) (below : FileGhosts B) (them : F)
+    (system : SystemGhosts S G) (folder : FolderGhosts S) (under : FileGhosts G) (it : S) (pages : Pages)
+    (text : T → List ℕ) (words : Result (Vec T A) ChoiceFault) (old new : Output) (ended : ℕ) : Type 0 where
+  pub outcome : Result Finding Fault
+  pub done : DoesAsRead (DoesAsAsked files below them system folder under it pages) text words old new outcome
+  pub ends : ended ≡ status_of outcome

@@ -1,0 +1,97 @@
+-- How a file appears whole or not at all (docs/reference/tool.md, "backup").
+use Rattle.std.specs.Prelude.{◌≡◌, ◌⊎◌, ◌++◌, ◌∷◌, [], ℕ, List, length, true, false, Option, Some, None, Result, Ok, Err}
+use Rattle.std.specs.Prelude.{codes}
+use Rattle.std.specs.Fs.{new_options, with_create_new, with_write}
+use Rattle.std.specs.declared.fs.options.OpenOptions.{OpenOptions}
+use Rattle.std.specs.declared.io.Error.{Error}
+use Rattle.pos_file.specs.Calls.{Call, is_whole, sync_call, write_call}
+use Rattle.pos_file.specs.Disks.{Asks}
+use Rattle.pos_program.specs.Answers.{Passes}
+use Rattle.pos_program.specs.TotalsDisks.{SyncsFolder}
+use Rattle.pos_program.specs.declared.file_fault.FileFault.{FileFault}
+use Rattle.pos_program.specs.declared.file_system.FileSystem.{Ghosts as SystemGhosts}
+use Rattle.pos_tool.specs.declared.folder.Folder.{Ghosts as FolderGhosts}
+use Rattle.pos_tool.specs.declared.whole.WholeFault.{WholeFault}
+use Rattle.pos_tool.specs.declared.whole.WholeFault.TheVariants as fault
+
+-- how a file is opened that is made, and isn't there
+abbrev pub to_make : OpenOptions
+to_make = with_create_new (with_write new_options true) true
+
+-- what writing all bytes to a file and syncing it comes to: it is asked these two, and nothing else
+abbrev pub WritesWhole : {F : Type 0} → (F → List Call) → F → F → List ℕ → Result (Unit {0}) WholeFault → Type 0
+WritesWhole calls old new bytes (Ok u) =
+    Asks calls old new (write_call 0 bytes (Some (length bytes)) ∷ sync_call (Some 0) ∷ [])
+WritesWhole calls old new bytes (Err why) = (why ≡ fault.Unwritten)
+    × (((moved : Option ℕ) × (is_whole (length bytes) moved ≡ false)
+    × Asks calls old new (write_call 0 bytes moved ∷ []))
+    ⊎ Asks calls old new (write_call 0 bytes (Some (length bytes)) ∷ sync_call None ∷ []))
+
+-- what making a new file with these bytes comes to, if this is what opening it answered
+abbrev pub WritesOpened : {F : Type 0} → (F → List Call) → Result F Error → List ℕ → Result (Unit {0}) WholeFault
+    → Type 0
+WritesOpened {F} calls (Ok file) bytes result =
+    (calls file ≡ []) × ((after : F) × WritesWhole calls file after bytes result)
+WritesOpened calls (Err cause) bytes result = result ≡ Err (fault.Part cause)
+
+-- what making a new file with these bytes comes to
+abbrev pub WritesPart : {S F : Type 0} → SystemGhosts S F → (F → List Call) → S → List ℕ → List ℕ
+    → Result (Unit {0}) WholeFault → Type 0
+WritesPart {F = F} system calls them part bytes result =
+    (opened : Result F Error) × system.opens them to_make part opened × WritesOpened calls opened bytes result
+
+-- what making the name of a file stay comes to
+abbrev pub Settles : {S F : Type 0} → SystemGhosts S F → S → List ℕ → Result (Unit {0}) WholeFault → Type 0
+Settles system them path result =
+    (synced : Result (Unit {0}) FileFault) × SyncsFolder system them path synced
+    × Passes (λ cause why. why ≡ fault.Unsynced cause) synced result
+
+-- what follows an answer: at Ok this, and else the fault that it is told as
+abbrev pub Follows : (Error → WholeFault) → Type 0 → Result (Unit {0}) Error → Result (Unit {0}) WholeFault → Type 0
+Follows tell next (Ok u) result = next
+Follows tell next (Err cause) result = result ≡ Err (tell cause)
+
+-- what giving a whole file its name, and taking away the first one, comes to
+abbrev pub LinksPart : {S F : Type 0} → SystemGhosts S F → FolderGhosts S → S → List ℕ → List ℕ
+    → Result (Unit {0}) WholeFault → Type 0
+LinksPart system folder them part path result =
+    (linked : Result (Unit {0}) Error) × folder.links them part path linked
+    × Follows fault.Link ((removed : Result (Unit {0}) Error) × folder.removes them part removed
+    × Follows fault.Left (Settles system them path result) removed result) linked result
+
+-- what comes next, after a step that did what it should
+abbrev pub Then : Result (Unit {0}) WholeFault → Type 0 → Result (Unit {0}) WholeFault → Type 0
+Then (Ok u) next result = next
+Then (Err why) next result = result ≡ Err why
+
+-- what is made of a file beside another one: its fault, or what comes next
+abbrev pub Continues : (Result (Unit {0}) WholeFault → Type 0) → Type 0 → Result (Unit {0}) WholeFault → Type 0
+Continues Writes next result =
+    (written : Result (Unit {0}) WholeFault) × Writes written
+    × Then written next result
+
+-- What making a file with these bytes at a path comes to: want of memory; or they are written to the file beside it,
+-- and after that it gets its name.
+abbrev pub Puts : {S F : Type 0} → SystemGhosts S F → FolderGhosts S → (F → List Call) → S → List ℕ → List ℕ
+    → Result (Unit {0}) WholeFault → Type 0
+Puts system folder calls them path bytes result =
+    (result ≡ Err fault.NoMemory)
+    ⊎ Continues (WritesPart system calls them (path ++ codes ".part") bytes)
+    (LinksPart system folder them (path ++ codes ".part") path result) result
+
+-- what keeping a file under a second name, and putting another one in its place, comes to
+abbrev pub SetsAside : {S F : Type 0} → SystemGhosts S F → FolderGhosts S → S → List ℕ → List ℕ → List ℕ
+    → Result (Unit {0}) WholeFault → Type 0
+SetsAside system folder them part path old result =
+    (linked : Result (Unit {0}) Error) × folder.links them path old linked
+    × Follows fault.Aside ((renamed : Result (Unit {0}) Error) × folder.renames them part path renamed
+    × Follows fault.Link (Settles system them path result) renamed result) linked result
+
+-- What putting a file with these bytes in place of the one at a path comes to: want of memory; or they are written to
+-- the file beside it, then the old file gets a second name, and then the new one takes its place.
+abbrev pub Replaces : {S F : Type 0} → SystemGhosts S F → FolderGhosts S → (F → List Call) → S → List ℕ → List ℕ
+    → Result (Unit {0}) WholeFault → Type 0
+Replaces system folder calls them path bytes result =
+    (result ≡ Err fault.NoMemory)
+    ⊎ Continues (WritesPart system calls them (path ++ codes ".part") bytes)
+    (SetsAside system folder them (path ++ codes ".part") path (path ++ codes ".old") result) result

@@ -1,0 +1,228 @@
+//! What the words of the command line ask for.
+ghost use Rattle.std.specs.Prelude.{◌≡◌, map};
+ghost use Rattle.clap.specs.Words.{found_of, rows_of, subcommand_rows_of};
+ghost use Rattle.pos_tool.specs.Commands.{Asks, AsksOf, Chooses, MakesOf, PrintsOf, TellsWhy, is_given, word_in};
+
+use crate::fault::WordsFault;
+use crate::line::program_line;
+use clap::ArgMatches;
+use clap::error::ErrorKind;
+use pos_report::Question;
+use std::alloc::Global;
+use std::convert::AsStr;
+
+/// What the words of the command line ask for. A path is its word as it stands.
+#[derive(Clone, Copy)]
+pub enum Task<'a> {
+    /// No words, `help`, `--help` or `-h`: to print the help.
+    Help,
+    /// `version`, `--version` or `-V`: to print the version.
+    Version,
+    /// `explain CODE`: to print what a code means.
+    Explain {
+        /// The code's number or name.
+        code: &'a str,
+    },
+    /// `check FILE`, `files FILE`, `dump FILE` and `cat FILE NAME`: to answer a question about a totals file.
+    Ask {
+        /// The totals file.
+        file: &'a str,
+        /// The question.
+        question: Question<'a>,
+    },
+    /// `create FILE`: to format the totals in a file.
+    Create {
+        /// The totals file.
+        file: &'a str,
+    },
+    /// `migrate FILE`: to move the totals in a file to layout 2.
+    Migrate {
+        /// The totals file.
+        file: &'a str,
+    },
+    /// `backup FILE TO`: to copy a totals file, which a till may be using.
+    Backup {
+        /// The totals file.
+        file: &'a str,
+        /// The copy.
+        to: &'a str,
+    },
+    /// `restore FROM FILE`: to put a copy back.
+    Restore {
+        /// The copy.
+        from: &'a str,
+        /// The totals file.
+        file: &'a str,
+        /// Whether it may take the place of a file.
+        replaces: bool,
+    },
+    /// `diff FILE OTHER`: to print how the files of two totals differ.
+    Diff {
+        /// A totals file.
+        file: &'a str,
+        /// Another one.
+        other: &'a str,
+    },
+    /// `load TEXT FILE`: to make a totals file of a dump.
+    Load {
+        /// The dump.
+        text: &'a str,
+        /// The totals file.
+        file: &'a str,
+    },
+    /// `salvage FILE TO`: to make sound totals of damaged ones.
+    Salvage {
+        /// The damaged totals file.
+        file: &'a str,
+        /// The sound one.
+        to: &'a str,
+    },
+}
+
+// What `clap` says where it gives no matches: it was asked for help or the version, or it refuses the words.
+fn task_of_error<'a>(error: clap::Error) -> Result<Task<'a>, WordsFault>
+    ensures { TellsWhy error result }
+{
+    let kind = error.kind();
+    if kind == ErrorKind::OutOfMemory {
+        return Err(WordsFault::NoMemory);
+    }
+    if kind == ErrorKind::DisplayHelp {
+        return Ok(Task::Help);
+    }
+    if kind == ErrorKind::DisplayVersion {
+        return Ok(Task::Version);
+    }
+    Err(WordsFault::Refused(error))
+}
+
+// The word that the matches of a command hold of a place.
+fn word_in<'a>(found: &ArgMatches<'a>, place: &str) -> &'a str
+    ensures { result.now ≡ word_in place.now (rows_of (found_of found.now)) }
+{
+    match found.get_str(place) {
+        Some(word) => word,
+        None => "",
+    }
+}
+
+// Whether the matches of a command hold an option.
+fn is_given(found: &ArgMatches<'_>, option: &str) -> bool
+    ensures { result ≡ is_given option.now (rows_of (found_of found.now)) }
+{
+    word_in(found, option) == "true"
+}
+
+// What the matches of a command ask of a totals file, if it asks something.
+fn question_of<'a>(command: &str, found: &ArgMatches<'a>) -> Option<Question<'a>>
+    ensures { AsksOf command.now (rows_of (found_of found.now)) result }
+{
+    if command == "check" {
+        let quiet = is_given(found, "quiet");
+        return Some(Question::Check { quiet });
+    }
+    if command == "files" {
+        let json = is_given(found, "json");
+        return Some(Question::Files { json });
+    }
+    if command == "dump" {
+        return Some(Question::Dump);
+    }
+    if command == "cat" {
+        let name = word_in(found, "NAME");
+        let hex = is_given(found, "hex");
+        return Some(Question::Cat { name, hex });
+    }
+    None
+}
+
+// What the matches of a command ask to be made, if something is.
+fn making_of<'a>(command: &str, found: &ArgMatches<'a>) -> Option<Task<'a>>
+    ensures { MakesOf command.now (rows_of (found_of found.now)) result }
+{
+    let file = word_in(found, "FILE");
+    let to = word_in(found, "TO");
+    if command == "create" {
+        return Some(Task::Create { file });
+    }
+    if command == "migrate" {
+        return Some(Task::Migrate { file });
+    }
+    if command == "backup" {
+        return Some(Task::Backup { file, to });
+    }
+    if command == "restore" {
+        let from = word_in(found, "FROM");
+        let replaces = is_given(found, "replace");
+        return Some(Task::Restore {
+            from,
+            file,
+            replaces,
+        });
+    }
+    if command == "load" {
+        let text = word_in(found, "TEXT");
+        return Some(Task::Load { text, file });
+    }
+    if command == "salvage" {
+        return Some(Task::Salvage { file, to });
+    }
+    None
+}
+
+// What the matches of a command ask to be printed; the help, if it is no other command.
+fn printing_of<'a>(command: &str, found: &ArgMatches<'a>) -> Task<'a>
+    ensures { PrintsOf command.now (rows_of (found_of found.now)) result }
+{
+    if command == "version" {
+        return Task::Version;
+    }
+    if command == "explain" {
+        let code = word_in(found, "CODE");
+        return Task::Explain { code };
+    }
+    let file = word_in(found, "FILE");
+    if command == "diff" {
+        let other = word_in(found, "OTHER");
+        return Task::Diff { file, other };
+    }
+    match question_of(command, found) {
+        Some(question) => Task::Ask { file, question },
+        None => Task::Help,
+    }
+}
+
+// What `clap`'s matches of the words ask for.
+fn task_of<'a>(matches: &ArgMatches<'a>) -> Task<'a>
+    ensures { Asks (subcommand_rows_of matches.now) result }
+{
+    let Some((command, found)) = matches.subcommand() else {
+        return Task::Help;
+    };
+    match making_of(command, found) {
+        Some(task) => task,
+        None => printing_of(command, found),
+    }
+}
+
+/// Returns what the words after the program's name ask for, as `clap` reads them: its matches have the command, and
+/// the words and options after it. docs/reference/tool.md, "Commands".
+///
+/// # Errors
+///
+/// `Refused` if `clap` refuses the words; `NoMemory` if there was none to read them.
+pub(crate) fn choice<'a, S: AsStr>(
+    alloc: Global,
+    words: &'a [S],
+    version: &'a str,
+) -> Result<Task<'a>, WordsFault>
+    ensures { Chooses (map S.text words.entry.now) result }
+{
+    let Ok(line) = program_line(alloc, version) else {
+        return Err(WordsFault::NoMemory);
+    };
+    match line.try_get_matches_from(words) {
+        Ok(matches) => Ok(task_of(&matches)),
+        Err(error) => task_of_error(error),
+    }
+}

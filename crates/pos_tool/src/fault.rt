@@ -1,0 +1,293 @@
+//! Why the program doesn't do what it was asked, and the status that it ends with.
+ghost use Rattle.std.specs.Prelude.{◌≡◌};
+ghost use Rattle.pos_tool.specs.Faults.{file_status, finding_status, load_status, status, status_of, survey_status};
+ghost use Rattle.pos_tool.specs.Faults.{whole_status, words_status};
+
+use crate::whole::WholeFault;
+use pos_program::{FileFault, FirstParagraph, OneLine};
+use pos_report::{Finding, LoadFault};
+use pos_survey::{SurveyFault, words_of};
+use std::fmt;
+use std::fmt::Write;
+
+/// Why the words ask for nothing that the program does.
+#[derive(Drop)]
+pub enum WordsFault {
+    /// `clap` refuses them, and says why.
+    Refused(clap::Error),
+    /// One of them is no UTF-8.
+    NotUtf8,
+    /// There was no memory to read them.
+    NoMemory,
+}
+
+/// Why the program doesn't do what it was asked. It is told in two lines: what is wrong, and a hint.
+#[derive(Drop)]
+pub enum Fault<'a> {
+    /// The words ask for nothing.
+    Words(WordsFault),
+    /// A totals file can't serve.
+    File {
+        /// Its path, as its word stood.
+        path: &'a str,
+        /// Why.
+        cause: FileFault,
+    },
+    /// The bytes of a totals file are no totals, or damaged ones.
+    Totals {
+        /// Its path, as its word stood.
+        path: &'a str,
+        /// Why.
+        cause: SurveyFault,
+    },
+    /// A file can't be made.
+    Whole {
+        /// Its path, as its word stood.
+        path: &'a str,
+        /// Why.
+        cause: WholeFault,
+    },
+    /// A text isn't loaded.
+    Load {
+        /// Its path, as its word stood.
+        path: &'a str,
+        /// Why.
+        cause: LoadFault,
+    },
+    /// No file of this name is among the totals.
+    NoFile {
+        /// The path of the totals file, as its word stood.
+        path: &'a str,
+        /// The name.
+        name: &'a str,
+    },
+    /// No code has this number or name.
+    NoCode {
+        /// The word.
+        code: &'a str,
+    },
+    /// The output can't be written.
+    Write,
+    /// There was no memory.
+    NoMemory,
+}
+
+// The status of what was found.
+fn finding_status(finding: Finding) -> u8
+    ensures { result ≡ finding_status finding }
+{
+    match finding {
+        Finding::Good => 0,
+        Finding::Nothing => 1,
+        Finding::Damaged => 2,
+    }
+}
+
+// The status of a fault of the words.
+fn words_status(fault: &WordsFault) -> u8
+    ensures { result ≡ words_status fault.now }
+{
+    match fault {
+        WordsFault::NoMemory => 6,
+        _ => 3,
+    }
+}
+
+// The status of a fault of a totals file.
+fn file_status(cause: &FileFault) -> u8
+    ensures { result ≡ file_status cause.now }
+{
+    match cause {
+        FileFault::Unformatted | FileFault::Short => 1,
+        FileFault::Damaged | FileFault::Broken { .. } => 2,
+        FileFault::NoMemory | FileFault::NoMemoryToMove => 6,
+        _ => 4,
+    }
+}
+
+// The status of a fault of the bytes of a totals file.
+fn survey_status(cause: &SurveyFault) -> u8
+    ensures { result ≡ survey_status cause.now }
+{
+    match cause {
+        SurveyFault::TooSmall | SurveyFault::Unformatted => 1,
+        SurveyFault::Damaged(_, _) => 2,
+        SurveyFault::NoMemory => 6,
+    }
+}
+
+// The status of a fault of a file that was to be made.
+fn whole_status(cause: &WholeFault) -> u8
+    ensures { result ≡ whole_status cause.now }
+{
+    match cause {
+        WholeFault::NoMemory => 6,
+        _ => 4,
+    }
+}
+
+// The status of a fault of a text that was to be loaded.
+fn load_status(cause: &LoadFault) -> u8
+    ensures { result ≡ load_status cause.now }
+{
+    match cause {
+        LoadFault::NoMemory => 6,
+        LoadFault::NoDump => 1,
+    }
+}
+
+impl Fault<'_> {
+    /// Returns the status that the program ends with. docs/reference/tool.md, "Statuses".
+    pub fn status(&self) -> u8
+        ensures { result ≡ status self.now }
+    {
+        match self {
+            Fault::Words(fault) => words_status(fault),
+            Fault::File { cause, .. } => file_status(cause),
+            Fault::Totals { cause, .. } => survey_status(cause),
+            Fault::Whole { cause, .. } => whole_status(cause),
+            Fault::Load { cause, .. } => load_status(cause),
+            Fault::NoFile { .. } | Fault::NoCode { .. } => 1,
+            Fault::Write => 5,
+            Fault::NoMemory => 6,
+        }
+    }
+}
+
+/// Returns the status that the program ends with, by what was found or why nothing was.
+pub fn status_of(outcome: &Result<Finding, Fault<'_>>) -> u8
+    ensures { result ≡ status_of outcome.now }
+{
+    match outcome {
+        Ok(finding) => finding_status(*finding),
+        Err(fault) => fault.status(),
+    }
+}
+
+// What to do about a fault of the words.
+fn hint_of_words(fault: &WordsFault) -> &'static str {
+    match fault {
+        WordsFault::Refused(_) | WordsFault::NotUtf8 => "`kijolvar help` lists the commands",
+        WordsFault::NoMemory => "free memory, and try again",
+    }
+}
+
+// What to do about a fault of a totals file.
+fn hint_of_file(cause: &FileFault) -> &'static str {
+    match cause {
+        FileFault::InUse => "a till that runs locks its totals file: stop it first",
+        FileFault::Open(_) | FileFault::Unreadable(_) | FileFault::Folder(_) => {
+            "check the path, and who may read and write it"
+        }
+        FileFault::Unformatted | FileFault::Short => {
+            "`kijolvar create FILE` makes totals without files"
+        }
+        FileFault::Damaged | FileFault::Broken { .. } => {
+            "`kijolvar check FILE` names the rule that is broken"
+        }
+        FileFault::Formatted => "`kijolvar files FILE` prints what it holds",
+        FileFault::Moved => "nothing is left to do",
+        FileFault::NoMemory | FileFault::NoMemoryToMove => "free memory, and try again",
+        FileFault::Move => "restart the machine, check the device, and move it again",
+        _ => "check the device that it is on, and the space that is free there",
+    }
+}
+
+// What to do about a fault of the bytes of a totals file.
+fn hint_of_totals(cause: &SurveyFault) -> &'static str {
+    match cause {
+        SurveyFault::TooSmall | SurveyFault::Unformatted => {
+            "is it the right file? `kijolvar create FILE` makes totals without files"
+        }
+        SurveyFault::Damaged(_, _) =>
+            "`kijolvar salvage FILE TO` makes a sound file of what can be had",
+        SurveyFault::NoMemory => "free memory, and try again",
+    }
+}
+
+// What to do about a fault of a file that was to be made.
+fn hint_of_whole(cause: &WholeFault) -> &'static str {
+    match cause {
+        WholeFault::NoMemory => "free memory, and try again",
+        WholeFault::Part(_) =>
+            "check the folder; remove the .part file if no other command is making it",
+        WholeFault::Unwritten => "check the device, and the space that is free there",
+        WholeFault::Link(_) => "if a file is there: give another path, or restore with --replace",
+        WholeFault::Aside(_) => "if a .old file is there: move it away first",
+        WholeFault::Left(_) => "remove the .part file",
+        WholeFault::Unsynced(_) => "check the device, and copy it again",
+    }
+}
+
+impl Fault<'_> {
+    // Returns what to do about it.
+    fn hint(&self) -> &'static str {
+        match self {
+            Fault::Words(fault) => hint_of_words(fault),
+            Fault::File { cause, .. } => hint_of_file(cause),
+            Fault::Totals { cause, .. } => hint_of_totals(cause),
+            Fault::Whole { cause, .. } => hint_of_whole(cause),
+            Fault::Load { .. } => "`kijolvar dump FILE` prints such a text",
+            Fault::NoFile { .. } => "`kijolvar files FILE` lists the files in it",
+            Fault::NoCode { .. } => "give a number as 106, or a name as E_ILLEGAL",
+            Fault::Write => "check the space that is free where the output goes",
+            Fault::NoMemory => "free memory, and try again",
+        }
+    }
+}
+
+impl fmt::Display for WordsFault {
+    fn fmt<W: fmt::Write>(&self, f: &mut fmt::Formatter<W>) -> fmt::Result {
+        match self {
+            WordsFault::Refused(error) => {
+                let mut paragraph = FirstParagraph::over(f);
+                write!(paragraph, "{error}")
+            }
+            WordsFault::NotUtf8 => write!(f, "error: a word is not UTF-8"),
+            WordsFault::NoMemory => write!(f, "no memory"),
+        }
+    }
+}
+
+// Why the bytes of a totals file are no sound totals, in words.
+#[derive(Drop)]
+struct Cause<'a>(&'a SurveyFault);
+
+impl fmt::Display for Cause<'_> {
+    fn fmt<W: fmt::Write>(&self, f: &mut fmt::Formatter<W>) -> fmt::Result {
+        match self.0 {
+            SurveyFault::Damaged(at, rule) => {
+                let words = words_of(*rule);
+                write!(f, "its totals are damaged at byte {at}: {words}")
+            }
+            SurveyFault::TooSmall => write!(
+                f,
+                "is shorter than a totals file, which has 327680 bytes"
+            ),
+            SurveyFault::Unformatted => write!(f, "isn't formatted"),
+            SurveyFault::NoMemory => write!(f, "no memory"),
+        }
+    }
+}
+
+impl fmt::Display for Fault<'_> {
+    fn fmt<W: fmt::Write>(&self, f: &mut fmt::Formatter<W>) -> fmt::Result {
+        let mut line = OneLine::over(f);
+        match self {
+            Fault::Words(fault) => write!(line, "{fault}")?,
+            Fault::File { path, cause } => write!(line, "{path}: {cause}")?,
+            Fault::Totals { path, cause } => {
+                let cause = Cause(cause);
+                write!(line, "{path}: {cause}")?;
+            }
+            Fault::Whole { path, cause } => write!(line, "{path}: {cause}")?,
+            Fault::Load { path, cause } => write!(line, "{path}: {cause}")?,
+            Fault::NoFile { path, name } => write!(line, "{path}: no file has the name {name}")?,
+            Fault::NoCode { code } => write!(line, "no code is {code}")?,
+            Fault::Write => write!(line, "the output can't be written")?,
+            Fault::NoMemory => write!(line, "no memory")?,
+        }
+        let hint = self.hint();
+        write!(f, "\nhint: {hint}")
+    }
+}

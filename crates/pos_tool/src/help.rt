@@ -1,0 +1,41 @@
+//! The texts of `help` and `version`.
+
+/// The version.
+pub(crate) const VERSION: &str = "0.1.0";
+
+/// What `version` prints.
+pub(crate) const VERSION_LINE: &str = "kijolvar 0.1.0\n";
+
+/// What `help` prints.
+pub(crate) const HELP: &str = "\
+kijolvar: checks, prints, makes and copies totals files
+
+usage: kijolvar COMMAND ..
+
+  check FILE [--quiet]     is FILE sound? if not: the rule that is broken, at which byte
+  files FILE [--json]      print what FILE holds: layout, sequence, records, room, each file
+  cat FILE NAME [--hex]    print the bytes of one file in FILE
+  dump FILE                print the files of FILE as text, which can be loaded
+  diff FILE OTHER          print how the files of two totals files differ
+  create FILE              make a totals file without files
+  migrate FILE             move FILE to layout 2, which has more and longer files
+  backup FILE TO           copy FILE, also while a till uses it; TO appears whole or not at all
+  restore FROM FILE [--replace]
+                           put a copy back; --replace keeps the old file as FILE.old
+  load TEXT FILE           make FILE of what dump printed
+  salvage FILE TO          make a sound TO of what can be had of a damaged FILE
+  explain CODE             what a code means, and what to do: 106, E_ILLEGAL
+  version                  print the version
+  help                     print this
+
+statuses:
+  0  done; of check: sound
+  1  no totals, or no such file or code; of diff: they differ
+  2  damaged totals
+  3  the words ask for nothing
+  4  a file can't be read or written, is there already, or is in use
+  5  the output can't be written
+  6  no memory
+
+Commands that only read write nothing. But for backup, no till may be using FILE.
+";

@@ -1,0 +1,118 @@
+//! The program's command line, as `clap` takes it.
+ghost use Rattle.std.specs.Prelude.{◌≡◌, IfOk, false};
+ghost use Rattle.clap.specs.Words.{app_of, rule_of};
+ghost use Rattle.clap.specs.declared.builder.command.Command.TheViews.{out-Command as fields_of};
+ghost use Rattle.pos_tool.specs.Lines.{flag_rule, flagged_line, flagged_two_line, place_line, place_rule};
+ghost use Rattle.pos_tool.specs.Lines.{program_line, reading_line, top_line, two_line};
+
+use clap::{Arg, ArgAction, Command};
+use std::alloc::{AllocError, Global};
+
+// A word that has to be there, by its place.
+fn place<'a>(alloc: Global, name: &'a str) -> Arg<'a>
+    ensures rule { rule_of result ≡ place_rule name.entry.now }
+    ensures local { result.global ≡ false }
+{
+    Arg::new(alloc, name).required(true).action(ArgAction::Set)
+}
+
+// An option `--NAME`.
+fn flag<'a>(alloc: Global, name: &'a str) -> Arg<'a>
+    ensures rule { rule_of result ≡ flag_rule name.entry.now }
+    ensures local { result.global ≡ false }
+{
+    Arg::new(alloc, name).long(name).action(ArgAction::SetTrue)
+}
+
+// The command line of a command with one word after it.
+fn place_line<'a>(alloc: Global, command: &'a str, name: &'a str) -> Result<Command<'a>, AllocError>
+    ensures app { IfOk result (λ line. app_of line ≡ place_line command.entry.now name.entry.now) }
+    ensures local { IfOk result (λ line. (fields_of line).has_globals ≡ false) }
+{
+    Command::new(alloc, command).arg(place(alloc, name))
+}
+
+// The command line of a command with a file after it, and an option.
+fn flagged_line<'a>(
+    alloc: Global,
+    command: &'a str,
+    option: &'a str,
+) -> Result<Command<'a>, AllocError>
+    ensures app { IfOk result (λ line. app_of line ≡ flagged_line command.entry.now option.entry.now) }
+    ensures local { IfOk result (λ line. (fields_of line).has_globals ≡ false) }
+{
+    let started = Command::new(alloc, command).arg(place(alloc, "FILE"))?;
+    started.arg(flag(alloc, option))
+}
+
+// The command line of a command with two words after it.
+fn two_line<'a>(
+    alloc: Global,
+    command: &'a str,
+    first: &'a str,
+    second: &'a str,
+) -> Result<Command<'a>, AllocError>
+    ensures app { IfOk result (λ line. app_of line ≡ two_line command.entry.now first.entry.now second.entry.now) }
+    ensures local { IfOk result (λ line. (fields_of line).has_globals ≡ false) }
+{
+    let started = Command::new(alloc, command).arg(place(alloc, first))?;
+    started.arg(place(alloc, second))
+}
+
+// The command line of a command with two words after it, and an option.
+fn flagged_two_line<'a>(
+    alloc: Global,
+    command: &'a str,
+    first: &'a str,
+    second: &'a str,
+    option: &'a str,
+) -> Result<Command<'a>, AllocError>
+    ensures app { IfOk result (λ line. app_of line
+        ≡ flagged_two_line command.entry.now first.entry.now second.entry.now option.entry.now) }
+    ensures local { IfOk result (λ line. (fields_of line).has_globals ≡ false) }
+{
+    let started = two_line(alloc, command, first, second)?;
+    started.arg(flag(alloc, option))
+}
+
+// The program's, with the commands that have no word after them.
+fn top_line<'a>(alloc: Global, version: &'a str) -> Result<Command<'a>, AllocError>
+    ensures { IfOk result (λ line. app_of line ≡ top_line) }
+{
+    let named = Command::new(alloc, "kijolvar").no_binary_name(true);
+    let bare = named.disable_help_subcommand(true).version(version);
+    let helps = bare.subcommand(Command::new(alloc, "help"))?;
+    helps.subcommand(Command::new(alloc, "version"))
+}
+
+// The program's, with those that only read, too.
+fn reading_line<'a>(alloc: Global, version: &'a str) -> Result<Command<'a>, AllocError>
+    ensures { IfOk result (λ line. app_of line ≡ reading_line) }
+{
+    let top = top_line(alloc, version)?;
+    let explains = top.subcommand(place_line(alloc, "explain", "CODE")?)?;
+    let checks = explains.subcommand(flagged_line(alloc, "check", "quiet")?)?;
+    let lists = checks.subcommand(flagged_line(alloc, "files", "json")?)?;
+    let prints = lists.subcommand(flagged_two_line(alloc, "cat", "FILE", "NAME", "hex")?)?;
+    let dumps = prints.subcommand(place_line(alloc, "dump", "FILE")?)?;
+    dumps.subcommand(two_line(alloc, "diff", "FILE", "OTHER")?)
+}
+
+/// Returns the command line of the program: its version is this one.
+///
+/// # Errors
+///
+/// [`AllocError`] if memory ran out.
+pub(crate) fn program_line<'a>(alloc: Global, version: &'a str) -> Result<Command<'a>, AllocError>
+    ensures { IfOk result (λ line. app_of line ≡ program_line) }
+{
+    let reads = reading_line(alloc, version)?;
+    let creates = reads.subcommand(place_line(alloc, "create", "FILE")?)?;
+    let migrates = creates.subcommand(place_line(alloc, "migrate", "FILE")?)?;
+    let backs_up = migrates.subcommand(two_line(alloc, "backup", "FILE", "TO")?)?;
+    let restores = backs_up.subcommand(flagged_two_line(
+        alloc, "restore", "FROM", "FILE", "replace",
+    )?)?;
+    let loads = restores.subcommand(two_line(alloc, "load", "TEXT", "FILE")?)?;
+    loads.subcommand(two_line(alloc, "salvage", "FILE", "TO")?)
+}

@@ -1,0 +1,40 @@
+//! The program `kijolvar`: it checks totals files, prints what they hold, makes, moves and copies them
+//! (docs/reference/tool.md).
+//!
+//! A command that only reads writes nothing. The program's words are read by `clap`; what it does for them, and the
+//! status that it ends with, is `perform`'s contract.
+#![tactic(auto)]
+
+mod commands;
+mod copies;
+mod fault;
+mod folder;
+mod help;
+mod line;
+mod program;
+mod telling;
+mod whole;
+
+use help::{HELP, VERSION, VERSION_LINE};
+use pos_program::{SystemFiles, read_words};
+use pos_report::CODES;
+use pos_streams::WriterSink;
+use program::{Pages, perform};
+use std::process::ExitCode;
+
+fn main(rt: HostRuntime) -> ExitCode {
+    let mut writer = WriterSink::new(rt.stdout());
+    let words = read_words(&rt);
+    perform(
+        &SystemFiles::of(&rt),
+        &rt,
+        &mut writer,
+        &Pages {
+            help: HELP,
+            version: VERSION,
+            version_line: VERSION_LINE,
+            codes: &CODES,
+        },
+        words,
+    )
+}

@@ -1,0 +1,160 @@
+//! What the program does for its words, and the status that it ends with.
+ghost use Rattle.std.specs.Prelude.{◌≡◌, map};
+ghost use Rattle.std.specs.Process.{exit_status};
+ghost use Rattle.pos_tool.specs.Faults.{status_of};
+ghost use Rattle.pos_tool.specs.Outputs.{output_of};
+ghost use Rattle.pos_tool.specs.Program.{Does, DoesAsAsked, EndsAt, Explains, Performs, fault_of_unread};
+
+use crate::commands::{Task, choice};
+use crate::copies::{back_up, load, restore, salvage};
+use crate::fault::{Fault, WordsFault, status_of};
+use crate::folder::Folder;
+use crate::telling::{print, tell_difference, tell_file};
+use pos_file::BlockFile;
+use pos_program::{ChoiceFault, FileFault, FileSystem, NamedFiles, format_file, migrate_file};
+use pos_report::{Code, Finding, explained};
+use pos_streams::Sink;
+use std::alloc::Global;
+use std::convert::AsStr;
+use std::io::Eprint;
+use std::process::ExitCode;
+
+/// The texts that the program prints as they are, and the codes that it explains.
+#[derive(Drop)]
+pub struct Pages<'a> {
+    /// The help.
+    pub help: &'a str,
+    /// The version, alone.
+    pub version: &'a str,
+    /// The line that has the version.
+    pub version_line: &'a str,
+    /// The codes.
+    pub codes: &'a [Code<'a>],
+}
+
+// Prints what a code means.
+fn explain<'a, W: Sink>(
+    alloc: Global,
+    writer: &mut W,
+    codes: &[Code<'_>],
+    code: &'a str,
+) -> Result<Finding, Fault<'a>>
+    ensures { Explains codes.now code.entry.now (output_of W.Sink writer.old) (output_of W.Sink writer.new) result }
+{
+    let Ok(text) = explained(alloc, codes, code) else {
+        return Err(Fault::NoMemory);
+    };
+    if text.is_empty() {
+        return Err(Fault::NoCode { code });
+    }
+    print(writer, &text)
+}
+
+// What is answered of the totals file at a path, to the program.
+fn at_file<'a>(path: &'a str, answer: Result<(), FileFault>) -> Result<Finding, Fault<'a>>
+    ensures { EndsAt path.entry.now answer result }
+{
+    match answer {
+        Ok(()) => Ok(Finding::Good),
+        Err(cause) => Err(Fault::File { path, cause }),
+    }
+}
+
+// Does what the words of the command line chose.
+fn carry_out<'a, F: NamedFiles, S: FileSystem + Folder + AllocGlobal, W: Sink>(
+    files: &F,
+    system: &S,
+    writer: &mut W,
+    pages: &Pages<'_>,
+    task: Task<'a>,
+) -> Result<Finding, Fault<'a>>
+    ensures { Does F.NamedFiles ⟦<F::File as BlockFile>⟧ files.now
+        S.FileSystem S.Folder ⟦<S::File as BlockFile>⟧ system.now pages.now task.entry
+        (output_of W.Sink writer.old) (output_of W.Sink writer.new) result }
+{
+    let alloc = system.alloc();
+    match task {
+        Task::Help => print(writer, pages.help.as_bytes()),
+        Task::Version => print(writer, pages.version_line.as_bytes()),
+        Task::Explain { code } => explain(alloc, writer, pages.codes, code),
+        Task::Ask { file, question } => tell_file(alloc, files, writer, file, question),
+        Task::Create { file } => at_file(file, format_file(files, file)),
+        Task::Migrate { file } => at_file(file, migrate_file(alloc, files, file)),
+        Task::Backup { file, to } => back_up(system, file, to),
+        Task::Restore {
+            from,
+            file,
+            replaces,
+        } => restore(system, from, file, replaces),
+        Task::Diff { file, other } => tell_difference(alloc, files, writer, file, other),
+        Task::Load { text, file } => load(system, text, file),
+        Task::Salvage { file, to } => salvage(system, writer, file, to),
+    }
+}
+
+// Does what the words of the command line ask for.
+fn carry_out_words<'a, F: NamedFiles, S: FileSystem + Folder + AllocGlobal, T: AsStr, W: Sink>(
+    files: &F,
+    system: &S,
+    writer: &mut W,
+    pages: &Pages<'a>,
+    words: &'a [T],
+) -> Result<Finding, Fault<'a>>
+    ensures { DoesAsAsked F.NamedFiles ⟦<F::File as BlockFile>⟧ files.now
+        S.FileSystem S.Folder ⟦<S::File as BlockFile>⟧ system.now pages.now (map T.text words.entry.now)
+        (output_of W.Sink writer.old) (output_of W.Sink writer.new) result }
+{
+    match choice(system.alloc(), words, pages.version) {
+        Ok(task) => carry_out(files, system, writer, pages, task),
+        Err(fault) => Err(Fault::Words(fault)),
+    }
+}
+
+// Ends with a status, and tells a fault among the errors, if that can be written.
+fn end<E: Eprint>(errors: &E, outcome: Result<Finding, Fault<'_>>) -> ExitCode
+    ensures { exit_status result ≡ status_of outcome.entry }
+{
+    let status = status_of(&outcome);
+    if let Err(fault) = outcome {
+        let _ = errors.eprintln(format_args!("kijolvar: {fault}"));
+    }
+    ExitCode::from(status)
+}
+
+// Why words that couldn't be read ask for nothing.
+fn fault_of_unread(fault: ChoiceFault) -> WordsFault
+    ensures { result ≡ fault_of_unread fault }
+{
+    match fault {
+        ChoiceFault::NoMemory => WordsFault::NoMemory,
+        ChoiceFault::Words(_) => WordsFault::NotUtf8,
+    }
+}
+
+/// The program, over the files that its words name, the file system that they are in, which also takes a fault, and an
+/// output. It does what the words ask for, if they could be read, and ends with the status of what became of it.
+/// docs/reference/tool.md.
+pub fn perform<
+    F: NamedFiles,
+    S: FileSystem + Folder + Eprint + AllocGlobal,
+    T: AsStr + Drop,
+    W: Sink,
+>(
+    files: &F,
+    system: &S,
+    writer: &mut W,
+    pages: &Pages<'_>,
+    words: Result<Vec<T>, ChoiceFault>,
+) -> ExitCode
+    ensures { Performs F.NamedFiles ⟦<F::File as BlockFile>⟧ files.now
+        S.FileSystem S.Folder ⟦<S::File as BlockFile>⟧ system.now pages.now T.text words
+        (output_of W.Sink writer.old) (output_of W.Sink writer.new) (exit_status result) }
+{
+    match words {
+        Ok(words) => {
+            let outcome = carry_out_words(files, system, writer, pages, words.as_slice());
+            end(system, outcome)
+        }
+        Err(fault) => end(system, Err(Fault::Words(fault_of_unread(fault)))),
+    }
+}

@@ -1,0 +1,178 @@
+//! How an answer is printed.
+ghost use Rattle.std.specs.Prelude.{◌≡◌, MatchResult};
+ghost use Rattle.pos_tool.specs.Outputs.{IsCutOff, IsWritten, output_of};
+ghost use Rattle.pos_tool.specs.Differing.{PrintsDifference, SurveysBytes, SurveysFile, TellsDifference};
+ghost use Rattle.pos_tool.specs.Differing.{difference_finding};
+ghost use Rattle.pos_tool.specs.Telling.{Prints, TellsBytes, TellsFile, name_in};
+
+use crate::fault::Fault;
+use pos_file::BlockFile;
+use pos_program::NamedFiles;
+use pos_report::{AnswerFault, Finding, Question, answer, difference_text};
+use pos_script::write_bytes;
+use pos_streams::{Sink, WriteFault};
+use pos_survey::Survey;
+use std::alloc::Global;
+
+/// Writes a text to its end, and flushes it.
+///
+/// # Errors
+///
+/// [`WriteFault`] at the first write that fails, or if the flush does.
+pub(crate) fn write_text<W: Sink>(writer: &mut W, text: &[u8]) -> Result<(), WriteFault>
+    ensures { MatchResult result
+        (λ _. IsWritten (output_of W.Sink writer.old) (output_of W.Sink writer.new) text.now)
+        (λ _. IsCutOff (output_of W.Sink writer.old) (output_of W.Sink writer.new) text.now) }
+{
+    write_bytes(writer, text)?;
+    writer.flush()
+}
+
+// The name of a file that a question asks for.
+fn name_in<'a>(question: Question<'a>) -> &'a str
+    ensures { result.now ≡ name_in question.entry }
+{
+    match question {
+        Question::Cat { name, .. } => name,
+        _ => "",
+    }
+}
+
+// Prints what is answered to a question about the bytes of the totals file at a path.
+fn tell_bytes<'a, W: Sink>(
+    alloc: Global,
+    writer: &mut W,
+    path: &'a str,
+    question: Question<'a>,
+    bytes: &[u8],
+) -> Result<Finding, Fault<'a>>
+    ensures { TellsBytes path.entry.now question.entry bytes.now
+        (output_of W.Sink writer.old) (output_of W.Sink writer.new) result }
+{
+    let (finding, text) = match answer(alloc, question, bytes) {
+        Ok(answered) => answered,
+        Err(AnswerFault::Totals(cause)) => return Err(Fault::Totals { path, cause }),
+        Err(AnswerFault::NoFile) => {
+            let name = name_in(question);
+            return Err(Fault::NoFile { path, name });
+        }
+    };
+    match write_text(writer, &text) {
+        Ok(()) => Ok(finding),
+        Err(_) => Err(Fault::Write),
+    }
+}
+
+/// Prints what is answered to a question about the totals file at a path. The file is read once, and nothing is written
+/// to it. docs/reference/tool.md, "Commands".
+///
+/// # Errors
+///
+/// `File` if the file can't be read, `Totals` and `NoFile` as `answer` has them, and `Write`.
+pub(crate) fn tell_file<'a, F: NamedFiles, W: Sink>(
+    alloc: Global,
+    files: &F,
+    writer: &mut W,
+    path: &'a str,
+    question: Question<'a>,
+) -> Result<Finding, Fault<'a>>
+    ensures { TellsFile F.NamedFiles ⟦<F::File as BlockFile>⟧ files.now path.entry.now question.entry
+        (output_of W.Sink writer.old) (output_of W.Sink writer.new) result }
+{
+    match files.read_disk(path) {
+        Ok(totals) => tell_bytes(alloc, writer, path, question, totals.bytes()),
+        Err(cause) => Err(Fault::File { path, cause }),
+    }
+}
+
+/// Prints a text.
+///
+/// # Errors
+///
+/// `Write`.
+pub(crate) fn print<'a, W: Sink>(writer: &mut W, text: &[u8]) -> Result<Finding, Fault<'a>>
+    ensures { Prints text.now (output_of W.Sink writer.old) (output_of W.Sink writer.new) result }
+{
+    match write_text(writer, text) {
+        Ok(()) => Ok(Finding::Good),
+        Err(_) => Err(Fault::Write),
+    }
+}
+
+// What a survey of the bytes of the totals file at a path tells.
+fn survey_bytes<'a>(alloc: Global, path: &'a str, bytes: &[u8]) -> Result<Survey, Fault<'a>>
+    ensures { SurveysBytes path.entry.now bytes.now result }
+{
+    match Survey::of(alloc, bytes) {
+        Ok(survey) => Ok(survey),
+        Err(cause) => Err(Fault::Totals { path, cause }),
+    }
+}
+
+// What a survey of the totals file at a path tells.
+fn survey_file<'a, F: NamedFiles>(
+    alloc: Global,
+    files: &F,
+    path: &'a str,
+) -> Result<Survey, Fault<'a>>
+    ensures { SurveysFile F.NamedFiles ⟦<F::File as BlockFile>⟧ files.now path.entry.now result }
+{
+    match files.read_disk(path) {
+        Ok(totals) => survey_bytes(alloc, path, totals.bytes()),
+        Err(cause) => Err(Fault::File { path, cause }),
+    }
+}
+
+// What is found where totals differ by a text: nothing is well if they don't.
+fn finding_of(text: &[u8]) -> Finding
+    ensures { result ≡ difference_finding text.now }
+{
+    if text.is_empty() {
+        return Finding::Good;
+    }
+    Finding::Nothing
+}
+
+// Prints how totals differ of which surveys tell.
+fn tell_surveys<'a, W: Sink>(
+    alloc: Global,
+    writer: &mut W,
+    first: &Survey,
+    second: &Survey,
+) -> Result<Finding, Fault<'a>>
+    ensures { PrintsDifference first.now second.now (output_of W.Sink writer.old) (output_of W.Sink writer.new)
+        result }
+{
+    let Ok(text) = difference_text(alloc, first, second) else {
+        return Err(Fault::NoMemory);
+    };
+    match write_text(writer, &text) {
+        Ok(()) => Ok(finding_of(&text)),
+        Err(_) => Err(Fault::Write),
+    }
+}
+
+/// Prints how the files of two totals files differ, which are only read.
+///
+/// # Errors
+///
+/// `File` and `Totals` for the first of them that can't be read or isn't sound, `NoMemory` and `Write`.
+pub(crate) fn tell_difference<'a, F: NamedFiles, W: Sink>(
+    alloc: Global,
+    files: &F,
+    writer: &mut W,
+    first: &'a str,
+    second: &'a str,
+) -> Result<Finding, Fault<'a>>
+    ensures { TellsDifference F.NamedFiles ⟦<F::File as BlockFile>⟧ files.now first.entry.now second.entry.now
+        (output_of W.Sink writer.old) (output_of W.Sink writer.new) result }
+{
+    let one = match survey_file(alloc, files, first) {
+        Ok(survey) => survey,
+        Err(fault) => return Err(fault),
+    };
+    match survey_file(alloc, files, second) {
+        Ok(other) => tell_surveys(alloc, writer, &one, &other),
+        Err(fault) => Err(fault),
+    }
+}

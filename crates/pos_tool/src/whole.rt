@@ -1,0 +1,183 @@
+//! Files that appear whole or not at all.
+ghost use Rattle.std.specs.Prelude.{◌≡◌, ◌++◌, IfOk, string_bytes};
+ghost use Rattle.pos_tool.specs.Whole.{LinksPart, Puts, Replaces, SetsAside, Settles, WritesPart, WritesWhole, to_make};
+
+use crate::folder::Folder;
+use pos_file::BlockFile;
+use pos_program::{FileFault, FileSystem, sync_folder};
+use std::alloc::{AllocError, Global};
+use std::fs::{File, OpenOptions};
+use std::io;
+use thiserror::Error;
+
+/// Why a file isn't made whole. Nothing is at its path then that wasn't there before, but as the last two say.
+#[derive(Clone, Copy, Debug, Error)]
+pub enum WholeFault {
+    /// There was no memory.
+    #[error("no memory")]
+    NoMemory,
+    /// The file beside it, in which it is made, can't be made.
+    #[error("the file beside it, with .part at its end, can't be made: {0}")]
+    Part(io::Error),
+    /// It couldn't be written whole, or not be synced.
+    #[error("can't be written and synced whole")]
+    Unwritten,
+    /// It can't get its name.
+    #[error("can't be put there: {0}")]
+    Link(io::Error),
+    /// What it replaces can't be kept beside it.
+    #[error("the old file can't be kept beside it, with .old at its end: {0}")]
+    Aside(io::Error),
+    /// It is there, whole, but the file beside it can't be removed.
+    #[error("is there, but the file beside it, with .part at its end, can't be removed: {0}")]
+    Left(io::Error),
+    /// It is there, whole, but a crash may take its name away.
+    #[error("is there, but {0}")]
+    Unsynced(FileFault),
+}
+
+impl From<AllocError> for WholeFault {
+    ghost use Rattle.pos_tool.specs.declared.whole.WholeFault.TheVariants.{NoMemory};
+
+    ghost from_gives = { λ _ fault. fault ≡ NoMemory };
+
+    fn from(_: AllocError) -> Self {
+        WholeFault::NoMemory
+    }
+}
+
+// The path of a file beside another one, with an end of its own.
+fn beside(alloc: Global, path: &str, end: &str) -> Result<String, AllocError>
+    ensures { IfOk result (λ name. string_bytes name ≡ path.now ++ end.now) }
+{
+    let mut name = String::from_str(alloc, path)?;
+    name.push_str(end)?;
+    Ok(name)
+}
+
+// How a file is opened that is made, and isn't there.
+fn options() -> OpenOptions
+    ensures { result ≡ to_make }
+{
+    let mut options = File::options();
+    options.write(true).create_new(true);
+    options
+}
+
+// Writes all bytes to a new file, and syncs it.
+fn write_whole<F: BlockFile>(file: &mut F, bytes: &[u8]) -> Result<(), WholeFault>
+    ensures { WritesWhole F.calls file.old file.new bytes.now result }
+{
+    match file.write_at(0, bytes) {
+        Ok(count) if count == bytes.len() => {}
+        _ => return Err(WholeFault::Unwritten),
+    }
+    match file.sync() {
+        Ok(()) => Ok(()),
+        Err(_) => Err(WholeFault::Unwritten),
+    }
+}
+
+// Makes a new file with these bytes. If that fails after it was made, it is removed again.
+fn write_part<S: FileSystem + Folder>(
+    system: &S,
+    part: &str,
+    bytes: &[u8],
+) -> Result<(), WholeFault>
+    ensures { WritesPart S.FileSystem ⟦<S::File as BlockFile>⟧.calls system.now part.now bytes.now result }
+{
+    let mut file = match system.open(&options(), part) {
+        Ok(file) => file,
+        Err(cause) => return Err(WholeFault::Part(cause)),
+    };
+    match write_whole(&mut file, bytes) {
+        Ok(()) => Ok(()),
+        Err(fault) => {
+            let _ = system.remove(part);
+            Err(fault)
+        }
+    }
+}
+
+// Makes the name of a file that is there stay.
+fn settle<S: FileSystem>(system: &S, path: &str) -> Result<(), WholeFault>
+    ensures { Settles S.FileSystem system.now path.now result }
+{
+    match sync_folder(system, path) {
+        Ok(()) => Ok(()),
+        Err(cause) => Err(WholeFault::Unsynced(cause)),
+    }
+}
+
+// Gives a file that is whole its name, and takes away the one that it was made with.
+fn link_part<S: FileSystem + Folder>(system: &S, part: &str, path: &str) -> Result<(), WholeFault>
+    ensures { LinksPart S.FileSystem S.Folder system.now part.now path.now result }
+{
+    if let Err(cause) = system.link(part, path) {
+        let _ = system.remove(part);
+        return Err(WholeFault::Link(cause));
+    }
+    if let Err(cause) = system.remove(part) {
+        return Err(WholeFault::Left(cause));
+    }
+    settle(system, path)
+}
+
+/// Makes a file with these bytes at a path where none is. They are written to a file beside it and synced, and only
+/// then does it get its name: whatever happens, the whole file is there or none.
+///
+/// # Errors
+///
+/// Those of [`WholeFault`]; `Link` also if a file is there.
+pub(crate) fn put_new<S: FileSystem + Folder>(
+    alloc: Global,
+    system: &S,
+    path: &str,
+    bytes: &[u8],
+) -> Result<(), WholeFault>
+    ensures { Puts S.FileSystem S.Folder ⟦<S::File as BlockFile>⟧.calls system.now path.now bytes.now result }
+{
+    let part = beside(alloc, path, ".part")?;
+    write_part(system, &part, bytes)?;
+    link_part(system, &part, path)
+}
+
+// Keeps a file under a second name, and then puts another one in its place.
+fn set_aside<S: FileSystem + Folder>(
+    system: &S,
+    part: &str,
+    path: &str,
+    old: &str,
+) -> Result<(), WholeFault>
+    ensures { SetsAside S.FileSystem S.Folder system.now part.now path.now old.now result }
+{
+    if let Err(cause) = system.link(path, old) {
+        let _ = system.remove(part);
+        return Err(WholeFault::Aside(cause));
+    }
+    if let Err(cause) = system.rename(part, path) {
+        let _ = system.remove(part);
+        return Err(WholeFault::Link(cause));
+    }
+    settle(system, path)
+}
+
+/// Puts a file with these bytes in place of the one at a path, which is kept beside it with `.old` at its end.
+/// Whatever happens, the whole old file or the whole new one is at the path.
+///
+/// # Errors
+///
+/// Those of [`WholeFault`]; `Aside` also if a file with `.old` at its end is there.
+pub(crate) fn replace<S: FileSystem + Folder>(
+    alloc: Global,
+    system: &S,
+    path: &str,
+    bytes: &[u8],
+) -> Result<(), WholeFault>
+    ensures { Replaces S.FileSystem S.Folder ⟦<S::File as BlockFile>⟧.calls system.now path.now bytes.now result }
+{
+    let part = beside(alloc, path, ".part")?;
+    let old = beside(alloc, path, ".old")?;
+    write_part(system, &part, bytes)?;
+    set_aside(system, &part, path, &old)
+}

@@ -1,0 +1,558 @@
+#!/usr/bin/env bash
+# Tries the tool `kijolvar` on real files: every command, each error, and each example of docs/reference/tool.md.
+# Usage: tests/tool.sh [TOOL PROGRAM], the tool and pos_console, which makes totals with records. Without words it builds
+# both, and needs rt. It needs python3, flock, strace, and setpriv of util-linux if root runs it. Its last line is
+# 'N passed, M failed'; it ends with 0 where none failed.
+set -u
+top=$(cd "$(dirname "$0")/.." && pwd)
+tool=$(realpath "${1:-$top/crates/pos_tool/out/pos_tool}")
+program=$(realpath "${2:-$top/crates/pos_console/out/pos_console}")
+if [ $# -eq 0 ]; then
+  (cd "$top/crates/pos_tool" && rt run -- version > /dev/null) || exit 1
+  (cd "$top/crates/pos_console" && rt run < /dev/null > /dev/null) || exit 1
+fi
+work=$(mktemp -d)
+trap 'rm -rf "$work"' EXIT
+cd "$work" || exit 1
+passed=0
+failed=0
+
+# told NAME WANTED FOUND: whether two texts are the same
+told() {
+  if [ "$2" = "$3" ]; then
+    passed=$((passed + 1))
+  else
+    failed=$((failed + 1))
+    printf 'failed: %s\n  wanted: %s\n  found:  %s\n' "$1" "$2" "$3"
+  fi
+}
+
+# needs FAULT PACKAGE COMMAND ..: ends with a failure if the command fails, and names the package of Debian that has it
+needs() {
+  local fault=$1 package=$2
+  shift 2
+  "$@" > /dev/null 2>&1 && return
+  echo "failed: $fault: install the package $package, or allow it here"
+  echo "0 passed, 1 failed"
+  exit 1
+}
+
+# what a command runs under so that the modes of files hold for it, also if root runs it
+held=()
+[ "$(id -u)" -ne 0 ] ||
+  held=(setpriv --bounding-set=-dac_override,-dac_read_search --inh-caps=-dac_override,-dac_read_search)
+needs 'strace traces nothing' strace strace -o /dev/null true
+needs "setpriv can't drop root's rights over files" util-linux "${held[@]}" true
+needs 'there is no flock' util-linux flock --version
+needs 'there is no python3' python3 python3 --version
+
+# ends NAME STATUS MESSAGE OUTPUT WORD ..: whether the tool ends so on the words, with these two texts whole. Its output
+# stays in the file `out`. It runs under the words in `under`.
+under=()
+ends() {
+  local name=$1 status=$2 message=$3 output=$4
+  shift 4
+  timeout 60 "${under[@]}" "$tool" "$@" > out 2> err
+  told "$name: status" "$status" $?
+  told "$name: message" "$message" "$(cat err)"
+  told "$name: output" "$output" "$(cat out)"
+}
+
+# same NAME FILE FILE: whether two files have the same bytes
+same() {
+  told "$1" same "$(cmp -s "$2" "$3" && echo same)"
+}
+
+# put FILE AT HEX: puts bytes into a file
+put() {
+  printf "$(printf '%s' "$3" | sed 's/../\\x&/g')" | dd of="$1" bs=1 seek="$2" conv=notrunc status=none
+}
+
+# script FILE: runs the lines of standard input over the totals in a file, on a control that is ready
+printf '[[device]]\nname = "t1"\ncategory = "HardTotals"\n' > till.toml
+script() {
+  { printf 'new a HardTotals\nopen a t1\nset a DeviceEnabled true\n'; cat; } |
+    "$program" run --profile till.toml --disk "$1" > said
+}
+
+hint_words='hint: `kijolvar help` lists the commands'
+hint_path='hint: check the path, and who may read and write it'
+hint_create='hint: is it the right file? `kijolvar create FILE` makes totals without files'
+hint_salvage='hint: `kijolvar salvage FILE TO` makes a sound file of what can be had'
+hint_stop='hint: a till that runs locks its totals file: stop it first'
+none='No such file or directory (os error 2)'
+unread="can't be read"
+unopened="can't be opened for reading and writing"
+
+# --- words
+"$tool" help > help.txt
+told 'help: status' 0 $?
+told 'help begins' 'kijolvar: checks, prints, makes and copies totals files' "$(head -n 1 help.txt)"
+for command in check files cat dump diff create migrate backup restore load salvage explain version help; do
+  told "help has $command" 1 "$(grep -c "^  $command " help.txt)"
+done
+ends 'no words' 0 '' "$(cat help.txt)"
+ends '--help' 0 '' "$(cat help.txt)" --help
+ends '-h' 0 '' "$(cat help.txt)" -h
+ends 'help of a command' 0 '' "$(cat help.txt)" cat --help
+ends 'version' 0 '' 'kijolvar 0.1.0' version
+ends '--version' 0 '' 'kijolvar 0.1.0' --version
+ends '-V' 0 '' 'kijolvar 0.1.0' -V
+told 'the version is that of the changes' 1 "$(grep -c '^## 0.1.0' "$top/CHANGELOG.md")"
+
+# refuses NAME REASON WORD ..: whether the words ask for nothing
+refuses() {
+  local name=$1 reason=$2
+  shift 2
+  ends "$name" 3 "kijolvar: error: $reason"$'\n'"$hint_words" '' "$@"
+}
+refuses 'a misspelt command' "unrecognized subcommand 'chek'" chek FILE
+refuses 'a command in capitals' "unrecognized subcommand 'CHECK'" CHECK FILE
+refuses 'an empty word' "unrecognized subcommand ''" ''
+refuses 'a command with a line feed' "unrecognized subcommand 'a b'" "$(printf 'a\nb')"
+missing='the following required arguments were not provided:'
+refuses 'check without a file' "$missing <FILE>" check
+refuses 'cat without a name' "$missing <NAME>" cat a
+refuses 'backup without a place' "$missing <TO>" backup a
+refuses 'restore without words' "$missing <FROM> <FILE>" restore
+refuses 'explain without a code' "$missing <CODE>" explain
+refuses 'diff of one file' "$missing <OTHER>" diff a
+refuses 'salvage without a place' "$missing <TO>" salvage a
+refuses 'load without a file' "$missing <FILE>" load a
+refuses 'a word too many' "unexpected argument 'b' found" check a b
+refuses 'an option of another command' "unexpected argument '--json' found" check a --json
+refuses 'an option twice' "the argument '--quiet' cannot be used multiple times" check a --quiet --quiet
+refuses 'a word after help' "unexpected argument 'check' found" help check
+ends 'a word that is no text' 3 "kijolvar: error: a word is not UTF-8"$'\n'"$hint_words" '' "$(printf '\377')"
+told 'no file is made for words that ask for nothing' 'err help.txt out till.toml' "$(ls | tr '\n' ' ' | sed 's/ $//')"
+
+# --- create
+ends 'create makes a file' 0 '' '' create till.totals
+told 'create: length' 327680 "$(wc -c < till.totals)"
+"$program" format --disk other.totals
+same 'create makes what pos_console makes' till.totals other.totals
+ends 'create refuses totals' 4 \
+  'kijolvar: till.totals: is formatted already: remove it first if its totals may go'$'\n''hint: `kijolvar files FILE` prints what it holds' \
+  '' create till.totals
+same 'create keeps the totals' till.totals other.totals
+ends 'create in no folder' 4 "kijolvar: none/a: $unopened: $none"$'\n'"$hint_path" '' create none/a
+
+# --- check
+ends 'check of sound totals' 0 '' 'sound: layout 1, sequence 1, records 0, files 0' check till.totals
+ends 'check, quiet' 0 '' '' check till.totals --quiet
+ends 'check, the option first' 0 '' '' check --quiet till.totals
+printf 'call a create 41 4 false\ncall a write 1 0 01020304\ncall a create 422043 0 false\n' | script till.totals
+ends 'check counts' 0 '' 'sound: layout 1, sequence 1, records 3, files 2' check till.totals
+ends 'check of no file' 4 "kijolvar: none.totals: $unread: $none"$'\n'"$hint_path" '' check none.totals
+ends 'a path with a line feed' 4 "kijolvar: a\\nb: $unread: $none"$'\n'"$hint_path" '' check "$(printf 'a\nb')"
+head -c 327680 /dev/zero > zero.totals
+unformatted='no totals: not formatted'$'\n''to do: `kijolvar create FILE` makes totals without files'
+ends 'check of bytes without totals' 1 '' "$unformatted" check zero.totals
+ends 'the same, quiet' 1 '' '' check --quiet zero.totals
+head -c 100000 till.totals > short.totals
+short='no totals: shorter than a totals file, which has 327680 bytes'$'\n''to do: see that it is the right file'
+ends 'check of a short file' 1 '' "$short" check short.totals
+: > empty.totals
+ends 'check of an empty file' 1 '' "$short" check empty.totals
+cp till.totals longer.totals
+printf 'more' >> longer.totals
+ends 'check of a longer file' 0 '' 'sound: layout 1, sequence 1, records 3, files 2' check longer.totals
+
+# breaks NAME PLACE RULE AT HEX: whether the file with these bytes is damaged there, for each command that reads
+breaks() {
+  local name=$1 place=$2 rule=$3
+  cp till.totals damaged.totals
+  put damaged.totals "$4" "$5"
+  cp damaged.totals kept
+  ends "$name: check" 2 '' \
+    "damaged at byte $place: $rule"$'\n''to do: copy the file before anything else, and let no till open it' \
+    check damaged.totals
+  ends "$name: check, quiet" 2 '' '' check --quiet damaged.totals
+  for words in 'files damaged.totals' 'files --json damaged.totals' 'cat damaged.totals A' 'backup damaged.totals new' \
+    'restore damaged.totals new' 'dump damaged.totals' 'diff damaged.totals till.totals' \
+    'diff till.totals damaged.totals'; do
+    ends "$name: $words" 2 \
+      "kijolvar: damaged.totals: its totals are damaged at byte $place: $rule"$'\n'"$hint_salvage" '' $words
+  done
+  ends "$name: migrate" 2 \
+    'kijolvar: damaged.totals: its totals are damaged: keep it, and read a copy of it by hand'$'\n''hint: `kijolvar check FILE` names the rule that is broken' \
+    '' migrate damaged.totals
+  "$tool" salvage damaged.totals new > out 2> err
+  told "$name: salvage: status" "$6" $?
+  if [ "$6" -eq 0 ]; then
+    told "$name: salvage says where" "closed gate $7, broken at $place: $rule" "$(cat out)"
+    told "$name: what was salvaged" "$8" "$("$tool" check new)"
+    rm new
+  else
+    told "$name: salvage: message" "kijolvar: damaged.totals: isn't formatted"$'\n'"$hint_create" "$(cat err)"
+  fi
+  same "$name: the file is as it was" damaged.totals kept
+  told "$name: no other file is there" '' "$(ls new* 2> /dev/null)"
+}
+sound='sound: layout 1, sequence 1, records'
+breaks 'a tie' 32769 'both slots are open with the same sequence' 32768 a50000000000000001 0 32768 "$sound 3, files 2"
+breaks 'a long body' 9 'the length of the current body is above the longest' 9 0000ffff 1
+breaks 'a body with bytes left' 15 'bytes of the current body are left over' 9 00000003 1
+breaks 'a long record' 16384 "a record doesn't end within the log" 16385 00007fff 0 16384 "$sound 0, files 0"
+breaks 'a record without a group' 16384 'a record is no group of changes' 16391 09 0 16384 "$sound 0, files 0"
+breaks 'a record without changes' 16384 'a record has no changes' 16385 00000002000000 0 16384 "$sound 0, files 0"
+breaks 'a change of no file' 16398 "the changes of a record don't fit the files before it" 16406 0009 0 16398 "$sound 1, files 1"
+
+# --- files
+"$program" files --disk till.totals > listed
+ends 'files' 0 '' "$(cat listed)" files till.totals
+told 'files: lines of a file' 'file 41 name A size 4 hex 01020304 text ....' \
+  "$(sed -n '7,11p' out | tr '\n' ' ' | sed 's/ $//')"
+ends 'files of bytes without totals' 1 "kijolvar: zero.totals: isn't formatted"$'\n'"$hint_create" '' files zero.totals
+ends 'files of a short file' 1 \
+  "kijolvar: short.totals: is shorter than a totals file, which has 327680 bytes"$'\n'"$hint_create" '' files short.totals
+ends 'files of a folder' 4 \
+  'kijolvar: .: can'"'"'t be read whole: check the device that it is on'$'\n''hint: check the device that it is on, and the space that is free there' \
+  '' files .
+touch locked.totals
+chmod 000 locked.totals
+under=("${held[@]}")
+ends 'files of a file that may not be read' 4 \
+  "kijolvar: locked.totals: $unread: Permission denied (os error 13)"$'\n'"$hint_path" '' files locked.totals
+under=()
+
+# json FILE: whether the JSON of a totals file says the same as its lines of text
+json() {
+  "$tool" files "$1" > listed
+  "$tool" files --json "$1" > listed.json
+  python3 - <<'PYTHON'
+import json
+with open('listed', encoding='ascii') as it:
+    lines = [line.rstrip('\n').split(' ', 1) for line in it]
+wanted = {word: int(value) for word, value in lines[:6] if word not in ('room', 'files')}
+room, count = lines[4][1], int(lines[5][1])
+wanted['room'] = None if room == 'none' else int(room)
+unhex = lambda text: '' if text == '-' else text
+rows = lines[6:]
+wanted['files'] = [
+    {'name': unhex(rows[at][1]), 'size': int(rows[at + 2][1]), 'hex': unhex(rows[at + 3][1])}
+    for at in range(0, len(rows), 5)]
+with open('listed.json', encoding='utf-8') as it:
+    text = it.read()
+assert text.count('\n') == 1 and text.endswith('\n')
+found = json.loads(text)
+assert len(found['files']) == count
+print('same' if found == wanted else f'{found} is not {wanted}')
+PYTHON
+}
+told 'files --json: the same facts' same "$(json till.totals)"
+told 'files --json: without files' same "$(json other.totals)"
+
+# --- cat
+ends 'cat' 0 '' "$(printf '\001\002\003\004')" cat till.totals A
+told 'cat: the bytes alone' 01020304 "$(od -An -tx1 out | tr -d ' \n')"
+ends 'cat in hex' 0 '' 01020304 cat till.totals A --hex
+ends 'cat of an empty file' 0 '' '' cat till.totals 'B C'
+told 'cat of an empty file: nothing' 0 "$(wc -c < out)"
+ends 'cat of an empty file in hex' 0 '' '' cat --hex till.totals 'B C'
+told 'cat of an empty file in hex: a line' 1 "$(wc -c < out)"
+ends 'cat of no file' 1 'kijolvar: till.totals: no file has the name a'$'\n''hint: `kijolvar files FILE` lists the files in it' '' cat till.totals a
+ends 'cat of a name without letters' 1 'kijolvar: till.totals: no file has the name '$'\n''hint: `kijolvar files FILE` lists the files in it' '' cat till.totals ''
+
+# --- migrate
+cp till.totals moved.totals
+ends 'migrate' 0 '' '' migrate moved.totals
+ends 'check of layout 2' 0 '' 'sound: layout 2, sequence 1, records 0, files 2' check moved.totals
+told 'migrate keeps the files' same "$(cmp -s <("$tool" cat till.totals A) <("$tool" cat moved.totals A) && echo same)"
+told 'files --json: layout 2' same "$(json moved.totals)"
+cp moved.totals kept
+ends 'a second move' 4 'kijolvar: moved.totals: has layout 2 already: there is nothing to do'$'\n''hint: nothing is left to do' '' migrate moved.totals
+same 'a second move keeps the bytes' moved.totals kept
+ends 'migrate of bytes without totals' 1 \
+  "kijolvar: zero.totals: isn't formatted: format it first, which makes totals without files"$'\n''hint: `kijolvar create FILE` makes totals without files' \
+  '' migrate zero.totals
+ends 'migrate of no file' 4 "kijolvar: none.totals: $unopened: $none"$'\n'"$hint_path" '' migrate none.totals
+{ for at in $(seq 250); do printf 'call a create %s 3 false\n' "$(printf 'f%03d' "$at" | od -An -tx1 | tr -d ' \n')"; done; } |
+  script moved.totals
+ends 'check of 250 files' 0 '' "sound: layout 2, sequence 1, records $((250 - 2)), files 250" check moved.totals
+told 'files --json: 250 files' same "$(json moved.totals)"
+
+# --- dump, load and diff
+"$tool" dump till.totals > dumped
+told 'dump' $'layout 1\n41=01020304\n422043=' "$(cat dumped)"
+ends 'load' 0 '' '' load dumped loaded.totals
+ends 'dump, load, dump' 0 '' "$(cat dumped)" dump loaded.totals
+"$tool" dump moved.totals > dumped2
+ends 'load of 250 files' 0 '' '' load dumped2 loaded2.totals
+told 'dump, load, dump of 250 files' same "$(cmp -s <("$tool" dump loaded2.totals) dumped2 && echo same)"
+ends 'diff of the same files' 0 '' '' diff till.totals loaded.totals
+ends 'diff with layout 2' 1 '' "$(for at in $(seq 3 250); do printf 'only in the second: f%03d\n' $((at - 2)); done)" diff till.totals moved.totals
+printf 'call a write 1 3 05\ncall a delete 422043\ncall a create 44 0 false\n' | script loaded.totals
+ends 'diff' 1 '' $'differs: A\nonly in the first: B C\nonly in the second: D' diff till.totals loaded.totals
+ends 'diff with no file' 4 "kijolvar: none.totals: $unread: $none"$'\n'"$hint_path" '' diff till.totals none.totals
+ends 'diff of no file' 4 "kijolvar: none.totals: $unread: $none"$'\n'"$hint_path" '' diff none.totals till.totals
+hint_dump='hint: `kijolvar dump FILE` prints such a text'
+for text in '' 'layout 3' 'layout 1 ' $'layout 1\n41' $'layout 1\n41=0' $'layout 1\n4=00' $'layout 1\n41=0A' $'layout 1\n41=\n41=' \
+  $'layout 1\n19=00' $'layout 1\n41=00\n\n' "layout 1"$'\n'"41=$(head -c 8193 /dev/zero | od -An -v -tx1 | tr -d ' \n')"; do
+  printf '%s\n' "$text" > text
+  ends "load of ${text:0:20}" 1 "kijolvar: text: is no dump of totals"$'\n'"$hint_dump" '' load text new
+done
+printf '\377' > text
+ends 'load of bytes that are no text' 1 "kijolvar: text: is no dump of totals"$'\n'"$hint_dump" '' load text new
+printf 'layout 1' > text
+ends 'load of a text that is cut' 1 "kijolvar: text: is no dump of totals"$'\n'"$hint_dump" '' load text new
+ends 'load of no text' 4 "kijolvar: none: $unread: $none"$'\n'"$hint_path" '' load none new
+told 'load makes nothing then' '' "$(ls new* 2> /dev/null)"
+ends 'load where a file is' 4 \
+  "kijolvar: till.totals: can't be put there: File exists (os error 17)"$'\n''hint: if a file is there: give another path, or restore with --replace' \
+  '' load dumped till.totals
+
+# --- salvage
+ends 'salvage of sound totals' 0 '' '' salvage till.totals saved.totals
+same 'salvage of sound totals copies them' till.totals saved.totals
+ends 'salvage of bytes without totals' 1 "kijolvar: zero.totals: isn't formatted"$'\n'"$hint_create" '' salvage zero.totals new
+ends 'salvage of a file that was cut off' 0 '' '' salvage short.totals saved2.totals
+same 'salvage adds the bytes that are missing' saved2.totals till.totals
+ends 'salvage of no file' 4 "kijolvar: none.totals: $unread: $none"$'\n'"$hint_path" '' salvage none.totals new
+ends 'salvage where a file is' 4 \
+  "kijolvar: other.totals: can't be put there: File exists (os error 17)"$'\n''hint: if a file is there: give another path, or restore with --replace' \
+  '' salvage till.totals other.totals
+"$tool" create two.totals
+filler() { printf 'call a write 1 0 %s\n' "$(head -c 8192 /dev/zero | tr '\000' "\\$1" | od -An -v -tx1 | tr -d ' \n')"; }
+{ printf 'call a create 41 8192 false\n'; filler 001; filler 002; } | script two.totals
+put two.totals 32777 0000ffff
+ends 'salvage of the image before' 0 '' \
+  'closed gate 32768, broken at 32777: the length of the current body is above the longest' salvage two.totals saved3.totals
+told 'salvage of the image before: what is there' 0101 "$("$tool" cat saved3.totals A --hex | head -c 4)"
+
+# --- explain
+ends 'explain a number' 0 '' "E_ILLEGAL 106, result code: an argument is out of its range, or the control's state doesn't allow the call
+to do: look up the call's arguments" explain 106
+cp out by_number
+ends 'explain a name' 0 '' "$(cat by_number)" explain E_ILLEGAL
+"$tool" explain 201 > out
+told 'explain a number with two meanings' 'ETOT_NOROOM EPTR_COVER_OPEN' "$(grep -o '^E[A-Z_]*' out | tr '\n' ' ' | sed 's/ $//')"
+hint_code='hint: give a number as 106, or a name as E_ILLEGAL'
+ends 'explain no code' 1 "kijolvar: no code is 999"$'\n'"$hint_code" '' explain 999
+ends 'explain nothing' 1 "kijolvar: no code is "$'\n'"$hint_code" '' explain ''
+ends 'explain a number with a zero before it' 1 "kijolvar: no code is 0106"$'\n'"$hint_code" '' explain 0106
+# each code of the reference, with its number
+while IFS='|' read -r _ number name _; do
+  number=$(echo $number) name=$(echo $name)
+  told "explain $name" "$name $number" "$("$tool" explain "$name" | head -n 1 | cut -d, -f1)"
+done < <(sed -n '/^## Result codes/,/^## Other/p' "$top/docs/reference/calls.md" | grep -E '^\| [0-9]+ \|')
+
+# --- backup
+ends 'backup' 0 '' '' backup till.totals copy.totals
+same 'backup copies the bytes' till.totals copy.totals
+ends 'backup of a longer file' 0 '' '' backup longer.totals copy2.totals
+same 'backup copies what counts' till.totals copy2.totals
+cp copy.totals kept
+there='File exists (os error 17)'
+ends 'backup where a file is' 4 \
+  "kijolvar: copy.totals: can't be put there: $there"$'\n''hint: if a file is there: give another path, or restore with --replace' \
+  '' backup other.totals copy.totals
+same 'backup keeps that file' copy.totals kept
+told 'backup leaves nothing beside it' '' "$(ls ./*.part 2> /dev/null)"
+touch new.part
+ends 'backup beside another one' 4 \
+  "kijolvar: new: the file beside it, with .part at its end, can't be made: $there"$'\n''hint: check the folder; remove the .part file if no other command is making it' \
+  '' backup till.totals new
+told 'backup beside another one keeps its file' 0 "$(wc -c < new.part)"
+rm new.part
+ends 'backup into no folder' 4 \
+  "kijolvar: none/new: the file beside it, with .part at its end, can't be made: $none"$'\n''hint: check the folder; remove the .part file if no other command is making it' \
+  '' backup till.totals none/new
+ends 'backup of no file' 4 "kijolvar: none.totals: $unread: $none"$'\n'"$hint_path" '' backup none.totals new
+ends 'backup of bytes without totals' 1 "kijolvar: zero.totals: isn't formatted"$'\n'"$hint_create" '' backup zero.totals new
+ends 'backup of a short file' 1 \
+  'kijolvar: short.totals: is shorter than a totals file, which has 327680 bytes'$'\n''hint: `kijolvar create FILE` makes totals without files' \
+  '' backup short.totals new
+(trap '' XFSZ; ulimit -f 32; exec "$tool" backup till.totals new > out 2> err)
+told 'backup onto a full disk: status' 4 $?
+told 'backup onto a full disk: message' "kijolvar: new: can't be written and synced whole"$'\n''hint: check the device, and the space that is free there' \
+  "$(cat err)"
+told 'backup onto a full disk leaves nothing' '' "$(ls new* 2> /dev/null)"
+strace -f -e trace=openat,pwrite64,fsync,link,linkat,unlink,unlinkat,rename -o trace "$tool" backup till.totals new
+told 'backup: it is written, synced, linked, and its folder synced' 'pwrite64 fsync link unlink fsync' \
+  "$(sed -n '/new.part/,$p' trace | grep -oE '(pwrite64|fsync|link|linkat|unlink|unlinkat)\(' | tr -d '(' |
+    sed 's/linkat/link/; s/unlinkat/unlink/' | tr '\n' ' ' | sed 's/ $//')"
+told 'backup opens its source to be read alone' 1 "$(grep -c '"till.totals", O_RDONLY' trace)"
+rm -f new
+
+# --- restore
+ends 'restore' 0 '' '' restore copy.totals back.totals
+same 'restore copies the bytes' copy.totals back.totals
+ends 'restore over a file' 4 \
+  "kijolvar: other.totals: can't be put there: $there"$'\n''hint: if a file is there: give another path, or restore with --replace' \
+  '' restore copy.totals other.totals
+told 'restore over a file keeps it' 'sound: layout 1, sequence 1, records 0, files 0' "$("$tool" check other.totals)"
+cp other.totals kept
+ends 'restore, replacing' 0 '' '' restore copy.totals other.totals --replace
+same 'restore, replacing, copies the bytes' copy.totals other.totals
+same 'restore, replacing, keeps the old file' other.totals.old kept
+ends 'restore, replacing, where an old file is' 4 \
+  "kijolvar: other.totals: the old file can't be kept beside it, with .old at its end: $there"$'\n''hint: if a .old file is there: move it away first' \
+  '' restore copy.totals other.totals --replace
+same 'that old file stays' other.totals.old kept
+told 'restore leaves nothing beside it' '' "$(ls ./*.part 2> /dev/null)"
+ends 'restore, replacing no file' 4 "kijolvar: new: $unopened: $none"$'\n'"$hint_path" '' restore copy.totals new --replace
+ends 'restore of no file' 4 "kijolvar: none.totals: $unread: $none"$'\n'"$hint_path" '' restore none.totals new
+rm other.totals.old
+cp other.totals kept
+(trap '' XFSZ; ulimit -f 32; exec "$tool" restore till.totals other.totals --replace > out 2> err)
+told 'restore onto a full disk: status' 4 $?
+same 'restore onto a full disk keeps the file' other.totals kept
+told 'restore onto a full disk leaves nothing' '' "$(ls other.totals.* 2> /dev/null)"
+
+# --- a file that a till has open
+mkfifo lines answers
+"$program" run --profile till.toml --disk till.totals < lines > answers 2> run.err &
+run=$!
+exec 3> lines 4< answers
+printf 'new a HardTotals\nopen a t1\nset a DeviceEnabled true\n' >&3
+for _ in 1 2 3; do read -r -t 60 answer <&4; done
+told 'a till runs' ok "${answer:-}"
+cp till.totals kept
+in_use='kijolvar: till.totals: is in use: close the other program that has it open'$'\n'"$hint_stop"
+for words in 'check till.totals' 'check --quiet till.totals' 'files till.totals' 'files --json till.totals' \
+  'cat till.totals A' 'dump till.totals' 'diff till.totals other.totals' 'diff other.totals till.totals' \
+  'salvage till.totals new' 'create till.totals' 'migrate till.totals' 'restore till.totals new' \
+  'restore copy.totals till.totals --replace'; do
+  ends "$words beside a till" 4 "$in_use" '' $words
+done
+same 'the file is as it was' till.totals kept
+told 'nothing is beside it' '' "$(ls till.totals.* new* 2> /dev/null)"
+ends 'backup beside a till' 0 '' '' backup till.totals beside.totals
+same 'backup beside a till copies the bytes' till.totals beside.totals
+
+# backups while the till writes: each holds what was acknowledged before it began, and nothing that wasn't written
+python3 - "$tool" <<'PYTHON' > counted
+import json, os, subprocess, sys, threading
+tool = sys.argv[1]
+lines, answers = os.fdopen(3, 'w', closefd=False), os.fdopen(4, closefd=False)
+done, stop, faults, copies = 0, False, [], 0
+def write():
+    global done
+    for number in range(1, 1001):
+        print(f'call a write 1 0 {number:08x}', file=lines, flush=True)
+        if answers.readline() != 'ok\n':
+            faults.append(f'write {number}')
+            return
+        done = number
+writer = threading.Thread(target=write)
+writer.start()
+while writer.is_alive() or copies < 20:
+    before = done
+    name = f'copy{copies}'
+    made = subprocess.run([tool, 'backup', 'till.totals', name], capture_output=True, text=True)
+    after = done + 1
+    if made.returncode:
+        faults.append(made.stderr)
+    else:
+        found = subprocess.run([tool, 'cat', name, 'A', '--hex'], capture_output=True, text=True).stdout.strip()
+        number = int(found, 16) if found != '01020304' else 0
+        if not before <= number <= after:
+            faults.append(f'{name}: {number} is not {before} to {after}')
+        os.remove(name)
+    copies += 1
+writer.join()
+print('good' if not faults and done == 1000 else faults[:5])
+PYTHON
+told 'backups while a till writes 1,000 times' good "$(cat counted)"
+exec 3>&- 4<&-
+wait "$run"
+sound=$("$tool" check till.totals)
+told 'check after the till' 'sound: layout 1' "${sound%%,*}"
+
+# --- a second program that locks, and one that reads
+flock --exclusive --no-fork till.totals sleep 60 &
+other=$!
+until ! flock --nonblock till.totals true; do sleep 0.1; done
+ends 'check beside a lock' 4 "$in_use" '' check till.totals
+kill "$other"
+wait "$other" 2> /dev/null
+flock --shared --no-fork till.totals sleep 60 &
+other=$!
+until ! flock --nonblock till.totals true; do sleep 0.1; done
+ends 'check beside a reader' 0 '' "$sound" check till.totals
+ends 'migrate beside a reader' 4 "$in_use" '' migrate till.totals
+kill "$other"
+wait "$other" 2> /dev/null
+
+# --- what reads writes nothing
+cp till.totals kept
+for words in 'check till.totals' 'files till.totals' 'files --json till.totals' 'cat till.totals A' 'dump till.totals' \
+  'diff till.totals other.totals' 'salvage till.totals new2' 'backup till.totals new'; do
+  strace -f -e trace=openat,write,pwrite64,ftruncate,rename,unlink -o trace "$tool" $words > /dev/null
+  told "$words opens the file to be read alone" O_RDONLY \
+    "$(grep -o '"till.totals", [A-Z_]*' trace | sed 's/.*, //' | sort -u)"
+done
+same 'the file is as it was after all that read' till.totals kept
+
+# --- an output that takes nothing
+for words in help version 'explain 106' 'dump till.totals' 'check till.totals' 'files till.totals' 'files --json till.totals' 'cat till.totals A'; do
+  "$tool" $words > /dev/full 2> err
+  told "$words on a full output: status" 5 $?
+  told "$words on a full output: message" \
+    "kijolvar: the output can't be written"$'\n''hint: check the space that is free where the output goes' "$(cat err)"
+done
+"$tool" check till.totals --quiet > /dev/full 2> err
+told 'a quiet check prints nothing' 0 $?
+
+# --- random damages: each is answered, and the file stays
+python3 - "$tool" <<'PYTHON' > counted
+import os, random, subprocess, sys
+tool, source = sys.argv[1], open('till.totals', 'rb').read()
+random.seed(13)
+places = [0, *range(1, 40), *range(16384, 16500), 32768, *range(32769, 32790), 65536, 196608]
+faults = []
+for turn in range(300):
+    bytes_ = bytearray(source)
+    for _ in range(random.choice((1, 1, 2, 5, 40))):
+        bytes_[random.choice(places)] = random.choice((0, 1, 0xA5, 0xFF, random.randrange(256)))
+    with open('random.totals', 'wb') as it:
+        it.write(bytes_)
+    check = subprocess.run([tool, 'check', 'random.totals'], capture_output=True, text=True)
+    files = subprocess.run([tool, 'files', 'random.totals', '--json'], capture_output=True, text=True)
+    first = {0: 'sound: ', 1: 'no totals: ', 2: 'damaged at byte '}.get(check.returncode)
+    if first is None or not check.stdout.startswith(first) or files.returncode != check.returncode:
+        faults.append((turn, check, files))
+    saved = subprocess.run([tool, 'salvage', 'random.totals', 'random.saved'], capture_output=True, text=True)
+    if saved.returncode == 0:
+        with open('random.saved', 'rb') as it:
+            made = it.read()
+        wrong = [at for at in range(len(made)) if made[at] != bytes_[at] and made[at] != 0]
+        check2 = subprocess.run([tool, 'check', 'random.saved'], capture_output=True, text=True)
+        os.remove('random.saved')
+        closed = sum(made[at] != bytes_[at] for at in range(len(made)))
+        if wrong or check2.returncode or closed != saved.stdout.count('\n'):
+            faults.append((turn, saved, wrong))
+    elif saved.returncode != 1:
+        faults.append((turn, saved))
+    if open('random.totals', 'rb').read() != bytes(bytes_):
+        faults.append((turn, 'changed'))
+print('good' if not faults else faults[:3])
+PYTHON
+told 'every one of 300 random damages is answered, and nothing is written' good "$(cat counted)"
+
+# --- the examples of the document: each line that begins with `$ ` is run, and prints what follows it
+mkdir examples
+cd examples || exit 1
+PATH="$work/bin:$PATH"
+mkdir -p "$work/bin"
+ln -s "$tool" "$work/bin/kijolvar"
+ln -s "$program" "$work/bin/pos_console"
+python3 - "$top/docs/reference/tool.md" <<'PYTHON' > "$work/counted"
+import re, subprocess, sys
+text = open(sys.argv[1], encoding='utf-8').read()
+count = 0
+for block in re.findall(r'^```console\n(.*?)^```$', text, re.M | re.S):
+    for part in re.split(r'^\$ ', block, flags=re.M)[1:]:
+        command, _, wanted = part.partition('\n')
+        made = subprocess.run(['bash', '-c', command], stdout=subprocess.PIPE, stderr=subprocess.STDOUT, text=True)
+        found = made.stdout
+        print(f'{command}: {"same" if found == wanted else repr(found)}')
+PYTHON
+while read -r line; do
+  told "the example ${line%: *}" same "${line##*: }"
+done < "$work/counted"
+told 'there are examples' yes "$([ "$(wc -l < "$work/counted")" -ge 12 ] && echo yes)"
+
+echo "$passed passed, $failed failed"
+[ "$failed" -eq 0 ]
