@@ -70,6 +70,15 @@ needs() {
 
 # ---- the release
 
+# take_object CRATE WORD ..: puts a program's object into that folder. If rt ci kept the program alone, rt run makes it
+take_object() {
+  local crate=$1 object=$top/crates/$1/out/$1.o
+  shift
+  grep -q "^$crate:" "$top/crates.txt" || return 0
+  [ -f "$object" ] || (cd "$top/crates/$crate" && rt run "$@" < /dev/null > /dev/null 2>&1)
+  cp "$object" "$work/built"
+}
+
 # snapshot: puts what rt has built into a folder, from which a trial is made
 snapshot() {
   local object
@@ -78,9 +87,8 @@ snapshot() {
   (cd "$top/crates/kijolvar" && rt lib) > "$work/said" 2>&1
   told "the library is built" 0 "$?"
   cp "$top/crates/kijolvar/out/libkijolvar.a" "$work/built"
-  for object in "$top"/crates/pos_{console,tool}/out/pos_{console,tool}.o; do
-    [ ! -f "$object" ] || cp "$object" "$work/built"
-  done
+  take_object pos_console
+  take_object pos_tool -- version
   export KIJOLVAR_BUILT=$work/built
 }
 
