@@ -200,7 +200,7 @@ install_documents() {
   cp "$top"/examples/* "$doc/examples"
   cp "$top"/abi/page/* "$data/page"
   cp "$top/abi/python/till.py" "$top/abi/python/standard.py" "$data/python"
-  cp "$top"/crates/pos_console/scripts/* "$data/scripts"
+  cp "$top"/tests/scripts/* "$data/scripts"
   rm -rf "$data"/*/__pycache__
 }
 

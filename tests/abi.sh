@@ -125,7 +125,7 @@ watches() {
 
 # the console's scripts for the built profile
 scripts=()
-for expected in "$top"/crates/pos_console/scripts/*.stdout; do
+for expected in "$top"/tests/scripts/*.stdout; do
   [ -e "${expected%.stdout}.profile" ] || scripts+=("${expected%.stdout}")
 done
 [ "${#scripts[@]}" -ge 40 ]

@@ -64,7 +64,7 @@ def tracked_files():
 FILES = tracked_files()
 FOLDERS = {path[:at.start()] for path in FILES for at in re.finditer("/", path)}
 TREE = ["/" + path for path in [*FILES, *FOLDERS]]
-SCRIPTS = sorted(path for path in glob.glob("crates/pos_console/scripts/*")
+SCRIPTS = sorted(path for path in glob.glob("tests/scripts/*")
                  if not re.search(r"\.(stdout|profile|disk|left|before)$", path))
 TEXTS = {path: read(path) for path in [*DOCUMENTS, *SCRIPTS]}
 

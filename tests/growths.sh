@@ -1,5 +1,5 @@
 #!/usr/bin/env bash
-# Refuses each growth of memory in turn. Over the program it runs each script of crates/pos_console/scripts and refuses the
+# Refuses each growth of memory in turn. Over the program it runs each script of tests/scripts and refuses the
 # first growth of the run, then the second alone, and so on until a run meets none. Each time
 #   either the run has ended for want of memory before its first line, with nothing printed, and tells so: of the words, of
 #   the profile's file or of the disk's, or of what is made of them;
@@ -23,7 +23,7 @@ step=1
 [ "${1:-}" = -s ] && { step=$2; shift 2; }
 top=$(cd "$(dirname "$0")/.." && pwd)
 recorded=$top/tests/growths
-scripts=$top/crates/pos_console/scripts
+scripts=$top/tests/scripts
 program=$(realpath "${1:-$top/crates/pos_console/out/pos_console}")
 work=$(mktemp -d)
 trap 'rm -rf "$work"' EXIT

@@ -1,6 +1,6 @@
 #!/usr/bin/env bash
 # Shows which lines of a script take memory, and when. No contract can say it: a body may grow, ignore a refusal and
-# go on. It runs the program over each script of crates/pos_console/scripts, one line a read, with a `malloc` and a
+# go on. It runs the program over each script of tests/scripts, one line a read, with a `malloc` and a
 # `write` of its own that report each event. It wants three things of each run:
 #   the program prints NAME.stdout while each growth is refused in the lines that take no memory
 #   (docs/reference/model.md, "Where the machine is free"): a delivery, `attach`, `detach`, `claim`, `release`, `close`,
@@ -17,7 +17,7 @@ export LC_ALL=C
 is_with_tests=
 [ "${1:-}" = -t ] && { is_with_tests=1; shift; }
 top=$(cd "$(dirname "$0")/.." && pwd)
-scripts=$top/crates/pos_console/scripts
+scripts=$top/tests/scripts
 program=$(realpath "${1:-$top/crates/pos_console/out/pos_console}")
 tests=$(realpath -m "${2:-$top/crates/pos_counter_tests/out/pos_counter_tests_tests}")
 work=$(mktemp -d)

@@ -28,7 +28,7 @@ import kijolvar
 from kijolvar import (E_EXTENDED, EL_INPUT, EL_INPUT_DATA, EL_OUTPUT, ER_CLEAR, ER_CONTINUEINPUT, ER_RETRY,
                       KIJOLVAR_DISK_LENGTH, KIJOLVAR_ERRANDS, PN_ENABLED, PTR_S_RECEIPT, S_BUSY, S_CLOSED, S_ERROR, S_IDLE)
 
-SCRIPTS = TOP / "crates/pos_console/scripts"
+SCRIPTS = TOP / "tests/scripts"
 LIBRARY, PROGRAM = (os.path.abspath(word) for word in sys.argv[1:3])
 WORK = pathlib.Path(tempfile.mkdtemp())
 REASONS = {"a line of a wrong shape", "an unknown control", "a property of another category",

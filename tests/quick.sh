@@ -1,11 +1,11 @@
 #!/usr/bin/env bash
 # Runs the scripts without a profile, and two tests crates, without a proof. It builds the program and the crates with checks.
-# It runs each script of crates/pos_console/scripts that has no profile, and compares what it prints byte by byte. It runs
+# It runs each script of tests/scripts that has no profile, and compares what it prints byte by byte. It runs
 # the tests of the crates that are built soonest. It takes up to three minutes on four idle hardware threads, and needs rt.
 # Usage: tests/quick.sh. Its last line is 'N passed, M failed'. It fails if that is fewer than tests/expected has for it.
 set -u
 top=$(cd "$(dirname "$0")/.." && pwd)
-scripts=$top/crates/pos_console/scripts
+scripts=$top/tests/scripts
 tests_crates='pos_profile_tests pos_devices_tests'
 work=$(mktemp -d)
 trap 'rm -rf "$work"' EXIT

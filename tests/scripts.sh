@@ -1,5 +1,5 @@
 #!/usr/bin/env bash
-# Runs each script of crates/pos_console/scripts over the program and compares what it prints byte by byte. Beside the
+# Runs each script of tests/scripts over the program and compares what it prints byte by byte. Beside the
 # script NAME stands
 #   NAME.stdout   what it has to print;
 #   NAME.profile  the profile that it runs over, with a disk in a file. Without it the program is given no words;
@@ -13,7 +13,7 @@
 # last line is 'N passed, M failed'; it ends with 0 where none failed.
 set -u
 top=$(cd "$(dirname "$0")/.." && pwd)
-scripts=$top/crates/pos_console/scripts
+scripts=$top/tests/scripts
 program=$(realpath "${1:-$top/crates/pos_console/out/pos_console}")
 work=$(mktemp -d)
 trap 'rm -rf "$work"' EXIT

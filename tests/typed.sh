@@ -2,7 +2,7 @@
 # Tries the typed calls of C, C++ and Rust:
 # - what is written from the description is as the description says;
 # - the headers and the layer are C99 and C++17 without a warning;
-# - each script of crates/pos_console/scripts gives the same answers by typed calls;
+# - each script of tests/scripts gives the same answers by typed calls;
 # - want of memory at each allocation in turn, and what the layer refuses;
 # - examples/sale.* print the same;
 # - examples/TypedTill.java and examples/till.mjs, which drive the program over a pipe, print the same, if a JDK or Node is
@@ -147,11 +147,11 @@ scripts "C++" "$work/plus_run"
 rm -f "$work/disk"
 "$work/totals" create "$work/disk" > /dev/null
 for script in printer.errors scanner.errors display.scroll console.shapes; do
-  watched "$work/run" - - < "$top/crates/pos_console/scripts/$script" > "$work/said" 2> "$work/wrong"
+  watched "$work/run" - - < "$top/tests/scripts/$script" > "$work/said" 2> "$work/wrong"
   told "C, watched: $script" 0 "$?"
 done
-watched "$work/run" "$top/crates/pos_console/scripts/totals.transactions.profile" "$work/disk" \
-  < "$top/crates/pos_console/scripts/totals.transactions" > "$work/said" 2> "$work/wrong"
+watched "$work/run" "$top/tests/scripts/totals.transactions.profile" "$work/disk" \
+  < "$top/tests/scripts/totals.transactions" > "$work/said" 2> "$work/wrong"
 told "C, watched: totals.transactions" 0 "$?"
 
 ends "misuse in C" "as they should be" "$work/misuse" "$work/asked"

@@ -170,7 +170,7 @@ def count(pattern, root=sources.TOP):
 
 
 def scripts():
-    paths = glob.glob("crates/pos_console/scripts/*", root_dir=sources.TOP)
+    paths = glob.glob("tests/scripts/*", root_dir=sources.TOP)
     return f"There are {sum(not re.search(r'[.](stdout|profile|disk|left|before)$', path) for path in paths)} scripts.\n"
 
 

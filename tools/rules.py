@@ -26,7 +26,7 @@ import sources
 
 PAGE = "docs/proofs/rules.md"
 DOCUMENTS = sorted(os.path.relpath(path, sources.TOP) for path in glob.glob(f"{sources.TOP}/docs/*/*.md"))
-SCRIPTS = "crates/pos_console/scripts"
+SCRIPTS = "tests/scripts"
 
 
 class Fault(Exception):

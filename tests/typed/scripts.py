@@ -1,5 +1,5 @@
 #!/usr/bin/env python3
-"""Runs each script of crates/pos_console/scripts by typed calls, and compares what is printed byte by byte with its
+"""Runs each script of tests/scripts by typed calls, and compares what is printed byte by byte with its
 .stdout. tests/scripts.sh says what the files beside a script are. PROGRAM moves the disks that have layout 2.
 
 Usage: scripts.py --count, which prints how many runs there are; or scripts.py NAME RUN FORMAT PROGRAM, with the
@@ -13,7 +13,7 @@ import subprocess
 import sys
 import tempfile
 
-SCRIPTS = pathlib.Path(__file__).resolve().parent.parent.parent / "crates/pos_console/scripts"
+SCRIPTS = pathlib.Path(__file__).resolve().parent.parent.parent / "tests/scripts"
 LENGTH = 327680
 
 
