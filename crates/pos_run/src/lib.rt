@@ -30,6 +30,6 @@ pub use mounting::{AsSimulated, Mount};
 pub use names::Names;
 pub use profiled::{run_over_profile, simulate_profile};
 pub use reading::ScriptReader;
-pub use scripts::{RunFault, run};
+pub use scripts::{RunFault, StreamRun, run, run_streams};
 pub use spares::Spares;
 pub use wrapped::Wrapped;

@@ -42,6 +42,7 @@ pub(crate) fn wrap(device: Simulation, flaky: Option<(u32, u32)>, recorded: bool
 impl Peripheral for Wrapped {
     ghost state = { λ wrapped. wrapped_state wrapped };
 
+    #[inline(always)]
     fn kind(&self) -> Kind {
         match self {
             Wrapped::Bare(device) => device.kind(),
@@ -51,6 +52,7 @@ impl Peripheral for Wrapped {
         }
     }
 
+    #[inline(always)]
     fn signs(&self) -> Signs {
         match self {
             Wrapped::Bare(device) => device.signs(),

@@ -1,5 +1,5 @@
 //! The verbs of lines, and what the words after them ask.
-ghost use Rattle.std.specs.Prelude.{◌≡◌, ◌∷◌, MatchOption};
+ghost use Rattle.std.specs.Prelude.{◌≡◌, ◌∷◌, MatchOption, bytes_eq};
 ghost use Rattle.pos_script.specs.Lines.{words_of};
 ghost use Rattle.pos_script.specs.Arguments.{Reads, from_three, misshapen, one};
 ghost use Rattle.pos_script.specs.Words.{bytes_shape, category_shape, count_shape};
@@ -71,26 +71,43 @@ pub struct Command<'a> {
     pub words: &'a [u8],
 }
 
+/// Returns whether a word is this verb. It is inlined, and a verb's bytes are known there, so each costs one compare.
+#[inline(always)]
+fn is_verb(word: &[u8], verb: &str) -> bool
+    ensures { result ≡ bytes_eq word.now verb.now }
+{
+    let verb = verb.as_bytes();
+    if word.len() != verb.len() {
+        return false;
+    }
+    for place in 0..verb.len() {
+        if word[place] != verb[place] {
+            return false;
+        }
+    }
+    true
+}
+
 /// Returns the verb of this word. Those of most lines are looked for first.
 #[inline(always)]
 fn named_verb(word: &[u8]) -> Option<Verb>
     ensures { result ≡ verb_named word.now }
 {
     match word {
-        _ if is(word, "call") => Some(Verb::Call(CallVerb::Method)),
-        _ if is(word, "get") => Some(Verb::Call(CallVerb::Get)),
-        _ if is(word, "set") => Some(Verb::Call(CallVerb::Set)),
-        _ if is(word, "deliver") => Some(Verb::Deliver),
-        _ if is(word, "input") => Some(Verb::Input),
-        _ if is(word, "open") => Some(Verb::Call(CallVerb::Open)),
-        _ if is(word, "claim") => Some(Verb::Call(CallVerb::Claim)),
-        _ if is(word, "release") => Some(Verb::Call(CallVerb::Release)),
-        _ if is(word, "close") => Some(Verb::Call(CallVerb::Close)),
-        _ if is(word, "new") => Some(Verb::New),
-        _ if is(word, "show") => Some(Verb::Device(DeviceVerb::Show)),
-        _ if is(word, "work") => Some(Verb::Device(DeviceVerb::Work)),
-        _ if is(word, "attach") => Some(Verb::Attach),
-        _ if is(word, "detach") => Some(Verb::Device(DeviceVerb::Detach)),
+        _ if is_verb(word, "call") => Some(Verb::Call(CallVerb::Method)),
+        _ if is_verb(word, "get") => Some(Verb::Call(CallVerb::Get)),
+        _ if is_verb(word, "set") => Some(Verb::Call(CallVerb::Set)),
+        _ if is_verb(word, "deliver") => Some(Verb::Deliver),
+        _ if is_verb(word, "input") => Some(Verb::Input),
+        _ if is_verb(word, "open") => Some(Verb::Call(CallVerb::Open)),
+        _ if is_verb(word, "claim") => Some(Verb::Call(CallVerb::Claim)),
+        _ if is_verb(word, "release") => Some(Verb::Call(CallVerb::Release)),
+        _ if is_verb(word, "close") => Some(Verb::Call(CallVerb::Close)),
+        _ if is_verb(word, "new") => Some(Verb::New),
+        _ if is_verb(word, "show") => Some(Verb::Device(DeviceVerb::Show)),
+        _ if is_verb(word, "work") => Some(Verb::Device(DeviceVerb::Work)),
+        _ if is_verb(word, "attach") => Some(Verb::Attach),
+        _ if is_verb(word, "detach") => Some(Verb::Device(DeviceVerb::Detach)),
         _ => None,
     }
 }
