@@ -1,5 +1,5 @@
 -- What contracts see of a simulated peripheral that stands for a host's, and how it answers.
-use Rattle.std.specs.Prelude.{◌≡◌, ◌+◌, ◌-◌, ◌^◌, Bool, false, is_some, min, Result, Err}
+use Rattle.std.specs.Prelude.{◌≡◌, ◌≢◌, ◌+◌, ◌-◌, ◌^◌, ◌⊎◌, Bool, false, is_some, min, Result, Ok, Err}
 use Rattle.std.specs.declared.alloc.Global.{Global}
 use Rattle.pos_service.specs.declared.memory.NoMemory.{NoMemory}
 use Rattle.pos_service.specs.declared.order.Order.{Order}
@@ -33,17 +33,31 @@ pub record PutsOff {P : Type 0} (old : Driven P) (outcome : Result Reply NoMemor
   pub no_memory : outcome ≡ Err (record {})
   pub same : new ≡ record old { asks = counted old.asks }
 
--- The order waits for the host from now on, as the twin would do nothing else than carry it out. It did nothing, and
--- none waited before.
+-- The order waits for the host from now on: there is one, no order waited for it before, and the twin would carry the
+-- order out. Nothing was done.
 pub record Keeps {P : Type 0} (peripherals : Ghosts P) (old : Driven P) (asked : Order)
     (outcome : Result Reply NoMemory) (new : Driven P) : Type 0 where
-  pub no_memory : outcome ≡ Err (record {})
-  pub waits : new ≡ record old { asks = counted old.asks; course = course.Waits asked }
+  pub hosted : old.course ≢ course.Free
   pub none_waited : has_order old ≡ false
   pub foretold : Foretells (peripherals.state old.twin).plant asked reply.Done
+  pub no_memory : outcome ≡ Err (record {})
+  pub same : new ≡ record old { asks = counted old.asks; course = course.Waits asked }
 
 -- The twin was asked, and answers.
 pub record Passes {P : Type 0} (peripherals : Ghosts P) (old : Driven P) (asked : Order)
     (outcome : Result Reply NoMemory) (new : Driven P) : Type 0 where
   pub twin : Asked (peripherals.state old.twin) asked outcome (peripherals.state new.twin)
   pub faults : new.faults ≡ old.faults
+
+-- The host has reported that the order isn't done, and the twin would carry it out: the line has failed.
+pub record Fails {P : Type 0} (peripherals : Ghosts P) (old : Driven P) (asked : Order)
+    (outcome : Result Reply NoMemory) (new : Driven P) : Type 0 where
+  pub not_done : old.course ≡ course.Reported asked false
+  pub foretold : Foretells (peripherals.state old.twin).plant asked reply.Done
+  pub fault : outcome ≡ Ok reply.LineFault
+  pub same : new ≡ record old { asks = counted old.asks; faults = counted old.faults; course = course.Ready }
+
+-- An answer is the twin's, or that the line has failed.
+abbrev pub Answers : {P : Type 0} → Ghosts P → Driven P → Order → Result Reply NoMemory → Driven P → Type 0
+Answers peripherals old asked outcome new =
+    Passes peripherals old asked outcome new ⊎ Fails peripherals old asked outcome new

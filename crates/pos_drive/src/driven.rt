@@ -1,15 +1,14 @@
 //! Simulated peripherals that stand for a host's.
-ghost use Rattle.std.specs.Prelude.{◌≡◌, ◌≢◌, Bool, true, false, Ok, MatchResult};
+ghost use Rattle.std.specs.Prelude.{◌≡◌, ◌≢◌, true, false, Ok, MatchResult};
 ghost use Rattle.pos_service.specs.Peripherals.{Asked, order_fits};
-ghost use Rattle.pos_drive.specs.DrivenPeripherals.{Keeps, Passes, PutsOff, driven_of, driven_state, has_order};
+ghost use Rattle.pos_drive.specs.Courses.{settled_course};
+ghost use Rattle.pos_drive.specs.DrivenPeripherals.{Answers, Keeps, Passes, PutsOff, driven_of, driven_state, has_order};
 
 use crate::courses::{Course, Progress};
 use crate::hosted::Hosted;
 use crate::order_copies::copy_order;
 use crate::preview::Preview;
-use pos_service::{
-    Ends, Input, Kind, NoMemory, Order, Peripheral, Reply, Signs, Snapshot, Taken,
-};
+use pos_service::{Ends, Input, Kind, NoMemory, Order, Peripheral, Reply, Signs, Snapshot, Taken};
 use std::alloc::Global;
 use std::mem::swap;
 
@@ -78,24 +77,23 @@ impl<P: Preview> Peripheral for Driven<P> {
         ensures only_reported { let state = driven_state P.Peripheral in
             (state self.old).is_parked ≡ false → order_fits (state self.old).kind order.now ≡ true →
             self.old.course ≢ Course.Free → result ≡ Ok Reply.Done → self.old.course ≡ Course.Reported order.now true }
-        ensures passes { let state = driven_state P.Peripheral in
+        ensures answers { let state = driven_state P.Peripheral in
             (state self.old).is_parked ≡ false → order_fits (state self.old).kind order.now ≡ true →
-            (said : Reply) → result ≡ Ok said → said ≢ Reply.LineFault →
-            Passes P.Peripheral self.old order.now result self.new }
-        ensures puts_off { has_order self.old ≡ true → PutsOff self.old result self.new }
-        ensures keeps { let state = driven_state P.Peripheral in
-            (state self.old).is_parked ≡ false → order_fits (state self.old).kind order.now ≡ true →
-            has_order self.old ≡ false → has_order self.new ≡ true →
-            Keeps P.Peripheral self.old order.now result self.new }
-        ensures settles { (is_done : Bool) → self.old.course ≡ Course.Reported order.now is_done →
-            MatchResult result (λ said. self.new.course ≡ Course.Ready) (λ want. self.new.course ≡ self.old.course) }
+            (said : Reply) → result ≡ Ok said → Answers P.Peripheral self.old order.now result self.new }
         ensures done { let state = driven_state P.Peripheral in
             (state self.old).is_parked ≡ false → order_fits (state self.old).kind order.now ≡ true →
             self.old.course ≡ Course.Reported order.now true → Passes P.Peripheral self.old order.now result self.new }
         ensures free { let state = driven_state P.Peripheral in
             (state self.old).is_parked ≡ false → order_fits (state self.old).kind order.now ≡ true →
             self.old.course ≡ Course.Free → Passes P.Peripheral self.old order.now result self.new }
-        ensures stays_free { self.old.course ≡ Course.Free → self.new.course ≡ Course.Free }
+        ensures puts_off { has_order self.old ≡ true → PutsOff self.old result self.new }
+        ensures keeps { let state = driven_state P.Peripheral in
+            (state self.old).is_parked ≡ false → order_fits (state self.old).kind order.now ≡ true →
+            has_order self.old ≡ false → has_order self.new ≡ true →
+            Keeps P.Peripheral self.old order.now result self.new }
+        ensures settles { MatchResult result
+            (λ said. self.new.course ≡ settled_course self.old.course)
+            (λ want. has_order self.new ≡ false → self.new.course ≡ self.old.course) }
     {
         self.asks = self.asks.saturating_add(1);
         if self.course.waiting().is_some() {
