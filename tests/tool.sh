@@ -89,7 +89,7 @@ unopened="can't be opened for reading and writing"
 "$tool" help > help.txt
 told 'help: status' 0 $?
 told 'help begins' 'kijolvar: checks, prints, makes and copies totals files, and runs scripts' "$(head -n 1 help.txt)"
-for command in check files cat dump diff create migrate backup restore load salvage run explain completions man version help; do
+for command in check files cat dump diff create migrate backup restore load salvage run test explain completions man version help; do
   told "help has $command" 1 "$(grep -c "^  $command " help.txt)"
 done
 ends 'no words' 0 '' "$(cat help.txt)"
@@ -623,10 +623,50 @@ exec 5<&-
 told 'run onto a full disk' "5 kijolvar: the output can't be written" "$? $(head -n 1 err)"
 refuses 'run with a profile without a word' "a value is required for '--profile <profile>' but none was supplied" run a --profile
 
+# --- test
+mkdir conformance
+cp "$top"/crates/pos_console/scripts/* conformance
+scripts=()
+for script in conformance/*; do
+  case $script in *.stdout | *.profile | *.disk | *.left | *.before) continue ;; esac
+  [ -f "$script.profile" ] || scripts+=("$script")
+done
+ends 'test of the conformance scripts' 0 '' "$(printf 'ok %s\n' "${scripts[@]}"; echo "${#scripts[@]} passed, 0 failed")" test "${scripts[@]}"
+told 'there are some' yes "$([ "${#scripts[@]}" -ge 40 ] && echo yes)"
+"$program" < sale.script > sale.script.stdout
+ends 'test' 0 '' $'ok sale.script\n1 passed, 0 failed' test sale.script
+sed '3s/ok/err 105/' sale.script.stdout > sale2.script.stdout
+cp sale.script sale2.script
+ends 'test: a difference' 1 '' "sale2.script:5: set a DeviceEnabled true
+  wanted: err 105
+  found:  ok
+failed sale2.script
+ok sale.script
+1 passed, 1 failed" test sale2.script sale.script
+head -n 7 sale.script.stdout > sale2.script.stdout
+ends 'test: too few answers' 1 '' "sale2.script:10: get a State
+  wanted: 
+  found:  ok 2
+failed sale2.script
+0 passed, 1 failed" test sale2.script
+{ cat sale.script.stdout; echo none; } > sale2.script.stdout
+ends 'test: too many answers' 1 '' "sale2.script: no line is left for: none
+failed sale2.script
+0 passed, 1 failed" test sale2.script
+sed 's/$/\r/' sale.script.stdout > sale2.script.stdout
+ends 'test: carriage returns' 0 '' $'ok sale2.script\n1 passed, 0 failed' test sale2.script
+printf 'new a HardTotals\nopen a t1\nopen b d1\n' > till.script
+printf 'ok\nok\nbad control\n' > till.script.stdout
+ends 'test over a profile' 0 '' $'ok till.script\n1 passed, 0 failed' test till.script --profile till.toml
+ends 'test without the answers' 4 \
+  "kijolvar: scan.script.stdout: $unread: $none"$'\n''hint: the answers that are wanted of SCRIPT are in SCRIPT.stdout' '' test sale.script scan.script
+ends 'test of no script' 4 "kijolvar: none.script: $unread: $none"$'\n'"$hint_script" '' test none.script
+refuses 'test without a script' "$missing <SCRIPT>..." test
+
 # --- completions and the man page
 for shell in bash zsh fish; do
   "$tool" completions $shell > completions.$shell
-  for command in check files cat dump diff create migrate backup restore load salvage run explain completions man version help; do
+  for command in check files cat dump diff create migrate backup restore load salvage run test explain completions man version help; do
     told "completions $shell has $command" yes "$(grep -qw -- "$command" completions.$shell && echo yes)"
   done
 done
@@ -643,7 +683,7 @@ told 'a shell is completed' 'fish' "$(completed kijolvar completions f)"
 ends 'completions of no shell' 1 'kijolvar: no completions for tcsh'$'\n''hint: there are some for bash, zsh and fish' '' completions tcsh
 "$tool" man > kijolvar.1
 told 'the man page begins' ".TH KIJOLVAR 1 \"\" \"kijolvar $("$tool" version | cut -d' ' -f2)\" \"Kijolvar\"" "$(head -n 1 kijolvar.1)"
-for command in check files cat dump diff create migrate backup restore load salvage run explain completions man version help; do
+for command in check files cat dump diff create migrate backup restore load salvage run test explain completions man version help; do
   told "the man page has $command" yes "$(grep -qE "^\.(BI|B|BR) $command\b" kijolvar.1 && echo yes)"
 done
 

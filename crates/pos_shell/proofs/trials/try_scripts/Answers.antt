@@ -28,12 +28,12 @@ loop-path-preserved g c =
         omega (arith, bound, w.passed-is, w.failed-is),
         trials ++ trial ∷ [],
         more,
-        rw (report, w.passed-is, w.failed-is) (passes_more trials trial _ _ _ (sym same ∙ w.if-same) said),
+        rw (report, w.passed-is, w.failed-is) (passes_more trials trial _ _ _ (sym same ∙ w.if-same.true) said),
       )
     | else-same w ↦ (
         omega (arith, bound, w.passed-is, w.failed-is),
         trials ++ trial ∷ [],
         more,
-        rw (report, w.passed-is, w.failed-is) (fails_more trials trial _ _ _ (sym same ∙ w.if-same) said),
+        rw (report, w.passed-is, w.failed-is) (fails_more trials trial _ _ _ (sym same ∙ w.if-same.false) said),
       )
     ]
