@@ -163,30 +163,24 @@ install_library() {
     "$to/$lib/cmake/kijolvar/kijolvar-config-version.cmake"
 }
 
-# install_pages TO: puts the man pages and the completions into TO/share. `kijolvar` prints its own. Until it has a
-# command for a man page, that is made of its help.
+# install_pages TO: puts the man pages and the completions into TO/share. `kijolvar` prints its own.
 install_pages() {
   local share=$1/share tool=$1/bin/kijolvar
   mkdir -p "$share/man/man1"
   fill "$top/packaging/man/pos_console.1.in" "$share/man/man1/pos_console.1"
   [ -x "$tool" ] || return 0
-  "$tool" man > "$share/man/man1/kijolvar.1" 2> /dev/null || fill "$top/packaging/man/kijolvar.1.in" \
-    "$share/man/man1/kijolvar.1" "HELP=$("$tool" help | sed 's/\\/\\\\/g; s/-/\\-/g; s/^/\\\&/')"
+  ask_tool "$share/man/man1/kijolvar.1" "$tool" man
   ask_tool "$share/bash-completion/completions/kijolvar" "$tool" completions bash
   ask_tool "$share/zsh/site-functions/_kijolvar" "$tool" completions zsh
   ask_tool "$share/fish/vendor_completions.d/kijolvar.fish" "$tool" completions fish
 }
 
-# ask_tool TO COMMAND ..: writes what a command prints to a file, or says that the file is left out
+# ask_tool TO COMMAND ..: writes what a command prints to a file
 ask_tool() {
   local to=$1
   shift
-  if "$@" > "$work/told" 2> /dev/null && [ -s "$work/told" ]; then
-    mkdir -p "$(dirname "$to")"
-    cp "$work/told" "$to"
-  else
-    echo "${to##*/share/}: kijolvar has no command '${*:2}' yet" >> "$work/left_out"
-  fi
+  mkdir -p "$(dirname "$to")"
+  "$@" > "$to" || stop "'$*' prints nothing for ${to##*/share/}"
 }
 
 # install_documents TO: puts the documents, the examples, the page and the conformance scripts into TO/share

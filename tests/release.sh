@@ -214,6 +214,11 @@ try_files() {
   told "the crate has the archive" "$(sha256sum < "$tree/lib/libkijolvar.a")" \
     "$(tar -xOzf "$outside/kijolvar-$version.crate" "kijolvar-$version/libkijolvar.a" | sha256sum)"
   told "the sdist has no library" "" "$(tar -tzf "$outside/kijolvar-$version.tar.gz" | grep '\.so')"
+  for file in man/man1/kijolvar.1 bash-completion/completions/kijolvar zsh/site-functions/_kijolvar \
+    fish/vendor_completions.d/kijolvar.fish; do
+    told "share/$file is what kijolvar prints" yes "$(grep -q salvage "$tree/share/$file" && echo yes)"
+  done
+  told "bash reads the completions" 0 "$(bash -n "$tree/share/bash-completion/completions/kijolvar" 2>&1; echo $?)"
   told "the licence is left open" 4 "$(grep -li 'licence has been chosen yet\|none has been chosen yet' \
     "$tree/README.md" "$tree/MANIFEST" "$top/packaging/python.md" "$top/packaging/rust.md" | wc -l)"
 }

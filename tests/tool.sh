@@ -1,8 +1,9 @@
 #!/usr/bin/env bash
 # Tries the tool `kijolvar` on real files: every command, each error, and each example of docs/reference/tool.md.
 # Usage: tests/tool.sh [TOOL PROGRAM], the tool and pos_console, which makes totals with records. Without words it builds
-# both, and needs rt. It needs python3, flock, strace, and setpriv of util-linux if root runs it. Its last line is
-# 'N passed, M failed'; it ends with 0 where none failed.
+# both, and needs rt. It needs python3, flock, strace, and setpriv of util-linux if root runs it. DAMAGES in the environment
+# is how many random damages it tries, 300 if it isn't set. Its last line is 'N passed, M failed'; it ends with 0 where none
+# failed.
 set -u
 top=$(cd "$(dirname "$0")/.." && pwd)
 tool=$(realpath "${1:-$top/crates/pos_tool/out/pos_tool}")
@@ -87,8 +88,8 @@ unopened="can't be opened for reading and writing"
 # --- words
 "$tool" help > help.txt
 told 'help: status' 0 $?
-told 'help begins' 'kijolvar: checks, prints, makes and copies totals files' "$(head -n 1 help.txt)"
-for command in check files cat dump diff create migrate backup restore load salvage explain version help; do
+told 'help begins' 'kijolvar: checks, prints, makes and copies totals files, and runs scripts' "$(head -n 1 help.txt)"
+for command in check files cat dump diff create migrate backup restore load salvage run test explain completions man version help; do
   told "help has $command" 1 "$(grep -c "^  $command " help.txt)"
 done
 ends 'no words' 0 '' "$(cat help.txt)"
@@ -495,14 +496,206 @@ done
 "$tool" check till.totals --quiet > /dev/full 2> err
 told 'a quiet check prints nothing' 0 $?
 
-# --- random damages: each is answered, and the file stays
-python3 - "$tool" <<'PYTHON' > counted
+# --- run
+cat > sale.script << 'SCRIPT'
+# a comment, and then an empty line
+
+new a CashDrawer
+open a d1
+set a DeviceEnabled true
+call a openDrawer
+deliver a
+deliver a
+call a clearText
+get a State
+SCRIPT
+sale="sale.script:3: ok
+sale.script:4: ok
+sale.script:5: ok
+sale.script:6: ok
+sale.script:7: event StatusUpdateEvent 1 CASH_SUE_DRAWEROPEN
+sale.script:8: none
+sale.script:9: err 106 E_ILLEGAL
+sale.script:10: ok 2 S_IDLE"
+ends 'run' 0 '' "$sale" run sale.script
+"$tool" run < sale.script > out 2> err
+told 'run of standard input' "$(echo "$sale" | sed 's/^sale.script/-/')" "$(cat out)"
+ends 'run of a script twice: one counter' 0 '' \
+  "$sale"$'\n'"$(echo "$sale" | sed '1s/ok/bad control/; 2s/ok/err 106 E_ILLEGAL/')" run sale.script sale.script
+sed 's/$/\r/' sale.script > crlf.script
+told 'run with carriage returns' "$sale" "$("$tool" run crlf.script | sed 's/^crlf/sale/')"
+printf 'close a' > last.script
+told 'a last line without a line feed' 'last.script:1: ok' "$("$tool" run sale.script last.script | tail -n 1)"
+told 'the answers are those of pos_console' "$("$program" < sale.script)" \
+  "$("$tool" run sale.script | cut -d' ' -f2- | sed 's/ [A-Z]*_[A-Z_]*//g')"
+for line in "opn a d1:its first word is none that a line has" "open a:open CONTROL DEVICE" \
+  "open a_b d1:a name has 1 to 16 letters, digits or hyphens" "open:open CONTROL DEVICE" \
+  "new a Drawer:new CONTROL CATEGORY" "close a b:close CONTROL" "claim a:claim CONTROL TIMEOUT" \
+  "release a 1:release CONTROL" "set a State:set CONTROL PROPERTY VALUE" "get a state:get CONTROL PROPERTY" \
+  "call a open:call CONTROL METHOD, and the method's arguments" \
+  "deliver a again:deliver CONTROL, or with retry, clear or continue" \
+  "input d1 shut:input DEVICE, and what happens there" "show:show DEVICE" "work r1 r1:work DEVICE" \
+  "attach d1 x:attach DEVICE SPARE" "detach d1 1:detach DEVICE" "new a caf$(printf '\303\251'):it has a byte that ASCII doesn't print"; do
+  echo "${line%%:*}" > line.script
+  ends "why ${line%%:*} is a bad line" 0 '' "line.script:1: bad line: ${line#*:}" run line.script
+done
+head -c 140001 /dev/zero | tr '\000' x > long.script
+ends 'why a long line is one' 0 '' 'long.script:1: bad line: it has more than 140000 bytes' run long.script
+cat > printer.script << 'SCRIPT'
+new p POSPrinter
+open p r1
+claim p 0
+set p PowerNotify 1
+set p DeviceEnabled true
+get p PowerState
+input r1 cover open
+deliver p
+deliver p
+call p printNormal 2 41
+input r1 cover closed
+deliver p
+input r1 power off
+deliver p
+SCRIPT
+ends 'names of a printer' 0 '' "printer.script:1: ok
+printer.script:2: ok
+printer.script:3: ok
+printer.script:4: ok
+printer.script:5: ok
+printer.script:6: ok 2001 PS_ONLINE
+printer.script:7: ok
+printer.script:8: event StatusUpdateEvent 2001 SUE_POWER_ONLINE
+printer.script:9: event StatusUpdateEvent 11 PTR_SUE_COVER_OPEN
+printer.script:10: err 114 E_EXTENDED 201 ETOT_NOROOM EPTR_COVER_OPEN
+printer.script:11: ok
+printer.script:12: event StatusUpdateEvent 12 PTR_SUE_COVER_OK
+printer.script:13: ok
+printer.script:14: event StatusUpdateEvent 2004 SUE_POWER_OFF_OFFLINE" run printer.script
+cat > scan.script << 'SCRIPT'
+new s Scanner
+open s s1
+claim s 0
+set s DeviceEnabled true
+set s DataEventEnabled true
+input s1 fault
+deliver s clear
+SCRIPT
+told 'names of an ErrorEvent' 'scan.script:7: event ErrorEvent 111 E_FAILURE 0 2 EL_INPUT' "$("$tool" run scan.script | tail -n 1)"
+"$tool" create run.totals
+printf 'new a HardTotals\nopen a t1\nset a DeviceEnabled true\ncall a create 41 2 false\ncall a write 1 0 beef\n' > totals.script
+ends 'run over a totals file' 0 '' "$(printf 'totals.script:%d: ok\n' 1 2 3; echo 'totals.script:4: ok 1'; echo 'totals.script:5: ok')" \
+  run totals.script --profile till.toml --totals run.totals
+told 'it is there then' beef "$("$tool" cat run.totals A --hex)"
+told 'totals in memory begin without files' 'totals.script:4: ok 1' \
+  "$("$tool" run totals.script --profile till.toml | sed -n 4p)"
+"$tool" run sale.script line.script --json > out
+python3 - << 'PYTHON' > counted
+import json
+rows = [json.loads(line) for line in open('out', encoding='utf-8')]
+assert [list(row) for row in rows] == [['answer', 'line', 'reason', 'script', 'text']] * 9
+assert rows[0] == {'answer': 'ok', 'line': 3, 'reason': None, 'script': 'sale.script', 'text': 'new a CashDrawer'}
+assert rows[8] == {'answer': 'bad line', 'line': 1, 'reason': "it has a byte that ASCII doesn't print",
+                   'script': 'line.script', 'text': 'new a caf\u00e9'}
+print('good')
+PYTHON
+told 'run --json' good "$(cat counted)"
+printf 'new a \377\n' > bytes.script
+told 'run --json: bytes that are no text' null "$("$tool" run bytes.script --json | python3 -c 'import json; print(json.dumps(json.load(open(0))["text"]))')"
+: > nothing.script
+ends 'run of an empty script' 0 '' '' run nothing.script
+hint_script='hint: check the path, and who may read it; `-` is standard input'
+ends 'run of no script' 4 "kijolvar: none.script: $unread: $none"$'\n'"$hint_script" '' run totals.script none.script --totals run.totals
+told 'nothing was run then' 'sound: layout 1, sequence 1, records 2, files 1' "$("$tool" check run.totals)"
+hint_profile='hint: docs/reference/profile.md has each key; without --profile the built-in one serves'
+ends 'run over no profile' 4 "kijolvar: none.toml: $unread: $none"$'\n'"$hint_profile" '' run sale.script --profile none.toml
+echo 'name = 1' > bad.toml
+"$tool" run sale.script --profile bad.toml > out 2> err
+told 'run over a bad profile' "4 kijolvar: bad.toml: " "$? $(head -c 20 err)"
+told 'run over a bad profile prints nothing' 0 "$(wc -c < out)"
+ends 'run over no totals' 4 "kijolvar: none.totals: $unopened: $none"$'\n'"$hint_path" '' run sale.script --totals none.totals
+told 'none are made' '' "$(ls none.totals 2> /dev/null)"
+exec 5< run.totals
+flock -n 5
+ends 'run over totals in use' 4 'kijolvar: run.totals: is in use: close the other program that has it open'$'\n'"$hint_stop" '' \
+  run sale.script --totals run.totals
+exec 5<&-
+"$tool" run sale.script > /dev/full 2> err
+told 'run onto a full disk' "5 kijolvar: the output can't be written" "$? $(head -n 1 err)"
+refuses 'run with a profile without a word' "a value is required for '--profile <profile>' but none was supplied" run a --profile
+
+# --- test
+mkdir conformance
+cp "$top"/crates/pos_console/scripts/* conformance
+scripts=()
+for script in conformance/*; do
+  case $script in *.stdout | *.profile | *.disk | *.left | *.before) continue ;; esac
+  [ -f "$script.profile" ] || scripts+=("$script")
+done
+ends 'test of the conformance scripts' 0 '' "$(printf 'ok %s\n' "${scripts[@]}"; echo "${#scripts[@]} passed, 0 failed")" test "${scripts[@]}"
+told 'there are some' yes "$([ "${#scripts[@]}" -ge 40 ] && echo yes)"
+"$program" < sale.script > sale.script.stdout
+ends 'test' 0 '' $'ok sale.script\n1 passed, 0 failed' test sale.script
+sed '3s/ok/err 105/' sale.script.stdout > sale2.script.stdout
+cp sale.script sale2.script
+ends 'test: a difference' 1 '' "sale2.script:5: set a DeviceEnabled true
+  wanted: err 105
+  found:  ok
+failed sale2.script
+ok sale.script
+1 passed, 1 failed" test sale2.script sale.script
+head -n 7 sale.script.stdout > sale2.script.stdout
+ends 'test: too few answers' 1 '' "sale2.script:10: get a State
+  wanted: 
+  found:  ok 2
+failed sale2.script
+0 passed, 1 failed" test sale2.script
+{ cat sale.script.stdout; echo none; } > sale2.script.stdout
+ends 'test: too many answers' 1 '' "sale2.script: no line is left for: none
+failed sale2.script
+0 passed, 1 failed" test sale2.script
+sed 's/$/\r/' sale.script.stdout > sale2.script.stdout
+ends 'test: carriage returns' 0 '' $'ok sale2.script\n1 passed, 0 failed' test sale2.script
+printf 'new a HardTotals\nopen a t1\nopen b d1\n' > till.script
+printf 'ok\nok\nbad control\n' > till.script.stdout
+ends 'test over a profile' 0 '' $'ok till.script\n1 passed, 0 failed' test till.script --profile till.toml
+ends 'test without the answers' 4 \
+  "kijolvar: scan.script.stdout: $unread: $none"$'\n''hint: the answers that are wanted of SCRIPT are in SCRIPT.stdout' '' test sale.script scan.script
+ends 'test of no script' 4 "kijolvar: none.script: $unread: $none"$'\n'"$hint_script" '' test none.script
+refuses 'test without a script' "$missing <SCRIPT>..." test
+
+# --- completions and the man page
+for shell in bash zsh fish; do
+  "$tool" completions $shell > completions.$shell
+  for command in check files cat dump diff create migrate backup restore load salvage run test explain completions man version help; do
+    told "completions $shell has $command" yes "$(grep -qw -- "$command" completions.$shell && echo yes)"
+  done
+done
+told 'bash reads the completions' 0 "$(bash -n completions.bash; echo $?)"
+# completed WORD ..: what bash completes after these words
+completed() {
+  bash -c '. ./completions.bash; compopt() { :; }; COMP_WORDS=("$@"); COMP_CWORD=$(($# - 1)); _kijolvar; echo "${COMPREPLY[*]}"' \
+    bash "$@"
+}
+told 'a command is completed' 'check create' "$(completed kijolvar c | tr ' ' '\n' | grep -E '^(check|create)$' | tr '\n' ' ' | sed 's/ $//')"
+told 'an option is completed' '--profile' "$(completed kijolvar run --p)"
+told 'a file is completed' 'sale.script' "$(completed kijolvar run sale)"
+told 'a shell is completed' 'fish' "$(completed kijolvar completions f)"
+ends 'completions of no shell' 1 'kijolvar: no completions for tcsh'$'\n''hint: there are some for bash, zsh and fish' '' completions tcsh
+"$tool" man > kijolvar.1
+told 'the man page begins' ".TH KIJOLVAR 1 \"\" \"kijolvar $("$tool" version | cut -d' ' -f2)\" \"Kijolvar\"" "$(head -n 1 kijolvar.1)"
+for command in check files cat dump diff create migrate backup restore load salvage run test explain completions man version help; do
+  told "the man page has $command" yes "$(grep -qE "^\.(BI|B|BR) $command\b" kijolvar.1 && echo yes)"
+done
+
+# --- random damages: each is answered, and the file stays. DAMAGES is how many
+damages=${DAMAGES:-300}
+python3 - "$tool" "$damages" <<'PYTHON' > counted
 import os, random, subprocess, sys
 tool, source = sys.argv[1], open('till.totals', 'rb').read()
 random.seed(13)
 places = [0, *range(1, 40), *range(16384, 16500), 32768, *range(32769, 32790), 65536, 196608]
 faults = []
-for turn in range(300):
+for turn in range(int(sys.argv[2])):
     bytes_ = bytearray(source)
     for _ in range(random.choice((1, 1, 2, 5, 40))):
         bytes_[random.choice(places)] = random.choice((0, 1, 0xA5, 0xFF, random.randrange(256)))
@@ -529,7 +722,7 @@ for turn in range(300):
         faults.append((turn, 'changed'))
 print('good' if not faults else faults[:3])
 PYTHON
-told 'every one of 300 random damages is answered, and nothing is written' good "$(cat counted)"
+told "every one of $damages random damages is answered, and nothing is written" good "$(cat counted)"
 
 # --- the examples of the document: each line that begins with `$ ` is run, and prints what follows it
 mkdir examples

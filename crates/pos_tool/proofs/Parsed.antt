@@ -15,7 +15,7 @@ use Rattle.pos_tool.specs.Commands.{Chooses, TellsWhy, command_in}
 use Rattle.pos_tool.specs.Lines.{program_line}
 use Rattle.pos_tool.specs.declared.commands.Task.{Task}
 use Rattle.pos_tool.specs.declared.commands.Task.TheVariants.{Help, Version, Explain, Ask, Create, Migrate, Backup, Restore}
-use Rattle.pos_tool.specs.declared.commands.Task.TheVariants.{Diff, Load, Salvage}
+use Rattle.pos_tool.specs.declared.commands.Task.TheVariants.{Diff, Load, Salvage, Run, Test, Completions, Man}
 use Rattle.pos_tool.specs.declared.fault.WordsFault.{WordsFault}
 use Rattle.pos_tool.specs.declared.fault.WordsFault.TheVariants.{Refused, NotUtf8, NoMemory}
 
@@ -56,6 +56,10 @@ module _ (app : App) (words : List Text) (same : app ≡ program_line) where
   told error (Ok (Diff file other)) kinds why = absurd why
   told error (Ok (Load text file)) kinds why = absurd why
   told error (Ok (Salvage file to)) kinds why = absurd why
+  told error (Ok (Run scripts profile totals json)) kinds why = absurd why
+  told error (Ok (Test scripts profile)) kinds why = absurd why
+  told error (Ok (Completions shell)) kinds why = absurd why
+  told error (Ok Man) kinds why = absurd why
   told error (Err (Refused refusal)) kinds why = rw why.0 (among error kinds why.1)
   told error (Err NotUtf8) kinds why = absurd why
   told error (Err NoMemory) kinds why = tt

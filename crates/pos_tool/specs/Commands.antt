@@ -1,13 +1,13 @@
 -- What words ask for (docs/reference/tool.md, "Commands").
 use Rattle.std.specs.Prelude.{◌≡◌, ◌≢◌, ◌⊎◌, List, [], Bool, Option, Some, None, Result, Ok, Err, bytes_eq, codes}
-use Rattle.std.specs.Prelude.{unwrap_or, ⊤}
-use Rattle.clap.specs.Words.{IsAmong, Row, Text, fault_of, first_of, kind_of, subcommand_of}
+use Rattle.std.specs.Prelude.{map, option_map, unwrap_or, ⊤}
+use Rattle.clap.specs.Words.{IsAmong, Row, Text, all_of, fault_of, first_of, kind_of, subcommand_of}
 use Rattle.clap.specs.declared.error.Error.{Error}
 use Rattle.clap.specs.declared.error.kind.ErrorKind.TheVariants.{DisplayHelp, DisplayVersion, OutOfMemory}
 use Rattle.pos_tool.specs.Lines.{program_line}
 use Rattle.pos_tool.specs.declared.commands.Task.{Task}
 use Rattle.pos_tool.specs.declared.commands.Task.TheVariants.{Help, Version, Explain, Ask, Create, Migrate, Backup, Restore}
-use Rattle.pos_tool.specs.declared.commands.Task.TheVariants.{Diff, Load, Salvage}
+use Rattle.pos_tool.specs.declared.commands.Task.TheVariants.{Diff, Load, Salvage, Run, Test, Completions, Man}
 use Rattle.pos_tool.specs.declared.fault.WordsFault.{WordsFault}
 use Rattle.pos_tool.specs.declared.fault.WordsFault.TheVariants.{Refused, NotUtf8, NoMemory}
 use Rattle.pos_report.specs.declared.question.Question.{Question}
@@ -21,6 +21,10 @@ command_in words = subcommand_of program_line words
 -- the word that the matches of a command hold of a place; empty if they held none
 abbrev pub word_in : Text → List Row → Text
 word_in place rows = unwrap_or (first_of place rows) []
+
+-- the words that the matches of a command hold of a place
+abbrev pub words_in : Text → List Row → List Text
+words_in place rows = unwrap_or (all_of place rows) []
 
 -- the matches of a command hold an option
 abbrev pub is_given : Text → List Row → Bool
@@ -61,26 +65,51 @@ MakesOf name rows (Some (Salvage file to)) = (name ≡ codes "salvage") × (file
     × (to.now ≡ word_in (codes "TO") rows)
 MakesOf name rows (Some other) = ⊥
 
+-- a command runs scripts
+abbrev pub IsRunning : Text → Type 0
+IsRunning name = (name ≡ codes "run") ⊎ (name ≡ codes "test")
+
+-- what a command runs, with the words and options in its matches; nothing if it is another one
+abbrev pub RunsOf : Text → List Row → Option Task → Type 0
+RunsOf name rows None = ¬ (IsRunning name)
+RunsOf name rows (Some (Run scripts profile totals json)) = (name ≡ codes "run")
+    × (map (λ script. script.now) scripts.items ≡ words_in (codes "SCRIPT") rows)
+    × (option_map (λ path. path.now) profile ≡ first_of (codes "profile") rows)
+    × (option_map (λ path. path.now) totals ≡ first_of (codes "totals") rows)
+    × (json ≡ is_given (codes "json") rows)
+RunsOf name rows (Some (Test scripts profile)) = (name ≡ codes "test")
+    × (map (λ script. script.now) scripts.items ≡ words_in (codes "SCRIPT") rows)
+    × (option_map (λ path. path.now) profile ≡ first_of (codes "profile") rows)
+RunsOf name rows (Some other) = ⊥
+
 -- a command prints something else than the help
 abbrev pub IsPrinting : Text → Type 0
-IsPrinting name = (name ≡ codes "version") ⊎ (name ≡ codes "explain") ⊎ (name ≡ codes "diff") ⊎ IsQuestion name
+IsPrinting name = (name ≡ codes "version") ⊎ (name ≡ codes "explain") ⊎ (name ≡ codes "completions")
+    ⊎ (name ≡ codes "man") ⊎ (name ≡ codes "diff") ⊎ IsQuestion name
 
 -- what a command prints, with the words and options in its matches; the help if it is no other one
 abbrev pub PrintsOf : Text → List Row → Task → Type 0
 PrintsOf name rows Help = ¬ (IsPrinting name)
 PrintsOf name rows Version = name ≡ codes "version"
 PrintsOf name rows (Explain code) = (name ≡ codes "explain") × (code.now ≡ word_in (codes "CODE") rows)
+PrintsOf name rows (Completions shell) =
+    (name ≡ codes "completions") × (shell.now ≡ word_in (codes "SHELL") rows)
+PrintsOf name rows Man = name ≡ codes "man"
 PrintsOf name rows (Diff file other) = (name ≡ codes "diff") × (file.now ≡ word_in (codes "FILE") rows)
     × (other.now ≡ word_in (codes "OTHER") rows)
 PrintsOf name rows (Ask file question) =
     (file.now ≡ word_in (codes "FILE") rows) × AsksOf name rows (Some question)
 PrintsOf name rows other = ⊥
 
--- what the command that was found asks for, if there is one: something that it makes or prints; else the help
+-- what a command asks for: something that it makes, runs or prints; else the help
+abbrev pub AsksFound : Text → List Row → Task → Type 0
+AsksFound name rows task = MakesOf name rows (Some task)
+    ⊎ (MakesOf name rows None × (RunsOf name rows (Some task) ⊎ (RunsOf name rows None × PrintsOf name rows task)))
+
+-- what the command that was found asks for, if there is one; else the help
 abbrev pub Asks : Option (Text × List Row) → Task → Type 0
 Asks None task = task ≡ Help
-Asks (Some found) task = MakesOf found.0 found.1 (Some task)
-    ⊎ (MakesOf found.0 found.1 None × PrintsOf found.0 found.1 task)
+Asks (Some found) task = AsksFound found.0 found.1 task
 
 -- the words have this fault, which is how `clap` tells that it was asked for help or the version
 abbrev pub Shows : List Text → Task → Type 0

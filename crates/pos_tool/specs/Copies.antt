@@ -1,5 +1,5 @@
 -- What copying totals files comes to (docs/reference/tool.md, "backup" and "restore").
-use Rattle.std.specs.Prelude.{◌≡◌, ◌≢◌, ◌⊎◌, ◌++◌, ◌∷◌, [], ℕ, List, length, Bool, true, false, Option, Some, None}
+use Rattle.std.specs.Prelude.{◌≡◌, ◌≢◌, ◌++◌, ◌∷◌, [], ℕ, List, length, Bool, true, false, Option, Some, None, ⊤}
 use Rattle.std.specs.Prelude.{Result, Ok, Err, Vec}
 use Rattle.pos_file.specs.Calls.{Call, read_call}
 use Rattle.pos_file.specs.Disks.{Asks}
@@ -55,15 +55,23 @@ abbrev pub ReadsTwice : {F : Type 0} → (F → List Call) → F → Option (Lis
 ReadsTwice calls file (Some bytes) = IsSteady calls file bytes
 ReadsTwice calls file None = IsUnsteady calls file
 
--- why the bytes of a file aren't read
-abbrev pub IsUnread : FileFault → Type 0
-IsUnread why = (why ≡ file.NoMemory) ⊎ (why ≡ file.Short) ⊎ (why ≡ file.NotRead)
+-- the last call of a file was a reading of its first bytes, with this answer
+abbrev pub LastRead : {F : Type 0} → (F → List Call) → F → Option ℕ → Type 0
+LastRead calls after answer =
+    (before : List Call) × (bytes : List ℕ) × (calls after ≡ before ++ read_call 0 bytes answer ∷ [])
+
+-- why the bytes of a file aren't read: want of memory, or its last call
+abbrev pub IsUnread : {F : Type 0} → (F → List Call) → F → FileFault → Type 0
+IsUnread calls after file.NoMemory = ⊤
+IsUnread calls after file.Short = (count : ℕ) × (count ≢ disk_size) × LastRead calls after (Some count)
+IsUnread calls after file.NotRead = LastRead calls after None
+IsUnread calls after other = ⊥
 
 -- what reading the bytes of a file that may be written meanwhile comes to
 abbrev pub ReadsSteady : {F : Type 0} → (F → List Call) → F → Result (List ℕ) FileFault → Type 0
 ReadsSteady calls after (Ok bytes) = IsSteady calls after bytes
 ReadsSteady calls after (Err file.InUse) = IsUnsteady calls after
-ReadsSteady calls after (Err why) = IsUnread why
+ReadsSteady calls after (Err why) = IsUnread calls after why
 
 -- what reading the bytes of an open file comes to, which wasn't asked anything yet
 abbrev pub ReadsOpened : {F : Type 0} → (F → List Call) → F → Result (List ℕ) FileFault → Type 0

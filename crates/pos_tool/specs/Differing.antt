@@ -12,7 +12,7 @@ use Rattle.pos_report.specs.declared.question.Finding.TheVariants.{Good, Nothing
 use Rattle.pos_survey.specs.Damages.{Breaks}
 use Rattle.pos_survey.specs.Tellings.{Tells}
 use Rattle.pos_survey.specs.declared.survey.Survey.{Survey}
-use Rattle.pos_tool.specs.Outputs.{IsCutOff, IsWritten, Output}
+use Rattle.pos_shell.specs.Outputs.{IsCutOff, IsWritten, Output}
 use Rattle.pos_tool.specs.Telling.{EndsAtFile}
 use Rattle.pos_tool.specs.declared.fault.Fault.{Fault}
 use Rattle.pos_tool.specs.declared.fault.Fault.TheVariants as fault

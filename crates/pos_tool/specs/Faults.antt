@@ -2,6 +2,12 @@
 use Rattle.std.specs.Prelude.{ℕ, Result, Ok, Err}
 use Rattle.pos_program.specs.declared.file_fault.FileFault.{FileFault}
 use Rattle.pos_program.specs.declared.file_fault.FileFault.TheVariants as file
+use Rattle.pos_program.specs.declared.profile_fault.ProfileFileFault.{ProfileFileFault}
+use Rattle.pos_program.specs.declared.profile_fault.ProfileFileFault.TheVariants as profile
+use Rattle.pos_shell.specs.declared.runs.RunFault.{RunFault}
+use Rattle.pos_shell.specs.declared.runs.RunFault.TheVariants as run
+use Rattle.pos_shell.specs.declared.scripts.TellFault.{TellFault}
+use Rattle.pos_shell.specs.declared.scripts.TellFault.TheVariants as told
 use Rattle.pos_survey.specs.declared.fault.SurveyFault.{SurveyFault}
 use Rattle.pos_survey.specs.declared.fault.SurveyFault.TheVariants as survey
 use Rattle.pos_tool.specs.declared.fault.Fault.{Fault}
@@ -53,6 +59,24 @@ abbrev pub load_status : LoadFault → ℕ
 load_status load.NoMemory = 6
 load_status load.NoDump = 1
 
+-- the status of a fault of a profile
+abbrev pub profile_status : ProfileFileFault → ℕ
+profile_status profile.NoMemory = 6
+profile_status other = 4
+
+-- the status of a run that stopped
+abbrev pub told_status : TellFault → ℕ
+told_status told.NoMemory = 6
+told_status told.Write = 5
+
+-- the status of a fault of a run
+abbrev pub run_status : RunFault → ℕ
+run_status (run.Script path cause) = 4
+run_status (run.Wanted path cause) = 4
+run_status (run.Profile path cause) = profile_status cause
+run_status (run.Totals path cause) = file_status cause
+run_status (run.Told cause) = told_status cause
+
 -- the status of a fault
 abbrev pub status : Fault → ℕ
 status (fault.Words why) = words_status why
@@ -62,6 +86,8 @@ status (fault.Whole path cause) = whole_status cause
 status (fault.Load path cause) = load_status cause
 status (fault.NoFile path name) = 1
 status (fault.NoCode code) = 1
+status (fault.NoShell shell) = 1
+status (fault.Run why) = run_status why
 status fault.Write = 5
 status fault.NoMemory = 6
 

@@ -4,7 +4,7 @@ pub mod Differing
 pub mod Faults
 pub mod Lines
 pub mod Making
-pub mod Outputs
 pub mod Program
+pub mod Scripts
 pub mod Telling
 pub mod Whole

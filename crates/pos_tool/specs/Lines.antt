@@ -1,8 +1,9 @@
 -- The program's command line (docs/reference/tool.md).
-use Rattle.std.specs.Prelude.{true, Some, codes}
+use Rattle.std.specs.Prelude.{◌∷◌, [], true, Some, codes}
 use Rattle.clap.specs.Words.{App, Rule, Text, new_app, new_rule, with_rule, with_subcommand}
+use Rattle.clap.specs.Lexer.{usize_max}
 use Rattle.clap.specs.Simple.{on_top}
-use Rattle.clap.specs.declared.builder.ArgAction.TheVariants.{Set, SetTrue}
+use Rattle.clap.specs.declared.builder.ArgAction.TheVariants.{Append, Set, SetTrue}
 
 -- a word that has to be there, by its place
 abbrev pub place_rule : Text → Rule
@@ -11,6 +12,35 @@ place_rule name = record (new_rule name) { required = true; action = Some Set }
 -- an option --NAME
 abbrev pub flag_rule : Text → Rule
 flag_rule name = record (new_rule name) { long = Some name; action = Some SetTrue }
+
+-- an option --NAME WORD
+abbrev pub valued_rule : Text → Rule
+valued_rule name = record (new_rule name) { long = Some name; action = Some Set }
+
+-- words by their place, of which there may be any number; `-` stands for none
+abbrev pub places_rule : Text → Rule
+places_rule name = record (new_rule name) {
+  range = Some (record { start_inclusive = 1; end_inclusive = usize_max });
+  defaults = codes "-" ∷ [];
+  action = Some Append;
+}
+
+-- run SCRIPT .. [--profile P] [--totals FILE] [--json]
+abbrev pub run_line : App
+run_line = with_rule (with_rule (with_rule (with_rule (new_app (codes "run")) (places_rule (codes "SCRIPT")))
+    (valued_rule (codes "profile"))) (valued_rule (codes "totals"))) (flag_rule (codes "json"))
+
+-- words by their place, of which there must be one
+abbrev pub some_places_rule : Text → Rule
+some_places_rule name = record (new_rule name) {
+  range = Some (record { start_inclusive = 1; end_inclusive = usize_max });
+  required = true;
+  action = Some Append;
+}
+
+-- test SCRIPT .. [--profile P]
+abbrev pub test_line : App
+test_line = with_rule (with_rule (new_app (codes "test")) (some_places_rule (codes "SCRIPT"))) (valued_rule (codes "profile"))
 
 -- COMMAND NAME
 abbrev pub place_line : Text → Text → App
@@ -46,11 +76,16 @@ reading_line = with_subcommand (with_subcommand (with_subcommand (with_subcomman
     (flagged_two_line (codes "cat") (codes "FILE") (codes "NAME") (codes "hex")).top)
     (place_line (codes "dump") (codes "FILE")).top) (two_line (codes "diff") (codes "FILE") (codes "OTHER")).top
 
--- with all commands
-abbrev pub program_line : App
-program_line = with_subcommand (with_subcommand (with_subcommand (with_subcommand (with_subcommand (with_subcommand
+-- with those that make files, too
+abbrev pub making_line : App
+making_line = with_subcommand (with_subcommand (with_subcommand (with_subcommand (with_subcommand (with_subcommand
     reading_line (place_line (codes "create") (codes "FILE")).top) (place_line (codes "migrate") (codes "FILE")).top)
     (two_line (codes "backup") (codes "FILE") (codes "TO")).top)
     (flagged_two_line (codes "restore") (codes "FROM") (codes "FILE") (codes "replace")).top)
     (two_line (codes "load") (codes "TEXT") (codes "FILE")).top)
     (two_line (codes "salvage") (codes "FILE") (codes "TO")).top
+
+-- with all commands
+abbrev pub program_line : App
+program_line = with_subcommand (with_subcommand (with_subcommand (with_subcommand making_line run_line.top) test_line.top)
+    (place_line (codes "completions") (codes "SHELL")).top) (new_app (codes "man")).top

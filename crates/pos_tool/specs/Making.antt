@@ -15,7 +15,7 @@ use Rattle.pos_report.specs.declared.question.Finding.{Finding}
 use Rattle.pos_report.specs.declared.salvage.Salvaged.{Salvaged}
 use Rattle.pos_survey.specs.declared.fault.SurveyFault.{SurveyFault}
 use Rattle.pos_tool.specs.Copies.{EndsCopy, EndsUnsound, PutsNew}
-use Rattle.pos_tool.specs.Outputs.{Output}
+use Rattle.pos_shell.specs.Outputs.{Output}
 use Rattle.pos_tool.specs.Telling.{EndsAtFile, Prints}
 use Rattle.pos_tool.specs.Whole.{Puts}
 use Rattle.pos_tool.specs.declared.fault.Fault.{Fault}

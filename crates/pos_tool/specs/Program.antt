@@ -1,6 +1,11 @@
 -- What the program does for its words, and how it ends (docs/reference/tool.md).
-use Rattle.std.specs.Prelude.{◌≡◌, ◌≢◌, ℕ, List, [], Result, Ok, Err, Vec, map, flat_map, ⊤}
+use Rattle.std.specs.Prelude.{◌≡◌, ◌≢◌, ℕ, List, [], Option, Some, None, Result, Ok, Err, Vec, bytes_eq, codes}
+use Rattle.std.specs.Prelude.{flat_map, if◌then◌else◌, map, ⊤}
+use Rattle.pos_disk.specs.Memory.{Memory}
+use Rattle.pos_disk.specs.declared.device.Disk.{Ghosts as DiskGhosts}
 use Rattle.pos_file.specs.declared.block_file.BlockFile.{Ghosts as FileGhosts}
+use Rattle.pos_file.specs.declared.file_disk.FileDisk.{FileDisk}
+use Rattle.pos_mirror.specs.Mirror.{Mirror}
 use Rattle.pos_program.specs.Formatting.{FormatsFile}
 use Rattle.pos_program.specs.Migrating.{MigratesFile}
 use Rattle.pos_program.specs.declared.choice_fault.ChoiceFault.{ChoiceFault}
@@ -13,13 +18,14 @@ use Rattle.pos_tool.specs.Copies.{BacksUp, Restores}
 use Rattle.pos_tool.specs.Differing.{TellsDifference}
 use Rattle.pos_tool.specs.Faults.{status_of}
 use Rattle.pos_tool.specs.Making.{Loads, Salvages}
-use Rattle.pos_tool.specs.Outputs.{Output}
+use Rattle.pos_shell.specs.Outputs.{Output}
+use Rattle.pos_tool.specs.Scripts.{EndsRun, EndsTest}
 use Rattle.pos_tool.specs.Telling.{EndsAtFile, Prints, TellsFile}
 use Rattle.pos_report.specs.Texts.{explained}
 use Rattle.pos_report.specs.declared.codes.Code.{Code}
 use Rattle.pos_tool.specs.declared.commands.Task.{Task}
 use Rattle.pos_tool.specs.declared.commands.Task.TheVariants.{Help, Version, Explain, Ask, Create, Migrate, Backup, Restore}
-use Rattle.pos_tool.specs.declared.commands.Task.TheVariants.{Diff, Load, Salvage}
+use Rattle.pos_tool.specs.declared.commands.Task.TheVariants.{Diff, Load, Salvage, Run, Test, Completions, Man}
 use Rattle.pos_tool.specs.declared.fault.Fault.{Fault}
 use Rattle.pos_tool.specs.declared.fault.Fault.TheVariants as fault
 use Rattle.pos_tool.specs.declared.fault.WordsFault.{WordsFault}
@@ -54,29 +60,53 @@ EndsMove files below them path result =
     (answer : Result (Unit {0}) FileFault) × MigratesFile files below.calls them path answer
     × EndsAt path answer result
 
+-- the page of a shell, if there is one
+abbrev pub page_of : Pages → List ℕ → Option (List ℕ)
+page_of pages shell =
+    if bytes_eq shell (codes "bash") then Some pages.bash.now else if bytes_eq shell (codes "zsh") then Some pages.zsh.now
+    else if bytes_eq shell (codes "fish") then Some pages.fish.now else None
+
+-- a page is printed, if there is one for a shell
+abbrev pub PrintsPage : List ℕ → Option (List ℕ) → Output → Output → Result Finding Fault → Type 0
+PrintsPage shell (Some page) old new result = Prints page old new result
+PrintsPage shell None old new (Err (fault.NoShell named)) = (named.now ≡ shell) × (new ≡ old)
+PrintsPage shell None old new other = ⊥
+
+-- what completes the words of a shell is printed
+abbrev pub Completes : Pages → List ℕ → Output → Output → Result Finding Fault → Type 0
+Completes pages shell old new result = PrintsPage shell (page_of pages shell) old new result
+
 -- what it does for a task, over these files and pages, by how its output stood before, and after
-abbrev pub Does : {F B S G : Type 0} → Ghosts F B → FileGhosts B → F → SystemGhosts S G → FolderGhosts S → FileGhosts G
-    → S → Pages → Task → Output → Output → Result Finding Fault → Type 0
-Does files below them system folder under it pages Help old new result = Prints pages.help.now old new result
-Does files below them system folder under it pages Version old new result = Prints pages.version_line.now old new result
-Does files below them system folder under it pages (Explain code) old new result =
+abbrev pub Does : {F B S G : Type 0} → Ghosts F B → FileGhosts B → DiskGhosts (Mirror (FileDisk B))
+    → DiskGhosts Memory → F → SystemGhosts S G → FolderGhosts S → FileGhosts G → S → Pages → Task → Output → Output → Result Finding Fault → Type 0
+Does files below mirrors memories them system folder under it pages Help old new result = Prints pages.help.now old new result
+Does files below mirrors memories them system folder under it pages Version old new result = Prints pages.version_line.now old new result
+Does files below mirrors memories them system folder under it pages (Explain code) old new result =
     Explains pages.codes.now code.now old new result
-Does files below them system folder under it pages (Ask file question) old new result =
+Does files below mirrors memories them system folder under it pages (Ask file question) old new result =
     TellsFile files below them file.now question old new result
-Does files below them system folder under it pages (Create file) old new result =
+Does files below mirrors memories them system folder under it pages (Create file) old new result =
     EndsFormat files below them file.now result × (new ≡ old)
-Does files below them system folder under it pages (Migrate file) old new result =
+Does files below mirrors memories them system folder under it pages (Migrate file) old new result =
     EndsMove files below them file.now result × (new ≡ old)
-Does files below them system folder under it pages (Backup file to) old new result =
+Does files below mirrors memories them system folder under it pages (Backup file to) old new result =
     BacksUp system folder under.calls it file.now to.now result × (new ≡ old)
-Does files below them system folder under it pages (Restore from file replaces) old new result =
+Does files below mirrors memories them system folder under it pages (Restore from file replaces) old new result =
     Restores system folder under.calls it from.now file.now replaces result × (new ≡ old)
-Does files below them system folder under it pages (Diff file other) old new result =
+Does files below mirrors memories them system folder under it pages (Diff file other) old new result =
     TellsDifference files below them file.now other.now old new result
-Does files below them system folder under it pages (Load text file) old new result =
+Does files below mirrors memories them system folder under it pages (Load text file) old new result =
     Loads system folder under.calls it text.now file.now result × (new ≡ old)
-Does files below them system folder under it pages (Salvage file to) old new result =
+Does files below mirrors memories them system folder under it pages (Salvage file to) old new result =
     Salvages system folder under.calls it file.now to.now old new result
+Does files below mirrors memories them system folder under it pages (Run scripts profile totals json) old new result =
+    EndsRun files below mirrors memories them system it pages.codes scripts.items profile totals json old new result
+Does files below mirrors memories them system folder under it pages (Test scripts profile) old new result =
+    EndsTest files them system it memories scripts.items profile old new result
+Does files below mirrors memories them system folder under it pages (Completions shell) old new result =
+    Completes pages shell.now old new result
+Does files below mirrors memories them system folder under it pages Man old new result =
+    Prints pages.man.now old new result
 
 -- what it does for what the words ask for: nothing where they ask for nothing
 abbrev pub DoesChosen : (Task → Output → Output → Result Finding Fault → Type 0) → Result Task WordsFault → Output
@@ -85,11 +115,11 @@ DoesChosen DoesTask (Ok task) old new result = DoesTask task old new result
 DoesChosen DoesTask (Err why) old new result = (result ≡ Err (fault.Words why)) × (new ≡ old)
 
 -- what it does for words
-abbrev pub DoesAsAsked : {F B S G : Type 0} → Ghosts F B → FileGhosts B → F → SystemGhosts S G → FolderGhosts S
-    → FileGhosts G → S → Pages → List (List ℕ) → Output → Output → Result Finding Fault → Type 0
-DoesAsAsked files below them system folder under it pages words old new result =
+abbrev pub DoesAsAsked : {F B S G : Type 0} → Ghosts F B → FileGhosts B → DiskGhosts (Mirror (FileDisk B))
+    → DiskGhosts Memory → F → SystemGhosts S G → FolderGhosts S → FileGhosts G → S → Pages → List (List ℕ) → Output → Output → Result Finding Fault → Type 0
+DoesAsAsked files below mirrors memories them system folder under it pages words old new result =
     (chosen : Result Task WordsFault) × Chooses words chosen
-    × DoesChosen (Does files below them system folder under it pages) chosen old new result
+    × DoesChosen (Does files below mirrors memories them system folder under it pages) chosen old new result
 
 -- why words that couldn't be read ask for nothing
 abbrev pub fault_of_unread : ChoiceFault → WordsFault
@@ -105,9 +135,10 @@ DoesAsRead DoesWords text (Err why) old new result =
 
 -- The whole program, by its words, its files, the file system that they are in, its pages, how its output stood before
 -- and after, and the status that it ends with.
-pub record Performs {F B S G T A : Type 0} (files : Ghosts F B) (below : FileGhosts B) (them : F)
-    (system : SystemGhosts S G) (folder : FolderGhosts S) (under : FileGhosts G) (it : S) (pages : Pages)
-    (text : T → List ℕ) (words : Result (Vec T A) ChoiceFault) (old new : Output) (ended : ℕ) : Type 0 where
+pub record Performs {F B S G T A : Type 0} (files : Ghosts F B) (below : FileGhosts B)
+    (mirrors : DiskGhosts (Mirror (FileDisk B))) (memories : DiskGhosts Memory) (them : F) (system : SystemGhosts S G)
+    (folder : FolderGhosts S) (under : FileGhosts G) (it : S) (pages : Pages) (text : T → List ℕ) (words : Result (Vec T A) ChoiceFault) (old new : Output) (ended : ℕ) : Type 0 where
   pub outcome : Result Finding Fault
-  pub done : DoesAsRead (DoesAsAsked files below them system folder under it pages) text words old new outcome
+  pub done : DoesAsRead (DoesAsAsked files below mirrors memories them system folder under it pages) text words old new
+      outcome
   pub ends : ended ≡ status_of outcome

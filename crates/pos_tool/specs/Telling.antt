@@ -7,7 +7,7 @@ use Rattle.pos_program.specs.TotalsDisks.{AreRead}
 use Rattle.pos_program.specs.declared.file_fault.FileFault.{FileFault}
 use Rattle.pos_program.specs.declared.named_files.NamedFiles.{Ghosts}
 use Rattle.pos_report.specs.Answers.{Answers, Refuses}
-use Rattle.pos_tool.specs.Outputs.{IsCutOff, IsWritten, Output}
+use Rattle.pos_shell.specs.Outputs.{IsCutOff, IsWritten, Output}
 use Rattle.pos_report.specs.declared.answers.AnswerFault.TheVariants as answer
 use Rattle.pos_tool.specs.declared.fault.Fault.{Fault}
 use Rattle.pos_tool.specs.declared.fault.Fault.TheVariants as fault

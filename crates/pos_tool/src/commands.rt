@@ -1,18 +1,19 @@
 //! What the words of the command line ask for.
-ghost use Rattle.std.specs.Prelude.{◌≡◌, map};
-ghost use Rattle.clap.specs.Words.{found_of, rows_of, subcommand_rows_of};
-ghost use Rattle.pos_tool.specs.Commands.{Asks, AsksOf, Chooses, MakesOf, PrintsOf, TellsWhy, is_given, word_in};
+ghost use Rattle.std.specs.Prelude.{◌≡◌, IfOk, map, option_map};
+ghost use Rattle.clap.specs.Words.{first_of, found_of, rows_of, subcommand_rows_of};
+ghost use Rattle.pos_tool.specs.Commands.{Asks, AsksFound, AsksOf, Chooses, MakesOf, PrintsOf, RunsOf};
+ghost use Rattle.pos_tool.specs.Commands.{TellsWhy, is_given, word_in, words_in};
 
 use crate::fault::WordsFault;
 use crate::line::program_line;
 use clap::ArgMatches;
 use clap::error::ErrorKind;
 use pos_report::Question;
-use std::alloc::Global;
+use std::alloc::{AllocError, Global};
 use std::convert::AsStr;
 
 /// What the words of the command line ask for. A path is its word as it stands.
-#[derive(Clone, Copy)]
+#[derive(Drop)]
 pub enum Task<'a> {
     /// No words, `help`, `--help` or `-h`: to print the help.
     Help,
@@ -77,6 +78,31 @@ pub enum Task<'a> {
         /// The sound one.
         to: &'a str,
     },
+    /// `run SCRIPT ..`: to run scripts, and print what each line is answered.
+    Run {
+        /// The scripts.
+        scripts: Vec<&'a str>,
+        /// The profile, if it isn't the built-in one.
+        profile: Option<&'a str>,
+        /// The totals file, if they aren't in memory.
+        totals: Option<&'a str>,
+        /// Whether as JSON.
+        json: bool,
+    },
+    /// `test SCRIPT ..`: to try scripts, and print how their answers differ from those that are wanted.
+    Test {
+        /// The scripts.
+        scripts: Vec<&'a str>,
+        /// The profile, if it isn't the built-in one.
+        profile: Option<&'a str>,
+    },
+    /// `completions SHELL`: to print what completes the words of a shell.
+    Completions {
+        /// The shell.
+        shell: &'a str,
+    },
+    /// `man`: to print the man page.
+    Man,
 }
 
 // What `clap` says where it gives no matches: it was asked for help or the version, or it refuses the words.
@@ -111,6 +137,28 @@ fn is_given(found: &ArgMatches<'_>, option: &str) -> bool
     ensures { result ≡ is_given option.now (rows_of (found_of found.now)) }
 {
     word_in(found, option) == "true"
+}
+
+// The word after an option in the matches of a command, if it was given.
+fn option_in<'a>(found: &ArgMatches<'a>, option: &str) -> Option<&'a str>
+    ensures { option_map (λ word. word.now) result ≡ first_of option.now (rows_of (found_of found.now)) }
+{
+    found.get_str(option)
+}
+
+// The words that the matches of a command hold of a place.
+fn words_in<'a>(
+    alloc: Global,
+    found: &ArgMatches<'a>,
+    place: &str,
+) -> Result<Vec<&'a str>, AllocError>
+    ensures { IfOk result (λ words. map (λ word. word.now) words.items
+        ≡ words_in place.now (rows_of (found_of found.now))) }
+{
+    match found.get_strs(place) {
+        Some(words) => Vec::from_slice(alloc, words),
+        None => Ok(Vec::new(alloc)),
+    }
 }
 
 // What the matches of a command ask of a totals file, if it asks something.
@@ -170,6 +218,34 @@ fn making_of<'a>(command: &str, found: &ArgMatches<'a>) -> Option<Task<'a>>
     None
 }
 
+// What the matches of a command ask to be run, if something is.
+fn running_of<'a>(
+    alloc: Global,
+    command: &str,
+    found: &ArgMatches<'a>,
+) -> Result<Option<Task<'a>>, AllocError>
+    ensures { IfOk result (RunsOf command.now (rows_of (found_of found.now))) }
+{
+    if command == "run" {
+        let scripts = words_in(alloc, found, "SCRIPT")?;
+        let profile = option_in(found, "profile");
+        let totals = option_in(found, "totals");
+        let json = is_given(found, "json");
+        return Ok(Some(Task::Run {
+            scripts,
+            profile,
+            totals,
+            json,
+        }));
+    }
+    if command == "test" {
+        let scripts = words_in(alloc, found, "SCRIPT")?;
+        let profile = option_in(found, "profile");
+        return Ok(Some(Task::Test { scripts, profile }));
+    }
+    Ok(None)
+}
+
 // What the matches of a command ask to be printed; the help, if it is no other command.
 fn printing_of<'a>(command: &str, found: &ArgMatches<'a>) -> Task<'a>
     ensures { PrintsOf command.now (rows_of (found_of found.now)) result }
@@ -180,6 +256,13 @@ fn printing_of<'a>(command: &str, found: &ArgMatches<'a>) -> Task<'a>
     if command == "explain" {
         let code = word_in(found, "CODE");
         return Task::Explain { code };
+    }
+    if command == "completions" {
+        let shell = word_in(found, "SHELL");
+        return Task::Completions { shell };
+    }
+    if command == "man" {
+        return Task::Man;
     }
     let file = word_in(found, "FILE");
     if command == "diff" {
@@ -192,17 +275,31 @@ fn printing_of<'a>(command: &str, found: &ArgMatches<'a>) -> Task<'a>
     }
 }
 
+// What the matches of a command ask for.
+fn found_task<'a>(
+    alloc: Global,
+    command: &str,
+    found: &ArgMatches<'a>,
+) -> Result<Task<'a>, AllocError>
+    ensures { IfOk result (AsksFound command.now (rows_of (found_of found.now))) }
+{
+    match making_of(command, found) {
+        Some(task) => Ok(task),
+        None => match running_of(alloc, command, found)? {
+            Some(task) => Ok(task),
+            None => Ok(printing_of(command, found)),
+        },
+    }
+}
+
 // What `clap`'s matches of the words ask for.
-fn task_of<'a>(matches: &ArgMatches<'a>) -> Task<'a>
-    ensures { Asks (subcommand_rows_of matches.now) result }
+fn task_of<'a>(alloc: Global, matches: &ArgMatches<'a>) -> Result<Task<'a>, AllocError>
+    ensures { IfOk result (Asks (subcommand_rows_of matches.now)) }
 {
     let Some((command, found)) = matches.subcommand() else {
-        return Task::Help;
+        return Ok(Task::Help);
     };
-    match making_of(command, found) {
-        Some(task) => task,
-        None => printing_of(command, found),
-    }
+    found_task(alloc, command, found)
 }
 
 /// Returns what the words after the program's name ask for, as `clap` reads them: its matches have the command, and
@@ -222,7 +319,12 @@ pub(crate) fn choice<'a, S: AsStr>(
         return Err(WordsFault::NoMemory);
     };
     match line.try_get_matches_from(words) {
-        Ok(matches) => Ok(task_of(&matches)),
+        Ok(matches) => {
+            let Ok(task) = task_of(alloc, &matches) else {
+                return Err(WordsFault::NoMemory);
+            };
+            Ok(task)
+        }
         Err(error) => task_of_error(error),
     }
 }

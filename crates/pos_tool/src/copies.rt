@@ -7,7 +7,7 @@ ghost use Rattle.pos_tool.specs.Making.{Loads, LoadsText, MakesLoad, MakesSalvag
 ghost use Rattle.pos_tool.specs.Making.{SalvagesBytes};
 ghost use Rattle.pos_tool.specs.Telling.{EndsAtFile};
 ghost use Rattle.pos_program.specs.declared.file_fault.FileFault.TheVariants.{Unreadable};
-ghost use Rattle.pos_tool.specs.Outputs.{output_of};
+ghost use Rattle.pos_shell.specs.Outputs.{output_of};
 
 use crate::fault::Fault;
 use crate::folder::Folder;
@@ -30,22 +30,24 @@ const READINGS: u32 = 1_000;
 // Reads the bytes of a totals file, by one read.
 fn read_front<F: BlockFile>(alloc: Global, file: &mut F) -> Result<Vec<u8>, FileFault>
     ensures ok { IfOk result (λ bytes. ReadsFront F.calls file.old file.new bytes.items) }
-    ensures err { IfErr result IsUnread }
+    ensures err { IfErr result (IsUnread F.calls file.new) }
 {
     let Ok(mut bytes) = vec![in alloc; 0; LENGTH] else {
         return Err(FileFault::NoMemory);
     };
-    match file.read_at(0, bytes.as_mut_slice()) {
-        Ok(count) if count == LENGTH => Ok(bytes),
-        Ok(_) => Err(FileFault::Short),
-        Err(_) => Err(FileFault::NotRead),
+    let Ok(count) = file.read_at(0, bytes.as_mut_slice()) else {
+        return Err(FileFault::NotRead);
+    };
+    if count != LENGTH {
+        return Err(FileFault::Short);
     }
+    Ok(bytes)
 }
 
 // Reads the bytes of a totals file twice, and gives them if both readings gave the same.
 fn read_twice<F: BlockFile>(alloc: Global, file: &mut F) -> Result<Option<Vec<u8>>, FileFault>
     ensures ok { IfOk result (λ same. ReadsTwice F.calls file.new (lent same)) }
-    ensures err { IfErr result IsUnread }
+    ensures err { IfErr result (IsUnread F.calls file.new) }
 {
     let first = read_front(alloc, file)?;
     let second = read_front(alloc, file)?;

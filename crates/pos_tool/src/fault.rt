@@ -1,11 +1,12 @@
 //! Why the program doesn't do what it was asked, and the status that it ends with.
 ghost use Rattle.std.specs.Prelude.{◌≡◌};
-ghost use Rattle.pos_tool.specs.Faults.{file_status, finding_status, load_status, status, status_of, survey_status};
-ghost use Rattle.pos_tool.specs.Faults.{whole_status, words_status};
+ghost use Rattle.pos_tool.specs.Faults.{file_status, finding_status, load_status, profile_status, run_status, status};
+ghost use Rattle.pos_tool.specs.Faults.{status_of, survey_status, told_status, whole_status, words_status};
 
 use crate::whole::WholeFault;
-use pos_program::{FileFault, FirstParagraph, OneLine};
+use pos_program::{FileFault, FirstParagraph, OneLine, ProfileFileFault};
 use pos_report::{Finding, LoadFault};
+use pos_shell::{RunFault, TellFault};
 use pos_survey::{SurveyFault, words_of};
 use std::fmt;
 use std::fmt::Write;
@@ -66,6 +67,13 @@ pub enum Fault<'a> {
         /// The word.
         code: &'a str,
     },
+    /// No completions are there for a shell.
+    NoShell {
+        /// The shell.
+        shell: &'a str,
+    },
+    /// A file that scripts need can't serve.
+    Run(RunFault<'a>),
     /// The output can't be written.
     Write,
     /// There was no memory.
@@ -136,6 +144,38 @@ fn load_status(cause: &LoadFault) -> u8
     }
 }
 
+// The status of a fault of a profile.
+fn profile_status(cause: &ProfileFileFault) -> u8
+    ensures { result ≡ profile_status cause.now }
+{
+    match cause {
+        ProfileFileFault::NoMemory => 6,
+        _ => 4,
+    }
+}
+
+// The status of a run that stopped.
+fn told_status(cause: &TellFault) -> u8
+    ensures { result ≡ told_status cause.now }
+{
+    match cause {
+        TellFault::NoMemory => 6,
+        TellFault::Write => 5,
+    }
+}
+
+// The status of a fault of a run.
+fn run_status(fault: &RunFault<'_>) -> u8
+    ensures { result ≡ run_status fault.now }
+{
+    match fault {
+        RunFault::Script { .. } | RunFault::Wanted { .. } => 4,
+        RunFault::Profile { cause, .. } => profile_status(cause),
+        RunFault::Totals { cause, .. } => file_status(cause),
+        RunFault::Told(cause) => told_status(cause),
+    }
+}
+
 impl Fault<'_> {
     /// Returns the status that the program ends with. docs/reference/tool.md, "Statuses".
     pub fn status(&self) -> u8
@@ -147,7 +187,8 @@ impl Fault<'_> {
             Fault::Totals { cause, .. } => survey_status(cause),
             Fault::Whole { cause, .. } => whole_status(cause),
             Fault::Load { cause, .. } => load_status(cause),
-            Fault::NoFile { .. } | Fault::NoCode { .. } => 1,
+            Fault::NoFile { .. } | Fault::NoCode { .. } | Fault::NoShell { .. } => 1,
+            Fault::Run(fault) => run_status(fault),
             Fault::Write => 5,
             Fault::NoMemory => 6,
         }
@@ -219,6 +260,18 @@ fn hint_of_whole(cause: &WholeFault) -> &'static str {
     }
 }
 
+// What to do about a fault of a run.
+fn hint_of_run(fault: &RunFault<'_>) -> &'static str {
+    match fault {
+        RunFault::Script { .. } => "check the path, and who may read it; `-` is standard input",
+        RunFault::Wanted { .. } => "the answers that are wanted of SCRIPT are in SCRIPT.stdout",
+        RunFault::Profile { .. } => "docs/reference/profile.md has each key; without --profile the built-in one serves",
+        RunFault::Totals { cause, .. } => hint_of_file(cause),
+        RunFault::Told(TellFault::NoMemory) => "free memory; the lines that were told are done",
+        RunFault::Told(TellFault::Write) => "check the space that is free where the output goes",
+    }
+}
+
 impl Fault<'_> {
     // Returns what to do about it.
     fn hint(&self) -> &'static str {
@@ -230,6 +283,8 @@ impl Fault<'_> {
             Fault::Load { .. } => "`kijolvar dump FILE` prints such a text",
             Fault::NoFile { .. } => "`kijolvar files FILE` lists the files in it",
             Fault::NoCode { .. } => "give a number as 106, or a name as E_ILLEGAL",
+            Fault::NoShell { .. } => "there are some for bash, zsh and fish",
+            Fault::Run(fault) => hint_of_run(fault),
             Fault::Write => "check the space that is free where the output goes",
             Fault::NoMemory => "free memory, and try again",
         }
@@ -284,6 +339,16 @@ impl fmt::Display for Fault<'_> {
             Fault::Load { path, cause } => write!(line, "{path}: {cause}")?,
             Fault::NoFile { path, name } => write!(line, "{path}: no file has the name {name}")?,
             Fault::NoCode { code } => write!(line, "no code is {code}")?,
+            Fault::NoShell { shell } => write!(line, "no completions for {shell}")?,
+            Fault::Run(RunFault::Script { path, cause }) => {
+                write!(line, "{path}: can't be read: {cause}")?
+            }
+            Fault::Run(RunFault::Wanted { path, cause }) => {
+                write!(line, "{path}.stdout: can't be read: {cause}")?
+            }
+            Fault::Run(RunFault::Profile { path, cause }) => write!(line, "{path}: {cause}")?,
+            Fault::Run(RunFault::Totals { path, cause }) => write!(line, "{path}: {cause}")?,
+            Fault::Run(RunFault::Told(cause)) => write!(line, "{cause}")?,
             Fault::Write => write!(line, "the output can't be written")?,
             Fault::NoMemory => write!(line, "no memory")?,
         }

@@ -8,7 +8,7 @@ pub(crate) const VERSION_LINE: &str = "kijolvar 0.1.0\n";
 
 /// What `help` prints.
 pub(crate) const HELP: &str = "\
-kijolvar: checks, prints, makes and copies totals files
+kijolvar: checks, prints, makes and copies totals files, and runs scripts
 
 usage: kijolvar COMMAND ..
 
@@ -24,18 +24,24 @@ usage: kijolvar COMMAND ..
                            put a copy back; --replace keeps the old file as FILE.old
   load TEXT FILE           make FILE of what dump printed
   salvage FILE TO          make a sound TO of what can be had of a damaged FILE
+  run [SCRIPT ..] [--profile P] [--totals FILE] [--json]
+                           run scripts (or standard input), and print what each line is answered
+  test SCRIPT .. [--profile P]
+                           run each script, and print how its answers differ from SCRIPT.stdout
   explain CODE             what a code means, and what to do: 106, E_ILLEGAL
+  completions SHELL        print what completes the words of bash, zsh or fish
+  man                      print the man page
   version                  print the version
   help                     print this
 
 statuses:
   0  done; of check: sound
-  1  no totals, or no such file or code; of diff: they differ
+  1  no totals, or no such file, code or shell; of diff and test: they differ
   2  damaged totals
   3  the words ask for nothing
-  4  a file can't be read or written, is there already, or is in use
+  4  a file can't be read or written, is there already, is in use, or is no profile
   5  the output can't be written
   6  no memory
 
-Commands that only read write nothing. But for backup, no till may be using FILE.
+A command that only reads writes nothing. But for backup, no till may be using FILE.
 ";

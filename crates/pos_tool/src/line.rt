@@ -2,8 +2,9 @@
 ghost use Rattle.std.specs.Prelude.{◌≡◌, IfOk, false};
 ghost use Rattle.clap.specs.Words.{app_of, rule_of};
 ghost use Rattle.clap.specs.declared.builder.command.Command.TheViews.{out-Command as fields_of};
-ghost use Rattle.pos_tool.specs.Lines.{flag_rule, flagged_line, flagged_two_line, place_line, place_rule};
-ghost use Rattle.pos_tool.specs.Lines.{program_line, reading_line, top_line, two_line};
+ghost use Rattle.pos_tool.specs.Lines.{flag_rule, flagged_line, flagged_two_line, making_line, place_line, place_rule};
+ghost use Rattle.pos_tool.specs.Lines.{places_rule, program_line, reading_line, run_line, some_places_rule};
+ghost use Rattle.pos_tool.specs.Lines.{test_line, top_line, two_line, valued_rule};
 
 use clap::{Arg, ArgAction, Command};
 use std::alloc::{AllocError, Global};
@@ -22,6 +23,52 @@ fn flag<'a>(alloc: Global, name: &'a str) -> Arg<'a>
     ensures local { result.global ≡ false }
 {
     Arg::new(alloc, name).long(name).action(ArgAction::SetTrue)
+}
+
+// An option `--NAME WORD`.
+fn valued<'a>(alloc: Global, name: &'a str) -> Arg<'a>
+    ensures rule { rule_of result ≡ valued_rule name.entry.now }
+    ensures local { result.global ≡ false }
+{
+    Arg::new(alloc, name).long(name).action(ArgAction::Set)
+}
+
+// The words after a command, of which there may be any number; `-` stands for none.
+fn places<'a>(alloc: Global, name: &'a str) -> Arg<'a>
+    ensures rule { rule_of result ≡ places_rule name.entry.now }
+    ensures local { result.global ≡ false }
+{
+    let any = Arg::new(alloc, name).num_args(1..);
+    any.default_value("-").action(ArgAction::Append)
+}
+
+// The command line of `run`.
+fn run_line<'a>(alloc: Global) -> Result<Command<'a>, AllocError>
+    ensures app { IfOk result (λ line. app_of line ≡ run_line) }
+    ensures local { IfOk result (λ line. (fields_of line).has_globals ≡ false) }
+{
+    let started = Command::new(alloc, "run").arg(places(alloc, "SCRIPT"))?;
+    let profiled = started.arg(valued(alloc, "profile"))?;
+    let totalled = profiled.arg(valued(alloc, "totals"))?;
+    totalled.arg(flag(alloc, "json"))
+}
+
+// The words after a command, of which there must be one.
+fn some_places<'a>(alloc: Global, name: &'a str) -> Arg<'a>
+    ensures rule { rule_of result ≡ some_places_rule name.entry.now }
+    ensures local { result.global ≡ false }
+{
+    let any = Arg::new(alloc, name).num_args(1..);
+    any.required(true).action(ArgAction::Append)
+}
+
+// The command line of `test`.
+fn test_line<'a>(alloc: Global) -> Result<Command<'a>, AllocError>
+    ensures app { IfOk result (λ line. app_of line ≡ test_line) }
+    ensures local { IfOk result (λ line. (fields_of line).has_globals ≡ false) }
+{
+    let started = Command::new(alloc, "test").arg(some_places(alloc, "SCRIPT"))?;
+    started.arg(valued(alloc, "profile"))
 }
 
 // The command line of a command with one word after it.
@@ -98,13 +145,9 @@ fn reading_line<'a>(alloc: Global, version: &'a str) -> Result<Command<'a>, Allo
     dumps.subcommand(two_line(alloc, "diff", "FILE", "OTHER")?)
 }
 
-/// Returns the command line of the program: its version is this one.
-///
-/// # Errors
-///
-/// [`AllocError`] if memory ran out.
-pub(crate) fn program_line<'a>(alloc: Global, version: &'a str) -> Result<Command<'a>, AllocError>
-    ensures { IfOk result (λ line. app_of line ≡ program_line) }
+// The program's, with those that make files, too.
+fn making_line<'a>(alloc: Global, version: &'a str) -> Result<Command<'a>, AllocError>
+    ensures { IfOk result (λ line. app_of line ≡ making_line) }
 {
     let reads = reading_line(alloc, version)?;
     let creates = reads.subcommand(place_line(alloc, "create", "FILE")?)?;
@@ -115,4 +158,19 @@ pub(crate) fn program_line<'a>(alloc: Global, version: &'a str) -> Result<Comman
     )?)?;
     let loads = restores.subcommand(two_line(alloc, "load", "TEXT", "FILE")?)?;
     loads.subcommand(two_line(alloc, "salvage", "FILE", "TO")?)
+}
+
+/// Returns the command line of the program: its version is this one.
+///
+/// # Errors
+///
+/// [`AllocError`] if memory ran out.
+pub(crate) fn program_line<'a>(alloc: Global, version: &'a str) -> Result<Command<'a>, AllocError>
+    ensures { IfOk result (λ line. app_of line ≡ program_line) }
+{
+    let makes = making_line(alloc, version)?;
+    let runs = makes.subcommand(run_line(alloc)?)?;
+    let tests = runs.subcommand(test_line(alloc)?)?;
+    let completes = tests.subcommand(place_line(alloc, "completions", "SHELL")?)?;
+    completes.subcommand(Command::new(alloc, "man"))
 }

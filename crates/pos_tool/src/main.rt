@@ -1,4 +1,4 @@
-//! The program `kijolvar`: it checks totals files, prints what they hold, makes, moves and copies them
+//! The program `kijolvar`: it checks totals files, prints what they hold, makes, moves and copies them, and runs scripts
 //! (docs/reference/tool.md).
 //!
 //! A command that only reads writes nothing. The program's words are read by `clap`; what it does for them, and the
@@ -11,11 +11,14 @@ mod fault;
 mod folder;
 mod help;
 mod line;
+mod pages;
 mod program;
+mod scripts;
 mod telling;
 mod whole;
 
 use help::{HELP, VERSION, VERSION_LINE};
+use pages::{BASH, FISH, MAN, ZSH};
 use pos_program::{SystemFiles, read_words};
 use pos_report::CODES;
 use pos_streams::WriterSink;
@@ -34,6 +37,10 @@ fn main(rt: HostRuntime) -> ExitCode {
             version: VERSION,
             version_line: VERSION_LINE,
             codes: &CODES,
+            man: MAN,
+            bash: BASH,
+            zsh: ZSH,
+            fish: FISH,
         },
         words,
     )

@@ -2,16 +2,21 @@
 ghost use Rattle.std.specs.Prelude.{◌≡◌, map};
 ghost use Rattle.std.specs.Process.{exit_status};
 ghost use Rattle.pos_tool.specs.Faults.{status_of};
-ghost use Rattle.pos_tool.specs.Outputs.{output_of};
-ghost use Rattle.pos_tool.specs.Program.{Does, DoesAsAsked, EndsAt, Explains, Performs, fault_of_unread};
+ghost use Rattle.pos_shell.specs.Outputs.{output_of};
+ghost use Rattle.pos_tool.specs.Program.{Completes, Does, DoesAsAsked, EndsAt, Explains, Performs};
+ghost use Rattle.pos_tool.specs.Program.{fault_of_unread};
 
 use crate::commands::{Task, choice};
 use crate::copies::{back_up, load, restore, salvage};
 use crate::fault::{Fault, WordsFault, status_of};
 use crate::folder::Folder;
+use crate::scripts::{run_paths, try_paths};
 use crate::telling::{print, tell_difference, tell_file};
+use pos_disk::{Disk, MemDisk};
 use pos_file::BlockFile;
-use pos_program::{ChoiceFault, FileFault, FileSystem, NamedFiles, format_file, migrate_file};
+use pos_program::{
+    ChoiceFault, FileFault, FileSystem, NamedFiles, TotalsDisk, format_file, migrate_file,
+};
 use pos_report::{Code, Finding, explained};
 use pos_streams::Sink;
 use std::alloc::Global;
@@ -30,6 +35,14 @@ pub struct Pages<'a> {
     pub version_line: &'a str,
     /// The codes.
     pub codes: &'a [Code<'a>],
+    /// The man page.
+    pub man: &'a str,
+    /// What completes the words of bash.
+    pub bash: &'a str,
+    /// What completes the words of zsh.
+    pub zsh: &'a str,
+    /// What completes the words of fish.
+    pub fish: &'a str,
 }
 
 // Prints what a code means.
@@ -60,6 +73,26 @@ fn at_file<'a>(path: &'a str, answer: Result<(), FileFault>) -> Result<Finding, 
     }
 }
 
+// Prints what completes the words of a shell.
+fn complete<'a, W: Sink>(
+    writer: &mut W,
+    pages: &Pages<'_>,
+    shell: &'a str,
+) -> Result<Finding, Fault<'a>>
+    ensures { Completes pages.now shell.entry.now (output_of W.Sink writer.old) (output_of W.Sink writer.new) result }
+{
+    if shell == "bash" {
+        return print(writer, pages.bash.as_bytes());
+    }
+    if shell == "zsh" {
+        return print(writer, pages.zsh.as_bytes());
+    }
+    if shell == "fish" {
+        return print(writer, pages.fish.as_bytes());
+    }
+    Err(Fault::NoShell { shell })
+}
+
 // Does what the words of the command line chose.
 fn carry_out<'a, F: NamedFiles, S: FileSystem + Folder + AllocGlobal, W: Sink>(
     files: &F,
@@ -68,7 +101,7 @@ fn carry_out<'a, F: NamedFiles, S: FileSystem + Folder + AllocGlobal, W: Sink>(
     pages: &Pages<'_>,
     task: Task<'a>,
 ) -> Result<Finding, Fault<'a>>
-    ensures { Does F.NamedFiles ⟦<F::File as BlockFile>⟧ files.now
+    ensures { Does F.NamedFiles ⟦<F::File as BlockFile>⟧ ⟦<TotalsDisk<F::File> as Disk>⟧ ⟦<MemDisk as Disk>⟧ files.now
         S.FileSystem S.Folder ⟦<S::File as BlockFile>⟧ system.now pages.now task.entry
         (output_of W.Sink writer.old) (output_of W.Sink writer.new) result }
 {
@@ -89,6 +122,24 @@ fn carry_out<'a, F: NamedFiles, S: FileSystem + Folder + AllocGlobal, W: Sink>(
         Task::Diff { file, other } => tell_difference(alloc, files, writer, file, other),
         Task::Load { text, file } => load(system, text, file),
         Task::Salvage { file, to } => salvage(system, writer, file, to),
+        Task::Run {
+            scripts,
+            profile,
+            totals,
+            json,
+        } => run_paths(
+            files,
+            system,
+            writer,
+            pages.codes,
+            &scripts,
+            profile,
+            totals,
+            json,
+        ),
+        Task::Test { scripts, profile } => try_paths(files, system, writer, &scripts, profile),
+        Task::Completions { shell } => complete(writer, pages, shell),
+        Task::Man => print(writer, pages.man.as_bytes()),
     }
 }
 
@@ -100,7 +151,8 @@ fn carry_out_words<'a, F: NamedFiles, S: FileSystem + Folder + AllocGlobal, T: A
     pages: &Pages<'a>,
     words: &'a [T],
 ) -> Result<Finding, Fault<'a>>
-    ensures { DoesAsAsked F.NamedFiles ⟦<F::File as BlockFile>⟧ files.now
+    ensures { DoesAsAsked F.NamedFiles ⟦<F::File as BlockFile>⟧ ⟦<TotalsDisk<F::File> as Disk>⟧ ⟦<MemDisk as Disk>⟧
+        files.now
         S.FileSystem S.Folder ⟦<S::File as BlockFile>⟧ system.now pages.now (map T.text words.entry.now)
         (output_of W.Sink writer.old) (output_of W.Sink writer.new) result }
 {
@@ -146,7 +198,7 @@ pub fn perform<
     pages: &Pages<'_>,
     words: Result<Vec<T>, ChoiceFault>,
 ) -> ExitCode
-    ensures { Performs F.NamedFiles ⟦<F::File as BlockFile>⟧ files.now
+    ensures { Performs F.NamedFiles ⟦<F::File as BlockFile>⟧ ⟦<TotalsDisk<F::File> as Disk>⟧ ⟦<MemDisk as Disk>⟧ files.now
         S.FileSystem S.Folder ⟦<S::File as BlockFile>⟧ system.now pages.now T.text words
         (output_of W.Sink writer.old) (output_of W.Sink writer.new) (exit_status result) }
 {

@@ -1,6 +1,6 @@
 //! How an answer is printed.
-ghost use Rattle.std.specs.Prelude.{◌≡◌, MatchResult};
-ghost use Rattle.pos_tool.specs.Outputs.{IsCutOff, IsWritten, output_of};
+ghost use Rattle.std.specs.Prelude.{◌≡◌};
+ghost use Rattle.pos_shell.specs.Outputs.{output_of};
 ghost use Rattle.pos_tool.specs.Differing.{PrintsDifference, SurveysBytes, SurveysFile, TellsDifference};
 ghost use Rattle.pos_tool.specs.Differing.{difference_finding};
 ghost use Rattle.pos_tool.specs.Telling.{Prints, TellsBytes, TellsFile, name_in};
@@ -9,24 +9,10 @@ use crate::fault::Fault;
 use pos_file::BlockFile;
 use pos_program::NamedFiles;
 use pos_report::{AnswerFault, Finding, Question, answer, difference_text};
-use pos_script::write_bytes;
-use pos_streams::{Sink, WriteFault};
+use pos_shell::write_text;
+use pos_streams::Sink;
 use pos_survey::Survey;
 use std::alloc::Global;
-
-/// Writes a text to its end, and flushes it.
-///
-/// # Errors
-///
-/// [`WriteFault`] at the first write that fails, or if the flush does.
-pub(crate) fn write_text<W: Sink>(writer: &mut W, text: &[u8]) -> Result<(), WriteFault>
-    ensures { MatchResult result
-        (λ _. IsWritten (output_of W.Sink writer.old) (output_of W.Sink writer.new) text.now)
-        (λ _. IsCutOff (output_of W.Sink writer.old) (output_of W.Sink writer.new) text.now) }
-{
-    write_bytes(writer, text)?;
-    writer.flush()
-}
 
 // The name of a file that a question asks for.
 fn name_in<'a>(question: Question<'a>) -> &'a str

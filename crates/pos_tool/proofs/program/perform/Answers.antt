@@ -1,5 +1,5 @@
 use Rattle.std.proofs.Common.{Err, ap, refl, sym, subst}
-use Rattle.pos_tool.specs.Outputs.{output_of}
+use Rattle.pos_shell.specs.Outputs.{output_of}
 use Rattle.pos_tool.specs.Program.{DoesAsAsked, DoesAsRead}
 use Rattle.pos_tool.specs.declared.fault.Fault.TheVariants as fault
 use Rattle.pos_tool.proofs.program.perform.Goals as goal

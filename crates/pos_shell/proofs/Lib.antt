@@ -1,0 +1,4 @@
+mod LineLemmas
+mod RunLemmas
+mod TextLemmas
+mod TrialLemmas

@@ -1,0 +1,142 @@
+-- What running the scripts in files comes to (docs/reference/tool.md, "run").
+use Rattle.std.specs.Prelude.{◌≡◌, ◌⊎◌, ◌++◌, ◌∷◌, [], ℕ, List, Option, Some, None, Result, Ok, Err, Vec, bytes_eq, codes, if◌then◌else◌, ⊤}
+use Rattle.std.specs.Borrow.{Bor}
+use Rattle.std.specs.declared.io.Error.{Error}
+use Rattle.pos_disk.specs.Memory.{Memory}
+use Rattle.pos_disk.specs.declared.device.Disk.{Ghosts as DiskGhosts}
+use Rattle.pos_file.specs.declared.block_file.BlockFile.{Ghosts as FileGhosts}
+use Rattle.pos_file.specs.declared.file_disk.FileDisk.{FileDisk}
+use Rattle.pos_image.specs.Standing.{HasNoFiles}
+use Rattle.pos_mirror.specs.Mirror.{Mirror}
+use Rattle.pos_profile.specs.Built.{built}
+use Rattle.pos_profile.specs.Entries.{Contents}
+use Rattle.pos_program.specs.MirroredFiles.{IsMirrored}
+use Rattle.pos_program.specs.declared.file_fault.FileFault.{FileFault}
+use Rattle.pos_program.specs.declared.file_system.FileSystem.{Ghosts as SystemGhosts}
+use Rattle.pos_program.specs.declared.named_files.NamedFiles.{Ghosts}
+use Rattle.pos_program.specs.declared.profile_fault.ProfileFileFault.{ProfileFileFault}
+use Rattle.pos_shell.specs.Outputs.{Output}
+use Rattle.pos_shell.specs.Scripts.{RunsScripts}
+use Rattle.pos_shell.specs.declared.runs.RunFault.{RunFault}
+use Rattle.pos_shell.specs.declared.runs.RunFault.TheVariants as run
+use Rattle.pos_shell.specs.declared.scripts.Script.{Script}
+use Rattle.pos_shell.specs.declared.scripts.TellFault.{TellFault}
+use Rattle.pos_shell.specs.declared.scripts.TellFault.TheVariants.{NoMemory}
+use Rattle.pos_shell.specs.declared.told.Manner.{Manner}
+
+-- there was no memory to begin
+abbrev pub without_memory : RunFault
+without_memory = run.Told NoMemory
+
+-- scripts that were read, as a list
+abbrev pub scripts_of : {A : Type 0} → Result (Vec Script A) RunFault → Result (List Script) RunFault
+scripts_of (Ok scripts) = Ok scripts.items
+scripts_of (Err why) = Err why
+
+-- the path of a script: `-` is standard input
+abbrev pub path_of : List ℕ → List ℕ
+path_of name = if bytes_eq name (codes "-") then codes "/dev/stdin" else name
+
+-- a script has the name and the text of the file at a path
+abbrev pub ReadsScript : {S F : Type 0} → SystemGhosts S F → S → Bor (List ℕ) → Script → Type 0
+ReadsScript system them path script = (script.name ≡ path) × system.reads them (path_of path.now) (Ok script.text.items)
+
+-- each script is that of its path
+abbrev pub AreRead : {S F : Type 0} → SystemGhosts S F → S → List (Bor (List ℕ)) → List Script → Type 0
+AreRead system them [] [] = ⊤
+AreRead system them (path ∷ paths) (script ∷ scripts) =
+    ReadsScript system them path script × AreRead system them paths scripts
+AreRead system them paths scripts = ⊥
+
+-- the file at one of the paths couldn't be read
+abbrev pub IsUnread : {S F : Type 0} → SystemGhosts S F → S → List (Bor (List ℕ)) → RunFault → Type 0
+IsUnread system them paths (run.Script path cause) = (earlier : List (Bor (List ℕ))) × (later : List (Bor (List ℕ)))
+    × (paths ≡ earlier ++ path ∷ later) × system.reads them (path_of path.now) (Err cause)
+IsUnread system them paths other = other ≡ without_memory
+
+-- what reading the scripts at paths comes to
+abbrev pub ReadsEach : {S F : Type 0} → SystemGhosts S F → S → List (Bor (List ℕ)) → Result (List Script) RunFault
+    → Type 0
+ReadsEach system them paths (Ok scripts) = AreRead system them paths scripts
+ReadsEach system them paths (Err why) = IsUnread system them paths why
+
+-- what reading a profile comes to: the built-in one where no path is given
+abbrev pub GivesProfile : {F B : Type 0} → Ghosts F B → F → Option (Bor (List ℕ)) → Result Contents RunFault → Type 0
+GivesProfile files them None (Ok profile) = profile ≡ built
+GivesProfile files them None (Err why) = why ≡ without_memory
+GivesProfile files them (Some path) (Ok profile) = files.gives_profile them path.now (Ok profile)
+GivesProfile files them (Some path) (Err (run.Profile at cause)) =
+    (at ≡ path) × files.gives_profile them path.now (Err cause)
+GivesProfile files them (Some path) (Err other) = ⊥
+
+-- what a run that began ended with
+abbrev pub ended : Result (Unit {0}) TellFault → Result (Unit {0}) RunFault
+ended (Ok u) = Ok tt
+ended (Err why) = Err (run.Told why)
+
+-- a run of scripts over totals in memory, on a disk without files
+pub record RunsFresh (bound : DiskGhosts Memory) (manner : Manner) (contents : Contents) (scripts : List Script)
+    (old new : Output) (result : Result (Unit {0}) RunFault) : Type 0 where
+  pub disk : Memory
+  pub after : Memory
+  pub answer : Result (Unit {0}) TellFault
+  pub empty : HasNoFiles (bound.state disk)
+  pub runs : RunsScripts bound manner contents scripts disk old new answer after
+  pub ends : result ≡ ended answer
+
+-- likewise, or there was no memory for the disk
+abbrev pub RunsInMemory : DiskGhosts Memory → Manner → Contents → List Script → Output → Output
+    → Result (Unit {0}) RunFault → Type 0
+RunsInMemory bound manner contents scripts old new result =
+    ((result ≡ Err without_memory) × (new ≡ old)) ⊎ RunsFresh bound manner contents scripts old new result
+
+-- A run of scripts over the totals in a file. The calls of the file make the totals that are left.
+pub record RunsOverTotals {B : Type 0} (below : FileGhosts B) (mirrors : DiskGhosts (Mirror (FileDisk B)))
+    (manner : Manner) (contents : Contents) (scripts : List Script) (totals : Mirror (FileDisk B)) (old new : Output)
+    (result : Result (Unit {0}) RunFault) : Type 0 where
+  pub after : Mirror (FileDisk B)
+  pub answer : Result (Unit {0}) TellFault
+  pub runs : RunsScripts mirrors manner contents scripts totals old new answer after
+  pub file : IsMirrored below.calls after
+  pub ends : result ≡ ended answer
+
+-- what running scripts over what opening a totals file gave comes to
+abbrev pub RunsOpened : {B : Type 0} → FileGhosts B → DiskGhosts (Mirror (FileDisk B)) → Manner → Contents
+    → List Script → Bor (List ℕ) → Result (Mirror (FileDisk B)) FileFault → Output → Output
+    → Result (Unit {0}) RunFault → Type 0
+RunsOpened below mirrors manner contents scripts path (Ok totals) old new result =
+    RunsOverTotals below mirrors manner contents scripts totals old new result
+RunsOpened below mirrors manner contents scripts path (Err cause) old new result =
+    (result ≡ Err (run.Totals path cause)) × (new ≡ old)
+
+-- what running scripts over the totals in the file at a path comes to, or in memory
+abbrev pub RunsOver : {F B : Type 0} → Ghosts F B → FileGhosts B → DiskGhosts (Mirror (FileDisk B)) → DiskGhosts Memory
+    → F → Manner → Contents → List Script → Option (Bor (List ℕ)) → Output → Output → Result (Unit {0}) RunFault
+    → Type 0
+RunsOver files below mirrors memories them manner contents scripts None old new result =
+    RunsInMemory memories manner contents scripts old new result
+RunsOver {B = B} files below mirrors memories them manner contents scripts (Some path) old new result =
+    (opened : Result (Mirror (FileDisk B)) FileFault) × files.gives_disk them path.now opened
+    × RunsOpened below mirrors manner contents scripts path opened old new result
+
+-- what becomes of scripts that were read, by what reading the profile gave
+abbrev pub RunsProfiled : (Contents → Type 0) → Result Contents RunFault → Output → Output
+    → Result (Unit {0}) RunFault → Type 0
+RunsProfiled RunsOf (Ok contents) old new result = RunsOf contents
+RunsProfiled RunsOf (Err why) old new result = (result ≡ Err why) × (new ≡ old)
+
+-- what becomes of scripts, by what reading them gave
+abbrev pub RunsRead : (List Script → Type 0) → Result (List Script) RunFault → Output → Output
+    → Result (Unit {0}) RunFault → Type 0
+RunsRead RunsOf (Ok scripts) old new result = RunsOf scripts
+RunsRead RunsOf (Err why) old new result = (result ≡ Err why) × (new ≡ old)
+
+-- What running the scripts at paths comes to, over a profile and totals.
+abbrev pub Runs : {F B S G : Type 0} → Ghosts F B → FileGhosts B → DiskGhosts (Mirror (FileDisk B))
+    → DiskGhosts Memory → F → SystemGhosts S G → S → Manner → List (Bor (List ℕ)) → Option (Bor (List ℕ))
+    → Option (Bor (List ℕ)) → Output → Output → Result (Unit {0}) RunFault → Type 0
+Runs files below mirrors memories them system it manner paths profile totals old new result =
+    (read : Result (List Script) RunFault) × ReadsEach system it paths read
+    × RunsRead (λ scripts. (given : Result Contents RunFault) × GivesProfile files them profile given
+    × RunsProfiled (λ contents. RunsOver files below mirrors memories them manner contents scripts totals old new result)
+    given old new result) read old new result

@@ -1,0 +1,25 @@
+//! Runs of scripts for people, and what each line of them is told with. docs/reference/tool.md.
+//!
+//! [`run_scripts`] runs [`Script`]s over a counter that is simulated for a profile, and tells their answers in a
+//! [`Manner`]: with the numbers of the lines, the names of codes, and the [`reason`] of each `bad line`.
+//!
+//! The layer above relies on this: what is told is made of the answers of one run of the device machine, in which each
+//! line was carried out whole before the next.
+#![tactic(auto)]
+
+mod cutting;
+mod differences;
+mod names;
+mod reasons;
+mod runs;
+mod scripts;
+mod told;
+mod trials;
+mod writing;
+
+pub use reasons::reason;
+pub use runs::{RunFault, profile_at, run};
+pub use scripts::{Script, TellFault, run_scripts};
+pub use told::{Form, Manner};
+pub use trials::{Trials, tally, try_scripts};
+pub use writing::write_text;

@@ -1,0 +1,204 @@
+//! What is told of a script's lines and their answers.
+ghost use Rattle.std.specs.Prelude.{◌≡◌, ◌++◌, IfOk, MatchOption, OnOk, false, true};
+ghost use Rattle.std.specs.Str.{is_utf8};
+ghost use Rattle.serde_json.specs.View.{view};
+ghost use Rattle.pos_script.specs.Lines.{lines_of};
+ghost use Rattle.pos_shell.specs.Told.{first, others, prefix, reason_data, reason_text, text_data, told, told_data, told_json};
+ghost use Rattle.pos_shell.specs.Told.{told_line, told_plain};
+
+use crate::cutting::{is_quiet, next_line};
+use crate::names::{numbers_of, put_named};
+use crate::reasons::reason;
+use itoa::Buffer;
+use pos_report::Code;
+use pos_service::words::is;
+use serde_json::{Value, json};
+use std::alloc::{AllocError, Global};
+use std::str;
+
+/// The form in which an answer is told.
+#[derive(Clone, Copy, PartialEq, Eq)]
+pub enum Form {
+    /// As a person sees it who has just typed the line.
+    Typed,
+    /// After the name of the script and the number of the line.
+    Numbered,
+    /// As a line of JSON.
+    Json,
+}
+
+/// How answers are told.
+#[derive(Clone, Copy)]
+pub struct Manner<'a> {
+    /// The codes whose names are told with their numbers.
+    pub codes: &'a [Code<'a>],
+    /// The form.
+    pub form: Form,
+}
+
+// Bytes as a text, if they are UTF-8.
+fn as_text(bytes: &[u8]) -> Option<&str>
+    ensures { MatchOption result (is_utf8 bytes.now ≡ false)
+        (λ text. (is_utf8 bytes.now ≡ true) × (text.now ≡ bytes.now)) }
+{
+    match str::from_utf8(bytes) {
+        Ok(text) => Some(text),
+        Err(_) => None,
+    }
+}
+
+// Bytes as JSON, if they are UTF-8.
+fn text_value(alloc: Global, bytes: &[u8]) -> Result<Value, AllocError>
+    ensures { IfOk result (λ value. view value ≡ text_data bytes.now) }
+{
+    match as_text(bytes) {
+        Some(text) => Ok(Value::String(String::from_str(alloc, text)?)),
+        None => Ok(Value::Null),
+    }
+}
+
+// Why a line is `bad line`, as JSON, if that is its answer.
+fn reason_value(alloc: Global, line: &[u8], answer: &[u8]) -> Result<Value, AllocError>
+    ensures { IfOk result (λ value. view value ≡ reason_data line.now answer.now) }
+{
+    if is(answer, "bad line") {
+        return Ok(Value::String(String::from_str(alloc, reason(line))?));
+    }
+    Ok(Value::Null)
+}
+
+// A line and its answer as JSON.
+fn told_value(
+    alloc: Global,
+    name: &str,
+    number: u64,
+    line: &[u8],
+    answer: &[u8],
+) -> Result<Value, AllocError>
+    ensures { IfOk result (λ value. view value ≡ told_data name.now number line.now answer.now) }
+{
+    let said = text_value(alloc, answer)?;
+    let reason = reason_value(alloc, line, answer)?;
+    let script = String::from_str(alloc, name)?;
+    let text = text_value(alloc, line)?;
+    json!(in alloc; {
+        "answer": said, "line": number, "reason": reason, "script": script, "text": text
+    })
+}
+
+// Puts a line and its answer at the end of a text, as a line of JSON.
+fn put_json(
+    alloc: Global,
+    text: &mut Vec<u8>,
+    name: &str,
+    number: u64,
+    line: &[u8],
+    answer: &[u8],
+) -> Result<(), AllocError>
+    ensures { OnOk result (text.new.items ≡ text.old.items ++ told_json name.now number line.now answer.now) }
+{
+    let json = told_value(alloc, name, number, line, answer)?.to_string(alloc)?;
+    text.extend_from_slice(json.as_bytes())?;
+    text.extend_from_slice(b"\n")
+}
+
+// Puts what is before an answer at the end of a text.
+fn put_prefix(text: &mut Vec<u8>, form: Form, name: &str, number: u64) -> Result<(), AllocError>
+    ensures { OnOk result (text.new.items ≡ text.old.items ++ prefix form name.now number) }
+{
+    if form == Form::Typed {
+        return text.extend_from_slice(b"=>");
+    }
+    let mut buffer = Buffer::new();
+    text.extend_from_slice(name.as_bytes())?;
+    text.push(b':')?;
+    text.extend_from_slice(buffer.format(number).as_bytes())?;
+    text.extend_from_slice(b":")
+}
+
+// Puts why a line is `bad line` at the end of a text, if that is its answer.
+fn put_reason(text: &mut Vec<u8>, line: &[u8], answer: &[u8]) -> Result<(), AllocError>
+    ensures { OnOk result (text.new.items ≡ text.old.items ++ reason_text line.now answer.now) }
+{
+    if !is(answer, "bad line") {
+        return Ok(());
+    }
+    text.extend_from_slice(b": ")?;
+    text.extend_from_slice(reason(line).as_bytes())
+}
+
+// Puts the answer to a line at the end of a text, as a person reads it.
+fn put_plain(
+    text: &mut Vec<u8>,
+    manner: &Manner<'_>,
+    name: &str,
+    number: u64,
+    line: &[u8],
+    answer: &[u8],
+) -> Result<(), AllocError>
+    ensures { OnOk result (text.new.items ≡ text.old.items ++ told_plain manner.now name.now number line.now answer.now) }
+{
+    put_prefix(text, manner.form, name, number)?;
+    put_named(text, manner.codes, numbers_of(line, answer), answer)?;
+    put_reason(text, line, answer)?;
+    text.extend_from_slice(b"\n")
+}
+
+// Puts the answer to a line at the end of a text.
+fn put_told(
+    alloc: Global,
+    text: &mut Vec<u8>,
+    manner: &Manner<'_>,
+    name: &str,
+    number: u64,
+    line: &[u8],
+    answer: &[u8],
+) -> Result<(), AllocError>
+    ensures { OnOk result (text.new.items ≡ text.old.items ++ told_line manner.now name.now number line.now answer.now) }
+{
+    if manner.form == Form::Json {
+        return put_json(alloc, text, name, number, line, answer);
+    }
+    put_plain(text, manner, name, number, line, answer)
+}
+
+// The first of some answers, and the others.
+pub(crate) fn next_answer(answers: &[u8]) -> (&[u8], &[u8])
+    ensures first { result.0.now ≡ first (lines_of answers.now) }
+    ensures others { lines_of result.1.now ≡ others (lines_of answers.now) }
+{
+    match next_line(answers) {
+        Some(found) => found,
+        None => (b"", b""),
+    }
+}
+
+/// Returns what is told of the lines of a script, by the text of their answers: a line for each that isn't quiet.
+///
+/// # Errors
+///
+/// [`AllocError`] if memory ran out.
+pub(crate) fn told(
+    alloc: Global,
+    manner: &Manner<'_>,
+    name: &str,
+    script: &[u8],
+    answers: &[u8],
+) -> Result<Vec<u8>, AllocError>
+    ensures { IfOk result (λ text. text.items ≡ told manner.now name.now 1 (lines_of script.now) (lines_of answers.now)) }
+{
+    let mut text = Vec::new(alloc);
+    let mut left = script;
+    let mut said = answers;
+    let mut number = 1;
+    while let Some((line, rest)) = next_line(left) {
+        if !is_quiet(line) {
+            let (answer, more) = next_answer(said);
+            put_told(alloc, &mut text, manner, name, number, line, answer)?;
+            said = more;
+        }
+        left = rest;
+        number += 1;
+    }
+    Ok(text)
+}
