@@ -38,13 +38,14 @@ class PtyCable:
         os.close(self._master)
         self._master = self._slave = None
 
-    def settle(self, seconds=0.05):
-        """Waits for a moment until the host has read what was sent."""
-        end = time.monotonic() + seconds
-        while self._slave is not None and time.monotonic() < end:
-            if not int.from_bytes(fcntl.ioctl(self._slave, termios.FIONREAD, bytes(4)), "little"):
-                return
-            time.sleep(0.0005)
+    def settle(self, seconds=0.5):
+        """Waits until the host has read what was sent, as it would over a wire, but not longer than this."""
+        end, quiet = time.monotonic() + seconds, 0
+        while self._slave is not None and time.monotonic() < end and quiet < 5:
+            # What was written takes a moment until it counts as there to be read.
+            time.sleep(0.001)
+            left = int.from_bytes(fcntl.ioctl(self._slave, termios.FIONREAD, bytes(4)), "little")
+            quiet = 0 if left else quiet + 1
 
     def files(self):
         """The files to wait for bytes of."""
@@ -130,6 +131,7 @@ class TcpCable:
                 host, _ = self._listener.accept()
                 self.drop()
                 host.setblocking(False)
+                host.setsockopt(socket.IPPROTO_TCP, socket.TCP_NODELAY, 1)
                 self._host = host
 
     def write(self, data):

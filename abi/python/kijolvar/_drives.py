@@ -25,13 +25,14 @@ class Drive:
         # What the till was told of the device.
         self.is_on = True
         self.statuses = 0
-        self.is_waiting_for_show = False
+        # The device may show anything yet.
+        self.needs_view = driver.needs_view
 
     def power_off(self) -> bytes:
         """The input that says that the device isn't there, the first time."""
         if not self.is_on:
             return b""
-        self.is_on, self.is_waiting_for_show = False, True
+        self.is_on, self.needs_view = False, self.driver.needs_view
         return b"input %b power off\n" % self.word
 
 
@@ -53,10 +54,8 @@ class Drives:
             raise DriverError(f"{device.name!r} has a driver already")
         if device.category != "Scanner":
             self._session.drive(device_word(device.name))
-        drive = self._drives[device.name] = Drive(device, driver)
-        # The device may show anything yet.
-        drive.is_waiting_for_show = True
         driver.start(device)
+        self._drives[device.name] = Drive(device, driver)
         self.hand_in()
 
     # Orders.
@@ -99,8 +98,8 @@ class Drives:
         lines = self._lines(drive)
         if lines:
             self._happens(lines)
-        if drive.is_waiting_for_show and drive.is_on and drive.driver.is_online:
-            drive.is_waiting_for_show = False
+        if drive.needs_view and drive.is_on and drive.driver.is_online:
+            drive.needs_view = False
             drive.driver.shown(Device(self._till, drive.name).show())
         return lines != b""
 

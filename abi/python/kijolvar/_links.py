@@ -13,6 +13,8 @@ _START = b"\0" * 12 + b"\x1b@\x1da\xff"
 _STATUS_ON = b"\x1da\xff"
 _ARE_YOU_THERE = b"\x10\x04\x01"
 _NUMBERS = 65_536
+# How long a lost port may take to open, in seconds, while other devices wait.
+_QUICKLY = 0.25
 _COVER_OPEN, _OFFLINE, _PAPER_ENDED, _FAULTY = 0x20, 0x08, 0x0C, 0x68
 
 
@@ -87,17 +89,23 @@ class Job:
         sent: How many pieces were sent.
         done: How many pieces are printed, as far as is known.
         is_torn: Pieces were lost, and later ones may have been printed.
+        is_once: Whether it is for the paper, where the same order must not be twice.
     """
 
-    def __init__(self, data: bytes) -> None:
-        self.data = data
+    def __init__(self, data: bytes, is_once: bool) -> None:
+        self.data, self.is_once = data, is_once
         self.pieces = list(pieces_of(data)) or [b""]
         self.sent = self.done = 0
         self.is_torn = False
 
     @property
     def is_done(self) -> bool:
+        """Whether all of it is printed."""
         return self.done == len(self.pieces)
+
+    def is_late(self, now: Job | None) -> bool:
+        """Whether it puts something on the paper that isn't asked for any more."""
+        return self.is_once and self.data != b"" and self is not now
 
 
 @dataclass(eq=False)
@@ -166,7 +174,7 @@ class PrinterLink:
             self._lose()
             return False
         if job.is_done:
-            self._job = None
+            self._job = self._job if job is not self._job else None
             return True
         self._drop()
         if not self.is_stopped:
@@ -176,9 +184,11 @@ class PrinterLink:
 
     def _taken_up(self, data: bytes, is_once: bool, end: float) -> Job:
         """The job of an order: the one that failed if the order is the same, and how far that one has come."""
+        if not is_once:
+            return Job(data, is_once)
         job = self._job
-        if job is None or job.data != data or not is_once:
-            self._job = Job(data)
+        if job is None or job.data != data:
+            self._job = Job(data, is_once)
             return self._job
         if self._is_due(job):
             # What was sent before is printed or lost once this is acknowledged.
@@ -246,7 +256,7 @@ class PrinterLink:
                 # Bytes are lost only together with the port, if it is a reliable one.
                 if (is_last or self.port.is_reliable and parcel.turn == turn) and not job.is_torn:
                     job.done = parcel.done
-                    self.late += job.is_done and job is not self._job
+                    self.late += job.is_done and job.is_late(self._job)
                 else:
                     job.is_torn = True
             if is_last:
@@ -300,7 +310,7 @@ class PrinterLink:
         now = time.monotonic()
         if not self.port.is_open:
             if now - self._tried_at >= self._pause:
-                self._connect(min(self.timeout, self._pause))
+                self._connect(min(self.timeout, _QUICKLY))
             return
         try:
             self._receive()
@@ -327,11 +337,12 @@ class PrinterLink:
         self._outbox.append(_Parcel(bytearray(_ARE_YOU_THERE)))
 
     def _connect(self, seconds: float) -> None:
-        self._tried_at = time.monotonic()
         try:
             self.port.open(seconds)
         except PortError:
             return
+        finally:
+            self._tried_at = time.monotonic()
         self._forget()
         self._outbox.append(_Parcel(bytearray(_START)))
         self._ask()

@@ -30,6 +30,8 @@ from .ports import FilePort, Port, PortError, port_of
 
 Cutter = Literal["both", "full", "partial", "absent"]
 Protocol = Literal["cd5220", "escpos"]
+# How long a lost port may take to open, in seconds, while other devices wait.
+_QUICKLY = 0.25
 
 
 class Driver:
@@ -38,10 +40,12 @@ class Driver:
     Attributes:
         category: The category of the devices that it is for.
         is_silent: Whether the device never says anything of itself.
+        needs_view: Whether the device has to be told what it shows once it is back.
     """
 
     category = ""
     is_silent = True
+    needs_view = False
 
     @property
     def is_online(self) -> bool:
@@ -230,6 +234,7 @@ class SerialDisplay(Driver):
     """
 
     category = "LineDisplay"
+    needs_view = True
 
     def __init__(self, port: Union[Port, Path], protocol: Protocol = "cd5220", *, timeout: float = 2.0,
                  pause: float = 1.0) -> None:
@@ -260,7 +265,7 @@ class SerialDisplay(Driver):
     def poll(self) -> None:
         if not self.port.is_open:
             if time.monotonic() - self._tried_at >= self._pause:
-                self._connect(min(self._timeout, self._pause))
+                self._connect(_QUICKLY)
             return
         with contextlib.suppress(PortError):
             while self.port.ready(False, 0)[0]:
@@ -276,10 +281,10 @@ class SerialDisplay(Driver):
         return (b"\x1bl" if self._protocol == "cd5220" else b"\x1f$") + bytes([1, number]) + characters
 
     def _connect(self, seconds: float) -> None:
-        self._tried_at = time.monotonic()
         with contextlib.suppress(PortError):
             self.port.open(seconds)
             self._sends(b"\x1b@\x0c")
+        self._tried_at = time.monotonic()
 
     def _sends(self, data: bytes) -> bool:
         """Sends bytes. If not all of them go out, the display has to begin again."""
@@ -422,12 +427,17 @@ class WedgeScanner(Driver):
         if not self.port.is_open:
             if time.monotonic() - self._tried_at < self._pause:
                 return
-            self._tried_at = time.monotonic()
             self._reader = self._reader_of()
         with contextlib.suppress(PortError):
-            self.port.open(self._pause)
+            self._open()
             while self.port.ready(False, 0)[0]:
                 self._found += map(self._scan, self._reader.take(self.port.read_some()))
+
+    def _open(self) -> None:
+        try:
+            self.port.open(_QUICKLY)
+        finally:
+            self._tried_at = time.monotonic()
 
     def _scan(self, code: bytes) -> Scan:
         if code[:1] == b"]" and len(code) > 3:
