@@ -24,7 +24,7 @@ DEFAULTS = {
     ("cutPaper", "percentage"): "PTR_CP_FULLCUT",
 }
 # The classes of kijolvar/_faults.py.
-FAULTS = ["DamagedError", "DiskError", "Error", "ExchangeError", "FormattedError", "InputError", "LibraryError",
+FAULTS = ["DamagedError", "DiskError", "DriverError", "Error", "ExchangeError", "FormattedError", "InputError", "LibraryError",
           "LibraryFault", "LineError", "MovedError", "NoDeviceError", "NoMemoryError", "ProfileError", "ThreadError",
           "TillClosedError", "TooManyControlsError", "TooSmallError", "UnformattedError", "UposError"]
 # Classes of errors that are a kind of an error of Python's too.

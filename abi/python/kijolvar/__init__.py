@@ -25,19 +25,22 @@ from ._devices import (Device, DisplayView, DrawerView, Order, PrintedCut, Print
 from ._events import DataEvent, ErrorEvent, Event, OutputCompleteEvent, StatusUpdateEvent
 from ._files import open_totals
 from ._library import find as load
+from .drivers import Driver, EscPosDrawer, EscPosPrinter, Scan, SerialDisplay, WedgeScanner
 from ._questions import ProfileDevice, TotalsContents, check, devices, files, migrate
 from .errors import *
+from .ports import FilePort, Port, PortError, SerialPort, TcpPort, port_of
 from .till import Printer, Till, create_totals, open
 from .totals import FileClaim, Totals, TotalsFile
 
 __version__ = "0.1.0"
 
 __all__ = [
-    "CashDrawer", "Claim", "Control", "DataEvent", "Device", "DisplayView", "DrawerView", "ErrorEvent", "Event",
-    "FileClaim", "HardTotals", "LineDisplay", "Order", "OutputCompleteEvent", "POSPrinter", "PrintedCut", "PrintedLine",
-    "Printer", "PrinterView", "ProfileDevice", "Scanner", "ScannerView", "StandardControl", "StatusUpdateEvent", "Till",
-    "Totals", "TotalsContents", "TotalsFile", "WorkDone", "WorkFailed", "check", "create_totals", "devices", "files",
-    "load", "migrate", "open", "open_totals",
+    "CashDrawer", "Claim", "Control", "DataEvent", "Device", "DisplayView", "DrawerView", "Driver", "ErrorEvent",
+    "EscPosDrawer", "EscPosPrinter", "Event", "FileClaim", "FilePort", "HardTotals", "LineDisplay", "Order",
+    "OutputCompleteEvent", "POSPrinter", "Port", "PortError", "PrintedCut", "PrintedLine", "Printer", "PrinterView",
+    "ProfileDevice", "Scan", "Scanner", "ScannerView", "SerialDisplay", "SerialPort", "StandardControl",
+    "StatusUpdateEvent", "TcpPort", "Till", "Totals", "TotalsContents", "TotalsFile", "WedgeScanner", "WorkDone",
+    "WorkFailed", "check", "create_totals", "devices", "files", "load", "migrate", "open", "open_totals", "port_of",
 ]
 __all__ += _constants.__all__
 __all__ += errors.__all__

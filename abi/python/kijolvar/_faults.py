@@ -146,6 +146,10 @@ class ExchangeError(Error):
         return f"the peripheral can't be exchanged: {self.reason}"
 
 
+class DriverError(Error):
+    """A device can't have this driver: it is of another category, or has a driver already."""
+
+
 class InputError(Error):
     """What is said to have happened can't happen at a device of this kind."""
 

@@ -1,6 +1,7 @@
 """Finds and loads the library, a shared object."""
 from __future__ import annotations
 
+import contextlib
 import ctypes
 import os
 import pathlib
@@ -11,6 +12,8 @@ from .errors import LibraryError
 
 Path = Union[str, "os.PathLike[str]"]
 
+# Not in the description yet.
+WAITS, NO_ORDER = 20, 21
 NAME = "libkijolvar.so"
 VARIABLE = "KIJOLVAR_LIBRARY"
 
@@ -48,7 +51,21 @@ def declare(library: ctypes.CDLL) -> ctypes.CDLL:
     for name, (taken, given) in exports.items():
         call = getattr(library, name)
         call.argtypes, call.restype = taken, given
+    for name, (taken, given) in _driven(out, text, size, needed, number).items():
+        with contextlib.suppress(AttributeError):
+            call = getattr(library, name)
+            call.argtypes, call.restype = taken, given
     return library
+
+
+def _driven(out: Any, text: Any, size: Any, needed: Any, number: Any) -> dict[str, tuple[list[Any], Any]]:
+    """The exports for devices that a host drives."""
+    return {
+        "kijolvar_drive": ([Raw, out, text, size], number),
+        "kijolvar_order_done": ([Raw, out, number, text, size, text, size, needed], number),
+        "kijolvar_order_bytes": ([Raw, out, text, size, text, size, needed], number),
+        "kijolvar_replies": ([Raw, out, text, size, text, size, text, size, needed, text, size, needed], number),
+    }
 
 
 def carrier(library: ctypes.CDLL) -> Any:

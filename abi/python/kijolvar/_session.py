@@ -8,13 +8,18 @@ from collections import deque
 from collections.abc import Callable, Iterator
 from typing import Any, BinaryIO, NoReturn
 
-from ._constants import (KIJOLVAR_DISK_FAILED, KIJOLVAR_DISK_LENGTH, KIJOLVAR_ERRANDS, KIJOLVAR_EVENT, KIJOLVAR_OK,
-                         KIJOLVAR_ORDER, KIJOLVAR_SHORT, KIJOLVAR_SYNC, KIJOLVAR_UNDONE, KIJOLVAR_WRITE)
+from ._constants import (KIJOLVAR_DISK_FAILED, KIJOLVAR_DISK_LENGTH, KIJOLVAR_ERRANDS, KIJOLVAR_EVENT,
+                         KIJOLVAR_NO_MEMORY, KIJOLVAR_OK, KIJOLVAR_ORDER, KIJOLVAR_SHORT, KIJOLVAR_SYNC, KIJOLVAR_UNDONE, KIJOLVAR_WRITE)
+from ._library import NO_ORDER as KIJOLVAR_NO_ORDER, WAITS as KIJOLVAR_WAITS
 from ._library import Raw, carrier, check
 from .errors import ThreadError, TillClosedError, library_fault
 
 _identity = threading.get_ident
 _ROOM = 1024
+# How often it is tried to go on with lines for which there is no memory.
+_TRIES = 3
+# The outcomes of an order.
+_DONE, _NOT_DONE = 0, 1
 
 
 class Session:
@@ -37,7 +42,11 @@ class Session:
         self._number = ctypes.c_size_t()
         self._number_at = ctypes.pointer(self._number)
         self._later: deque[Callable[[], None]] = deque()
-        self._is_settling = False
+        self._is_settling = self._is_holding = self._has_served = False
+        #: Carries out an order of a driven device: whether it is done, and what happened at the device if it isn't.
+        self.serve: Callable[[bytes], tuple[bool, bytes]] | None = None
+        #: Is called after lines whose orders were carried out so.
+        self.served: Callable[[], object] | None = None
         check(library)
         #: Carries out lines, and returns the text of their answers, once what they changed is in the file.
         self.carry_out = self._carrier()
@@ -153,18 +162,70 @@ class Session:
         if code == KIJOLVAR_UNDONE:
             self._settle()
             return self.carry_out(lines)
+        if code == KIJOLVAR_WAITS and self._is_holding:
+            self._give_up()
+            return self.carry_out(lines)
+        text = self._told(code)
+        if self._has_served and self.served is not None:
+            self._has_served = False
+            self.served()
+        return text
+
+    def _told(self, code: int, is_wanted: bool = True) -> bytes:
+        """The whole answer to lines, by the code of the call that began with them. The orders for which lines wait are
+        carried out meanwhile, or reported as failed if nobody wants the answer."""
         answer = self._library.kijolvar_answer
         room: Any = self._room
-        if code == KIJOLVAR_ERRANDS:
-            self._settle()
-            code = answer(self._raw, self._out, room, _ROOM, self._needed_at)
-        if code == KIJOLVAR_SHORT:
-            length = self._needed.value
-            room = ctypes.create_string_buffer(length)
-            code = answer(self._raw, self._out, room, length, self._needed_at)
-        if code != KIJOLVAR_OK:
-            raise library_fault(code)
-        return bytes(room[:self._needed.value])
+        parts, surplus, tries = [], 0, 0
+        while True:
+            if code in (KIJOLVAR_ERRANDS, KIJOLVAR_SHORT):
+                if code == KIJOLVAR_ERRANDS:
+                    self._settle()
+                else:
+                    room = ctypes.create_string_buffer(self._needed.value)
+                code = answer(self._raw, self._out, room, len(room), self._needed_at)
+                continue
+            if code == KIJOLVAR_NO_MEMORY:
+                # Lines are held if this is said again.
+                code = answer(self._raw, self._out, room, len(room), self._needed_at)
+                tries += 1
+                if code == KIJOLVAR_OK or tries == _TRIES:
+                    raise library_fault(KIJOLVAR_NO_MEMORY)
+                if code == KIJOLVAR_SHORT:
+                    continue
+            if code not in (KIJOLVAR_OK, KIJOLVAR_WAITS, KIJOLVAR_NO_MEMORY):
+                self._is_holding = False
+                raise library_fault(code)
+            parts.append(b"".join(bytes(room[:self._needed.value]).splitlines(True)[surplus:]))
+            self._is_holding = code != KIJOLVAR_OK
+            if code == KIJOLVAR_OK:
+                return b"".join(parts)
+            inputs, surplus = b"", 0
+            outcome = _NOT_DONE
+            if code == KIJOLVAR_WAITS:
+                outcome, inputs = self._served() if is_wanted else self._refused()
+                surplus = inputs.count(b"\n")
+            code = self._library.kijolvar_order_done(self._raw, self._out, outcome, inputs, len(inputs), room, len(room),
+                                                     self._needed_at)
+
+    def _served(self) -> tuple[int, bytes]:
+        """Has the order that waits carried out: the outcome, and what happened at the device if it isn't done."""
+        order = next(self.orders(), None)
+        if order is None or self.serve is None:
+            raise library_fault(KIJOLVAR_NO_ORDER)
+        self._has_served = True
+        is_done, inputs = self.serve(order)
+        return (_DONE, b"") if is_done else (_NOT_DONE, inputs)
+
+    def _refused(self) -> tuple[int, bytes]:
+        """The outcome of an order that waits and that nobody carries out."""
+        next(self.orders(), None)
+        return _NOT_DONE, b""
+
+    def _give_up(self) -> None:
+        """Ends lines of an earlier call that was interrupted: their orders failed, and nobody wants the answer."""
+        code = self._library.kijolvar_answer(self._raw, self._out, self._room, _ROOM, self._needed_at)
+        self._told(code, is_wanted=False)
 
     def number_of(self, control: bytes) -> int:
         """The library's number of the control of this name."""
@@ -195,6 +256,36 @@ class Session:
         code = self._library.kijolvar_host(self._raw, self._out, device, len(device))
         if code != KIJOLVAR_OK:
             raise library_fault(code)
+
+    def drive(self, device: bytes) -> None:
+        """Says that the orders of the device of this name wait until the host has said what became of them."""
+        self.check()
+        code = self._library.kijolvar_drive(self._raw, self._out, device, len(device))
+        if code != KIJOLVAR_OK:
+            raise library_fault(code)
+
+    def order_bytes(self, settings: bytes) -> bytes:
+        """The bytes that the device has to get for the order that was taken out last."""
+        return self._written(self._library.kijolvar_order_bytes, settings, len(settings))
+
+    def replies(self, device: bytes, settings: bytes, data: bytes) -> bytes:
+        """What a device has sent, as lines of inputs, so far as its device in the till shows something else."""
+        read = ctypes.c_size_t()
+        return self._written(self._library.kijolvar_replies, device, len(device), settings, len(settings), data,
+                             len(data), ctypes.byref(read))
+
+    def _written(self, call: Any, *words: Any) -> bytes:
+        """What a call writes."""
+        self.check()
+        room: Any = ctypes.create_string_buffer(_ROOM)
+        needed = ctypes.c_size_t()
+        code = call(self._raw, self._out, *words, room, len(room), ctypes.byref(needed))
+        if code == KIJOLVAR_SHORT:
+            room = ctypes.create_string_buffer(needed.value)
+            code = call(self._raw, self._out, *words, room, len(room), ctypes.byref(needed))
+        if code != KIJOLVAR_OK:
+            raise library_fault(code)
+        return bytes(room[:needed.value])
 
     def orders(self) -> Iterator[bytes]:
         """The orders of the devices that the host has, oldest first. Each is taken out as it is given."""

@@ -4,9 +4,10 @@ Written by abi/python/generate.py: don't change it by hand.
 """
 from __future__ import annotations
 
-from ._faults import (DamagedError, DiskError, Error, ExchangeError, FormattedError, InputError, LibraryError,
-                      LibraryFault, LineError, MovedError, NoDeviceError, NoMemoryError, ProfileError, ThreadError,
-                      TillClosedError, TooManyControlsError, TooSmallError, UnformattedError, UposError, library_fault)
+from ._faults import (DamagedError, DiskError, DriverError, Error, ExchangeError, FormattedError, InputError,
+                      LibraryError, LibraryFault, LineError, MovedError, NoDeviceError, NoMemoryError, ProfileError,
+                      ThreadError, TillClosedError, TooManyControlsError, TooSmallError, UnformattedError, UposError,
+                      library_fault)
 
 
 class ClosedError(UposError):
@@ -202,10 +203,10 @@ BY_EXTENDED: dict[tuple[str, int], type[UposError]] = {
 }
 
 __all__ = [
-    "BusyError", "ClaimedError", "ClosedError", "CoverOpenError", "DamagedError", "DisabledError", "DiskError", "Error",
-    "ExchangeError", "ExistsError", "ExtendedError", "FailureError", "FormattedError", "IllegalError", "InputError",
-    "LibraryError", "LibraryFault", "LineError", "MovedError", "NoDeviceError", "NoExistError", "NoHardwareError",
-    "NoMemoryError", "NoRoomError", "NoServiceError", "NotClaimedError", "OfflineError", "ProfileError",
-    "ReceiptEmptyError", "ThreadError", "TillClosedError", "TimeoutError", "TooManyControlsError", "TooSmallError",
-    "UnformattedError", "UposError",
+    "BusyError", "ClaimedError", "ClosedError", "CoverOpenError", "DamagedError", "DisabledError", "DiskError",
+    "DriverError", "Error", "ExchangeError", "ExistsError", "ExtendedError", "FailureError", "FormattedError",
+    "IllegalError", "InputError", "LibraryError", "LibraryFault", "LineError", "MovedError", "NoDeviceError",
+    "NoExistError", "NoHardwareError", "NoMemoryError", "NoRoomError", "NoServiceError", "NotClaimedError",
+    "OfflineError", "ProfileError", "ReceiptEmptyError", "ThreadError", "TillClosedError", "TimeoutError",
+    "TooManyControlsError", "TooSmallError", "UnformattedError", "UposError",
 ]

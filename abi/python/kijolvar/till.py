@@ -8,20 +8,22 @@ import os
 import warnings
 import weakref
 from collections import deque
-from collections.abc import Iterator
+from collections.abc import Callable, Iterator
 from types import TracebackType
 from typing import BinaryIO, TypeVar
 
 from . import _files
-from ._constants import PTR_S_RECEIPT, KIJOLVAR_NO_MEMORY
+from ._constants import PTR_S_RECEIPT, KIJOLVAR_NO_DEVICE, KIJOLVAR_NO_MEMORY
 from ._control import Control, Text, device_word
 from ._controls import CashDrawer, LineDisplay, POSPrinter, Scanner
 from ._devices import Device, Order, read_order
+from ._drives import Drives
 from ._events import Event
-from ._faults import Error, LineError, NoMemoryError, ProfileError, TooManyControlsError
+from ._faults import Error, LineError, NoDeviceError, NoMemoryError, ProfileError, TooManyControlsError
 from ._library import Path
-from ._questions import Profile, explain, library_of, text_of
+from ._questions import Profile, ProfileDevice, devices, explain, library_of, text_of
 from ._session import Session
+from .drivers import Driver
 from .totals import Totals
 
 C = TypeVar("C", bound=Control)
@@ -46,7 +48,7 @@ class Till:
     """
 
     def __init__(self, session: Session, totals: BinaryIO | None = None, *, where: str = "in memory",
-                 owns_totals: bool = False) -> None:
+                 owns_totals: bool = False, devices: Callable[[], list[ProfileDevice]] | None = None) -> None:
         self._session, self._where = session, where
         self._carry_out = session.carry_out
         self._file, self._owns_file = totals, owns_totals
@@ -54,6 +56,7 @@ class Till:
         self._names: dict[int, str] = {}
         self._free: dict[str, deque[str]] = {}
         self._count = 0
+        self._devices, self._drives = devices or list, Drives(self, session)
 
     def __repr__(self) -> str:
         state = "closed" if self.is_closed else f"totals {self._where}, {len(self._controls)} controls"
@@ -81,6 +84,7 @@ class Till:
     def close(self) -> None:
         """Ends the till, and closes the file of totals if the till has opened it. Closing it again does nothing."""
         self._session.close()
+        self._drives.close()
         if self._owns_file and self._file is not None:
             self._file.close()
 
@@ -253,6 +257,34 @@ class Till:
         for order in self._session.orders():
             yield read_order(order.decode())
 
+    def drive(self, device: str, driver: Driver) -> None:
+        """Has a driver carry out the orders of a device from now on. A call that orders something returns once the
+        driver has done it, or with the error that the device gave: E_FAILURE (111) if it didn't answer, E_OFFLINE (108),
+        or a printer's 201 and 203.
+
+        Hardware that isn't there is no error: the device is off until it is. The till closes the port at its end.
+
+        Raises:
+            NoDeviceError: The profile has no device of the name, or it can't be driven, as one with `flaky`.
+            DriverError: The driver is for another category, or the device has one already.
+        """
+        found = next((one for one in self._devices() if one.name == device), None)
+        if found is None:
+            raise NoDeviceError(KIJOLVAR_NO_DEVICE, f"the profile has no device {device!r}")
+        self._drives.add(found, driver)
+
+    def run_devices(self, timeout: float = 0.0) -> bool:
+        """Does what the driven devices need: hands in what they say of themselves and what was scanned, opens lost ports
+        again, and prints output that waits (AsyncMode). Call it regularly, and then deliver events.
+
+        Args:
+            timeout: How long to wait for something to happen, in seconds. Printing may take longer.
+
+        Returns:
+            Whether anything was done.
+        """
+        return self._drives.run(timeout)
+
     # The text layer.
 
     def carry_out(self, lines: str) -> str:
@@ -299,7 +331,7 @@ def open(profile: Profile | None = None, totals: Path | BinaryIO | None = None, 
             undo.enter_context(file)
         session = Session(found, text.encode(), file)
         undo.pop_all()
-    return Till(session, file, where=where, owns_totals=owns)
+    return Till(session, file, where=where, owns_totals=owns, devices=functools.partial(devices, text or None, found))
 
 
 @contextlib.contextmanager

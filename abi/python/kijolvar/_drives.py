@@ -1,0 +1,172 @@
+"""The devices that a till drives: orders are answered once their drivers have carried them out."""
+from __future__ import annotations
+
+import select
+import time
+from typing import TYPE_CHECKING
+
+from ._control import device_word
+from ._devices import Device, WorkDone, read_order
+from ._faults import DriverError, InputError, LineError
+from ._questions import ProfileDevice
+from ._session import Session
+from .drivers import Driver
+
+if TYPE_CHECKING:
+    from .till import Till
+
+
+class Drive:
+    """A device and its driver."""
+
+    def __init__(self, device: ProfileDevice, driver: Driver) -> None:
+        self.name, self.category, self.driver = device.name, device.category, driver
+        self.word = device_word(device.name)
+        # What the till was told of the device.
+        self.is_on = True
+        self.statuses = 0
+        # The device may show anything yet.
+        self.needs_view = driver.needs_view
+
+    def power_off(self) -> bytes:
+        """The input that says that the device isn't there, the first time."""
+        if not self.is_on:
+            return b""
+        self.is_on, self.needs_view = False, self.driver.needs_view
+        return b"input %b power off\n" % self.word
+
+
+class Drives:
+    """The drivers of a till."""
+
+    def __init__(self, till: Till, session: Session) -> None:
+        self._till, self._session = till, session
+        self._drives: dict[str, Drive] = {}
+        self._is_handing_in = False
+        session.serve = self.serve
+        session.served = self.hand_in
+
+    def add(self, device: ProfileDevice, driver: Driver) -> None:
+        """Has a driver carry out the orders of a device from now on."""
+        if driver.category not in ("", device.category):
+            raise DriverError(f"{device.name!r} is a {device.category}, and the driver is for a {driver.category}")
+        if device.name in self._drives:
+            raise DriverError(f"{device.name!r} has a driver already")
+        if device.category != "Scanner":
+            self._session.drive(device_word(device.name))
+        driver.start(device)
+        self._drives[device.name] = Drive(device, driver)
+        self.hand_in()
+
+    # Orders.
+
+    def serve(self, line: bytes) -> tuple[bool, bytes]:
+        """Carries out an order: whether the device has done it, and what happened at the device if it hasn't."""
+        order = read_order(line.decode())
+        drive = self._drives[order.device]
+        driver = drive.driver
+        data = self._session.order_bytes(driver.settings) if driver.settings else b""
+        if driver.is_online and driver.carry_out(order, data):
+            return True, b""
+        if not driver.is_online:
+            return False, drive.power_off()
+        return False, self._inputs(drive)
+
+    def _inputs(self, drive: Drive) -> bytes:
+        """What the device says of itself, as lines of inputs, so far as its device in the till shows something else."""
+        count, status = drive.driver.status()
+        drive.statuses = count
+        if not status:
+            return b""
+        lines = self._session.replies(drive.word, drive.driver.settings, status)
+        drive.is_on = True
+        return lines
+
+    # Inputs.
+
+    def hand_in(self) -> bool:
+        """Tells the till what has happened at the devices, and returns whether anything has."""
+        if self._is_handing_in:
+            return False
+        self._is_handing_in = True
+        try:
+            return any([self._hand_in(drive) for drive in list(self._drives.values())])
+        finally:
+            self._is_handing_in = False
+
+    def _hand_in(self, drive: Drive) -> bool:
+        lines = self._lines(drive)
+        if lines:
+            self._happens(lines)
+        if drive.needs_view and drive.is_on and drive.driver.is_online:
+            drive.needs_view = False
+            drive.driver.shown(Device(self._till, drive.name).show())
+        return lines != b""
+
+    def _lines(self, drive: Drive) -> bytes:
+        """What is to be told of a device, as lines of inputs."""
+        driver = drive.driver
+        if not driver.is_online:
+            return drive.power_off()
+        if driver.is_silent:
+            if drive.is_on:
+                return b""
+            drive.is_on = True
+            return b"input %b power on\n" % drive.word
+        return self._inputs(drive)
+
+    def _happens(self, lines: bytes) -> None:
+        for answer in self._session.carry_out(lines).decode().splitlines():
+            if answer == "bad input":
+                raise InputError("that can't happen at the device")
+            if answer != "ok":
+                raise LineError(answer)
+
+    # The loop.
+
+    def run(self, seconds: float) -> bool:
+        """Does what the devices need, and waits for something to do as long as it may. Returns whether anything was
+        done."""
+        end = time.monotonic() + seconds
+        while True:
+            if self._round():
+                return True
+            left = end - time.monotonic()
+            if left <= 0:
+                return False
+            self._wait(min(left, 0.1))
+
+    def _round(self) -> bool:
+        is_any = False
+        for drive in self._drives.values():
+            drive.driver.poll()
+        is_any |= self.hand_in()
+        for drive in self._drives.values():
+            for scan in drive.driver.scans():
+                Device(self._till, drive.name).scan(scan.kind, scan.data, scan.label)
+                is_any = True
+        for drive in self._drives.values():
+            if drive.category == "POSPrinter":
+                is_any |= self._works(Device(self._till, drive.name))
+        return is_any
+
+    def _works(self, device: Device) -> bool:
+        """Works off the output that waits, until nothing waits or a request fails."""
+        done = device.work()
+        is_any = done is not None
+        while isinstance(done, WorkDone):
+            done = device.work()
+        return is_any
+
+    def _wait(self, seconds: float) -> None:
+        """Waits until a device says something."""
+        waiting = select.poll()
+        for drive in self._drives.values():
+            for file in drive.driver.files():
+                waiting.register(file, select.POLLIN)
+        waiting.poll(seconds * 1000)
+
+    def close(self) -> None:
+        """Closes the ports."""
+        for drive in self._drives.values():
+            drive.driver.close()

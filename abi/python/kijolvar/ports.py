@@ -1,0 +1,280 @@
+"""The ports of devices: a file such as /dev/usb/lp0, a serial line such as /dev/ttyUSB0, or a TCP port.
+
+A driver opens its port when it needs it, and opens it again after it was lost. No call waits longer than it is told.
+"""
+from __future__ import annotations
+
+import contextlib
+import errno
+import fcntl
+import os
+import select
+import socket
+import stat
+import termios
+import time
+from collections.abc import Iterator
+from typing import Literal, Union
+
+from ._library import Path
+
+Parity = Literal["none", "even", "odd"]
+Flow = Literal["none", "rts-cts", "xon-xoff"]
+_AT_ONCE = 65_536
+
+
+class PortError(OSError):
+    """A port can't be opened, or it was lost: the cable is out, or the device is off."""
+
+
+class Port:
+    """A port. Use FilePort, SerialPort or TcpPort, or `port_of` with the name of one.
+
+    Attributes:
+        name: The port's name.
+        turns: How often it was opened.
+        is_reliable: Whether bytes that were written are lost only if the port is lost too. A serial line is not: it
+            stays when the device goes off.
+    """
+
+    is_reliable = True
+
+    def __init__(self, name: str) -> None:
+        self.name, self.turns = name, 0
+        self._file: int | None = None
+
+    def __repr__(self) -> str:
+        return f"<kijolvar.{type(self).__name__} {self.name!r}, {'open' if self.is_open else 'closed'}>"
+
+    @property
+    def is_open(self) -> bool:
+        """Whether the port is open."""
+        return self._file is not None
+
+    def fileno(self) -> int:
+        """The file descriptor, for `select`.
+
+        Raises:
+            PortError: The port isn't open.
+        """
+        if self._file is None:
+            raise PortError(errno.ENOTCONN, f"{self.name} isn't open")
+        return self._file
+
+    def open(self, seconds: float = 1.0) -> None:
+        """Opens the port, unless it is open.
+
+        Args:
+            seconds: How long that may take.
+
+        Raises:
+            PortError: It can't be opened in that time.
+        """
+        if self._file is not None:
+            return
+        try:
+            self._file = self._opened(seconds)
+        except PortError:
+            raise
+        except (OSError, termios.error) as fault:
+            raise PortError(fault.args[0] if fault.args else errno.EIO, f"{self.name} can't be opened: {fault}") from fault
+        self.turns += 1
+
+    def close(self) -> None:
+        """Closes the port, if it is open. What isn't sent yet is dropped."""
+        if self._file is not None:
+            file, self._file = self._file, None
+            os.close(file)
+
+    def ready(self, is_writing: bool, seconds: float) -> tuple[bool, bool]:
+        """Waits until bytes can be read, or written if that is asked. Returns which of both is possible.
+
+        Raises:
+            PortError: The port isn't open.
+        """
+        waiting = select.poll()
+        waiting.register(self.fileno(), select.POLLIN | (select.POLLOUT if is_writing else 0))
+        found = waiting.poll(max(0.0, seconds) * 1000)
+        flags = found[0][1] if found else 0
+        can_read = bool(flags & (select.POLLIN | select.POLLHUP | select.POLLERR | select.POLLNVAL))
+        return can_read, bool(flags & select.POLLOUT)
+
+    def read_some(self) -> bytes:
+        """Returns what has come, if `ready` said that something has.
+
+        Raises:
+            PortError: The port was lost. It is closed then.
+        """
+        with self._losing():
+            found = os.read(self.fileno(), _AT_ONCE)
+            if not found:
+                raise PortError(errno.EPIPE, f"{self.name} was closed by the device")
+            return found
+        return b""
+
+    def write_some(self, data: bytes) -> int:
+        """Writes what there is room for, and returns how many bytes that was.
+
+        Raises:
+            PortError: The port was lost. It is closed then.
+        """
+        with self._losing():
+            return os.write(self.fileno(), data[:_AT_ONCE])
+        return 0
+
+    def write(self, data: bytes, seconds: float) -> bool:
+        """Writes bytes, and returns whether all are out in that time. If not, some of them may be.
+
+        Raises:
+            PortError: The port was lost. It is closed then.
+        """
+        end, sent = time.monotonic() + seconds, 0
+        while sent < len(data):
+            left = end - time.monotonic()
+            if left <= 0:
+                return False
+            if self.ready(True, left)[1]:
+                sent += self.write_some(data[sent:])
+        return self._drained(end)
+
+    def read(self, seconds: float = 0.0) -> bytes:
+        """Returns what comes, as soon as anything does, or no bytes if nothing comes in that time.
+
+        Raises:
+            PortError: The port was lost. It is closed then.
+        """
+        return self.read_some() if self.ready(False, seconds)[0] else b""
+
+    @contextlib.contextmanager
+    def _losing(self) -> Iterator[None]:
+        """Closes the port if it was lost."""
+        try:
+            yield
+        except (BlockingIOError, InterruptedError):
+            pass
+        except PortError:
+            self.close()
+            raise
+        except OSError as fault:
+            self.close()
+            raise PortError(errno.EIO, f"{self.name} was lost: {fault}") from fault
+
+    def _opened(self, seconds: float) -> int:
+        raise NotImplementedError
+
+    def _drained(self, end: float) -> bool:
+        """Whether what was written has left this machine before a time."""
+        return True
+
+
+class FilePort(Port):
+    """A device file that takes bytes as they are, such as /dev/usb/lp0."""
+
+    def __init__(self, path: Path) -> None:
+        super().__init__(os.fspath(path))
+
+    def _opened(self, seconds: float) -> int:
+        file = os.open(self.name, os.O_RDWR | os.O_NONBLOCK | os.O_NOCTTY | os.O_CLOEXEC)
+        try:
+            if stat.S_ISREG(os.fstat(file).st_mode):
+                raise PortError(errno.ENODEV, f"{self.name} is a file and no device")
+            if os.isatty(file):
+                self._set_up(file)
+        except BaseException:
+            os.close(file)
+            raise
+        return file
+
+    def _set_up(self, file: int) -> None:
+        """Sets up a terminal line, so that bytes pass as they are."""
+        termios.tcsetattr(file, termios.TCSANOW, _raw(file))
+
+
+class SerialPort(FilePort):
+    """A serial line, such as /dev/ttyUSB0 or /dev/ttyS0.
+
+    Args:
+        path: The line's device file.
+        speed: Bits per second, such as 9600 or 115200, as the device is set up.
+        bits: 7 or 8 bits per byte.
+        parity: "none", "even" or "odd".
+        stops: 1 or 2 stop bits.
+        flow: How the device says that it can take no more: "rts-cts", "xon-xoff" or "none".
+
+    Raises:
+        ValueError: No line has such a setting.
+    """
+
+    is_reliable = False
+
+    def __init__(self, path: Path, speed: int = 9600, *, bits: int = 8, parity: Parity = "none", stops: int = 1,
+                 flow: Flow = "rts-cts") -> None:
+        super().__init__(path)
+        found = getattr(termios, f"B{speed}", 0)
+        if not found:
+            raise ValueError(f"no serial line has {speed} bits per second")
+        if bits not in (7, 8) or stops not in (1, 2):
+            raise ValueError("a byte has 7 or 8 bits, and 1 or 2 stop bits")
+        if parity not in ("none", "even", "odd") or flow not in ("none", "rts-cts", "xon-xoff"):
+            raise ValueError("parity is none, even or odd; flow is none, rts-cts or xon-xoff")
+        self._speed, self._bits, self._parity, self._stops, self._flow = found, bits, parity, stops, flow
+
+    def _set_up(self, file: int) -> None:
+        found = _raw(file)
+        control = found[2] & ~(termios.CSIZE | termios.PARENB | termios.PARODD | termios.CSTOPB | termios.CRTSCTS)
+        control |= termios.CS8 if self._bits == 8 else termios.CS7
+        control |= {"none": 0, "even": termios.PARENB, "odd": termios.PARENB | termios.PARODD}[self._parity]
+        control |= termios.CSTOPB if self._stops == 2 else 0
+        control |= termios.CRTSCTS if self._flow == "rts-cts" else 0
+        found[0] |= termios.IXON | termios.IXOFF if self._flow == "xon-xoff" else 0
+        found[2], found[4], found[5] = control, self._speed, self._speed
+        termios.tcsetattr(file, termios.TCSANOW, found)
+        termios.tcflush(file, termios.TCIOFLUSH)
+
+    def _drained(self, end: float) -> bool:
+        """Looks how much waits in the line's driver, in place of waiting for it without an end."""
+        with self._losing():
+            while int.from_bytes(fcntl.ioctl(self.fileno(), termios.TIOCOUTQ, bytes(4)), "little"):
+                if time.monotonic() >= end:
+                    return False
+                time.sleep(0.001)
+        return True
+
+
+class TcpPort(Port):
+    """A TCP port, as network printers have at 9100."""
+
+    def __init__(self, host: str, port: int = 9100) -> None:
+        super().__init__(f"tcp://{host}:{port}")
+        self._where = host, port
+
+    def _opened(self, seconds: float) -> int:
+        with socket.create_connection(self._where, timeout=max(seconds, 0.001)) as made:
+            made.setsockopt(socket.IPPROTO_TCP, socket.TCP_NODELAY, 1)
+            made.setsockopt(socket.SOL_SOCKET, socket.SO_KEEPALIVE, 1)
+            made.setblocking(False)
+            return made.detach()
+
+
+def _raw(file: int) -> list[int | list[bytes | int]]:
+    """The attributes of a terminal line through which bytes pass as they are."""
+    found = termios.tcgetattr(file)
+    found[0] = found[1] = found[3] = 0
+    found[2] = found[2] & ~(termios.CSIZE | termios.PARENB) | termios.CS8 | termios.CREAD | termios.CLOCAL
+    found[6][termios.VMIN], found[6][termios.VTIME] = 1, 0
+    return found
+
+
+def port_of(name: Union[Port, Path]) -> Port:
+    """Returns the port of a name: `tcp://HOST` or `tcp://HOST:PORT`, or the path of a device file.
+
+    A path of /dev/tty.. or /dev/serial/.. is a serial line of 9,600 bits per second with RTS/CTS. For other settings use
+    SerialPort.
+    """
+    if isinstance(name, Port):
+        return name
+    text = os.fspath(name)
+    if text.startswith("tcp://"):
+        host, colon, port = text[len("tcp://"):].rpartition(":")
+        return TcpPort(host, int(port)) if colon else TcpPort(port)
+    return SerialPort(text) if text.startswith(("/dev/tty", "/dev/serial/")) else FilePort(text)

@@ -1,0 +1,289 @@
+"""The calls of the library for driven devices, over a library that hasn't got them: a stand-in for tests, of tills in
+memory. It tries each line on a second till first. If a driven device gets an order there, the line waits."""
+import ctypes
+from collections import deque
+
+from kijolvar._constants import KIJOLVAR_NO_DEVICE, KIJOLVAR_OK, KIJOLVAR_ORDER, KIJOLVAR_SHORT
+from kijolvar._devices import DisplayView, DrawerView, PrintedCut, PrintedLine, PrinterView, read_view
+from kijolvar._library import NO_ORDER, WAITS, Raw, declare
+
+ROOM = 1 << 20
+ALIGNMENTS = {"left": 0, "center": 1, "right": 2}
+ERROR = b"event ErrorEvent 111 0 1\n"
+
+
+class Twin:
+    """A till of the real library."""
+
+    def __init__(self, real, profile):
+        self.real, self.raw, self.room, self.needed = real, Raw(), ctypes.create_string_buffer(ROOM), ctypes.c_size_t()
+        self.out = ctypes.cast(ctypes.pointer(self.raw), ctypes.POINTER(ctypes.c_void_p))
+        assert real.kijolvar_open(profile, len(profile), self.out) == KIJOLVAR_OK
+
+    def host(self, device):
+        return self.real.kijolvar_host(self.raw, self.out, device, len(device))
+
+    def run(self, lines):
+        code = self.real.kijolvar_carry_out(self.raw, self.out, lines, len(lines), self.room, ROOM,
+                                            ctypes.byref(self.needed))
+        assert code == KIJOLVAR_OK, code
+        return self.room[:self.needed.value]
+
+    def orders(self):
+        found = []
+        while self.real.kijolvar_next_order(self.raw, self.out, self.room, ROOM,
+                                            ctypes.byref(self.needed)) == KIJOLVAR_ORDER:
+            found.append(self.room[:self.needed.value])
+        return found
+
+    def view(self, device):
+        return read_view(self.run(b"show %b" % device).decode().rstrip("\n")[3:])
+
+    def close(self):
+        self.real.kijolvar_close(self.raw)
+
+
+class Call:
+    """A call that takes the place of an export."""
+
+    def __init__(self, deed):
+        self.deed = deed
+
+    def __call__(self, *words):
+        return self.deed(*words)
+
+
+class FakeLibrary(ctypes.CDLL):
+    """A library for one till."""
+
+    def __init__(self, path):
+        super().__init__(path)
+        declare(self)
+        self._real = declare(ctypes.CDLL(path))
+        for name in ("open", "carry_out", "answer", "next_order", "close", "drive", "order_done", "order_bytes", "replies"):
+            setattr(self, f"kijolvar_{name}", Call(getattr(self, f"_{name}")))
+
+    def __getitem__(self, name):
+        return getattr(self, name)
+
+    # What the till is.
+
+    def _open(self, profile, length, out):
+        self._profile, self._main, self._mirror = profile, Twin(self._real, profile), Twin(self._real, profile)
+        out[0] = 1
+        self._driven, self._log, self._held = [], [], deque()
+        self._order, self._is_out, self._text, self._is_on = None, False, b"", {}
+        self._holders, self._opened, self._errors = {}, {}, set()
+        return KIJOLVAR_OK
+
+    def _close(self, raw):
+        self._main.close()
+        self._mirror.close()
+
+    def _drive(self, raw, out, device, length):
+        code = self._main.host(device)
+        if code == KIJOLVAR_OK:
+            self._mirror.host(device)
+            self._driven.append(device)
+        return code
+
+    # Lines.
+
+    def _carry_out(self, raw, out, lines, length, room, size, needed):
+        if self._held:
+            return WAITS
+        *whole, last = lines.split(b"\n")
+        self._held.extend([*whole, last] if last else whole)
+        return self._goes_on(room, size, needed)
+
+    def _goes_on(self, room, size, needed, text=b""):
+        while self._held:
+            line = self._held[0]
+            if not self._is_synthetic(line):
+                self._mirror.run(line)
+                orders = self._mirror.orders()
+                if orders:
+                    self._order = orders[0]
+                    break
+            text += self._runs(line)
+            self._held.popleft()
+        self._text = text
+        return self._tells(room, size, needed)
+
+    def _tells(self, room, size, needed):
+        self._put(needed, len(self._text).to_bytes(8, "little"))
+        if len(self._text) > size:
+            return KIJOLVAR_SHORT
+        self._put(room, self._text)
+        return WAITS if self._held else KIJOLVAR_OK
+
+    def _put(self, place, data):
+        at = place if isinstance(place, int) else ctypes.cast(place, ctypes.c_void_p).value
+        ctypes.memmove(at, data, len(data))
+
+    def _answer(self, raw, out, room, size, needed):
+        return self._tells(room, size, needed)
+
+    def _is_synthetic(self, line):
+        """Whether a line meets an error of output that the real till doesn't know of."""
+        words = line.decode().split()
+        return (words[:1] == ["work"] and self._holders.get(words[1]) in self._errors) or (
+            words[:1] == ["get"] and words[1] in self._errors and words[2] == "State")
+
+    def _runs(self, line):
+        """Carries out a line on the till."""
+        if self._is_synthetic(line):
+            return b"idle\n" if line.startswith(b"work") else b"ok 4\n"
+        answer = self._main.run(line)
+        self._main.orders()
+        self._log.append(line)
+        words = line.decode().split()
+        if answer == b"ok\n":
+            if words[0] == "open":
+                self._opened[words[1]] = words[2]
+            elif words[0] == "claim":
+                self._holders[self._opened[words[1]]] = words[1]
+            elif words[0] == "input" and words[2] == "power":
+                self._is_on[words[1]] = words[3] == "on"
+        if words[:1] == ["deliver"] and answer == b"none\n" and words[1] in self._errors:
+            self._errors.discard(words[1])
+            if words[2:] == ["clear"]:
+                self._both(b"call %b clearOutput" % words[1].encode())
+            return ERROR
+        if words[:1] == ["call"] and words[2:] == ["clearOutput"]:
+            self._errors.discard(words[1])
+        return answer
+
+    def _both(self, line):
+        self._log.append(line)
+        self._mirror.run(line)
+        return self._main.run(line)
+
+    def _rewind(self):
+        """Makes the mirror as the till is."""
+        self._mirror.close()
+        self._mirror = Twin(self._real, self._profile)
+        for device in self._driven:
+            self._mirror.host(device)
+        self._mirror.run(b"\n".join(self._log))
+        self._mirror.orders()
+
+    # Orders.
+
+    def _next_order(self, raw, out, room, size, needed):
+        if self._order is None or self._is_out:
+            self._put(needed, bytes(8))
+            return KIJOLVAR_OK
+        self._put(needed, len(self._order).to_bytes(8, "little"))
+        if len(self._order) > size:
+            return KIJOLVAR_SHORT
+        self._put(room, self._order)
+        self._is_out = True
+        return KIJOLVAR_ORDER
+
+    def _order_done(self, raw, out, outcome, inputs, length, room, size, needed):
+        if not self._is_out:
+            return NO_ORDER
+        self._is_out, self._order, line = False, None, self._held.popleft()
+        if outcome == 0:
+            text = self._runs(line)
+            self._held.extendleft(reversed([one for one in inputs.split(b"\n") if one]))
+            return self._goes_on(room, size, needed, text)
+        self._rewind()
+        text = b""
+        for one in inputs.split(b"\n"):
+            if one:
+                self._mirror.run(one)
+                text += self._runs(one)
+        self._mirror.run(line)
+        if self._mirror.orders():
+            self._rewind()
+            text += self._fails(line)
+        else:
+            text += self._runs(line)
+        return self._goes_on(room, size, needed, text)
+
+    def _fails(self, line):
+        words = line.decode().split()
+        if words[0] != "work":
+            return b"err 111\n"
+        self._errors.add(self._holders[words[1]])
+        return b"failed 111 0\n"
+
+    # Bytes.
+
+    def _order_bytes(self, raw, out, settings, length, room, size, needed):
+        device = self._order.split()[0]
+        words = settings.decode().split()
+        now, then = self._main.view(device), self._mirror.view(device)
+        if isinstance(now, DrawerView):
+            data = bytes([0x1B, 0x70, 1 if words[5] == "5" else 0, int(words[6]), int(words[7])])
+        elif isinstance(now, DisplayView):
+            data = b"".join(self._rows(device, words[1], now.characters, then.characters))
+        else:
+            data = b"".join(self._item(item, words) for item in then.items[len(now.items):])
+        return self._gives(data, room, size, needed)
+
+    def _gives(self, data, room, size, needed):
+        self._put(needed, len(data).to_bytes(8, "little"))
+        if len(data) > size:
+            return KIJOLVAR_SHORT
+        self._put(room, data)
+        return KIJOLVAR_OK
+
+    def _rows(self, device, protocol, now, then):
+        name = self._numbers(device)
+        columns = int(name["columns"])
+        for row, at in enumerate(range(0, len(then), columns), 1):
+            if now[at:at + columns] != then[at:at + columns]:
+                yield (b"\x1bl" if protocol == "cd5220" else b"\x1f$") + bytes([1, row]) + then[at:at + columns]
+
+    def _numbers(self, device):
+        """The numbers of a device of the profile."""
+        room, needed = ctypes.create_string_buffer(ROOM), ctypes.c_size_t()
+        self._real.kijolvar_devices(self._profile, len(self._profile), room, ROOM, ctypes.byref(needed))
+        for line in room[:needed.value].decode().splitlines():
+            name, _, *numbers = line.split()
+            if name == device.decode():
+                return dict(zip(numbers[::2], numbers[1::2]))
+        raise AssertionError(device)
+
+    def _item(self, item, words):
+        if isinstance(item, PrintedCut):
+            is_full = words[3] == "full" or words[3] == "both" and item.percentage == 100
+            if words[3] == "absent":
+                return bytes([0x1B, 0x64, int(words[4])])
+            return bytes([0x1D, 0x56, 0x41 if is_full else 0x42, int(words[4])])
+        assert isinstance(item, PrintedLine)
+        data, was = bytearray([0x1B, 0x61, ALIGNMENTS[item.alignment]]), False
+        for byte, is_bold in zip(item.characters, item.is_bold):
+            if is_bold != was:
+                data += bytes([0x1B, 0x45, is_bold])
+            data.append(byte)
+            was = is_bold
+        return bytes(data) + (b"\x1bE\0" if was else b"") + b"\n"
+
+    def _replies(self, raw, out, device, _1, settings, _2, data, length, consumed, room, size, needed):
+        words, view = settings.decode().split(), self._main.view(device)
+        lines = []
+        if not self._is_on.get(device.decode(), True):
+            lines.append("power on")
+        first, _, third, _ = data
+        if isinstance(view, DrawerView):
+            is_open = bool(first & 4) == (words[8] == "high")
+            if is_open != view.is_open:
+                lines.append("open" if is_open else "closed")
+        elif isinstance(view, PrinterView):
+            if bool(first & 0x20) != view.is_cover_open:
+                lines.append("cover open" if first & 0x20 else "cover closed")
+            near = int(words[9])
+            level = 0 if third & 0x0C else 1 if third & 3 and near else 2
+            real = int(self._numbers(device)["near"])
+            shown = 0 if not view.lines_left else 1 if view.lines_left <= real else 2
+            if level != shown:
+                lines.append(f"paper {[0, near, int(words[10])][level]}")
+        text = "".join(f"input {device.decode()} {line}\n" for line in lines).encode()
+        return self._gives(text, room, size, needed)
+
+
+__all__ = ["FakeLibrary", "KIJOLVAR_NO_DEVICE"]
