@@ -29,7 +29,7 @@ from kijolvar import (EscPosPrinter, ErrorEvent, OutputCompleteEvent, PrintedCut
                       StatusUpdateEvent, WedgeScanner)
 from kijolvar._library import load
 
-SCRIPTS = TOP / "crates/pos_console/scripts"
+SCRIPTS = TOP / "tests/scripts"
 WORK = pathlib.Path(tempfile.mkdtemp())
 PROFILE = """
 [[device]]

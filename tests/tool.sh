@@ -625,7 +625,7 @@ refuses 'run with a profile without a word' "a value is required for '--profile 
 
 # --- test
 mkdir conformance
-cp "$top"/crates/pos_console/scripts/* conformance
+cp "$top"/tests/scripts/* conformance
 scripts=()
 for script in conformance/*; do
   case $script in *.stdout | *.profile | *.disk | *.left | *.before) continue ;; esac
