@@ -87,3 +87,8 @@ ends_lines read bytes h =
 
 pub ends_rest : (read bytes : List ℕ) → list_all is_no_feed bytes ≡ true → unfinished (read ++ (bytes ++ 10 ∷ [])) ≡ []
 ends_rest read bytes h = rw (rest_behind read (bytes ++ 10 ∷ []), ended_piece bytes h, front_onto_one (unfinished read) bytes ([] ∷ [])) refl
+
+-- a line feed ended the first of some pieces
+pub ended_line : (piece : List ℕ) (pieces : List (List ℕ)) → 0 < length pieces → lines_in (piece ∷ pieces) ≡ without_cr piece ∷ lines_in pieces
+ended_line piece [] none = absurd (omega (arith, none))
+ended_line piece (next ∷ more) some = refl

@@ -29,6 +29,7 @@ pub use command::{
 };
 pub use laws::{lines_fall_in_two, lines_go_on};
 pub use line_buffer::{EndedLine, Line, LineBuffer};
+pub use lines::{all_plain, cut, is_quiet_line, next_line, next_word};
 pub use print::{print_fault, print_reply};
 pub use reply::Reply;
 pub use write::write_bytes;

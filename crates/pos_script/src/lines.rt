@@ -1,10 +1,10 @@
 //! Lines and words.
 ghost use Rattle.std.specs.Prelude.{◌≡◌, ◌<◌, ◌∷◌, [], length, MatchOption, IfSome, IfNone};
 ghost use Rattle.std.specs.List.{list_all};
-ghost use Rattle.pos_script.specs.Lines.{pieces, words_of, without_cr, is_quiet, is_space, is_plain};
+ghost use Rattle.pos_script.specs.Lines.{lines_of, pieces, words_of, without_cr, is_quiet, is_space, is_plain};
 
 /// Returns the front of a text up to a byte, and what follows that byte, if it is there.
-fn cut(text: &[u8], at: u8) -> (&[u8], Option<&[u8]>)
+pub fn cut(text: &[u8], at: u8) -> (&[u8], Option<&[u8]>)
     ensures pieces { MatchOption result.1 (pieces at text.now ≡ result.0.now ∷ [])
         (λ rest. pieces at text.now ≡ result.0.now ∷ pieces at rest.now) }
     ensures shorter { IfSome result.1 (λ rest. length rest.now < length text.now) }
@@ -44,6 +44,20 @@ pub fn strip_cr(line: &[u8]) -> &[u8]
         &line[..len - 1]
     } else {
         line
+    }
+}
+
+/// Returns the first line of a text and the rest of the text, or `None` if there is no line.
+pub fn next_line(text: &[u8]) -> Option<(&[u8], &[u8])>
+    ensures lines { MatchOption result (lines_of text.now ≡ [])
+        (λ found. lines_of text.now ≡ found.0.now ∷ lines_of found.1.now) }
+    ensures shorter { IfSome result (λ found. length found.1.now < length text.now) }
+{
+    let (front, rest) = cut(text, b'\n');
+    match rest {
+        Some(rest) => Some((strip_cr(front), rest)),
+        None if front.is_empty() => None,
+        None => Some((front, b"")),
     }
 }
 

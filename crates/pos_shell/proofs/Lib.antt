@@ -1,4 +1,3 @@
-mod LineLemmas
 mod RunLemmas
 mod TextLemmas
 mod TrialLemmas

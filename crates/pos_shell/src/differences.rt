@@ -3,9 +3,9 @@ ghost use Rattle.std.specs.Prelude.{◌≡◌, ◌++◌, IfOk, OnOk, bytes_eq, c
 ghost use Rattle.pos_script.specs.Lines.{lines_of};
 ghost use Rattle.pos_shell.specs.Differences.{both_answers, difference, differences, left_over, placed_line};
 
-use crate::cutting::{is_quiet, next_line};
 use crate::told::next_answer;
 use itoa::Buffer;
+use pos_script::{is_quiet_line, next_line};
 use std::alloc::{AllocError, Global};
 
 /// Puts parts at the end of a text, one after another.
@@ -31,7 +31,12 @@ fn put_line(text: &mut Vec<u8>, name: &str, number: u64, line: &[u8]) -> Result<
     ensures { OnOk result (text.new.items ≡ text.old.items ++ placed_line name.now number line.now) }
 {
     let mut buffer = Buffer::new();
-    put_parts(text, name.as_bytes(), b":", buffer.format(number).as_bytes())?;
+    put_parts(
+        text,
+        name.as_bytes(),
+        b":",
+        buffer.format(number).as_bytes(),
+    )?;
     put_parts(text, b": ", line, b"\n")
 }
 
@@ -111,7 +116,7 @@ pub(crate) fn differences(
     let mut found = found;
     let mut number = 1;
     while let Some((line, rest)) = next_line(left) {
-        if !is_quiet(line) {
+        if !is_quiet_line(line) {
             let (one, more) = next_answer(wanted);
             let (other, others) = next_answer(found);
             put_difference(&mut text, name, number, line, one, other)?;

@@ -7,7 +7,6 @@
 //! line was carried out whole before the next.
 #![tactic(auto)]
 
-mod cutting;
 mod differences;
 mod names;
 mod reasons;

@@ -4,9 +4,9 @@ ghost use Rattle.pos_script.specs.Lines.{pieces, words_of};
 ghost use Rattle.pos_shell.specs.Names.{error_kind, first_kind, is_meant, kind_at, name_of, named, numbers_of, refusal_kind};
 ghost use Rattle.pos_shell.specs.Names.{value_numbers};
 
-use crate::cutting::{cut, next_word};
 use itoa::Buffer;
 use pos_report::Code;
+use pos_script::{cut, next_word};
 use pos_service::words::is;
 use std::alloc::AllocError;
 

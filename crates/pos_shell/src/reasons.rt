@@ -1,19 +1,11 @@
 //! Why a line is `bad line`.
 ghost use Rattle.std.specs.Prelude.{◌≡◌};
-ghost use Rattle.std.specs.List.{list_all};
-ghost use Rattle.pos_script.specs.Lines.{is_plain, words_of};
+ghost use Rattle.pos_script.specs.Lines.{words_of};
 ghost use Rattle.pos_shell.specs.Reasons.{name_reason, reason, shape, words_reason};
 
-use crate::cutting::next_word;
+use pos_script::{all_plain, next_word};
 use pos_service::is_device_name;
 use pos_service::words::is;
-
-// Whether ASCII prints each byte of a line.
-fn is_printed(line: &[u8]) -> bool
-    ensures { result ≡ list_all is_plain line.now }
-{
-    line.iter().all(|byte| 32 <= *byte && *byte <= 126)
-}
 
 // The shape of the lines that begin with a word; nothing if none do.
 fn shape(verb: &[u8]) -> &'static str
@@ -72,7 +64,7 @@ pub fn reason(line: &[u8]) -> &'static str
     if line.len() > 140_000 {
         return "it has more than 140000 bytes";
     }
-    if !is_printed(line) {
+    if !all_plain(line) {
         return "it has a byte that ASCII doesn't print";
     }
     words_reason(line)

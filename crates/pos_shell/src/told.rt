@@ -6,11 +6,11 @@ ghost use Rattle.pos_script.specs.Lines.{lines_of};
 ghost use Rattle.pos_shell.specs.Told.{first, others, prefix, reason_data, reason_text, text_data, told, told_data, told_json};
 ghost use Rattle.pos_shell.specs.Told.{told_line, told_plain};
 
-use crate::cutting::{is_quiet, next_line};
 use crate::names::{numbers_of, put_named};
 use crate::reasons::reason;
 use itoa::Buffer;
 use pos_report::Code;
+use pos_script::{is_quiet_line, next_line};
 use pos_service::words::is;
 use serde_json::{Value, json};
 use std::alloc::{AllocError, Global};
@@ -192,7 +192,7 @@ pub(crate) fn told(
     let mut said = answers;
     let mut number = 1;
     while let Some((line, rest)) = next_line(left) {
-        if !is_quiet(line) {
+        if !is_quiet_line(line) {
             let (answer, more) = next_answer(said);
             put_told(alloc, &mut text, manner, name, number, line, answer)?;
             said = more;
