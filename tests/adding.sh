@@ -67,7 +67,7 @@ count "a property that can be set" 5 'AutoDisable|auto_disable'
 count "an input of every kind" 6 'PowerMoved'
 count "a reply with its code" 8 'Offline\b'
 count "a sign" 22 '\bpowered\b'
-count "a request of the script" 12 'Deliver\b|deliver_event|"deliver"'
+count "a request of the script" 14 'Deliver\b|deliver_event|"deliver"'
 count_median "a category" 24 CashDrawer Scanner LineDisplay PosPrinter HardTotals
 echo "$passed passed, $failed failed"
 [ "$failed" -eq 0 ]

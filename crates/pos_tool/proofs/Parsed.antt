@@ -1,17 +1,19 @@
 -- What a parse of the program's words tells of them.
 use Rattle.std.proofs.Common.{◌≡◌, [], ◌∙◌, List, Err, Ok, true, refl, ap, inl, inr}
-use Rattle.std.specs.Prelude.{◌≢◌, Result, Some}
+use Rattle.std.specs.Prelude.{◌≢◌, IfOk, None, Result, Some, option_map}
 use Rattle.std.specs.Borrow.{Bor}
 use Rattle.clap.specs.declared.parser.matches.ArgMatches.{ArgMatches}
 use Rattle.clap.specs.Words.{App, HasKind, HasMatchesOf, IsAmong, Text, fault_of, is_simple, is_simple_and_free, kind_of}
-use Rattle.clap.specs.Words.{app_of, new_app, subcommand_rows_of}
+use Rattle.clap.specs.Words.{app_of, matched_of, new_app, raw_values, rows_of, subcommand_rows_of}
+use Rattle.clap.specs.declared.parser.matches.Found.{Found}
+use Rattle.clap.proofs.WalkLemmas.{raw_values-rows}
 use Rattle.clap.specs.Simple.{app_of_fields, on_top}
 use Rattle.clap.specs.declared.builder.command.Command.{Command}
 use Rattle.clap.specs.declared.builder.command.Command.TheViews.{out-Command as fields_of}
 use Rattle.clap.specs.declared.error.Error.{Error}
 use Rattle.clap.specs.declared.error.kind.ErrorKind.TheVariants.{OutOfMemory}
 use Rattle.clap.proofs.OnLiterals.{clap_on_literals}
-use Rattle.pos_tool.specs.Commands.{Chooses, TellsWhy, command_in}
+use Rattle.pos_tool.specs.Commands.{Chooses, TellsWhy, command_in, words_in}
 use Rattle.pos_tool.specs.Lines.{program_line}
 use Rattle.pos_tool.specs.declared.commands.Task.{Task}
 use Rattle.pos_tool.specs.declared.commands.Task.TheVariants.{Help, Version, Explain, Ask, Create, Migrate, Backup, Restore}
@@ -78,3 +80,16 @@ begun name new unnamed started is first second =
 pub versioned : (text : Bor Text) (old new : Command) (before : App) → app_of old ≡ before → fields_of new ≡ record (fields_of old) { version = Some text }
     → app_of new ≡ on_top (λ s. record s { has_version = true }) before
 versioned text old new before is third = ap app_of_fields third ∙ ap (on_top (λ s. record s { has_version = true })) is
+
+-- the words of a place in the matches of a command
+pub words_there : (found : Found) (place : Text) (words : List Text) → Some words ≡ option_map raw_values (matched_of found place)
+    → words ≡ words_in place (rows_of found)
+words_there found place words is = rw (← (is ∙ raw_values-rows found place)) refl
+
+pub no_words : (found : Found) (place : Text) → None ≡ option_map raw_values (matched_of found place) → [] ≡ words_in place (rows_of found)
+no_words found place is = rw (← (is ∙ raw_values-rows found place)) refl
+
+-- what holds of an answer, by what else holds of it
+pub ok_map : {A E : Type 0} {P Q : A → Type 0} (result : Result A E) → ((x : A) → P x → Q x) → IfOk result P → IfOk result Q
+ok_map (Ok x) gives holds = gives x holds
+ok_map (Err why) gives holds = tt

@@ -17,7 +17,7 @@ use std::alloc::Global;
 
 // What is answered of a run, to the program.
 fn at_run<'a>(answer: Result<(), RunFault<'a>>) -> Result<Finding, Fault<'a>>
-    ensures { result ≡ run_finding answer }
+    ensures { result ≡ run_finding answer.entry }
 {
     match answer {
         Ok(()) => Ok(Finding::Good),

@@ -4,13 +4,13 @@ use Rattle.pos_tool.proofs.Parsed.{accepted, met, told}
 use Rattle.pos_tool.specs.Commands.{Asks}
 use Rattle.pos_tool.proofs.commands.choice.Goals as goal
 
-pub returns-in-Ok-try_get_matches_from : goal.returns-in-Ok-try_get_matches_from
-returns-in-Ok-try_get_matches_from g c =
+pub returns-in-Ok-task_of : goal.returns-in-Ok-task_of
+returns-in-Ok-task_of g c =
     let words = map g.S.AsStr.text c.args.words.now in
     let parse = c.in-Ok-try_get_matches_from in
     inl (
       accepted (app_of c.in-Ok.line) words c.in-Ok.ensures parse.ensures.kinds,
-      subst (λ found. Asks found c.task_of.result) (met (app_of c.in-Ok.line) words c.in-Ok.ensures parse.matches parse.ensures.matches) c.task_of.ensures,
+      subst (λ found. Asks found c.in-Ok-task_of.task) (met (app_of c.in-Ok.line) words c.in-Ok.ensures parse.matches parse.ensures.matches) c.in-Ok-task_of.ensures,
     )
 
 pub returns-in-Err : goal.returns-in-Err

@@ -8,11 +8,10 @@ pub returns-in-Err : goal.returns-in-Err
 returns-in-Err g c =
     let output = output_of g.W.Sink c.args.writer.now in
     let outcome = Err (fault.Words c.fault_of_unread.result) in
-    let done = DoesAsRead (DoesAsAsked g.F.NamedFiles g.F.File.BlockFile c.args.files.now g.S.FileSystem g.S.Folder g.S.File.BlockFile
-    c.args.system.now c.args.pages.now) g.T.AsStr.text in
     record {
       outcome = outcome;
-      done = subst (λ words. done words output output outcome) (sym c.in-Err.is)
+      done = subst (λ words. DoesAsRead (DoesAsAsked g.F.NamedFiles g.F.File.BlockFile _ _ c.args.files.now g.S.FileSystem g.S.Folder
+          g.S.File.BlockFile c.args.system.now c.args.pages.now) g.T.AsStr.text words output output outcome) (sym c.in-Err.is)
           (ap (λ why. Err (fault.Words why)) c.fault_of_unread.ensures, refl);
       ends = c.end-in-Err.ensures;
     }
