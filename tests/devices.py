@@ -3,7 +3,7 @@
 Usage: devices.py LIBRARY [--faults N] [--seed N] [--only WORD]
        devices.py LIBRARY --port PORT [--columns N]
 
-LIBRARY is libkijolvar.so. N random faults are tried, by default 150, from a seed. --only tries what has the word in its
+LIBRARY is libkijolvar.so; or the program pos_console, over which a stand-in for the library is tried. N random faults are tried, by default 150, from a seed. --only tries what has the word in its
 name. With --port it prints a page on a real printer at that port and says what has to be on it; PORT is a path or
 tcp://HOST:PORT. The last line is 'N passed, M failed'.
 """
@@ -27,7 +27,6 @@ import kijolvar
 from emulator import Cut, Display, Feed, Line, Printer, PtyCable, Scanner, TcpCable
 from kijolvar import (EscPosPrinter, ErrorEvent, OutputCompleteEvent, PrintedCut, SerialDisplay, SerialPort,
                       StatusUpdateEvent, WedgeScanner)
-from kijolvar._library import load
 
 SCRIPTS = TOP / "tests/scripts"
 WORK = pathlib.Path(tempfile.mkdtemp())
@@ -56,6 +55,8 @@ category = "HardTotals"
 # How long an order may take here, how soon a lost port is tried again, and how much later than its timeout a call may
 # return on a machine that is busy.
 TIMEOUT, PAUSE, SLACK = 0.4, 0.01, 0.6
+# The stand-in for the library takes its time.
+SLOWLY = 4
 PATIENCE = 10
 passed = failed = 0
 made = 0
@@ -501,8 +502,13 @@ def try_drawer():
 
             def hears(status):
                 found = []
-                until(lambda: till.run_devices(0.01) or found.extend(e.status for e in drawer.events()) or found, 1)
-                return found == [status]
+
+                def is_heard():
+                    till.run_devices(0.01)
+                    found.extend(event.status for event in drawer.events())
+                    return bool(found)
+                until(is_heard, 2)
+                return found == [status] or found
             told("the drawer is opened", None, raised(drawer.open_drawer))
             told("the pulse", [(5, 20, 40)], device.pulses)
             told("it is open", (True, True), (drawer.drawer_opened, hears(1)))
@@ -700,12 +706,12 @@ with kijolvar.open(profile, path, library=library) as till:
     till.drive("r1", kijolvar.EscPosPrinter(port))
     printer, totals = till.printer("r1"), till.totals("t1")
     with printer.in_use():
-        count = int.from_bytes(totals["COUNT"].read_all()) if hasattr(totals["COUNT"], "read_all") else 0
+        count = int.from_bytes(totals["COUNT"].read(0, 4), "big")
         while True:
             count += 1
             printer.print(b"Sale %d\\n" % count)
             print("printed", count, flush=True)
-            totals["COUNT"].write(0, count.to_bytes(4))
+            totals["COUNT"].write(0, count.to_bytes(4, "big"))
             print("counted", count, flush=True)
 """
 
@@ -878,7 +884,8 @@ if __name__ == "__main__":
     reader.add_argument("--columns", type=int, default=42)
     WORDS = reader.parse_args()
     LIBRARY = pathlib.Path(WORDS.library).resolve()
-    IS_WHOLE = hasattr(load(LIBRARY), "kijolvar_drive")
+    IS_WHOLE = LIBRARY.suffix == ".so"
     if not IS_WHOLE:
-        print("skipped: the library has no kijolvar_drive: a stand-in of tests/fake_library.py is tried")
+        SLACK = SLOWLY
+        print("a stand-in of tests/fake_library.py is tried")
     main()

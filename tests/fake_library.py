@@ -1,46 +1,91 @@
-"""The calls of the library for driven devices, over a library that hasn't got them: a stand-in for tests, of tills in
-memory. It tries each line on a second till first. If a driven device gets an order there, the line waits."""
+"""A stand-in for a library with driven devices, over the program pos_console. It tries each line on a second till first.
+If a driven device gets an order there, the line waits."""
 import ctypes
+import subprocess
+import tempfile
+import tomllib
 from collections import deque
 
-from kijolvar._constants import KIJOLVAR_NO_DEVICE, KIJOLVAR_OK, KIJOLVAR_ORDER, KIJOLVAR_SHORT
+from kijolvar._constants import (KIJOLVAR_EVENT, KIJOLVAR_NO_DEVICE, KIJOLVAR_OK, KIJOLVAR_ORDER, KIJOLVAR_SHORT,
+                                 KIJOLVAR_VERSION)
 from kijolvar._devices import DisplayView, DrawerView, PrintedCut, PrintedLine, PrinterView, read_view
-from kijolvar._library import NO_ORDER, WAITS, Raw, declare
+from kijolvar._library import NO_ORDER, WAITS
 
-ROOM = 1 << 20
+ORDERS = ("openDrawer", "displayText", "displayTextAt", "clearText", "scrollText", "printNormal", "printImmediate",
+          "cutPaper")
+BUILT = b"""[[device]]
+name = "d1"
+category = "CashDrawer"
+[[device]]
+name = "s1"
+category = "Scanner"
+[[device]]
+name = "p1"
+category = "LineDisplay"
+rows = 2
+columns = 4
+[[device]]
+name = "r1"
+category = "POSPrinter"
+chars = 8
+lines = 5
+near = 2
+[[device]]
+name = "t1"
+category = "HardTotals"
+"""
 ALIGNMENTS = {"left": 0, "center": 1, "right": 2}
 ERROR = b"event ErrorEvent 111 0 1\n"
 
 
 class Twin:
-    """A till of the real library."""
+    """A till: pos_console over a profile, line by line."""
 
-    def __init__(self, real, profile):
-        self.real, self.raw, self.room, self.needed = real, Raw(), ctypes.create_string_buffer(ROOM), ctypes.c_size_t()
-        self.out = ctypes.cast(ctypes.pointer(self.raw), ctypes.POINTER(ctypes.c_void_p))
-        assert real.kijolvar_open(profile, len(profile), self.out) == KIJOLVAR_OK
+    def __init__(self, program, profile):
+        self.folder = tempfile.TemporaryDirectory()
+        disk, path = f"{self.folder.name}/disk", f"{self.folder.name}/profile"
+        words = [program]
+        if profile:
+            with open(path, "wb") as file:
+                file.write(profile)
+            subprocess.run([program, "format", "--disk", disk], check=True)
+            words += ["run", "--profile", path, "--disk", disk]
+        self.program = subprocess.Popen(words, stdin=subprocess.PIPE, stdout=subprocess.PIPE)
+        self.opened, self.found = {}, []
 
-    def host(self, device):
-        return self.real.kijolvar_host(self.raw, self.out, device, len(device))
+    def run(self, line):
+        """The answer to a line. An order that a device carried out is found by what was called."""
+        words = line.decode().split()
+        if not words or words[0].startswith("#"):
+            return b""
+        waits = words[0] == "call" and words[2:3] in (["printNormal"], ["cutPaper"]) and \
+            self.told(b"get %b AsyncMode" % words[1].encode()) == b"ok true\n"
+        answer = self.told(line)
+        if answer == b"ok\n" and words[0] == "open":
+            self.opened[words[1]] = words[2]
+        if words[0] == "call" and answer == b"ok\n" and words[2] in ORDERS and not waits:
+            self.found.append(f"{self.opened[words[1]]} {words[2]}".encode())
+        elif words[0] == "work" and answer.startswith(b"done"):
+            self.found.append(f"{words[1]} print".encode())
+        return answer
 
-    def run(self, lines):
-        code = self.real.kijolvar_carry_out(self.raw, self.out, lines, len(lines), self.room, ROOM,
-                                            ctypes.byref(self.needed))
-        assert code == KIJOLVAR_OK, code
-        return self.room[:self.needed.value]
+    def told(self, line):
+        self.program.stdin.write(line + b"\n")
+        self.program.stdin.flush()
+        return self.program.stdout.readline()
 
     def orders(self):
-        found = []
-        while self.real.kijolvar_next_order(self.raw, self.out, self.room, ROOM,
-                                            ctypes.byref(self.needed)) == KIJOLVAR_ORDER:
-            found.append(self.room[:self.needed.value])
+        found, self.found = self.found, []
         return found
 
     def view(self, device):
-        return read_view(self.run(b"show %b" % device).decode().rstrip("\n")[3:])
+        return read_view(self.told(b"show %b" % device).decode().rstrip("\n")[3:])
 
     def close(self):
-        self.real.kijolvar_close(self.raw)
+        self.program.stdin.close()
+        self.program.stdout.close()
+        self.program.wait()
+        self.folder.cleanup()
 
 
 class Call:
@@ -56,11 +101,11 @@ class Call:
 class FakeLibrary(ctypes.CDLL):
     """A library for one till."""
 
-    def __init__(self, path):
-        super().__init__(path)
-        declare(self)
-        self._real = declare(ctypes.CDLL(path))
-        for name in ("open", "carry_out", "answer", "next_order", "close", "drive", "order_done", "order_bytes", "replies"):
+    def __init__(self, program):
+        super().__init__(None)
+        self._program = program
+        for name in ("version", "open", "carry_out", "answer", "next_order", "close", "drive", "order_done", "order_bytes",
+                     "replies", "devices", "control", "next_event"):
             setattr(self, f"kijolvar_{name}", Call(getattr(self, f"_{name}")))
 
     def __getitem__(self, name):
@@ -69,23 +114,55 @@ class FakeLibrary(ctypes.CDLL):
     # What the till is.
 
     def _open(self, profile, length, out):
-        self._profile, self._main, self._mirror = profile, Twin(self._real, profile), Twin(self._real, profile)
+        self._profile, self._main = profile, Twin(self._program, profile)
+        self._mirror = Twin(self._program, profile)
         out[0] = 1
         self._driven, self._log, self._held = [], [], deque()
         self._order, self._is_out, self._text, self._is_on = None, False, b"", {}
         self._holders, self._opened, self._errors = {}, {}, set()
+        self._names, self._taken = [], {}
         return KIJOLVAR_OK
 
     def _close(self, raw):
         self._main.close()
         self._mirror.close()
 
+    def _version(self):
+        return KIJOLVAR_VERSION
+
+    def _devices(self, profile, length, room, size, needed):
+        lines = []
+        for device in tomllib.loads((profile or BUILT).decode()).get("device", []):
+            numbers = [f"{key} {device[key]}" for key in ("rows", "columns", "chars", "near") if key in device]
+            lines.append(" ".join([device["name"], device["category"], *numbers]))
+        return self._gives("\n".join([*lines, ""]).encode(), room, size, needed)
+
     def _drive(self, raw, out, device, length):
-        code = self._main.host(device)
-        if code == KIJOLVAR_OK:
-            self._mirror.host(device)
-            self._driven.append(device)
-        return code
+        if self._main.told(b"show %b" % device) == b"bad device\n":
+            return KIJOLVAR_NO_DEVICE
+        self._driven.append(device)
+        return KIJOLVAR_OK
+
+    def _control(self, raw, out, name, length, place):
+        place[0] = self._names.index(name)
+        return KIJOLVAR_OK
+
+    def _next_event(self, raw, out, start, place):
+        """Looks for an event by taking it out, and keeps it until it is delivered."""
+        for number in range(start, len(self._names)):
+            name = self._names[number]
+            if name not in self._taken:
+                event = self._delivers(b"deliver %b" % name)
+                if event == b"none\n" or not event.startswith(b"event"):
+                    continue
+                self._taken[name] = event
+            place[0] = number
+            return KIJOLVAR_EVENT
+        return KIJOLVAR_OK
+
+    def _delivers(self, line):
+        self._mirror.run(line)
+        return self._runs(line)
 
     # Lines.
 
@@ -99,9 +176,14 @@ class FakeLibrary(ctypes.CDLL):
     def _goes_on(self, room, size, needed, text=b""):
         while self._held:
             line = self._held[0]
+            words = line.split()
+            if words[:1] == [b"deliver"] and words[1] in self._taken:
+                text += self._taken.pop(words[1])
+                self._held.popleft()
+                continue
             if not self._is_synthetic(line):
                 self._mirror.run(line)
-                orders = self._mirror.orders()
+                orders = [order for order in self._mirror.orders() if order.split()[0] in self._driven]
                 if orders:
                     self._order = orders[0]
                     break
@@ -139,7 +221,9 @@ class FakeLibrary(ctypes.CDLL):
         self._log.append(line)
         words = line.decode().split()
         if answer == b"ok\n":
-            if words[0] == "open":
+            if words[0] == "new":
+                self._names.append(words[1].encode())
+            elif words[0] == "open":
                 self._opened[words[1]] = words[2]
             elif words[0] == "claim":
                 self._holders[self._opened[words[1]]] = words[1]
@@ -162,10 +246,9 @@ class FakeLibrary(ctypes.CDLL):
     def _rewind(self):
         """Makes the mirror as the till is."""
         self._mirror.close()
-        self._mirror = Twin(self._real, self._profile)
-        for device in self._driven:
-            self._mirror.host(device)
-        self._mirror.run(b"\n".join(self._log))
+        self._mirror = Twin(self._program, self._profile)
+        for line in self._log:
+            self._mirror.run(line)
         self._mirror.orders()
 
     # Orders.
@@ -240,12 +323,9 @@ class FakeLibrary(ctypes.CDLL):
 
     def _numbers(self, device):
         """The numbers of a device of the profile."""
-        room, needed = ctypes.create_string_buffer(ROOM), ctypes.c_size_t()
-        self._real.kijolvar_devices(self._profile, len(self._profile), room, ROOM, ctypes.byref(needed))
-        for line in room[:needed.value].decode().splitlines():
-            name, _, *numbers = line.split()
-            if name == device.decode():
-                return dict(zip(numbers[::2], numbers[1::2]))
+        for found in tomllib.loads((self._profile or BUILT).decode())["device"]:
+            if found["name"] == device.decode():
+                return found
         raise AssertionError(device)
 
     def _item(self, item, words):
@@ -285,5 +365,3 @@ class FakeLibrary(ctypes.CDLL):
         text = "".join(f"input {device.decode()} {line}\n" for line in lines).encode()
         return self._gives(text, room, size, needed)
 
-
-__all__ = ["FakeLibrary", "KIJOLVAR_NO_DEVICE"]

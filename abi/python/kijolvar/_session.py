@@ -18,6 +18,8 @@ _identity = threading.get_ident
 _ROOM = 1024
 # How often it is tried to go on with lines for which there is no memory.
 _TRIES = 3
+# What says that a call hasn't written how many bytes its answer has.
+_UNWRITTEN = ctypes.c_size_t(-1).value
 # The outcomes of an order.
 _DONE, _NOT_DONE = 0, 1
 
@@ -36,13 +38,13 @@ class Session:
         self._raw = Raw()
         # The library writes what the till is from then on into the same place, so no call has to copy it.
         self._out = ctypes.cast(ctypes.pointer(self._raw), ctypes.POINTER(ctypes.c_void_p))
-        self._room = ctypes.create_string_buffer(_ROOM)
+        self._room: Any = ctypes.create_string_buffer(_ROOM)
         self._needed = ctypes.c_size_t()
         self._needed_at = ctypes.pointer(self._needed)
         self._number = ctypes.c_size_t()
         self._number_at = ctypes.pointer(self._number)
         self._later: deque[Callable[[], None]] = deque()
-        self._is_settling = self._is_holding = self._has_served = False
+        self._is_settling = self._has_served = self._is_driven = False
         #: Carries out an order of a driven device: whether it is done, and what happened at the device if it isn't.
         self.serve: Callable[[bytes], tuple[bool, bytes]] | None = None
         #: Is called after lines whose orders were carried out so.
@@ -134,7 +136,7 @@ class Session:
     def _carrier(self) -> Callable[[bytes], bytes]:
         """The function that carries out lines. What it uses is at hand without a look at the session."""
         owner, later, raw, needed = self._thread, self._later, self._raw, self._needed
-        room: Any = self._room
+        room = self._room
         raw_at, room_at, needed_at = map(ctypes.addressof, (raw, room, needed))
         call: Callable[..., Any] = carrier(self._library)
 
@@ -153,7 +155,18 @@ class Session:
             nonlocal call
             call = self._refuse_closed
 
-        self._refuse_calls = refuse
+        def mark() -> None:
+            nonlocal call
+            export = call
+
+            def marked(*words: Any) -> int:
+                needed.value = _UNWRITTEN
+                code: int = export(*words)
+                return code
+
+            call = marked
+
+        self._refuse_calls, self._mark_calls = refuse, mark
         return carry_out
 
     def _carry_on(self, code: int, lines: bytes) -> bytes:
@@ -162,7 +175,8 @@ class Session:
         if code == KIJOLVAR_UNDONE:
             self._settle()
             return self.carry_out(lines)
-        if code == KIJOLVAR_WAITS and self._is_holding:
+        if code == KIJOLVAR_WAITS and self._needed.value == _UNWRITTEN:
+            # Lines of an earlier call are held, and none of these was carried out.
             self._give_up()
             return self.carry_out(lines)
         text = self._told(code)
@@ -174,39 +188,50 @@ class Session:
     def _told(self, code: int, is_wanted: bool = True) -> bytes:
         """The whole answer to lines, by the code of the call that began with them. The orders for which lines wait are
         carried out meanwhile, or reported as failed if nobody wants the answer."""
-        answer = self._library.kijolvar_answer
-        room: Any = self._room
-        parts, surplus, tries = [], 0, 0
+        room, parts, tries = self._room, list[bytes](), 0
+        report: tuple[int, bytes] | None = None
         while True:
-            if code in (KIJOLVAR_ERRANDS, KIJOLVAR_SHORT):
-                if code == KIJOLVAR_ERRANDS:
-                    self._settle()
-                else:
-                    room = ctypes.create_string_buffer(self._needed.value)
-                code = answer(self._raw, self._out, room, len(room), self._needed_at)
-                continue
+            code, room = self._answered(code, room)
+            is_taken = True
             if code == KIJOLVAR_NO_MEMORY:
-                # Lines are held if this is said again.
-                code = answer(self._raw, self._out, room, len(room), self._needed_at)
-                tries += 1
+                # If lines wait, the report wasn't taken. If this is said again, it was, and they go on by another call.
+                code, room = self._answered(self._answer_into(room), room)
+                is_taken, tries = code == KIJOLVAR_NO_MEMORY, tries + 1
                 if code == KIJOLVAR_OK or tries == _TRIES:
-                    raise library_fault(KIJOLVAR_NO_MEMORY)
-                if code == KIJOLVAR_SHORT:
-                    continue
+                    code = KIJOLVAR_NO_MEMORY
+                    break
             if code not in (KIJOLVAR_OK, KIJOLVAR_WAITS, KIJOLVAR_NO_MEMORY):
-                self._is_holding = False
-                raise library_fault(code)
-            parts.append(b"".join(bytes(room[:self._needed.value]).splitlines(True)[surplus:]))
-            self._is_holding = code != KIJOLVAR_OK
+                break
+            if is_taken:
+                lines = bytes(room[:self._needed.value]).splitlines(True)
+                # The answers of the inputs are first.
+                parts.append(b"".join(lines[report[1].count(b"\n"):] if report is not None else lines))
+                report = None
             if code == KIJOLVAR_OK:
                 return b"".join(parts)
-            inputs, surplus = b"", 0
-            outcome = _NOT_DONE
-            if code == KIJOLVAR_WAITS:
-                outcome, inputs = self._served() if is_wanted else self._refused()
-                surplus = inputs.count(b"\n")
+            if code == KIJOLVAR_NO_MEMORY:
+                report = _NOT_DONE, b""
+            elif report is None:
+                report = self._served() if is_wanted else self._refused()
+            outcome, inputs = report
             code = self._library.kijolvar_order_done(self._raw, self._out, outcome, inputs, len(inputs), room, len(room),
                                                      self._needed_at)
+        raise library_fault(code)
+
+    def _answer_into(self, room: Any) -> int:
+        """Writes the answer that is kept, and returns its code."""
+        code: int = self._library.kijolvar_answer(self._raw, self._out, room, len(room), self._needed_at)
+        return code
+
+    def _answered(self, code: int, room: Any) -> tuple[int, Any]:
+        """Does the errands, and makes a longer room, until the answer is in the room."""
+        while code in (KIJOLVAR_ERRANDS, KIJOLVAR_SHORT):
+            if code == KIJOLVAR_ERRANDS:
+                self._settle()
+            else:
+                room = ctypes.create_string_buffer(self._needed.value)
+            code = self._answer_into(room)
+        return code, room
 
     def _served(self) -> tuple[int, bytes]:
         """Has the order that waits carried out: the outcome, and what happened at the device if it isn't done."""
@@ -224,8 +249,7 @@ class Session:
 
     def _give_up(self) -> None:
         """Ends lines of an earlier call that was interrupted: their orders failed, and nobody wants the answer."""
-        code = self._library.kijolvar_answer(self._raw, self._out, self._room, _ROOM, self._needed_at)
-        self._told(code, is_wanted=False)
+        self._told(self._answer_into(self._room), is_wanted=False)
 
     def number_of(self, control: bytes) -> int:
         """The library's number of the control of this name."""
@@ -263,6 +287,9 @@ class Session:
         code = self._library.kijolvar_drive(self._raw, self._out, device, len(device))
         if code != KIJOLVAR_OK:
             raise library_fault(code)
+        if not self._is_driven:
+            self._is_driven = True
+            self._mark_calls()
 
     def order_bytes(self, settings: bytes) -> bytes:
         """The bytes that the device has to get for the order that was taken out last."""
