@@ -138,5 +138,6 @@ abbrev pub Runs : {F B S G : Type 0} → Ghosts F B → FileGhosts B → DiskGho
 Runs files below mirrors memories them system it manner paths profile totals old new result =
     (read : Result (List Script) RunFault) × ReadsEach system it paths read
     × RunsRead (λ scripts. (given : Result Contents RunFault) × GivesProfile files them profile given
-    × RunsProfiled (λ contents. RunsOver files below mirrors memories them manner contents scripts totals old new result)
+    × RunsProfiled
+    (λ contents. RunsOver files below mirrors memories them manner contents scripts totals old new result)
     given old new result) read old new result

@@ -136,7 +136,8 @@ fn put_plain(
     line: &[u8],
     answer: &[u8],
 ) -> Result<(), AllocError>
-    ensures { OnOk result (text.new.items ≡ text.old.items ++ told_plain manner.now name.now number line.now answer.now) }
+    ensures { OnOk result (text.new.items ≡
+        text.old.items ++ told_plain manner.now name.now number line.now answer.now) }
 {
     put_prefix(text, manner.form, name, number)?;
     put_named(text, manner.codes, numbers_of(line, answer), answer)?;
@@ -154,7 +155,8 @@ fn put_told(
     line: &[u8],
     answer: &[u8],
 ) -> Result<(), AllocError>
-    ensures { OnOk result (text.new.items ≡ text.old.items ++ told_line manner.now name.now number line.now answer.now) }
+    ensures { OnOk result (text.new.items ≡
+        text.old.items ++ told_line manner.now name.now number line.now answer.now) }
 {
     if manner.form == Form::Json {
         return put_json(alloc, text, name, number, line, answer);
@@ -185,7 +187,8 @@ pub(crate) fn told(
     script: &[u8],
     answers: &[u8],
 ) -> Result<Vec<u8>, AllocError>
-    ensures { IfOk result (λ text. text.items ≡ told manner.now name.now 1 (lines_of script.now) (lines_of answers.now)) }
+    ensures { IfOk result (λ text.
+        text.items ≡ told manner.now name.now 1 (lines_of script.now) (lines_of answers.now)) }
 {
     let mut text = Vec::new(alloc);
     let mut left = script;

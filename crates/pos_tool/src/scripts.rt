@@ -124,7 +124,8 @@ pub(crate) fn try_paths<'a, F: NamedFiles, S: FileSystem + AllocGlobal, W: Sink>
     scripts: &[&'a str],
     profile: Option<&'a str>,
 ) -> Result<Finding, Fault<'a>>
-    ensures { EndsTest F.NamedFiles files.now S.FileSystem system.now ⟦<MemDisk as Disk>⟧ scripts.entry.now profile.entry
+    ensures { EndsTest F.NamedFiles files.now S.FileSystem system.now ⟦<MemDisk as Disk>⟧ scripts.entry.now
+        profile.entry
         (output_of W.Sink writer.old) (output_of W.Sink writer.new) result }
 {
     match profile_at(system.alloc(), files, profile) {
