@@ -31,7 +31,12 @@ fn put_line(text: &mut Vec<u8>, name: &str, number: u64, line: &[u8]) -> Result<
     ensures { OnOk result (text.new.items ≡ text.old.items ++ placed_line name.now number line.now) }
 {
     let mut buffer = Buffer::new();
-    put_parts(text, name.as_bytes(), b":", buffer.format(number).as_bytes())?;
+    put_parts(
+        text,
+        name.as_bytes(),
+        b":",
+        buffer.format(number).as_bytes(),
+    )?;
     put_parts(text, b": ", line, b"\n")
 }
 

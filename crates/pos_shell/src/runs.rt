@@ -10,7 +10,9 @@ use pos_disk::{Disk, MemDisk};
 use pos_file::BlockFile;
 use pos_image::new_disk;
 use pos_profile::Profile;
-use pos_program::{FileFault, FileSystem, NamedFiles, ProfileFileFault, TotalsDisk, file_is_mirrored};
+use pos_program::{
+    FileFault, FileSystem, NamedFiles, ProfileFileFault, TotalsDisk, file_is_mirrored,
+};
 use pos_streams::Sink;
 use std::alloc::Global;
 use std::io;

@@ -98,7 +98,15 @@ fn tell_scripts<W: Sink, D: Disk, P: Peripheral + Ends>(
 {
     for script in scripts {
         let done = tell_text(
-            alloc, manner, script.name, &script.text, writer, buffer, counter, names, spares,
+            alloc,
+            manner,
+            script.name,
+            &script.text,
+            writer,
+            buffer,
+            counter,
+            names,
+            spares,
         );
         if let Err(fault) = done {
             return Err(fault);

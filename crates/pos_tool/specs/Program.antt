@@ -63,8 +63,9 @@ EndsMove files below them path result =
 -- the page of a shell, if there is one
 abbrev pub page_of : Pages → List ℕ → Option (List ℕ)
 page_of pages shell =
-    if bytes_eq shell (codes "bash") then Some pages.bash.now else if bytes_eq shell (codes "zsh") then Some pages.zsh.now
-    else if bytes_eq shell (codes "fish") then Some pages.fish.now else None
+    if bytes_eq shell (codes "bash") then Some pages.bash.now else
+    if bytes_eq shell (codes "zsh") then Some pages.zsh.now else
+    if bytes_eq shell (codes "fish") then Some pages.fish.now else None
 
 -- a page is printed, if there is one for a shell
 abbrev pub PrintsPage : List ℕ → Option (List ℕ) → Output → Output → Result Finding Fault → Type 0
@@ -78,9 +79,12 @@ Completes pages shell old new result = PrintsPage shell (page_of pages shell) ol
 
 -- what it does for a task, over these files and pages, by how its output stood before, and after
 abbrev pub Does : {F B S G : Type 0} → Ghosts F B → FileGhosts B → DiskGhosts (Mirror (FileDisk B))
-    → DiskGhosts Memory → F → SystemGhosts S G → FolderGhosts S → FileGhosts G → S → Pages → Task → Output → Output → Result Finding Fault → Type 0
-Does files below mirrors memories them system folder under it pages Help old new result = Prints pages.help.now old new result
-Does files below mirrors memories them system folder under it pages Version old new result = Prints pages.version_line.now old new result
+    → DiskGhosts Memory → F → SystemGhosts S G → FolderGhosts S → FileGhosts G → S → Pages → Task → Output → Output
+    → Result Finding Fault → Type 0
+Does files below mirrors memories them system folder under it pages Help old new result =
+    Prints pages.help.now old new result
+Does files below mirrors memories them system folder under it pages Version old new result =
+    Prints pages.version_line.now old new result
 Does files below mirrors memories them system folder under it pages (Explain code) old new result =
     Explains pages.codes.now code.now old new result
 Does files below mirrors memories them system folder under it pages (Ask file question) old new result =
@@ -116,7 +120,8 @@ DoesChosen DoesTask (Err why) old new result = (result ≡ Err (fault.Words why)
 
 -- what it does for words
 abbrev pub DoesAsAsked : {F B S G : Type 0} → Ghosts F B → FileGhosts B → DiskGhosts (Mirror (FileDisk B))
-    → DiskGhosts Memory → F → SystemGhosts S G → FolderGhosts S → FileGhosts G → S → Pages → List (List ℕ) → Output → Output → Result Finding Fault → Type 0
+    → DiskGhosts Memory → F → SystemGhosts S G → FolderGhosts S → FileGhosts G → S → Pages → List (List ℕ) → Output
+    → Output → Result Finding Fault → Type 0
 DoesAsAsked files below mirrors memories them system folder under it pages words old new result =
     (chosen : Result Task WordsFault) × Chooses words chosen
     × DoesChosen (Does files below mirrors memories them system folder under it pages) chosen old new result
@@ -137,7 +142,8 @@ DoesAsRead DoesWords text (Err why) old new result =
 -- and after, and the status that it ends with.
 pub record Performs {F B S G T A : Type 0} (files : Ghosts F B) (below : FileGhosts B)
     (mirrors : DiskGhosts (Mirror (FileDisk B))) (memories : DiskGhosts Memory) (them : F) (system : SystemGhosts S G)
-    (folder : FolderGhosts S) (under : FileGhosts G) (it : S) (pages : Pages) (text : T → List ℕ) (words : Result (Vec T A) ChoiceFault) (old new : Output) (ended : ℕ) : Type 0 where
+    (folder : FolderGhosts S) (under : FileGhosts G) (it : S) (pages : Pages) (text : T → List ℕ)
+    (words : Result (Vec T A) ChoiceFault) (old new : Output) (ended : ℕ) : Type 0 where
   pub outcome : Result Finding Fault
   pub done : DoesAsRead (DoesAsAsked files below mirrors memories them system folder under it pages) text words old new
       outcome

@@ -1,5 +1,5 @@
-//! The program `kijolvar`: it checks totals files, prints what they hold, makes, moves and copies them, and runs scripts
-//! (docs/reference/tool.md).
+//! The program `kijolvar`: it checks totals files, prints what they hold, makes, moves and copies them, and runs
+//! scripts (docs/reference/tool.md).
 //!
 //! A command that only reads writes nothing. The program's words are read by `clap`; what it does for them, and the
 //! status that it ends with, is `perform`'s contract.

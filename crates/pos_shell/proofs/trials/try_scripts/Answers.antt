@@ -24,13 +24,13 @@ loop-path-preserved g c =
     (sym (taken_at paths i _ c.loop-path-test.true))
     (tried_more g.S.FileSystem c.args.system.now in_memory c.args.profile.now (take i paths) trials path text are tried) in
     elim c.if-same.branch [
-      then-same w ↦ (
+      | then-same w ↦ (
         omega (arith, bound, w.passed-is, w.failed-is),
         trials ++ trial ∷ [],
         more,
         rw (report, w.passed-is, w.failed-is) (passes_more trials trial _ _ _ (sym same ∙ w.if-same.true) said),
       )
-    | else-same w ↦ (
+      | else-same w ↦ (
         omega (arith, bound, w.passed-is, w.failed-is),
         trials ++ trial ∷ [],
         more,
