@@ -1,6 +1,6 @@
 -- What the program does for its words, and how it ends (docs/reference/tool.md).
 use Rattle.std.specs.Prelude.{◌≡◌, ◌≢◌, ℕ, List, [], Option, Some, None, Result, Ok, Err, Vec, bytes_eq, codes}
-use Rattle.std.specs.Prelude.{flat_map, if◌then◌else◌, map, ⊤}
+use Rattle.std.specs.Prelude.{flat_map, if◌then◌else◌, map}
 use Rattle.pos_disk.specs.Memory.{Memory}
 use Rattle.pos_disk.specs.declared.device.Disk.{Ghosts as DiskGhosts}
 use Rattle.pos_file.specs.declared.block_file.BlockFile.{Ghosts as FileGhosts}
