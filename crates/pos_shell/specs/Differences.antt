@@ -1,5 +1,5 @@
 -- How the answers of a script differ from those that are wanted (docs/reference/tool.md, "test").
-use Rattle.std.specs.Prelude.{ℕ, ◌+◌, ◌++◌, ◌∷◌, List, [], bytes_eq, codes, decimal, flat_map, if◌then◌else◌}
+use Rattle.std.specs.Prelude.{ℕ, ◌+◌, ◌++◌, ◌∷◌, List, [], bytes_eq, codes, decimal, if◌then◌else◌}
 use Rattle.pos_script.specs.Lines.{is_quiet}
 use Rattle.pos_shell.specs.Told.{first, others}
 

@@ -1,7 +1,6 @@
 -- What running the scripts in files comes to (docs/reference/tool.md, "run").
 use Rattle.std.specs.Prelude.{◌≡◌, ◌⊎◌, ◌++◌, ◌∷◌, [], ℕ, List, Option, Some, None, Result, Ok, Err, Vec, bytes_eq, codes, if◌then◌else◌, ⊤}
 use Rattle.std.specs.Borrow.{Bor}
-use Rattle.std.specs.declared.io.Error.{Error}
 use Rattle.pos_disk.specs.Memory.{Memory}
 use Rattle.pos_disk.specs.declared.device.Disk.{Ghosts as DiskGhosts}
 use Rattle.pos_file.specs.declared.block_file.BlockFile.{Ghosts as FileGhosts}
@@ -14,7 +13,6 @@ use Rattle.pos_program.specs.MirroredFiles.{IsMirrored}
 use Rattle.pos_program.specs.declared.file_fault.FileFault.{FileFault}
 use Rattle.pos_program.specs.declared.file_system.FileSystem.{Ghosts as SystemGhosts}
 use Rattle.pos_program.specs.declared.named_files.NamedFiles.{Ghosts}
-use Rattle.pos_program.specs.declared.profile_fault.ProfileFileFault.{ProfileFileFault}
 use Rattle.pos_shell.specs.Outputs.{Output}
 use Rattle.pos_shell.specs.Scripts.{RunsScripts}
 use Rattle.pos_shell.specs.declared.runs.RunFault.{RunFault}
@@ -138,6 +136,5 @@ abbrev pub Runs : {F B S G : Type 0} → Ghosts F B → FileGhosts B → DiskGho
 Runs files below mirrors memories them system it manner paths profile totals old new result =
     (read : Result (List Script) RunFault) × ReadsEach system it paths read
     × RunsRead (λ scripts. (given : Result Contents RunFault) × GivesProfile files them profile given
-    × RunsProfiled
-    (λ contents. RunsOver files below mirrors memories them manner contents scripts totals old new result)
-    given old new result) read old new result
+    × RunsProfiled (λ contents. RunsOver files below mirrors memories them manner contents scripts totals old new
+    result) given old new result) read old new result

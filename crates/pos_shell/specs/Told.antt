@@ -7,7 +7,7 @@ use Rattle.pos_script.specs.Lines.{is_quiet, pieces}
 use Rattle.pos_shell.specs.Names.{named, numbers_of}
 use Rattle.pos_shell.specs.Reasons.{reason}
 use Rattle.pos_shell.specs.declared.told.Form.{Form}
-use Rattle.pos_shell.specs.declared.told.Form.TheVariants.{Typed, Numbered, Json}
+use Rattle.pos_shell.specs.declared.told.Form.TheVariants.{Typed, Json}
 use Rattle.pos_shell.specs.declared.told.Manner.{Manner}
 
 -- a text, if it is UTF-8

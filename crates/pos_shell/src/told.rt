@@ -3,16 +3,16 @@ ghost use Rattle.std.specs.Prelude.{◌≡◌, ◌++◌, IfOk, MatchOption, OnOk
 ghost use Rattle.std.specs.Str.{is_utf8};
 ghost use Rattle.serde_json.specs.View.{view};
 ghost use Rattle.pos_script.specs.Lines.{lines_of};
-ghost use Rattle.pos_shell.specs.Told.{first, others, prefix, reason_data, reason_text, text_data, told, told_data, told_json};
-ghost use Rattle.pos_shell.specs.Told.{told_line, told_plain};
+ghost use Rattle.pos_shell.specs.Told.{first, others, prefix, reason_data, reason_text, text_data, told};
+ghost use Rattle.pos_shell.specs.Told.{told_data, told_json, told_line, told_plain};
 
 use crate::names::{numbers_of, put_named};
 use crate::reasons::reason;
 use itoa::Buffer;
 use pos_report::Code;
-use pos_script::{is_quiet_line, next_line};
 use pos_service::words::is;
 use serde_json::{Value, json};
+use pos_script::{is_quiet_line, next_line};
 use std::alloc::{AllocError, Global};
 use std::str;
 
@@ -136,8 +136,8 @@ fn put_plain(
     line: &[u8],
     answer: &[u8],
 ) -> Result<(), AllocError>
-    ensures { OnOk result (text.new.items ≡
-        text.old.items ++ told_plain manner.now name.now number line.now answer.now) }
+    ensures { OnOk result (text.new.items
+        ≡ text.old.items ++ told_plain manner.now name.now number line.now answer.now) }
 {
     put_prefix(text, manner.form, name, number)?;
     put_named(text, manner.codes, numbers_of(line, answer), answer)?;
@@ -155,8 +155,8 @@ fn put_told(
     line: &[u8],
     answer: &[u8],
 ) -> Result<(), AllocError>
-    ensures { OnOk result (text.new.items ≡
-        text.old.items ++ told_line manner.now name.now number line.now answer.now) }
+    ensures { OnOk result (text.new.items
+        ≡ text.old.items ++ told_line manner.now name.now number line.now answer.now) }
 {
     if manner.form == Form::Json {
         return put_json(alloc, text, name, number, line, answer);
@@ -187,8 +187,8 @@ pub(crate) fn told(
     script: &[u8],
     answers: &[u8],
 ) -> Result<Vec<u8>, AllocError>
-    ensures { IfOk result (λ text.
-        text.items ≡ told manner.now name.now 1 (lines_of script.now) (lines_of answers.now)) }
+    ensures { IfOk result (λ text. text.items
+        ≡ told manner.now name.now 1 (lines_of script.now) (lines_of answers.now)) }
 {
     let mut text = Vec::new(alloc);
     let mut left = script;

@@ -1,8 +1,7 @@
 -- What two readings of a file, one right after the other, are among its calls.
 use Rattle.std.proofs.Common.{◌≡◌, ◌++◌, ◌∷◌, [], ◌∙◌, ℕ, List, ap, append_assoc, subst, sym}
-use Rattle.std.specs.Prelude.{◌≢◌, length}
+use Rattle.std.specs.Prelude.{◌≢◌}
 use Rattle.pos_file.specs.Calls.{Call}
-use Rattle.pos_image.specs.Layout.{disk_size}
 use Rattle.pos_tool.specs.Copies.{IsSteady, IsUnsteady, LastGave, ReadsFront, front_read}
 
 module _ {F : Type 0} (calls : F → List Call) (old mid new : F) (one other : List ℕ) (first : ReadsFront calls old mid one)

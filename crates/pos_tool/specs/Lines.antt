@@ -40,8 +40,8 @@ some_places_rule name = record (new_rule name) {
 
 -- test SCRIPT .. [--profile P]
 abbrev pub test_line : App
-test_line =
-    with_rule (with_rule (new_app (codes "test")) (some_places_rule (codes "SCRIPT"))) (valued_rule (codes "profile"))
+test_line = with_rule (with_rule (new_app (codes "test")) (some_places_rule (codes "SCRIPT")))
+    (valued_rule (codes "profile"))
 
 -- COMMAND NAME
 abbrev pub place_line : Text → Text → App
@@ -88,6 +88,6 @@ making_line = with_subcommand (with_subcommand (with_subcommand (with_subcommand
 
 -- with all commands
 abbrev pub program_line : App
-program_line =
-    with_subcommand (with_subcommand (with_subcommand (with_subcommand making_line run_line.top) test_line.top)
+program_line = with_subcommand (with_subcommand (with_subcommand (with_subcommand
+    making_line run_line.top) test_line.top)
     (place_line (codes "completions") (codes "SHELL")).top) (new_app (codes "man")).top

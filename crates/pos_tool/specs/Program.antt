@@ -1,6 +1,6 @@
 -- What the program does for its words, and how it ends (docs/reference/tool.md).
 use Rattle.std.specs.Prelude.{◌≡◌, ◌≢◌, ℕ, List, [], Option, Some, None, Result, Ok, Err, Vec, bytes_eq, codes}
-use Rattle.std.specs.Prelude.{flat_map, if◌then◌else◌, map, ⊤}
+use Rattle.std.specs.Prelude.{flat_map, if◌then◌else◌, map}
 use Rattle.pos_disk.specs.Memory.{Memory}
 use Rattle.pos_disk.specs.declared.device.Disk.{Ghosts as DiskGhosts}
 use Rattle.pos_file.specs.declared.block_file.BlockFile.{Ghosts as FileGhosts}
@@ -63,9 +63,9 @@ EndsMove files below them path result =
 -- the page of a shell, if there is one
 abbrev pub page_of : Pages → List ℕ → Option (List ℕ)
 page_of pages shell =
-    if bytes_eq shell (codes "bash") then Some pages.bash.now
-    else if bytes_eq shell (codes "zsh") then Some pages.zsh.now
-    else if bytes_eq shell (codes "fish") then Some pages.fish.now else None
+    if bytes_eq shell (codes "bash") then Some pages.bash.now else
+    if bytes_eq shell (codes "zsh") then Some pages.zsh.now else
+    if bytes_eq shell (codes "fish") then Some pages.fish.now else None
 
 -- a page is printed, if there is one for a shell
 abbrev pub PrintsPage : List ℕ → Option (List ℕ) → Output → Output → Result Finding Fault → Type 0
@@ -79,8 +79,8 @@ Completes pages shell old new result = PrintsPage shell (page_of pages shell) ol
 
 -- what it does for a task, over these files and pages, by how its output stood before, and after
 abbrev pub Does : {F B S G : Type 0} → Ghosts F B → FileGhosts B → DiskGhosts (Mirror (FileDisk B))
-    → DiskGhosts Memory → F → SystemGhosts S G → FolderGhosts S → FileGhosts G → S → Pages → Task
-    → Output → Output → Result Finding Fault → Type 0
+    → DiskGhosts Memory → F → SystemGhosts S G → FolderGhosts S → FileGhosts G → S → Pages → Task → Output → Output
+    → Result Finding Fault → Type 0
 Does files below mirrors memories them system folder under it pages Help old new result =
     Prints pages.help.now old new result
 Does files below mirrors memories them system folder under it pages Version old new result =
@@ -120,8 +120,8 @@ DoesChosen DoesTask (Err why) old new result = (result ≡ Err (fault.Words why)
 
 -- what it does for words
 abbrev pub DoesAsAsked : {F B S G : Type 0} → Ghosts F B → FileGhosts B → DiskGhosts (Mirror (FileDisk B))
-    → DiskGhosts Memory → F → SystemGhosts S G → FolderGhosts S → FileGhosts G → S → Pages → List (List ℕ)
-    → Output → Output → Result Finding Fault → Type 0
+    → DiskGhosts Memory → F → SystemGhosts S G → FolderGhosts S → FileGhosts G → S → Pages → List (List ℕ) → Output
+    → Output → Result Finding Fault → Type 0
 DoesAsAsked files below mirrors memories them system folder under it pages words old new result =
     (chosen : Result Task WordsFault) × Chooses words chosen
     × DoesChosen (Does files below mirrors memories them system folder under it pages) chosen old new result

@@ -265,7 +265,8 @@ fn hint_of_run(fault: &RunFault<'_>) -> &'static str {
     match fault {
         RunFault::Script { .. } => "check the path, and who may read it; `-` is standard input",
         RunFault::Wanted { .. } => "the answers that are wanted of SCRIPT are in SCRIPT.stdout",
-        RunFault::Profile { .. } => "docs/reference/profile.md has each key; without --profile the built-in one serves",
+        RunFault::Profile { .. } =>
+            "docs/reference/profile.md has each key; without --profile the built-in one serves",
         RunFault::Totals { cause, .. } => hint_of_file(cause),
         RunFault::Told(TellFault::NoMemory) => "free memory; the lines that were told are done",
         RunFault::Told(TellFault::Write) => "check the space that is free where the output goes",

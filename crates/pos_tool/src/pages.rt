@@ -61,8 +61,8 @@ _kijolvar "$@"
 
 /// What `completions fish` prints.
 pub(crate) const FISH: &str = r#"# fish completion for kijolvar
-set -l commands check files cat dump diff create migrate backup restore load salvage run test
-set -a commands explain completions man version help
+set -l commands check files cat dump diff create migrate backup restore load salvage run test explain completions \
+  man version help
 complete -c kijolvar -n "not __fish_seen_subcommand_from $commands" -f -a "$commands"
 complete -c kijolvar -n "__fish_seen_subcommand_from check" -l quiet
 complete -c kijolvar -n "__fish_seen_subcommand_from files run" -l json

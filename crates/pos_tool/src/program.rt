@@ -199,8 +199,7 @@ pub fn perform<
     words: Result<Vec<T>, ChoiceFault>,
 ) -> ExitCode
     ensures { Performs F.NamedFiles ⟦<F::File as BlockFile>⟧ ⟦<TotalsDisk<F::File> as Disk>⟧ ⟦<MemDisk as Disk>⟧
-        files.now
-        S.FileSystem S.Folder ⟦<S::File as BlockFile>⟧ system.now pages.now T.text words
+        files.now S.FileSystem S.Folder ⟦<S::File as BlockFile>⟧ system.now pages.now T.text words
         (output_of W.Sink writer.old) (output_of W.Sink writer.new) (exit_status result) }
 {
     match words {

@@ -1,7 +1,8 @@
 //! Scripts that are run, or tried.
 ghost use Rattle.std.specs.Prelude.{◌≡◌};
 ghost use Rattle.pos_shell.specs.Outputs.{output_of};
-ghost use Rattle.pos_tool.specs.Scripts.{EndsRun, EndsTest, PrintsTrials, TestsProfiled, form_of, run_finding, trial_finding};
+ghost use Rattle.pos_tool.specs.Scripts.{EndsRun, EndsTest, PrintsTrials, TestsProfiled, form_of, run_finding};
+ghost use Rattle.pos_tool.specs.Scripts.{trial_finding};
 
 use crate::fault::Fault;
 use pos_disk::{Disk, MemDisk};
@@ -9,9 +10,7 @@ use pos_file::BlockFile;
 use pos_profile::Profile;
 use pos_program::{FileSystem, NamedFiles, TotalsDisk};
 use pos_report::{Code, Finding};
-use pos_shell::{
-    Form, Manner, RunFault, Trials, profile_at, run, tally, try_scripts, write_text,
-};
+use pos_shell::{Form, Manner, RunFault, Trials, profile_at, run, tally, try_scripts, write_text};
 use pos_streams::Sink;
 use std::alloc::Global;
 
@@ -125,8 +124,7 @@ pub(crate) fn try_paths<'a, F: NamedFiles, S: FileSystem + AllocGlobal, W: Sink>
     profile: Option<&'a str>,
 ) -> Result<Finding, Fault<'a>>
     ensures { EndsTest F.NamedFiles files.now S.FileSystem system.now ⟦<MemDisk as Disk>⟧ scripts.entry.now
-        profile.entry
-        (output_of W.Sink writer.old) (output_of W.Sink writer.new) result }
+        profile.entry (output_of W.Sink writer.old) (output_of W.Sink writer.new) result }
 {
     match profile_at(system.alloc(), files, profile) {
         Ok(profile) => try_over(system, writer, &profile, scripts),

@@ -1,5 +1,4 @@
 use Rattle.std.proofs.Common.{List, [], drop, refl, slice_index_or, subst, sym, take, ◌++◌, ◌+◌, ◌∷◌}
-use Rattle.std.specs.Borrow.{Bor}
 use Rattle.pos_shell.specs.Runs.{AreRead}
 use Rattle.pos_shell.specs.declared.scripts.Script.{Script}
 use Rattle.pos_shell.proofs.RunLemmas.{in_parts_at, reads_more, taken_at}
