@@ -10,9 +10,9 @@ use crate::names::{numbers_of, put_named};
 use crate::reasons::reason;
 use itoa::Buffer;
 use pos_report::Code;
+use pos_script::{is_quiet_line, next_line};
 use pos_service::words::is;
 use serde_json::{Value, json};
-use pos_script::{is_quiet_line, next_line};
 use std::alloc::{AllocError, Global};
 use std::str;
 
