@@ -886,6 +886,6 @@ if __name__ == "__main__":
     LIBRARY = pathlib.Path(WORDS.library).resolve()
     IS_WHOLE = LIBRARY.suffix == ".so"
     if not IS_WHOLE:
-        SLACK = SLOWLY
+        SLACK, PATIENCE = SLOWLY, 60
         print("a stand-in of tests/fake_library.py is tried")
     main()

@@ -1,9 +1,10 @@
 """The line to a receipt printer: what is sent, what has been acknowledged, and what the printer says of itself."""
 from __future__ import annotations
 
+import re
 import time
 from collections import deque
-from collections.abc import Callable, Iterator
+from collections.abc import Callable
 from dataclasses import dataclass, field
 
 from .ports import Port, PortError
@@ -15,6 +16,14 @@ _ARE_YOU_THERE = b"\x10\x04\x01"
 _NUMBERS = 65_536
 # How long a lost port may take to open, in seconds, while other devices wait.
 _QUICKLY = 0.25
+# What ends a piece: a line feed, a pulse, a feed, or a cut.
+_PIECE = re.compile(rb"(?:\x1b@|\x1b[^@pd].|\x1d[^V].|[^\n\x1b\x1d])*(?:\n|\x1bp...|\x1bd.|\x1dV(?:[AB].|[^AB])|\Z)", re.S)
+# Only the first byte of a reply has bit 4 set. So a reply that lost bytes ends at the next one.
+_LATER = rb"[\x00-\x0f\x20-\x2f\x40-\x4f\x60-\x6f]"
+_STATUS = rb"[\x10\x14\x18\x1c\x30\x34\x38\x3c\x50\x54\x58\x5c\x70\x74\x78\x7c]"
+_NOW = rb"[\x12\x16\x1a\x1e\x32\x36\x3a\x3e\x52\x56\x5a\x5e\x72\x76\x7a\x7e]"
+_REPLY = re.compile(rb"%b%b{3}|\x37\x22[\x40-\x4f]{4}\x00|%b" % (_STATUS, _LATER, _NOW))
+_BEGUN = re.compile(rb"(?:%b%b{0,2}|\x37(?:\x22[\x40-\x4f]{0,4})?)\Z" % (_STATUS, _LATER))
 _COVER_OPEN, _OFFLINE, _PAPER_ENDED, _FAULTY = 0x20, 0x08, 0x0C, 0x68
 
 
@@ -23,61 +32,27 @@ def end_of_job(number: int) -> bytes:
     return b"\x1d(H\x06\0" + b"00" + bytes(0x40 | number >> shift & 0x0F for shift in (12, 8, 4, 0))
 
 
-def pieces_of(data: bytes) -> Iterator[bytes]:
+def pieces_of(data: bytes) -> list[bytes]:
     """The lines, cuts and pulses of an order, each with the commands that belong to it."""
-    start = at = 0
-    while at < len(data):
-        first, second = data[at], data[at + 1:at + 2]
-        size, ends = 1, first == 0x0A
-        if first == 0x1B:
-            size, ends = {b"@": (2, False), b"p": (5, True), b"d": (3, True)}.get(second, (3, False))
-        elif first == 0x1D:
-            size = 4 if second == b"V" and data[at + 2:at + 3] in (b"A", b"B") else 3
-            ends = second == b"V"
-        at += size
-        if ends:
-            yield data[start:at]
-            start = at
-    if start < len(data):
-        yield data[start:]
+    return [piece for piece in _PIECE.findall(data) if piece]
 
 
 class ReplyReader:
     """Reads what a printer sends, in whatever pieces it comes. Bytes that are no reply are passed over."""
 
     def __init__(self) -> None:
-        self._begun = bytearray()
+        self._begun = b""
 
-    def take(self, data: bytes) -> Iterator[bytes]:
+    def take(self, data: bytes) -> list[bytes]:
         """The replies that are whole now: automatic statuses, acknowledgements, and replies to DLE EOT."""
-        for byte in data:
-            # Only the first byte of a reply has this bit set. So a reply that lost bytes ends at the next one.
-            if byte & 0x10:
-                self._begun[:] = b""
-            elif not self._begun:
-                continue
-            self._begun.append(byte)
-            first = self._begun[0]
-            if first & 0x93 == 0x12:
-                size = 1
-            elif first & 0x93 == 0x10:
-                size = 4
-            elif first == 0x37:
-                size = 7
-            else:
-                size = 0
-            if not size or not self._fits(first):
-                self._begun.clear()
-            elif len(self._begun) == size:
-                yield bytes(self._begun)
-                self._begun.clear()
-
-    def _fits(self, first: int) -> bool:
-        """Whether the bytes so far can be the beginning of a reply."""
-        if first != 0x37:
-            return all(byte & 0x90 == 0 for byte in self._begun[1:])
-        rest = self._begun[1:]
-        return (not rest or rest[0] == 0x22) and all(0x40 <= byte <= 0x4F for byte in rest[1:5]) and rest[5:] in (b"", b"\0")
+        data = self._begun + data
+        found, end = [], 0
+        for reply in _REPLY.finditer(data):
+            found.append(reply[0])
+            end = reply.end()
+        begun = _BEGUN.search(data, end)
+        self._begun = begun[0] if begun is not None else b""
+        return found
 
 
 class Job:
@@ -94,7 +69,7 @@ class Job:
 
     def __init__(self, data: bytes, is_once: bool) -> None:
         self.data, self.is_once = data, is_once
-        self.pieces = list(pieces_of(data)) or [b""]
+        self.pieces = pieces_of(data) or [b""]
         self.sent = self.done = 0
         self.is_torn = False
 
