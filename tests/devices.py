@@ -381,6 +381,8 @@ def try_slow():
         shop.device.slow(0)
         told("the same again", None, raised(shop.control.print, TEXT))
         shop.same_paper("a slow printer: the paper")
+        told("a long order", None, raised(shop.control.print, b"A line that isn't as long as it might be\n" * 99))
+        shop.same_paper("a long order: the paper")
 
 
 def try_silence():
@@ -610,6 +612,8 @@ def try_refusals():
         told("no such device", "NoDeviceError", name_of(till.drive, "r9", EscPosPrinter("/dev/null")))
         told("another category", "DriverError", name_of(till.drive, "d1", EscPosPrinter("/dev/null")))
         told("a narrow printer", "ValueError", name_of(till.drive, "r1", EscPosPrinter("/dev/null", width=20)))
+        with till.printer("r1").in_use() as printer:
+            told("a device that isn't driven answers at once", None, raised(printer.print, TEXT))
     told("no such cutter", "ValueError", name_of(EscPosPrinter, "/dev/null", cutter="axe"))
     told("no such speed", "ValueError", name_of(SerialPort, "/dev/ttyS0", 9601))
     told("no such parity", "ValueError", name_of(SerialPort, "/dev/ttyS0", parity="odder"))

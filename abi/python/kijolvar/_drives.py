@@ -52,9 +52,13 @@ class Drives:
             raise DriverError(f"{device.name!r} is a {device.category}, and the driver is for a {driver.category}")
         if device.name in self._drives:
             raise DriverError(f"{device.name!r} has a driver already")
-        if device.category != "Scanner":
-            self._session.drive(device_word(device.name))
         driver.start(device)
+        if device.category != "Scanner":
+            try:
+                self._session.drive(device_word(device.name))
+            except BaseException:
+                driver.close()
+                raise
         self._drives[device.name] = Drive(device, driver)
         self.hand_in()
 

@@ -44,7 +44,10 @@ class Session:
         self._number = ctypes.c_size_t()
         self._number_at = ctypes.pointer(self._number)
         self._later: deque[Callable[[], None]] = deque()
-        self._is_settling = self._has_served = self._is_driven = False
+        self._is_settling = self._has_served = False
+        # The devices that are driven, and the orders of hosted devices that came before one of these.
+        self._driven: set[bytes] = set()
+        self._hosted: deque[bytes] = deque()
         #: Carries out an order of a driven device: whether it is done, and what happened at the device if it isn't.
         self.serve: Callable[[bytes], tuple[bool, bytes]] | None = None
         #: Is called after lines whose orders were carried out so.
@@ -235,7 +238,7 @@ class Session:
 
     def _served(self) -> tuple[int, bytes]:
         """Has the order that waits carried out: the outcome, and what happened at the device if it isn't done."""
-        order = next(self.orders(), None)
+        order = self._driven_order()
         if order is None or self.serve is None:
             raise library_fault(KIJOLVAR_NO_ORDER)
         self._has_served = True
@@ -244,8 +247,16 @@ class Session:
 
     def _refused(self) -> tuple[int, bytes]:
         """The outcome of an order that waits and that nobody carries out."""
-        next(self.orders(), None)
+        self._driven_order()
         return _NOT_DONE, b""
+
+    def _driven_order(self) -> bytes | None:
+        """Takes out the order of the driven device for which a line waits. Those of hosted devices are kept."""
+        for order in self._taken_out():
+            if order.partition(b" ")[0] in self._driven:
+                return order
+            self._hosted.append(order)
+        return None
 
     def _give_up(self) -> None:
         """Ends lines of an earlier call that was interrupted: their orders failed, and nobody wants the answer."""
@@ -287,9 +298,9 @@ class Session:
         code = self._library.kijolvar_drive(self._raw, self._out, device, len(device))
         if code != KIJOLVAR_OK:
             raise library_fault(code)
-        if not self._is_driven:
-            self._is_driven = True
+        if not self._driven:
             self._mark_calls()
+        self._driven.add(device)
 
     def order_bytes(self, settings: bytes) -> bytes:
         """The bytes that the device has to get for the order that was taken out last."""
@@ -316,6 +327,13 @@ class Session:
 
     def orders(self) -> Iterator[bytes]:
         """The orders of the devices that the host has, oldest first. Each is taken out as it is given."""
+        while self._hosted:
+            self.check()
+            yield self._hosted.popleft()
+        yield from self._taken_out()
+
+    def _taken_out(self) -> Iterator[bytes]:
+        """The orders that the library has."""
         room: Any = ctypes.create_string_buffer(_ROOM)
         needed = ctypes.c_size_t()
         while True:
