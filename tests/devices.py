@@ -3,8 +3,8 @@
 Usage: devices.py LIBRARY [--faults N] [--seed N] [--only WORD]
        devices.py LIBRARY --port PORT [--columns N]
 
-LIBRARY is libkijolvar.so; or the program pos_console, over which a stand-in for the library is tried. N random faults are tried, by default 150, from a seed. --only tries what has the word in its
-name. With --port it prints a page on a real printer at that port and says what has to be on it; PORT is a path or
+LIBRARY is libkijolvar.so; or the program pos_console, over which a stand-in for the library is tried. N random faults
+are tried, by default 150, from a seed. --only tries what has the word in its name. With --port it prints a page on a real printer at that port and says what has to be on it; PORT is a path or
 tcp://HOST:PORT. The last line is 'N passed, M failed'.
 """
 import argparse
@@ -731,8 +731,8 @@ def try_killed():
         with opened(PROFILE, path, create=True) as till:
             till.totals("t1").create("COUNT", 4)
         with Printer(cable(), lines=100_000) as device:
-            host = subprocess.Popen([sys.executable, "-c", HOST, TOP / "abi/python", LIBRARY, path, device.path, PROFILE],
-                                    stdout=subprocess.PIPE, text=True)
+            words = [sys.executable, "-c", HOST, TOP / "abi/python", LIBRARY, path, device.path, PROFILE]
+            host = subprocess.Popen(words, stdout=subprocess.PIPE, text=True)
             wanted = chance.randrange(1, 40)
             said = []
             for line in host.stdout:
@@ -784,7 +784,8 @@ def try_guide():
     path = WORK / "guide"
     command = commands[0].replace("/tmp/printer", str(path))
     told("the guide's port", True, f"--path {path}" in command)
-    with subprocess.Popen(command.split(), stdin=subprocess.PIPE, stdout=subprocess.PIPE, text=True, cwd=TOP) as emulator:
+    pipes = {"stdin": subprocess.PIPE, "stdout": subprocess.PIPE, "text": True, "cwd": TOP}
+    with subprocess.Popen(command.split(), **pipes) as emulator:
         told("the emulator says its port", str(path), emulator.stdout.readline().strip())
         with opened(None) as till:
             till.drive("r1", EscPosPrinter(path, pause=PAUSE))
@@ -808,7 +809,8 @@ def try_guide():
 def try_cost():
     """What an order costs beside a bare round trip of the same bytes."""
     words = [sys.executable, str(TOP / "tests/emulator"), "printer", "--path", str(WORK / "cost"), "--lines", "100000"]
-    with subprocess.Popen(words, stdin=subprocess.PIPE, stdout=subprocess.PIPE, text=True) as emulator, opened() as till:
+    pipes = {"stdin": subprocess.PIPE, "stdout": subprocess.PIPE, "text": True}
+    with subprocess.Popen(words, **pipes) as emulator, opened() as till:
         port = emulator.stdout.readline().strip()
         driver = EscPosPrinter(port, lines=100_000)
         till.drive("r1", driver)

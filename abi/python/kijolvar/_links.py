@@ -17,7 +17,8 @@ _NUMBERS = 65_536
 # How long a lost port may take to open, in seconds, while other devices wait.
 _QUICKLY = 0.25
 # What ends a piece: a line feed, a pulse, a feed, or a cut.
-_PIECE = re.compile(rb"(?:\x1b@|\x1b[^@pd].|\x1d[^V].|[^\n\x1b\x1d])*(?:\n|\x1bp...|\x1bd.|\x1dV(?:[AB].|[^AB])|\Z)", re.S)
+_PIECE = re.compile(rb"(?:\x1b@|\x1b[^@pd].|\x1d[^V].|[^\n\x1b\x1d])*"
+                    rb"(?:\n|\x1bp...|\x1bd.|\x1dV(?:[AB].|[^AB])|\Z)", re.S)
 # Only the first byte of a reply has bit 4 set. So a reply that lost bytes ends at the next one.
 _LATER = rb"[\x00-\x0f\x20-\x2f\x40-\x4f\x60-\x6f]"
 _STATUS = rb"[\x10\x14\x18\x1c\x30\x34\x38\x3c\x50\x54\x58\x5c\x70\x74\x78\x7c]"
@@ -46,7 +47,8 @@ class ReplyReader:
     def take(self, data: bytes) -> list[bytes]:
         """The replies that are whole now: automatic statuses, acknowledgements, and replies to DLE EOT."""
         data = self._begun + data
-        found, end = [], 0
+        found: list[bytes] = []
+        end = 0
         for reply in _REPLY.finditer(data):
             found.append(reply[0])
             end = reply.end()

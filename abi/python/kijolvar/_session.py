@@ -9,7 +9,8 @@ from collections.abc import Callable, Iterator
 from typing import Any, BinaryIO, NoReturn
 
 from ._constants import (KIJOLVAR_DISK_FAILED, KIJOLVAR_DISK_LENGTH, KIJOLVAR_ERRANDS, KIJOLVAR_EVENT,
-                         KIJOLVAR_NO_MEMORY, KIJOLVAR_OK, KIJOLVAR_ORDER, KIJOLVAR_SHORT, KIJOLVAR_SYNC, KIJOLVAR_UNDONE, KIJOLVAR_WRITE)
+                         KIJOLVAR_NO_MEMORY, KIJOLVAR_OK, KIJOLVAR_ORDER, KIJOLVAR_SHORT, KIJOLVAR_SYNC,
+                         KIJOLVAR_UNDONE, KIJOLVAR_WRITE)
 from ._library import NO_ORDER as KIJOLVAR_NO_ORDER, WAITS as KIJOLVAR_WAITS
 from ._library import Raw, carrier, check
 from .errors import ThreadError, TillClosedError, library_fault
@@ -173,8 +174,8 @@ class Session:
         return carry_out
 
     def _carry_on(self, code: int, lines: bytes) -> bytes:
-        """What is left to do where a call with lines isn't done: the errands, and a longer room. Errands of earlier lines
-        are left where an interrupt came before they were done; then the call is made again."""
+        """What is left to do where a call with lines isn't done: the errands, a longer room, and the orders for which lines
+        wait. An interrupt may have left errands or lines of an earlier call; then the call is made again."""
         if code == KIJOLVAR_UNDONE:
             self._settle()
             return self.carry_out(lines)
@@ -217,8 +218,8 @@ class Session:
             elif report is None:
                 report = self._served() if is_wanted else self._refused()
             outcome, inputs = report
-            code = self._library.kijolvar_order_done(self._raw, self._out, outcome, inputs, len(inputs), room, len(room),
-                                                     self._needed_at)
+            code = self._library.kijolvar_order_done(self._raw, self._out, outcome, inputs, len(inputs), room,
+                                                     len(room), self._needed_at)
         raise library_fault(code)
 
     def _answer_into(self, room: Any) -> int:

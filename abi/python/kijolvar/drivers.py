@@ -327,11 +327,11 @@ _LONGEST = 4096
 # Linux input events: the time, type, code and value.
 _EVENT = struct.Struct("@llHHi")
 _KEY, _GRAB, _ENTER, _SHIFTS = 1, 0x40044590, (28, 96), (42, 54)
-_KEYS = dict(zip(range(2, 14), ["1!", "2@", "3#", "4$", "5%", "6^", "7&", "8*", "9(", "0)", "-_", "=+"]))
+_KEYS: dict[int, str] = {57: "  "}
+_KEYS.update(zip(range(2, 14), ["1!", "2@", "3#", "4$", "5%", "6^", "7&", "8*", "9(", "0)", "-_", "=+"]))
 _KEYS.update(zip(range(16, 28), ["qQ", "wW", "eE", "rR", "tT", "yY", "uU", "iI", "oO", "pP", "[{", "]}"]))
 _KEYS.update(zip(range(30, 42), ["aA", "sS", "dD", "fF", "gG", "hH", "jJ", "kK", "lL", ";:", "'\"", "`~"]))
 _KEYS.update(zip(range(43, 54), ["\\|", "zZ", "xX", "cC", "vV", "bB", "nN", "mM", ",<", ".>", "/?"]))
-_KEYS.update({57: "  "})
 
 
 class _Lines:
@@ -356,7 +356,7 @@ class _Keys:
 
     def take(self, data: bytes) -> list[bytes]:
         self._bytes += data
-        codes = []
+        codes: list[bytes] = []
         while len(self._bytes) >= _EVENT.size:
             *_, kind, key, value = _EVENT.unpack_from(self._bytes)
             del self._bytes[:_EVENT.size]
@@ -408,8 +408,8 @@ class WedgeScanner(Driver):
         if keys is None:
             keys = not isinstance(device, Port) and os.fspath(device).startswith("/dev/input/")
         self.port: Port = _KeyPort(device) if keys and not isinstance(device, Port) else port_of(device)
-        self._reader_of = _Keys if keys else _Lines
-        self._reader: _Keys | _Lines = self._reader_of()
+        self._has_keys = keys
+        self._reader = self._new_reader()
         self._kind, self._pause, self._tried_at = kind, pause, -1e9
         self._found: deque[Scan] = deque()
 
@@ -427,11 +427,14 @@ class WedgeScanner(Driver):
         if not self.port.is_open:
             if time.monotonic() - self._tried_at < self._pause:
                 return
-            self._reader = self._reader_of()
+            self._reader = self._new_reader()
         with contextlib.suppress(PortError):
             self._open()
             while self.port.ready(False, 0)[0]:
                 self._found += map(self._scan, self._reader.take(self.port.read_some()))
+
+    def _new_reader(self) -> _Keys | _Lines:
+        return _Keys() if self._has_keys else _Lines()
 
     def _open(self) -> None:
         try:

@@ -14,7 +14,7 @@ import stat
 import termios
 import time
 from collections.abc import Iterator
-from typing import Literal, Union
+from typing import Any, Literal, Union
 
 from ._library import Path
 
@@ -77,7 +77,8 @@ class Port:
         except PortError:
             raise
         except (OSError, termios.error) as fault:
-            raise PortError(fault.args[0] if fault.args else errno.EIO, f"{self.name} can't be opened: {fault}") from fault
+            code = fault.args[0] if fault.args else errno.EIO
+            raise PortError(code, f"{self.name} can't be opened: {fault}") from fault
         self.turns += 1
 
     def close(self) -> None:
@@ -256,7 +257,7 @@ class TcpPort(Port):
             return made.detach()
 
 
-def _raw(file: int) -> list[int | list[bytes | int]]:
+def _raw(file: int) -> list[Any]:
     """The attributes of a terminal line through which bytes pass as they are."""
     found = termios.tcgetattr(file)
     found[0] = found[1] = found[3] = 0
@@ -268,8 +269,8 @@ def _raw(file: int) -> list[int | list[bytes | int]]:
 def port_of(name: Union[Port, Path]) -> Port:
     """Returns the port of a name: `tcp://HOST` or `tcp://HOST:PORT`, or the path of a device file.
 
-    A path of /dev/tty.. or /dev/serial/.. is a serial line of 9,600 bits per second with RTS/CTS. For other settings use
-    SerialPort.
+    A path of /dev/tty.. or /dev/serial/.. is a serial line of 9,600 bits per second with RTS/CTS. For other settings
+    use SerialPort.
     """
     if isinstance(name, Port):
         return name
