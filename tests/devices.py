@@ -91,10 +91,11 @@ def opened(profile=PROFILE, totals=None, **named):
 
 
 def cable(kind="usb"):
-    """A new cable: "usb" hangs up with the device, "serial" doesn't, and "tcp" is a network printer's."""
+    """A new cable: "usb" hangs up with the device, "serial" doesn't, and "tcp" is a network printer's. "asked" is a simpler
+    printer on "usb"."""
     global made
     made += 1
-    return TcpCable() if kind == "tcp" else PtyCable(WORK / f"port-{made}", hangs_up=kind == "usb")
+    return TcpCable() if kind == "tcp" else PtyCable(WORK / f"port-{made}", hangs_up=kind != "serial")
 
 
 def port_of(device, kind="usb"):
@@ -252,8 +253,9 @@ class Shop:
 
     def __init__(self, stack, kind="usb", lines=1000, **named):
         self.till = stack.enter_context(opened())
-        self.device = stack.enter_context(Printer(cable(kind), lines=lines))
-        self.driver = EscPosPrinter(port_of(self.device, kind),
+        is_asked = kind == "asked"
+        self.device = stack.enter_context(Printer(cable(kind), lines=lines, is_simple=is_asked))
+        self.driver = EscPosPrinter(port_of(self.device, kind), is_asked=is_asked,
                                     **{"timeout": TIMEOUT, "pause": PAUSE, "lines": 1000, **named})
         self.till.drive("r1", self.driver)
         self.control = self.till.printer("r1")
@@ -285,11 +287,11 @@ TROUBLES = {
 
 def try_troubles():
     """Trouble during an order: the answer is never ok, and a retry prints once."""
-    for kind in ("usb", "tcp", "serial"):
+    for kind in ("usb", "tcp", "serial", "asked"):
         for trouble, (deed, undo, wanted) in TROUBLES.items():
             # A serial line doesn't tell that the device is off: the order fails, and later ones find it off.
             found_as = (111, 0) if kind == "serial" and wanted[0] == 108 else wanted
-            for place in (3, 30, 60):
+            for place in (3, 30, 50):
                 name = f"{trouble} after {place} bytes, over {kind}"
                 with contextlib.ExitStack() as stack:
                     shop = Shop(stack, kind)
@@ -308,7 +310,7 @@ def try_troubles():
 def try_asynchronous():
     """Trouble during output that waits: an ErrorEvent, and a retry prints once."""
     for trouble, (deed, undo, wanted) in TROUBLES.items():
-        for place in (3, 30, 60):
+        for place in (3, 30, 50):
             name = f"{trouble} after {place} bytes of waiting output"
             with contextlib.ExitStack() as stack:
                 shop = Shop(stack)
@@ -625,15 +627,15 @@ def try_refusals():
 
 def try_random():
     """Random trouble: each order that was answered ok is on the paper once, in order, and nothing else is."""
-    for kind in ("usb", "tcp"):
+    for kind in ("usb", "tcp", "asked"):
         chance = random.Random(WORDS.seed)
-        rounds = WORDS.faults // 2
+        rounds = WORDS.faults // 3
         counts = {}
         with contextlib.ExitStack() as stack:
             shop = Shop(stack, kind, lines=100_000)
             shop.device.load(100_000)
             for number in range(rounds):
-                trouble = random_round(shop, chance, number)
+                trouble = random_round(shop, chance, number, SIMPLE if kind == "asked" else ())
                 counts[trouble] = counts.get(trouble, 0) + 1
             shop.device.clear_triggers()
             shop.same_paper(f"{rounds} random faults over {kind}: the paper")
@@ -644,7 +646,11 @@ def try_random():
             print(f"{rounds} random faults over {kind}: {counts}, in doubt: {len(shop.device.doubts)}", flush=True)
 
 
-def random_trouble(device, chance):
+# What a printer that is asked must not meet: its answers have no number.
+SIMPLE = ("lost answers", "garbage")
+
+
+def random_trouble(device, chance, unless):
     """Some trouble: its name, what it does, and what ends it."""
     noise = bytes(chance.randrange(256) for _ in range(chance.randrange(1, 20)))
     troubles = {
@@ -658,17 +664,17 @@ def random_trouble(device, chance):
         "slow": (lambda: device.slow(chance.choice([0.01, 0.3])), lambda: device.slow(0)),
         "jam": (lambda: device.breaks(True), lambda: device.breaks(False)),
     }
-    name = chance.choice(list(troubles))
+    name = chance.choice([name for name in troubles if name not in unless])
     return name, *troubles[name]
 
 
-def random_round(shop, chance, number):
+def random_round(shop, chance, number, unless):
     """An order, trouble during it, and retries until it is printed."""
     device, control = shop.device, shop.control
     count = chance.randrange(1, 5)
     text = b"".join(b"\x1b|%bA%06d of %d\n" % (chance.choice([b"c", b"r"]), number, count) for _ in range(count))
     text += chance.choice([b"", b"", b"\x1b|P"])
-    name, deed, undo = random_trouble(device, chance)
+    name, deed, undo = random_trouble(device, chance, unless)
     device.clear_triggers()
     device.after(chance.randrange(1, 40 * count), deed)
     waits = control.async_mode = chance.random() < 0.5

@@ -24,7 +24,7 @@ from typing import Literal, Union
 
 from ._devices import DisplayView, Order, View
 from ._library import Path
-from ._links import PrinterLink
+from ._links import AskedLink, PrinterLink
 from ._questions import ProfileDevice
 from .ports import FilePort, Port, PortError, port_of
 
@@ -101,6 +101,8 @@ class EscPosPrinter(Driver):
         pulse: How long the pulse for the drawer lasts, and the pause after it, in 2 ms.
         is_open_high: Whether the drawer is open when pin 3 of its connector is high.
         lines: How many lines a full roll has, at most 100,000.
+        is_asked: Whether the printer says nothing by itself, and doesn't know GS ( H, as simpler ones. Then it is asked for
+            its status (DLE EOT), and whether an order is printed (GS r).
         timeout: How long an order may take, in seconds.
         pause: How long to wait before a lost port is tried again, in seconds.
     """
@@ -110,7 +112,7 @@ class EscPosPrinter(Driver):
 
     def __init__(self, port: Union[Port, Path], *, width: int | None = None, cutter: Cutter = "both", feed: int = 3,
                  pin: int = 2, pulse: tuple[int, int] = (25, 250), is_open_high: bool = True, lines: int = 4000,
-                 timeout: float = 5.0, pause: float = 1.0) -> None:
+                 is_asked: bool = False, timeout: float = 5.0, pause: float = 1.0) -> None:
         if cutter not in ("both", "full", "partial", "absent"):
             raise ValueError(f"no such cutter: {cutter!r}")
         if not (0 <= feed <= 255 and pin in (2, 5) and all(0 <= time <= 255 for time in pulse)):
@@ -118,7 +120,7 @@ class EscPosPrinter(Driver):
         self._width, self._cutter, self._feed, self._pin, self._pulse = width, cutter, feed, pin, pulse
         self._is_open_high, self._lines = is_open_high, lines
         self._columns, self._near = 42, 20
-        self.link = PrinterLink(port_of(port), timeout, pause)
+        self.link = (AskedLink if is_asked else PrinterLink)(port_of(port), timeout, pause)
 
     def __repr__(self) -> str:
         return f"<kijolvar.EscPosPrinter {self.link.port.name!r}, {'online' if self.is_online else 'offline'}>"

@@ -42,6 +42,8 @@ class Port:
     def __init__(self, name: str) -> None:
         self.name, self.turns = name, 0
         self._file: int | None = None
+        # Whether reading no bytes means that the port is lost.
+        self._ends_empty = True
 
     def __repr__(self) -> str:
         return f"<kijolvar.{type(self).__name__} {self.name!r}, {'open' if self.is_open else 'closed'}>"
@@ -101,14 +103,14 @@ class Port:
         return can_read, bool(flags & select.POLLOUT)
 
     def read_some(self) -> bytes:
-        """Returns what has come, if `ready` said that something has.
+        """Returns what has come, if `ready` said that something has. That may be nothing.
 
         Raises:
             PortError: The port was lost. It is closed then.
         """
         with self._losing():
             found = os.read(self.fileno(), _AT_ONCE)
-            if not found:
+            if not found and self._ends_empty:
                 raise PortError(errno.EPIPE, f"{self.name} was closed by the device")
             return found
         return b""
@@ -179,7 +181,9 @@ class FilePort(Port):
         try:
             if stat.S_ISREG(os.fstat(file).st_mode):
                 raise PortError(errno.ENODEV, f"{self.name} is a file and no device")
-            if os.isatty(file):
+            # A printer on USB may send packets with nothing in them.
+            self._ends_empty = os.isatty(file)
+            if self._ends_empty:
                 self._set_up(file)
         except BaseException:
             os.close(file)
