@@ -9,7 +9,9 @@ tcp://HOST:PORT. The last line is 'N passed, M failed'.
 """
 import argparse
 import contextlib
+import ctypes
 import os
+import operator
 import pathlib
 import random
 import re
@@ -352,6 +354,38 @@ def try_order_of_lines():
         shop.settle()
         told("the order again", "ok\n", shop.till.carry_out(f"call {word} printNormal 2 440a\n"))
         shop.same_paper("lines around an order that fails: the paper")
+
+
+def try_errands():
+    """Lines that wait between lines that change the totals in a file: all is in the file once it is answered."""
+    if not IS_WHOLE:
+        print("skipped: totals in a file: the stand-in has none")
+        return
+    path = WORK / "errands"
+    with contextlib.ExitStack() as stack:
+        till = stack.enter_context(opened(PROFILE, path, create=True))
+        device = stack.enter_context(Printer(cable()))
+        till.drive("r1", EscPosPrinter(device.path, timeout=TIMEOUT, pause=PAUSE))
+        totals = till.totals("t1")
+        totals.create("COUNT", 1)
+        printer = stack.enter_context(till.printer("r1").in_use())
+        handle = operator.index(totals["COUNT"])
+
+        def lines(first, text, second):
+            return (f"call {totals.name} write {handle} 0 {first:02x}\ncall {printer.name} printNormal 2 {text}\n"
+                    f"call {totals.name} write {handle} 0 {second:02x}\n")
+
+        def kept():
+            return path.read_bytes(), totals["COUNT"].read(0, 1)
+        told("totals around an order", "ok\nok\nok\n", till.carry_out(lines(1, "410a", 2)))
+        told("they are there", b"\2", kept()[1])
+        device.after(5, lambda: device.cover(True))
+        told("totals around an order that fails", "ok\nerr 114 201\nok\n", till.carry_out(lines(3, "420a", 4)))
+        told("they are there too", b"\4", kept()[1])
+        before = path.read_bytes()
+        stack.pop_all().close()
+    told("nothing is written at the end", True, len(path.read_bytes()) == len(before))
+    told("the file", b"\4", kijolvar.files(path, library=LIBRARY).files[b"COUNT"])
 
 
 def try_interrupts():
@@ -897,6 +931,9 @@ if __name__ == "__main__":
     WORDS = reader.parse_args()
     LIBRARY = pathlib.Path(WORDS.library).resolve()
     IS_WHOLE = LIBRARY.suffix == ".so"
+    if IS_WHOLE and not hasattr(ctypes.CDLL(os.fspath(LIBRARY)), "kijolvar_drive"):
+        print("failed: the library has no kijolvar_drive\n0 passed, 1 failed")
+        sys.exit(1)
     if not IS_WHOLE:
         SLACK, PATIENCE = SLOWLY, 60
         print("a stand-in of tests/fake_library.py is tried")
