@@ -149,7 +149,7 @@ class Bench:
             driver = None
             if device.category in ("POSPrinter", "CashDrawer"):
                 found = stack.enter_context(self.printer(device))
-                driver = EscPosPrinter(found.path, lines=100_000, timeout=5, pause=PAUSE)
+                driver = EscPosPrinter(found.path, lines=found.lines_left, timeout=5, pause=PAUSE)
                 driver = driver if device.category == "POSPrinter" else driver.drawer()
             elif device.category == "LineDisplay":
                 found = stack.enter_context(Display(cable(), device.rows, device.columns, protocol))
@@ -307,6 +307,7 @@ def try_troubles():
                     told(f"{name}: again", None, raised(shop.control.print, TEXT))
                     shop.same_paper(f"{name}: the paper")
                     told(f"{name}: nothing else", 0, shop.driver.late_orders)
+                    told(f"{name}: paper", True, shop.till.device("r1").show().lines_left > 990)
 
 
 def try_asynchronous():
@@ -852,10 +853,9 @@ def try_cost():
     pipes = {"stdin": subprocess.PIPE, "stdout": subprocess.PIPE, "text": True}
     with subprocess.Popen(words, **pipes) as emulator, opened() as till:
         port = emulator.stdout.readline().strip()
-        driver = EscPosPrinter(port, lines=100_000)
+        driver = EscPosPrinter(port)
         till.drive("r1", driver)
         with till.printer("r1").in_use() as printer:
-            till.device("r1").paper(100_000)
             line = b"A line of the length that lines often have\n"
             from kijolvar._links import end_of_job
             bare = b"\x1ba\0" + line + end_of_job(9)

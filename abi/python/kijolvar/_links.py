@@ -27,7 +27,7 @@ _REPLY = re.compile(rb"%b%b{3}|\x37\x22[\x40-\x4f]{4}\x00|%b" % (_STATUS, _LATER
 _BEGUN = re.compile(rb"(?:%b%b{0,2}|\x37(?:\x22[\x40-\x4f]{0,4})?)\Z" % (_STATUS, _LATER))
 _LONE = re.compile(_NOW + b"|" + _LATER)
 _NOTHING = re.compile(rb"\Z")
-_COVER_OPEN, _OFFLINE, _PAPER_ENDED, _FAULTY = 0x20, 0x08, 0x0C, 0x68
+_COVER_OPEN, _OFFLINE, _PAPER_NEAR_END, _PAPER_ENDED, _FAULTY = 0x20, 0x08, 0x03, 0x0C, 0x68
 
 
 def end_of_job(number: int) -> bytes:
@@ -137,6 +137,11 @@ class PrinterLink:
         if len(self.status) < 4 or not self.status[0] & _OFFLINE:
             return False
         return bool(self.status[0] & _COVER_OPEN or self.status[1] & _FAULTY or self.status[2] & _PAPER_ENDED)
+
+    @property
+    def has_paper(self) -> bool:
+        """Whether its sensors see enough paper."""
+        return len(self.status) == 4 and not self.status[2] & (_PAPER_NEAR_END | _PAPER_ENDED)
 
     # Orders.
 

@@ -71,6 +71,10 @@ class Driver:
         """How many statuses the device has sent, and what is to be told of the last one."""
         return 0, b""
 
+    def first_input(self) -> bytes:
+        """What is so at the device once its first status has come, as the words of an `input` line, or no bytes."""
+        return b""
+
     def scans(self) -> list[Scan]:
         """The codes that were read since the last call."""
         return []
@@ -100,7 +104,8 @@ class EscPosPrinter(Driver):
         pin: The pin of the drawer connector, 2 or 5.
         pulse: How long the pulse for the drawer lasts, and the pause after it, in 2 ms.
         is_open_high: Whether the drawer is open when pin 3 of its connector is high.
-        lines: How many lines a full roll has, at most 100,000.
+        lines: How many lines the till counts with when the sensors see enough paper, at most 100,000. If it has counted
+            down to the near end and they still see enough, it begins again.
         is_asked: Whether the printer says nothing by itself, and doesn't know GS ( H, as simpler ones. Then it is asked for
             its status (DLE EOT), and whether an order is printed (GS r).
         timeout: How long an order may take, in seconds.
@@ -111,7 +116,7 @@ class EscPosPrinter(Driver):
     is_silent = False
 
     def __init__(self, port: Union[Port, Path], *, width: int | None = None, cutter: Cutter = "both", feed: int = 3,
-                 pin: int = 2, pulse: tuple[int, int] = (25, 250), is_open_high: bool = True, lines: int = 4000,
+                 pin: int = 2, pulse: tuple[int, int] = (25, 250), is_open_high: bool = True, lines: int = 100_000,
                  is_asked: bool = False, timeout: float = 5.0, pause: float = 1.0) -> None:
         if cutter not in ("both", "full", "partial", "absent"):
             raise ValueError(f"no such cutter: {cutter!r}")
@@ -165,6 +170,9 @@ class EscPosPrinter(Driver):
 
     def status(self) -> tuple[int, bytes]:
         return self.link.statuses, self.link.status
+
+    def first_input(self) -> bytes:
+        return b"paper %d" % self._lines if self.link.has_paper else b""
 
     def files(self) -> list[int]:
         return [self.link.port.fileno()] if self.link.port.is_open else []
