@@ -3,13 +3,15 @@
 Usage: devices.py LIBRARY [--faults N] [--seed N] [--only WORD]
        devices.py LIBRARY --port PORT [--columns N]
 
-LIBRARY is libkijolvar.so; or the program pos_console, over which a stand-in for the library is tried. N random faults are tried, by default 150, from a seed. --only tries what has the word in its
-name. With --port it prints a page on a real printer at that port and says what has to be on it; PORT is a path or
+LIBRARY is libkijolvar.so; or the program pos_console, over which a stand-in for the library is tried. N random faults
+are tried, by default 150, from a seed. --only tries what has the word in its name. With --port it prints a page on a real printer at that port and says what has to be on it; PORT is a path or
 tcp://HOST:PORT. The last line is 'N passed, M failed'.
 """
 import argparse
 import contextlib
+import ctypes
 import os
+import operator
 import pathlib
 import random
 import re
@@ -91,10 +93,11 @@ def opened(profile=PROFILE, totals=None, **named):
 
 
 def cable(kind="usb"):
-    """A new cable: "usb" hangs up with the device, "serial" doesn't, and "tcp" is a network printer's."""
+    """A new cable: "usb" hangs up with the device, "serial" doesn't, and "tcp" is a network printer's. "asked" is a simpler
+    printer on "usb"."""
     global made
     made += 1
-    return TcpCable() if kind == "tcp" else PtyCable(WORK / f"port-{made}", hangs_up=kind == "usb")
+    return TcpCable() if kind == "tcp" else PtyCable(WORK / f"port-{made}", hangs_up=kind != "serial")
 
 
 def port_of(device, kind="usb"):
@@ -146,7 +149,7 @@ class Bench:
             driver = None
             if device.category in ("POSPrinter", "CashDrawer"):
                 found = stack.enter_context(self.printer(device))
-                driver = EscPosPrinter(found.path, lines=100_000, timeout=5, pause=PAUSE)
+                driver = EscPosPrinter(found.path, lines=found.lines_left, timeout=5, pause=PAUSE)
                 driver = driver if device.category == "POSPrinter" else driver.drawer()
             elif device.category == "LineDisplay":
                 found = stack.enter_context(Display(cable(), device.rows, device.columns, protocol))
@@ -252,8 +255,9 @@ class Shop:
 
     def __init__(self, stack, kind="usb", lines=1000, **named):
         self.till = stack.enter_context(opened())
-        self.device = stack.enter_context(Printer(cable(kind), lines=lines))
-        self.driver = EscPosPrinter(port_of(self.device, kind),
+        is_asked = kind == "asked"
+        self.device = stack.enter_context(Printer(cable(kind), lines=lines, is_simple=is_asked))
+        self.driver = EscPosPrinter(port_of(self.device, kind), is_asked=is_asked,
                                     **{"timeout": TIMEOUT, "pause": PAUSE, "lines": 1000, **named})
         self.till.drive("r1", self.driver)
         self.control = self.till.printer("r1")
@@ -285,11 +289,11 @@ TROUBLES = {
 
 def try_troubles():
     """Trouble during an order: the answer is never ok, and a retry prints once."""
-    for kind in ("usb", "tcp", "serial"):
+    for kind in ("usb", "tcp", "serial", "asked"):
         for trouble, (deed, undo, wanted) in TROUBLES.items():
             # A serial line doesn't tell that the device is off: the order fails, and later ones find it off.
             found_as = (111, 0) if kind == "serial" and wanted[0] == 108 else wanted
-            for place in (3, 30, 60):
+            for place in (3, 30, 50):
                 name = f"{trouble} after {place} bytes, over {kind}"
                 with contextlib.ExitStack() as stack:
                     shop = Shop(stack, kind)
@@ -303,12 +307,13 @@ def try_troubles():
                     told(f"{name}: again", None, raised(shop.control.print, TEXT))
                     shop.same_paper(f"{name}: the paper")
                     told(f"{name}: nothing else", 0, shop.driver.late_orders)
+                    told(f"{name}: paper", True, shop.till.device("r1").show().lines_left > 990)
 
 
 def try_asynchronous():
     """Trouble during output that waits: an ErrorEvent, and a retry prints once."""
     for trouble, (deed, undo, wanted) in TROUBLES.items():
-        for place in (3, 30, 60):
+        for place in (3, 30, 50):
             name = f"{trouble} after {place} bytes of waiting output"
             with contextlib.ExitStack() as stack:
                 shop = Shop(stack)
@@ -352,6 +357,38 @@ def try_order_of_lines():
         shop.same_paper("lines around an order that fails: the paper")
 
 
+def try_errands():
+    """Lines that wait between lines that change the totals in a file: all is in the file once it is answered."""
+    if not IS_WHOLE:
+        print("skipped: totals in a file: the stand-in has none")
+        return
+    path = WORK / "errands"
+    with contextlib.ExitStack() as stack:
+        till = stack.enter_context(opened(PROFILE, path, create=True))
+        device = stack.enter_context(Printer(cable()))
+        till.drive("r1", EscPosPrinter(device.path, timeout=TIMEOUT, pause=PAUSE))
+        totals = till.totals("t1")
+        totals.create("COUNT", 1)
+        printer = stack.enter_context(till.printer("r1").in_use())
+        handle = operator.index(totals["COUNT"])
+
+        def lines(first, text, second):
+            return (f"call {totals.name} write {handle} 0 {first:02x}\ncall {printer.name} printNormal 2 {text}\n"
+                    f"call {totals.name} write {handle} 0 {second:02x}\n")
+
+        def kept():
+            return path.read_bytes(), totals["COUNT"].read(0, 1)
+        told("totals around an order", "ok\nok\nok\n", till.carry_out(lines(1, "410a", 2)))
+        told("they are there", b"\2", kept()[1])
+        device.after(5, lambda: device.cover(True))
+        told("totals around an order that fails", "ok\nerr 114 201\nok\n", till.carry_out(lines(3, "420a", 4)))
+        told("they are there too", b"\4", kept()[1])
+        before = path.read_bytes()
+        stack.pop_all().close()
+    told("nothing is written at the end", True, len(path.read_bytes()) == len(before))
+    told("the file", b"\4", kijolvar.files(path, library=LIBRARY).files[b"COUNT"])
+
+
 def try_interrupts():
     """An interrupt during an order: it failed, and the till goes on."""
     with contextlib.ExitStack() as stack:
@@ -381,6 +418,8 @@ def try_slow():
         shop.device.slow(0)
         told("the same again", None, raised(shop.control.print, TEXT))
         shop.same_paper("a slow printer: the paper")
+        told("a long order", None, raised(shop.control.print, b"A line that isn't as long as it might be\n" * 99))
+        shop.same_paper("a long order: the paper")
 
 
 def try_silence():
@@ -610,6 +649,8 @@ def try_refusals():
         told("no such device", "NoDeviceError", name_of(till.drive, "r9", EscPosPrinter("/dev/null")))
         told("another category", "DriverError", name_of(till.drive, "d1", EscPosPrinter("/dev/null")))
         told("a narrow printer", "ValueError", name_of(till.drive, "r1", EscPosPrinter("/dev/null", width=20)))
+        with till.printer("r1").in_use() as printer:
+            told("a device that isn't driven answers at once", None, raised(printer.print, TEXT))
     told("no such cutter", "ValueError", name_of(EscPosPrinter, "/dev/null", cutter="axe"))
     told("no such speed", "ValueError", name_of(SerialPort, "/dev/ttyS0", 9601))
     told("no such parity", "ValueError", name_of(SerialPort, "/dev/ttyS0", parity="odder"))
@@ -621,15 +662,15 @@ def try_refusals():
 
 def try_random():
     """Random trouble: each order that was answered ok is on the paper once, in order, and nothing else is."""
-    for kind in ("usb", "tcp"):
+    for kind in ("usb", "tcp", "asked"):
         chance = random.Random(WORDS.seed)
-        rounds = WORDS.faults // 2
+        rounds = WORDS.faults // 3
         counts = {}
         with contextlib.ExitStack() as stack:
             shop = Shop(stack, kind, lines=100_000)
             shop.device.load(100_000)
             for number in range(rounds):
-                trouble = random_round(shop, chance, number)
+                trouble = random_round(shop, chance, number, SIMPLE if kind == "asked" else ())
                 counts[trouble] = counts.get(trouble, 0) + 1
             shop.device.clear_triggers()
             shop.same_paper(f"{rounds} random faults over {kind}: the paper")
@@ -640,7 +681,11 @@ def try_random():
             print(f"{rounds} random faults over {kind}: {counts}, in doubt: {len(shop.device.doubts)}", flush=True)
 
 
-def random_trouble(device, chance):
+# What a printer that is asked must not meet: its answers have no number.
+SIMPLE = ("lost answers", "garbage")
+
+
+def random_trouble(device, chance, unless):
     """Some trouble: its name, what it does, and what ends it."""
     noise = bytes(chance.randrange(256) for _ in range(chance.randrange(1, 20)))
     troubles = {
@@ -654,17 +699,17 @@ def random_trouble(device, chance):
         "slow": (lambda: device.slow(chance.choice([0.01, 0.3])), lambda: device.slow(0)),
         "jam": (lambda: device.breaks(True), lambda: device.breaks(False)),
     }
-    name = chance.choice(list(troubles))
+    name = chance.choice([name for name in troubles if name not in unless])
     return name, *troubles[name]
 
 
-def random_round(shop, chance, number):
+def random_round(shop, chance, number, unless):
     """An order, trouble during it, and retries until it is printed."""
     device, control = shop.device, shop.control
     count = chance.randrange(1, 5)
     text = b"".join(b"\x1b|%bA%06d of %d\n" % (chance.choice([b"c", b"r"]), number, count) for _ in range(count))
     text += chance.choice([b"", b"", b"\x1b|P"])
-    name, deed, undo = random_trouble(device, chance)
+    name, deed, undo = random_trouble(device, chance, unless)
     device.clear_triggers()
     device.after(chance.randrange(1, 40 * count), deed)
     waits = control.async_mode = chance.random() < 0.5
@@ -727,8 +772,8 @@ def try_killed():
         with opened(PROFILE, path, create=True) as till:
             till.totals("t1").create("COUNT", 4)
         with Printer(cable(), lines=100_000) as device:
-            host = subprocess.Popen([sys.executable, "-c", HOST, TOP / "abi/python", LIBRARY, path, device.path, PROFILE],
-                                    stdout=subprocess.PIPE, text=True)
+            words = [sys.executable, "-c", HOST, TOP / "abi/python", LIBRARY, path, device.path, PROFILE]
+            host = subprocess.Popen(words, stdout=subprocess.PIPE, text=True)
             wanted = chance.randrange(1, 40)
             said = []
             for line in host.stdout:
@@ -780,7 +825,8 @@ def try_guide():
     path = WORK / "guide"
     command = commands[0].replace("/tmp/printer", str(path))
     told("the guide's port", True, f"--path {path}" in command)
-    with subprocess.Popen(command.split(), stdin=subprocess.PIPE, stdout=subprocess.PIPE, text=True, cwd=TOP) as emulator:
+    pipes = {"stdin": subprocess.PIPE, "stdout": subprocess.PIPE, "text": True, "cwd": TOP}
+    with subprocess.Popen(command.split(), **pipes) as emulator:
         told("the emulator says its port", str(path), emulator.stdout.readline().strip())
         with opened(None) as till:
             till.drive("r1", EscPosPrinter(path, pause=PAUSE))
@@ -804,12 +850,12 @@ def try_guide():
 def try_cost():
     """What an order costs beside a bare round trip of the same bytes."""
     words = [sys.executable, str(TOP / "tests/emulator"), "printer", "--path", str(WORK / "cost"), "--lines", "100000"]
-    with subprocess.Popen(words, stdin=subprocess.PIPE, stdout=subprocess.PIPE, text=True) as emulator, opened() as till:
+    pipes = {"stdin": subprocess.PIPE, "stdout": subprocess.PIPE, "text": True}
+    with subprocess.Popen(words, **pipes) as emulator, opened() as till:
         port = emulator.stdout.readline().strip()
-        driver = EscPosPrinter(port, lines=100_000)
+        driver = EscPosPrinter(port)
         till.drive("r1", driver)
         with till.printer("r1").in_use() as printer:
-            till.device("r1").paper(100_000)
             line = b"A line of the length that lines often have\n"
             from kijolvar._links import end_of_job
             bare = b"\x1ba\0" + line + end_of_job(9)
@@ -885,7 +931,10 @@ if __name__ == "__main__":
     WORDS = reader.parse_args()
     LIBRARY = pathlib.Path(WORDS.library).resolve()
     IS_WHOLE = LIBRARY.suffix == ".so"
+    if IS_WHOLE and not hasattr(ctypes.CDLL(os.fspath(LIBRARY)), "kijolvar_drive"):
+        print("failed: the library has no kijolvar_drive\n0 passed, 1 failed")
+        sys.exit(1)
     if not IS_WHOLE:
-        SLACK = SLOWLY
+        SLACK, PATIENCE = SLOWLY, 60
         print("a stand-in of tests/fake_library.py is tried")
     main()

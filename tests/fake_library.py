@@ -1,5 +1,5 @@
-"""A stand-in for a library with driven devices, over the program pos_console. It tries each line on a second till first.
-If a driven device gets an order there, the line waits."""
+"""A stand-in for a library with driven devices, over the program pos_console. It tries each line on a second till
+first. If a driven device gets an order there, the line waits."""
 import ctypes
 import subprocess
 import tempfile
@@ -104,8 +104,8 @@ class FakeLibrary(ctypes.CDLL):
     def __init__(self, program):
         super().__init__(None)
         self._program = program
-        for name in ("version", "open", "carry_out", "answer", "next_order", "close", "drive", "order_done", "order_bytes",
-                     "replies", "devices", "control", "next_event"):
+        for name in ("version", "open", "carry_out", "answer", "next_order", "close", "drive", "order_done",
+                     "order_bytes", "replies", "devices", "control", "next_event"):
             setattr(self, f"kijolvar_{name}", Call(getattr(self, f"_{name}")))
 
     def __getitem__(self, name):

@@ -43,8 +43,10 @@ class Printer(Device):
             driver can know whether it was printed.
     """
 
-    def __init__(self, cable, columns=42, lines=1000, near=20):
+    def __init__(self, cable, columns=42, lines=1000, near=20, is_simple=False):
         super().__init__(cable)
+        #: Whether it knows neither automatic status nor the end of a job.
+        self.is_simple = is_simple
         self.columns, self.near, self.lines_left = columns, near, lines
         self.is_cover_open = self.is_drawer_open = self.is_drawer_stuck = self.is_broken = False
         self.paper, self.pulses, self.doubts, self._known = [], [], set(), 0
@@ -216,13 +218,14 @@ class Printer(Device):
                 if way in (0, 1, 0x41, 0x42):
                     self.paper.append(Cut(way in (0, 0x41), command[3] if len(command) == 4 else None))
         elif command[1] == 0x61:
-            self._is_automatic = command[2] != 0
+            self._is_automatic = command[2] != 0 and not self.is_simple
             self._told = None
             self._changed()
         elif command[1] == 0x72:
             paper = (0x03 if self.lines_left <= self.near else 0) | (0x0C if self.lines_left == 0 else 0)
             self.send(bytes([paper if command[2] in (1, 0x31) else self.is_drawer_open]))
-        elif command[1] == 0x28 and command[2] == 0x48 and command[3:7] == b"\x06\x00\x30\x30":
+            self._known = len(self.paper)
+        elif not self.is_simple and command[1] == 0x28 and command[2] == 0x48 and command[3:7] == b"\x06\x00\x30\x30":
             self.send(b"\x37\x22" + command[7:11] + b"\0")
             self._known = len(self.paper)
 

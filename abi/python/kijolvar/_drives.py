@@ -23,8 +23,7 @@ class Drive:
         self.name, self.category, self.driver = device.name, device.category, driver
         self.word = device_word(device.name)
         # What the till was told of the device.
-        self.is_on = True
-        self.statuses = 0
+        self.is_on = self.is_new = True
         # The device may show anything yet.
         self.needs_view = driver.needs_view
 
@@ -52,9 +51,13 @@ class Drives:
             raise DriverError(f"{device.name!r} is a {device.category}, and the driver is for a {driver.category}")
         if device.name in self._drives:
             raise DriverError(f"{device.name!r} has a driver already")
-        if device.category != "Scanner":
-            self._session.drive(device_word(device.name))
         driver.start(device)
+        if device.category != "Scanner":
+            try:
+                self._session.drive(device_word(device.name))
+            except BaseException:
+                driver.close()
+                raise
         self._drives[device.name] = Drive(device, driver)
         self.hand_in()
 
@@ -74,12 +77,15 @@ class Drives:
 
     def _inputs(self, drive: Drive) -> bytes:
         """What the device says of itself, as lines of inputs, so far as its device in the till shows something else."""
-        count, status = drive.driver.status()
-        drive.statuses = count
+        _, status = drive.driver.status()
         if not status:
             return b""
         lines = self._session.replies(drive.word, drive.driver.settings, status)
         drive.is_on = True
+        if drive.is_new:
+            drive.is_new = False
+            first = drive.driver.first_input()
+            lines += b"input %b %b\n" % (drive.word, first) if first else b""
         return lines
 
     # Inputs.

@@ -1,21 +1,33 @@
 """The line to a receipt printer: what is sent, what has been acknowledged, and what the printer says of itself."""
 from __future__ import annotations
 
+import re
 import time
 from collections import deque
-from collections.abc import Callable, Iterator
+from collections.abc import Callable
 from dataclasses import dataclass, field
 
 from .ports import Port, PortError
 
-#: Zero bytes do nothing, and end a command that an earlier connection has begun. Then: initialize, automatic status on.
-_START = b"\0" * 12 + b"\x1b@\x1da\xff"
-_STATUS_ON = b"\x1da\xff"
+# Zero bytes do nothing, and end a command that an earlier connection has begun.
+_ZEROS = b"\0" * 12
+_STATUS_ON, _STATUS_OFF = b"\x1da\xff", b"\x1da\0"
 _ARE_YOU_THERE = b"\x10\x04\x01"
 _NUMBERS = 65_536
-# How long a lost port may take to open, in seconds, while other devices wait.
-_QUICKLY = 0.25
-_COVER_OPEN, _OFFLINE, _PAPER_ENDED, _FAULTY = 0x20, 0x08, 0x0C, 0x68
+# How long a lost port may take to open while other devices wait, and how often a line is looked at, in seconds.
+_QUICKLY, _OFTEN = 0.25, 0.1
+# What ends a piece: a line feed, a pulse, a feed, or a cut.
+_PIECE = re.compile(rb"(?:\x1b@|\x1b[^@pd].|\x1d[^V].|[^\n\x1b\x1d])*"
+                    rb"(?:\n|\x1bp...|\x1bd.|\x1dV(?:[AB].|[^AB])|\Z)", re.S)
+# Only the first byte of a reply has bit 4 set. So a reply that lost bytes ends at the next one.
+_LATER = rb"[\x00-\x0f\x20-\x2f\x40-\x4f\x60-\x6f]"
+_STATUS = rb"[\x10\x14\x18\x1c\x30\x34\x38\x3c\x50\x54\x58\x5c\x70\x74\x78\x7c]"
+_NOW = rb"[\x12\x16\x1a\x1e\x32\x36\x3a\x3e\x52\x56\x5a\x5e\x72\x76\x7a\x7e]"
+_REPLY = re.compile(rb"%b%b{3}|\x37\x22[\x40-\x4f]{4}\x00|%b" % (_STATUS, _LATER, _NOW))
+_BEGUN = re.compile(rb"(?:%b%b{0,2}|\x37(?:\x22[\x40-\x4f]{0,4})?)\Z" % (_STATUS, _LATER))
+_LONE = re.compile(_NOW + b"|" + _LATER)
+_NOTHING = re.compile(rb"\Z")
+_COVER_OPEN, _OFFLINE, _PAPER_NEAR_END, _PAPER_ENDED, _FAULTY = 0x20, 0x08, 0x03, 0x0C, 0x68
 
 
 def end_of_job(number: int) -> bytes:
@@ -23,61 +35,32 @@ def end_of_job(number: int) -> bytes:
     return b"\x1d(H\x06\0" + b"00" + bytes(0x40 | number >> shift & 0x0F for shift in (12, 8, 4, 0))
 
 
-def pieces_of(data: bytes) -> Iterator[bytes]:
+def pieces_of(data: bytes) -> list[bytes]:
     """The lines, cuts and pulses of an order, each with the commands that belong to it."""
-    start = at = 0
-    while at < len(data):
-        first, second = data[at], data[at + 1:at + 2]
-        size, ends = 1, first == 0x0A
-        if first == 0x1B:
-            size, ends = {b"@": (2, False), b"p": (5, True), b"d": (3, True)}.get(second, (3, False))
-        elif first == 0x1D:
-            size = 4 if second == b"V" and data[at + 2:at + 3] in (b"A", b"B") else 3
-            ends = second == b"V"
-        at += size
-        if ends:
-            yield data[start:at]
-            start = at
-    if start < len(data):
-        yield data[start:]
+    return [piece for piece in _PIECE.findall(data) if piece]
 
 
 class ReplyReader:
-    """Reads what a printer sends, in whatever pieces it comes. Bytes that are no reply are passed over."""
+    """Reads what a printer sends, in whatever pieces it comes. Bytes that are no reply are passed over.
 
-    def __init__(self) -> None:
-        self._begun = bytearray()
+    Of a printer that is only asked, each byte is a reply: to DLE EOT, or to GS r.
+    """
 
-    def take(self, data: bytes) -> Iterator[bytes]:
+    def __init__(self, is_asked: bool = False) -> None:
+        self._begun = b""
+        self._reply, self._beginning = (_LONE, _NOTHING) if is_asked else (_REPLY, _BEGUN)
+
+    def take(self, data: bytes) -> list[bytes]:
         """The replies that are whole now: automatic statuses, acknowledgements, and replies to DLE EOT."""
-        for byte in data:
-            # Only the first byte of a reply has this bit set. So a reply that lost bytes ends at the next one.
-            if byte & 0x10:
-                self._begun[:] = b""
-            elif not self._begun:
-                continue
-            self._begun.append(byte)
-            first = self._begun[0]
-            if first & 0x93 == 0x12:
-                size = 1
-            elif first & 0x93 == 0x10:
-                size = 4
-            elif first == 0x37:
-                size = 7
-            else:
-                size = 0
-            if not size or not self._fits(first):
-                self._begun.clear()
-            elif len(self._begun) == size:
-                yield bytes(self._begun)
-                self._begun.clear()
-
-    def _fits(self, first: int) -> bool:
-        """Whether the bytes so far can be the beginning of a reply."""
-        if first != 0x37:
-            return all(byte & 0x90 == 0 for byte in self._begun[1:])
-        rest = self._begun[1:]
-        return (not rest or rest[0] == 0x22) and all(0x40 <= byte <= 0x4F for byte in rest[1:5]) and rest[5:] in (b"", b"\0")
+        data = self._begun + data
+        found: list[bytes] = []
+        end = 0
+        for reply in self._reply.finditer(data):
+            found.append(reply[0])
+            end = reply.end()
+        begun = self._beginning.search(data, end)
+        self._begun = begun[0] if begun is not None else b""
+        return found
 
 
 class Job:
@@ -94,7 +77,7 @@ class Job:
 
     def __init__(self, data: bytes, is_once: bool) -> None:
         self.data, self.is_once = data, is_once
-        self.pieces = list(pieces_of(data)) or [b""]
+        self.pieces = pieces_of(data) or [b""]
         self.sent = self.done = 0
         self.is_torn = False
 
@@ -129,6 +112,8 @@ class PrinterLink:
         late: How many orders were printed whole after they had failed, while nothing asked for them again.
     """
 
+    _start, _refresh = _ZEROS + b"\x1b@" + _STATUS_ON, _STATUS_ON
+
     def __init__(self, port: Port, timeout: float, pause: float) -> None:
         self.port, self.timeout, self._pause = port, timeout, pause
         self.status, self.statuses, self.late = b"", 0, 0
@@ -136,7 +121,7 @@ class PrinterLink:
         self._number = 0
         self._outbox: deque[_Parcel] = deque()
         self._due: deque[_Parcel] = deque()
-        self._reader = ReplyReader()
+        self._reader = self._new_reader()
         self._is_there = self._has_answered = self._was_silent = self._is_refreshing = False
         self._tried_at = self._refreshed_at = -1e9
         self._asked_at: float | None = None
@@ -152,6 +137,11 @@ class PrinterLink:
         if len(self.status) < 4 or not self.status[0] & _OFFLINE:
             return False
         return bool(self.status[0] & _COVER_OPEN or self.status[1] & _FAULTY or self.status[2] & _PAPER_ENDED)
+
+    @property
+    def has_paper(self) -> bool:
+        """Whether its sensors see enough paper."""
+        return len(self.status) == 4 and not self.status[2] & (_PAPER_NEAR_END | _PAPER_ENDED)
 
     # Orders.
 
@@ -211,9 +201,14 @@ class PrinterLink:
     def _send(self, piece: bytes, job: Job | None, done: int) -> None:
         """Puts a piece and the question for its acknowledgement into the outbox."""
         self._number = (self._number + 1) % _NUMBERS
-        parcel = _Parcel(bytearray(piece + end_of_job(self._number)), self._number, job, done, turn=self.port.turns)
+        data = bytearray(piece + self._end(self._number))
+        parcel = _Parcel(data, self._number, job, done, turn=self.port.turns)
         self._outbox.append(parcel)
         self._due.append(parcel)
+
+    def _end(self, number: int) -> bytes:
+        """What asks the printer to acknowledge that everything before it is printed."""
+        return end_of_job(number)
 
     def _drop(self) -> None:
         """Takes back what hasn't begun to go out."""
@@ -231,19 +226,23 @@ class PrinterLink:
             self._asked_at = None
             if self._was_silent or not self._is_there:
                 self._comes_back()
-            if len(reply) == 4:
-                self.status, self._is_refreshing = reply, False
-                self.statuses += 1
-            elif len(reply) == 7:
-                digits = [byte & 0x0F for byte in reply[2:6]]
-                self._acknowledged(digits[0] << 12 | digits[1] << 8 | digits[2] << 4 | digits[3])
+            self._hears(reply)
+
+    def _hears(self, reply: bytes) -> None:
+        """What a reply says."""
+        if len(reply) == 4:
+            self.status, self._is_refreshing = reply, False
+            self.statuses += 1
+        elif len(reply) == 7:
+            digits = [byte & 0x0F for byte in reply[2:6]]
+            self._acknowledged(digits[0] << 12 | digits[1] << 8 | digits[2] << 4 | digits[3])
 
     def _comes_back(self) -> None:
         """The printer answers again. It may have been off, if the port stays then, and tells no status by itself."""
         if not self.port.is_reliable:
-            self._outbox.append(_Parcel(bytearray(_START)))
+            self._puts(self._start)
         elif self._has_answered:
-            self._outbox.append(_Parcel(bytearray(_STATUS_ON)))
+            self._puts(self._refresh)
         self._is_there, self._has_answered, self._was_silent = True, True, False
 
     def _acknowledged(self, number: int) -> None:
@@ -255,17 +254,25 @@ class PrinterLink:
             if job is not None:
                 # Bytes are lost only together with the port, if it is a reliable one.
                 if (is_last or self.port.is_reliable and parcel.turn == turn) and not job.is_torn:
-                    job.done = parcel.done
+                    job.done = max(job.done, parcel.done)
                     self.late += job.is_done and job.is_late(self._job)
                 else:
                     job.is_torn = True
             if is_last:
                 return
 
+    def _puts(self, data: bytes) -> None:
+        """Puts bytes that nothing acknowledges into the outbox."""
+        if data:
+            self._outbox.append(_Parcel(bytearray(data)))
+
+    def _new_reader(self) -> ReplyReader:
+        return ReplyReader()
+
     def _receive(self) -> None:
         """Reads what has come."""
-        while self.port.ready(False, 0)[0]:
-            self._takes(self.port.read_some())
+        while self.port.ready(False, 0)[0] and (data := self.port.read_some()):
+            self._takes(data)
 
     def _pump(self, until: Callable[[], bool], end: float) -> bool:
         """Sends and reads until something is so, and returns whether it was so in time."""
@@ -273,12 +280,18 @@ class PrinterLink:
             left = end - time.monotonic()
             if left <= 0:
                 return False
-            can_read, can_write = self.port.ready(bool(self._outbox), left)
-            if can_read:
-                self._takes(self.port.read_some())
-            elif can_write:
+            self._asks_on()
+            can_read, can_write = self.port.ready(bool(self._outbox), min(left, _OFTEN))
+            data = self.port.read_some() if can_read else b""
+            self._takes(data)
+            if can_write:
                 self._writes()
+            elif can_read and not data:
+                time.sleep(_OFTEN)
         return True
+
+    def _asks_on(self) -> None:
+        """Asks what a printer doesn't say by itself."""
 
     def _writes(self) -> None:
         """Sends of the outbox what there is room for."""
@@ -329,12 +342,12 @@ class PrinterLink:
             self._ask()
         if self.is_stopped and not self._is_refreshing and now - self._refreshed_at > self._pause and not self._outbox:
             self._is_refreshing, self._refreshed_at = True, now
-            self._outbox.append(_Parcel(bytearray(_STATUS_ON)))
+            self._puts(self._refresh)
 
     def _ask(self) -> None:
         """Asks whether the printer is there."""
         self._asked_at = time.monotonic()
-        self._outbox.append(_Parcel(bytearray(_ARE_YOU_THERE)))
+        self._puts(_ARE_YOU_THERE)
 
     def _connect(self, seconds: float) -> None:
         try:
@@ -344,7 +357,7 @@ class PrinterLink:
         finally:
             self._tried_at = time.monotonic()
         self._forget()
-        self._outbox.append(_Parcel(bytearray(_START)))
+        self._puts(self._start)
         self._ask()
 
     def _lose(self) -> None:
@@ -355,9 +368,97 @@ class PrinterLink:
     def _forget(self) -> None:
         self._drop()
         self._outbox.clear()
-        self._reader = ReplyReader()
+        self._reader = self._new_reader()
         self._is_there = self._has_answered = self._was_silent = self._is_refreshing = False
         self.status, self._asked_at = b"", None
 
     def close(self) -> None:
         self._lose()
+
+
+class AskedLink(PrinterLink):
+    """The line to a printer that says nothing by itself, and doesn't know the end of a job: it is asked. GS r is
+    answered once everything before it is printed. Its replies have no number, so they are counted."""
+
+    _start, _refresh = _ZEROS + b"\x1b@" + _STATUS_OFF, b""
+
+    def __init__(self, port: Port, timeout: float, pause: float) -> None:
+        super().__init__(port, timeout, pause)
+        self._question, self._questioned_at = 1, -1e9
+        self._is_asking = False
+        self._heard: dict[int, int] = {}
+        self._rounds = 0
+
+    def _new_reader(self) -> ReplyReader:
+        return ReplyReader(is_asked=True)
+
+    def _end(self, number: int) -> bytes:
+        return b"\x1dr\x01"
+
+    def _asks_on(self) -> None:
+        """Asks the questions of DLE EOT, one after the other: the printer, why it is offline, the paper."""
+        now = time.monotonic()
+        if self._outbox or now - self._questioned_at < (self.timeout if self._is_asking else _OFTEN):
+            return
+        self._questioned_at = now
+        self._asks(1)
+
+    def _asks(self, question: int) -> None:
+        self._question, self._is_asking = question, True
+        self._puts(bytes([0x10, 0x04, question]))
+
+    def _ask(self) -> None:
+        self._asked_at = time.monotonic()
+        self._asks_on()
+
+    def _look_after(self, now: float) -> None:
+        super()._look_after(now)
+        self._asks_on()
+
+    def _hears(self, reply: bytes) -> None:
+        if not reply[0] & 0x10:
+            if self._due:
+                number = self._due[0].number
+                assert number is not None
+                self._acknowledged(number)
+        elif self._is_asking:
+            self._is_asking = False
+            self._heard[self._question] = reply[0]
+            if self._question != 4:
+                self._asks(2 * self._question)
+            else:
+                self._rounds += 1
+                self._composes(*(self._heard[question] for question in (1, 2, 4)))
+
+    def _composes(self, printer: int, cause: int, paper: int) -> None:
+        """Puts the replies together to what an automatic status would be."""
+        cover = _COVER_OPEN if cause & 0x04 else 0
+        now = bytes([0x10 | printer & 0x0C | cover, cause >> 3 & 0x08, paper >> 2 & 0x03 | paper >> 3 & 0x0C, 0])
+        if now != self.status:
+            self.status = now
+            self.statuses += 1
+
+    def _taken_up(self, data: bytes, is_once: bool, end: float) -> Job:
+        self._gives_up(end)
+        return super()._taken_up(data, is_once, end)
+
+    def _gives_up(self, end: float) -> None:
+        """Waits for acknowledgements that are late, where they can be lost. They are if none comes for the whole time,
+        although the printer says that it can print."""
+        count, rounds = len(self._due), self._rounds
+        if self.port.is_reliable or not self._due:
+            return
+        self._pump(lambda: not self._due or self.is_stopped, end)
+        if len(self._due) == count and self._rounds > rounds + 1 and not self.is_stopped:
+            self._lost_due()
+
+    def _lost_due(self) -> None:
+        for parcel in self._due:
+            if parcel.job is not None:
+                parcel.job.is_torn = True
+        self._due.clear()
+
+    def _forget(self) -> None:
+        super()._forget()
+        self._lost_due()
+        self._is_asking, self._questioned_at = False, -1e9

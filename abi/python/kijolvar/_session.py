@@ -9,7 +9,8 @@ from collections.abc import Callable, Iterator
 from typing import Any, BinaryIO, NoReturn
 
 from ._constants import (KIJOLVAR_DISK_FAILED, KIJOLVAR_DISK_LENGTH, KIJOLVAR_ERRANDS, KIJOLVAR_EVENT,
-                         KIJOLVAR_NO_MEMORY, KIJOLVAR_OK, KIJOLVAR_ORDER, KIJOLVAR_SHORT, KIJOLVAR_SYNC, KIJOLVAR_UNDONE, KIJOLVAR_WRITE)
+                         KIJOLVAR_NO_MEMORY, KIJOLVAR_OK, KIJOLVAR_ORDER, KIJOLVAR_SHORT, KIJOLVAR_SYNC,
+                         KIJOLVAR_UNDONE, KIJOLVAR_WRITE)
 from ._library import NO_ORDER as KIJOLVAR_NO_ORDER, WAITS as KIJOLVAR_WAITS
 from ._library import Raw, carrier, check
 from .errors import ThreadError, TillClosedError, library_fault
@@ -44,7 +45,10 @@ class Session:
         self._number = ctypes.c_size_t()
         self._number_at = ctypes.pointer(self._number)
         self._later: deque[Callable[[], None]] = deque()
-        self._is_settling = self._has_served = self._is_driven = False
+        self._is_settling = self._has_served = False
+        # The devices that are driven, and the orders of hosted devices that came before one of these.
+        self._driven: set[bytes] = set()
+        self._hosted: deque[bytes] = deque()
         #: Carries out an order of a driven device: whether it is done, and what happened at the device if it isn't.
         self.serve: Callable[[bytes], tuple[bool, bytes]] | None = None
         #: Is called after lines whose orders were carried out so.
@@ -170,8 +174,8 @@ class Session:
         return carry_out
 
     def _carry_on(self, code: int, lines: bytes) -> bytes:
-        """What is left to do where a call with lines isn't done: the errands, and a longer room. Errands of earlier lines
-        are left where an interrupt came before they were done; then the call is made again."""
+        """What is left to do where a call with lines isn't done: the errands, a longer room, and the orders for which lines
+        wait. An interrupt may have left errands or lines of an earlier call; then the call is made again."""
         if code == KIJOLVAR_UNDONE:
             self._settle()
             return self.carry_out(lines)
@@ -214,8 +218,8 @@ class Session:
             elif report is None:
                 report = self._served() if is_wanted else self._refused()
             outcome, inputs = report
-            code = self._library.kijolvar_order_done(self._raw, self._out, outcome, inputs, len(inputs), room, len(room),
-                                                     self._needed_at)
+            code = self._library.kijolvar_order_done(self._raw, self._out, outcome, inputs, len(inputs), room,
+                                                     len(room), self._needed_at)
         raise library_fault(code)
 
     def _answer_into(self, room: Any) -> int:
@@ -235,7 +239,7 @@ class Session:
 
     def _served(self) -> tuple[int, bytes]:
         """Has the order that waits carried out: the outcome, and what happened at the device if it isn't done."""
-        order = next(self.orders(), None)
+        order = self._driven_order()
         if order is None or self.serve is None:
             raise library_fault(KIJOLVAR_NO_ORDER)
         self._has_served = True
@@ -244,8 +248,16 @@ class Session:
 
     def _refused(self) -> tuple[int, bytes]:
         """The outcome of an order that waits and that nobody carries out."""
-        next(self.orders(), None)
+        self._driven_order()
         return _NOT_DONE, b""
+
+    def _driven_order(self) -> bytes | None:
+        """Takes out the order of the driven device for which a line waits. Those of hosted devices are kept."""
+        for order in self._taken_out():
+            if order.partition(b" ")[0] in self._driven:
+                return order
+            self._hosted.append(order)
+        return None
 
     def _give_up(self) -> None:
         """Ends lines of an earlier call that was interrupted: their orders failed, and nobody wants the answer."""
@@ -287,9 +299,9 @@ class Session:
         code = self._library.kijolvar_drive(self._raw, self._out, device, len(device))
         if code != KIJOLVAR_OK:
             raise library_fault(code)
-        if not self._is_driven:
-            self._is_driven = True
+        if not self._driven:
             self._mark_calls()
+        self._driven.add(device)
 
     def order_bytes(self, settings: bytes) -> bytes:
         """The bytes that the device has to get for the order that was taken out last."""
@@ -316,6 +328,13 @@ class Session:
 
     def orders(self) -> Iterator[bytes]:
         """The orders of the devices that the host has, oldest first. Each is taken out as it is given."""
+        while self._hosted:
+            self.check()
+            yield self._hosted.popleft()
+        yield from self._taken_out()
+
+    def _taken_out(self) -> Iterator[bytes]:
+        """The orders that the library has."""
         room: Any = ctypes.create_string_buffer(_ROOM)
         needed = ctypes.c_size_t()
         while True:

@@ -24,7 +24,7 @@ from typing import Literal, Union
 
 from ._devices import DisplayView, Order, View
 from ._library import Path
-from ._links import PrinterLink
+from ._links import AskedLink, PrinterLink
 from ._questions import ProfileDevice
 from .ports import FilePort, Port, PortError, port_of
 
@@ -71,6 +71,10 @@ class Driver:
         """How many statuses the device has sent, and what is to be told of the last one."""
         return 0, b""
 
+    def first_input(self) -> bytes:
+        """What is so at the device once its first status has come, as the words of an `input` line, or no bytes."""
+        return b""
+
     def scans(self) -> list[Scan]:
         """The codes that were read since the last call."""
         return []
@@ -100,7 +104,10 @@ class EscPosPrinter(Driver):
         pin: The pin of the drawer connector, 2 or 5.
         pulse: How long the pulse for the drawer lasts, and the pause after it, in 2 ms.
         is_open_high: Whether the drawer is open when pin 3 of its connector is high.
-        lines: How many lines a full roll has, at most 100,000.
+        lines: How many lines the till counts with when the sensors see enough paper, at most 100,000. If it has counted
+            down to the near end and they still see enough, it begins again.
+        is_asked: Whether the printer says nothing by itself, and doesn't know GS ( H, as simpler ones. Then it is asked for
+            its status (DLE EOT), and whether an order is printed (GS r).
         timeout: How long an order may take, in seconds.
         pause: How long to wait before a lost port is tried again, in seconds.
     """
@@ -109,8 +116,8 @@ class EscPosPrinter(Driver):
     is_silent = False
 
     def __init__(self, port: Union[Port, Path], *, width: int | None = None, cutter: Cutter = "both", feed: int = 3,
-                 pin: int = 2, pulse: tuple[int, int] = (25, 250), is_open_high: bool = True, lines: int = 4000,
-                 timeout: float = 5.0, pause: float = 1.0) -> None:
+                 pin: int = 2, pulse: tuple[int, int] = (25, 250), is_open_high: bool = True, lines: int = 100_000,
+                 is_asked: bool = False, timeout: float = 5.0, pause: float = 1.0) -> None:
         if cutter not in ("both", "full", "partial", "absent"):
             raise ValueError(f"no such cutter: {cutter!r}")
         if not (0 <= feed <= 255 and pin in (2, 5) and all(0 <= time <= 255 for time in pulse)):
@@ -118,7 +125,7 @@ class EscPosPrinter(Driver):
         self._width, self._cutter, self._feed, self._pin, self._pulse = width, cutter, feed, pin, pulse
         self._is_open_high, self._lines = is_open_high, lines
         self._columns, self._near = 42, 20
-        self.link = PrinterLink(port_of(port), timeout, pause)
+        self.link = (AskedLink if is_asked else PrinterLink)(port_of(port), timeout, pause)
 
     def __repr__(self) -> str:
         return f"<kijolvar.EscPosPrinter {self.link.port.name!r}, {'online' if self.is_online else 'offline'}>"
@@ -163,6 +170,9 @@ class EscPosPrinter(Driver):
 
     def status(self) -> tuple[int, bytes]:
         return self.link.statuses, self.link.status
+
+    def first_input(self) -> bytes:
+        return b"paper %d" % self._lines if self.link.has_paper else b""
 
     def files(self) -> list[int]:
         return [self.link.port.fileno()] if self.link.port.is_open else []
@@ -327,11 +337,11 @@ _LONGEST = 4096
 # Linux input events: the time, type, code and value.
 _EVENT = struct.Struct("@llHHi")
 _KEY, _GRAB, _ENTER, _SHIFTS = 1, 0x40044590, (28, 96), (42, 54)
-_KEYS = dict(zip(range(2, 14), ["1!", "2@", "3#", "4$", "5%", "6^", "7&", "8*", "9(", "0)", "-_", "=+"]))
+_KEYS: dict[int, str] = {57: "  "}
+_KEYS.update(zip(range(2, 14), ["1!", "2@", "3#", "4$", "5%", "6^", "7&", "8*", "9(", "0)", "-_", "=+"]))
 _KEYS.update(zip(range(16, 28), ["qQ", "wW", "eE", "rR", "tT", "yY", "uU", "iI", "oO", "pP", "[{", "]}"]))
 _KEYS.update(zip(range(30, 42), ["aA", "sS", "dD", "fF", "gG", "hH", "jJ", "kK", "lL", ";:", "'\"", "`~"]))
 _KEYS.update(zip(range(43, 54), ["\\|", "zZ", "xX", "cC", "vV", "bB", "nN", "mM", ",<", ".>", "/?"]))
-_KEYS.update({57: "  "})
 
 
 class _Lines:
@@ -356,7 +366,7 @@ class _Keys:
 
     def take(self, data: bytes) -> list[bytes]:
         self._bytes += data
-        codes = []
+        codes: list[bytes] = []
         while len(self._bytes) >= _EVENT.size:
             *_, kind, key, value = _EVENT.unpack_from(self._bytes)
             del self._bytes[:_EVENT.size]
@@ -408,8 +418,8 @@ class WedgeScanner(Driver):
         if keys is None:
             keys = not isinstance(device, Port) and os.fspath(device).startswith("/dev/input/")
         self.port: Port = _KeyPort(device) if keys and not isinstance(device, Port) else port_of(device)
-        self._reader_of = _Keys if keys else _Lines
-        self._reader: _Keys | _Lines = self._reader_of()
+        self._has_keys = keys
+        self._reader = self._new_reader()
         self._kind, self._pause, self._tried_at = kind, pause, -1e9
         self._found: deque[Scan] = deque()
 
@@ -427,11 +437,14 @@ class WedgeScanner(Driver):
         if not self.port.is_open:
             if time.monotonic() - self._tried_at < self._pause:
                 return
-            self._reader = self._reader_of()
+            self._reader = self._new_reader()
         with contextlib.suppress(PortError):
             self._open()
             while self.port.ready(False, 0)[0]:
                 self._found += map(self._scan, self._reader.take(self.port.read_some()))
+
+    def _new_reader(self) -> _Keys | _Lines:
+        return _Keys() if self._has_keys else _Lines()
 
     def _open(self) -> None:
         try:

@@ -14,7 +14,7 @@ import stat
 import termios
 import time
 from collections.abc import Iterator
-from typing import Literal, Union
+from typing import Any, Literal, Union
 
 from ._library import Path
 
@@ -42,6 +42,8 @@ class Port:
     def __init__(self, name: str) -> None:
         self.name, self.turns = name, 0
         self._file: int | None = None
+        # Whether reading no bytes means that the port is lost.
+        self._ends_empty = True
 
     def __repr__(self) -> str:
         return f"<kijolvar.{type(self).__name__} {self.name!r}, {'open' if self.is_open else 'closed'}>"
@@ -77,7 +79,8 @@ class Port:
         except PortError:
             raise
         except (OSError, termios.error) as fault:
-            raise PortError(fault.args[0] if fault.args else errno.EIO, f"{self.name} can't be opened: {fault}") from fault
+            code = fault.args[0] if fault.args else errno.EIO
+            raise PortError(code, f"{self.name} can't be opened: {fault}") from fault
         self.turns += 1
 
     def close(self) -> None:
@@ -100,14 +103,14 @@ class Port:
         return can_read, bool(flags & select.POLLOUT)
 
     def read_some(self) -> bytes:
-        """Returns what has come, if `ready` said that something has.
+        """Returns what has come, if `ready` said that something has. That may be nothing.
 
         Raises:
             PortError: The port was lost. It is closed then.
         """
         with self._losing():
             found = os.read(self.fileno(), _AT_ONCE)
-            if not found:
+            if not found and self._ends_empty:
                 raise PortError(errno.EPIPE, f"{self.name} was closed by the device")
             return found
         return b""
@@ -178,7 +181,9 @@ class FilePort(Port):
         try:
             if stat.S_ISREG(os.fstat(file).st_mode):
                 raise PortError(errno.ENODEV, f"{self.name} is a file and no device")
-            if os.isatty(file):
+            # A printer on USB may send packets with nothing in them.
+            self._ends_empty = os.isatty(file)
+            if self._ends_empty:
                 self._set_up(file)
         except BaseException:
             os.close(file)
@@ -256,7 +261,7 @@ class TcpPort(Port):
             return made.detach()
 
 
-def _raw(file: int) -> list[int | list[bytes | int]]:
+def _raw(file: int) -> list[Any]:
     """The attributes of a terminal line through which bytes pass as they are."""
     found = termios.tcgetattr(file)
     found[0] = found[1] = found[3] = 0
@@ -268,8 +273,8 @@ def _raw(file: int) -> list[int | list[bytes | int]]:
 def port_of(name: Union[Port, Path]) -> Port:
     """Returns the port of a name: `tcp://HOST` or `tcp://HOST:PORT`, or the path of a device file.
 
-    A path of /dev/tty.. or /dev/serial/.. is a serial line of 9,600 bits per second with RTS/CTS. For other settings use
-    SerialPort.
+    A path of /dev/tty.. or /dev/serial/.. is a serial line of 9,600 bits per second with RTS/CTS. For other settings
+    use SerialPort.
     """
     if isinstance(name, Port):
         return name

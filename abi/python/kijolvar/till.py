@@ -56,7 +56,8 @@ class Till:
         self._names: dict[int, str] = {}
         self._free: dict[str, deque[str]] = {}
         self._count = 0
-        self._devices, self._drives = devices or list, Drives(self, session)
+        self._devices: Callable[[], list[ProfileDevice]] = devices or list
+        self._drives = Drives(self, session)
 
     def __repr__(self) -> str:
         state = "closed" if self.is_closed else f"totals {self._where}, {len(self._controls)} controls"
@@ -259,8 +260,8 @@ class Till:
 
     def drive(self, device: str, driver: Driver) -> None:
         """Has a driver carry out the orders of a device from now on. A call that orders something returns once the
-        driver has done it, or with the error that the device gave: E_FAILURE (111) if it didn't answer, E_OFFLINE (108),
-        or a printer's 201 and 203.
+        device has done it. If it hasn't, the call raises FailureError (no answer), OfflineError, CoverOpenError or
+        ReceiptEmptyError.
 
         Hardware that isn't there is no error: the device is off until it is. The till closes the port at its end.
 
@@ -274,8 +275,8 @@ class Till:
         self._drives.add(found, driver)
 
     def run_devices(self, timeout: float = 0.0) -> bool:
-        """Does what the driven devices need: hands in what they say of themselves and what was scanned, opens lost ports
-        again, and prints output that waits (AsyncMode). Call it regularly, and then deliver events.
+        """Does what the driven devices need: tells the till what they say of themselves and what was scanned, opens lost
+        ports again, and prints output that waits (AsyncMode). Call it regularly, and then deliver events.
 
         Args:
             timeout: How long to wait for something to happen, in seconds. Printing may take longer.
