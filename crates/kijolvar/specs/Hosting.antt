@@ -18,3 +18,11 @@ may_be_hosted entries name = list_any (is_hostable name) entries
 abbrev pub IsHostCode : List Entry → List ℕ → (code : ℕ) → Type 0
 IsHostCode entries name code =
     MatchBool (may_be_hosted entries name) ((code ≡ ok) ⊎ (code ≡ no_memory)) (code ≡ no_device)
+
+-- likewise, and its line doesn't fail
+abbrev pub is_drivable : List ℕ → Entry → Bool
+is_drivable name entry = is_hostable name entry && is_none entry.flaky
+
+-- a device of this name may be driven
+abbrev pub may_be_driven : List Entry → List ℕ → Bool
+may_be_driven entries name = list_any (is_drivable name) entries

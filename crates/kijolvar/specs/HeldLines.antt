@@ -1,0 +1,57 @@
+-- Lines that are not carried out yet, and lines that go on (abi/README.md, "Driven devices").
+use Rattle.std.specs.Prelude.{◌≡◌, ◌++◌, ◌∷◌, [], ℕ, List, MatchResult, drop, false, take}
+use Rattle.std.specs.declared.vec.Vec.{Vec}
+use Rattle.std.specs.declared.alloc.Global.{Global}
+use Rattle.pos_disk.specs.declared.device.Disk.{Ghosts as DiskGhosts}
+use Rattle.pos_service.specs.declared.peripheral.Peripheral.{Ghosts}
+use Rattle.pos_drive.specs.declared.courses.Progress.TheVariants as progress
+use Rattle.pos_drive.specs.declared.hosted.Hosted.{Ghosts as HostGhosts}
+use Rattle.pos_counter.specs.declared.counter.Counter.{Counter}
+use Rattle.pos_counter.specs.Counters.{Stays}
+use Rattle.pos_counter.specs.Hosts.{progress_in}
+use Rattle.pos_script.specs.Lines.{lines_of}
+use Rattle.pos_streams.specs.Streams.{Given, given_with}
+use Rattle.pos_streams.specs.Transfers.{given_to}
+use Rattle.pos_run.specs.Transcript.{Session}
+use Rattle.pos_run.specs.WaitingLines.{CarriesOn, CutsOff}
+use Rattle.pos_run.specs.declared.waiting_lines.Held.TheVariants.{Told, Waits}
+use Rattle.kijolvar.specs.declared.device.Device.{Device}
+use Rattle.kijolvar.specs.declared.kept.Kept.{Kept}
+use Rattle.kijolvar.specs.TillDisks.{HostedDisk}
+use Rattle.kijolvar.specs.Tills.{session_in}
+
+-- so many bytes of a text are one line of it, and the others have the others
+pub record SplitsOff (text : List ℕ) (count : ℕ) : Type 0 where
+  pub line : List ℕ
+  pub one : lines_of (take count text) ≡ line ∷ []
+  pub lines : lines_of text ≡ line ∷ lines_of (drop count text)
+
+-- these behind the first of those
+abbrev pub behind_first : {A : Type 0} → List A → List A → List A
+behind_first these [] = these
+behind_first these (first ∷ those) = first ∷ these ++ those
+
+-- the answer to earlier lines is forgotten, and nothing else changes
+pub record BeginsAnswer (old new : Kept) : Type 0 where
+  pub stays : new ≡ record old { told = false; answer = new.answer }
+  pub answer : given_to new.answer ≡ given_with [] (given_to old.answer).faults
+
+-- no line is held, and no order waits for its report
+pub record DropsHeld (peripherals : Ghosts Device) (old new : Kept) : Type 0 where
+  pub stays : new ≡ record old { counter = new.counter; held = new.held; left = Told }
+  pub counter : Stays peripherals old.counter new.counter
+  pub held : new.held.items ≡ []
+
+-- Lines go on from a counter and a session. From the front on they are carried out, once each, and their text is added
+-- to the answer; the others are held. Where memory ran out for what a line prints, that line is the last, and none is
+-- held.
+pub record GoesOn (bound : DiskGhosts HostedDisk) (hosts : HostGhosts Device) (peripherals : Ghosts Device)
+    (counter : Counter HostedDisk Device) (session : Session) (before : Given) (lines : List (Vec ℕ Global))
+    (new : Kept) : Type 0 where
+  pub told : MatchResult new.outcome
+      (λ u. CarriesOn bound peripherals counter session lines new.held.items before (given_to new.answer) new.counter
+      (session_in peripherals new))
+      (λ fault. (later : List (Vec ℕ Global)) × CutsOff bound peripherals counter session lines later before
+      (given_to new.answer) new.counter (session_in peripherals new) × (new.held.items ≡ []))
+  pub all : new.left ≡ Told → new.held.items ≡ []
+  pub waits : new.left ≡ Waits → progress_in hosts new.counter ≡ progress.Waits
