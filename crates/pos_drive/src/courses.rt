@@ -1,7 +1,8 @@
 //! How a peripheral stands to its host.
-ghost use Rattle.std.specs.Prelude.{◌≡◌, option_map};
+ghost use Rattle.std.specs.Prelude.{◌≡◌, Bool, Some, option_map};
 ghost use Rattle.pos_drive.specs.Courses.{driven_course, handed_out_course, order_in, progress_of, reported_course, settled_course};
 
+use crate::order_copies::is_same_order;
 use pos_service::Order;
 
 /// How a peripheral stands to its host.
@@ -54,6 +55,17 @@ impl Course {
     {
         match self {
             Course::Waits(order) | Course::HandedOut(order) => Some(order),
+            _ => None,
+        }
+    }
+
+    /// Returns whether the host has done this order, or `None` if it reported nothing of it.
+    pub fn verdict(&self, order: &Order) -> Option<bool>
+        ensures reported { (is_done : Bool) → self.now ≡ Course.Reported order.now is_done → result ≡ Some is_done }
+        ensures only { (is_done : Bool) → result ≡ Some is_done → self.now ≡ Course.Reported order.now is_done }
+    {
+        match self {
+            Course::Reported(kept, is_done) if is_same_order(kept, order) => Some(*is_done),
             _ => None,
         }
     }

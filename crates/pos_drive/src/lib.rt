@@ -10,9 +10,13 @@
 #![tactic(auto)]
 
 mod courses;
+mod driven;
 mod hosted;
+mod order_copies;
 mod preview;
 
 pub use courses::{Course, Progress};
+pub use driven::Driven;
 pub use hosted::Hosted;
+pub use order_copies::{copy_order, is_same_order};
 pub use preview::Preview;
