@@ -6,7 +6,7 @@ use Rattle.pos_drive.specs.Courses.{handed_out_course}
 use Rattle.pos_drive.specs.declared.courses.Progress.TheVariants as progress
 use Rattle.pos_drive.specs.declared.hosted.Hosted.{Ghosts as HostGhosts}
 use Rattle.pos_counter.specs.Counters.{Stays}
-use Rattle.pos_counter.specs.Hosts.{change_pending, hosts_in, progress_in, waiting_in}
+use Rattle.pos_counter.specs.Hosts.{changed_pending, hosts_in, progress_in, waiting_in}
 use Rattle.kijolvar.specs.declared.device.Device.{Device}
 use Rattle.kijolvar.specs.declared.kept.Kept.{Kept}
 use Rattle.kijolvar.specs.declared.settlement.Settlement.{Settlement}
@@ -24,7 +24,7 @@ pub record GivesOrder (hosts : HostGhosts Device) (peripherals : Ghosts Device) 
   pub code_told : code ≡ order_told
   pub length_told : needed ≡ length line
   pub counter : Stays peripherals old.counter new.counter
-  pub course : hosts_in hosts new.counter ≡ change_pending handed_out_course (hosts_in hosts old.counter)
+  pub course : hosts_in hosts new.counter ≡ changed_pending handed_out_course (hosts_in hosts old.counter)
   pub once : progress_in hosts new.counter ≡ progress.HandedOut
   pub stays : new ≡ record old { counter = new.counter; orders = new.orders }
 

@@ -12,7 +12,7 @@ use Rattle.pos_script.specs.Text.{hex_text}
 use Rattle.pos_drive.specs.declared.courses.Course.{Course}
 use Rattle.pos_drive.specs.declared.courses.Course.TheVariants.{Free}
 use Rattle.pos_drive.specs.declared.driven.Driven.{Driven}
-use Rattle.pos_drive.specs.Drives.{driven_state}
+use Rattle.pos_drive.specs.DrivenPeripherals.{driven_state}
 use Rattle.pos_run.specs.declared.wrapped.Wrapped.{Wrapped}
 use Rattle.pos_run.specs.Simulating.{Mounts, wrapped_devices}
 use Rattle.kijolvar.specs.declared.device.Device.{Device}

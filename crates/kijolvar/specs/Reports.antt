@@ -9,7 +9,7 @@ use Rattle.pos_drive.specs.declared.courses.Progress.TheVariants as progress
 use Rattle.pos_drive.specs.declared.hosted.Hosted.{Ghosts as HostGhosts}
 use Rattle.pos_counter.specs.declared.counter.Counter.{Counter}
 use Rattle.pos_counter.specs.Counters.{Stays}
-use Rattle.pos_counter.specs.Hosts.{change_pending, hosts_in, progress_in}
+use Rattle.pos_counter.specs.Hosts.{changed_pending, hosts_in, progress_in}
 use Rattle.pos_script.specs.Lines.{lines_of}
 use Rattle.pos_streams.specs.Streams.{Given, given_with}
 use Rattle.pos_streams.specs.Transfers.{given_to}
@@ -31,7 +31,7 @@ use Rattle.kijolvar.specs.Tills.{KeepsRest, Undone, session_in, settlement_of}
 pub record IsReported (hosts : HostGhosts Device) (peripherals : Ghosts Device) (is_done : Bool)
     (old new : Counter HostedDisk Device) : Type 0 where
   pub stays : Stays peripherals old new
-  pub course : hosts_in hosts new ≡ change_pending (reported_course is_done) (hosts_in hosts old)
+  pub course : hosts_in hosts new ≡ changed_pending (reported_course is_done) (hosts_in hosts old)
 
 -- Lines that found no memory go on.
 pub record Resumes (bound : DiskGhosts HostedDisk) (hosts : HostGhosts Device) (peripherals : Ghosts Device)

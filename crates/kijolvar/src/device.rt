@@ -1,7 +1,4 @@
 //! The devices of a till.
-ghost use Rattle.std.specs.Prelude.{◌≡◌, ◌≢◌, Ok, false, true};
-ghost use Rattle.pos_drive.specs.Drives.{DoneOnlyAsReported};
-ghost use Rattle.pos_service.specs.Peripherals.{Asked, order_fits};
 ghost use Rattle.kijolvar.specs.Orders.{device_state, mounts_device};
 
 use crate::tray::{Post, Tray};
@@ -18,7 +15,7 @@ use pos_service::{
 ///   spare has no name, and none of its orders is kept.
 /// - It is driven: an order is answered only after the host has reported what became of it. None of its orders is kept.
 ///
-/// It ends only parked: whoever drops it must show that.
+/// It ends only out of service: whoever ends it must show that.
 pub struct Device {
     driven: Driven<Wrapped>,
     asks: u64,
@@ -93,22 +90,14 @@ impl Hosted for Device {
     }
 }
 
-impl Drop for Device {
-    fn drop(self)
-        requires { (device_state self).is_parked ≡ true }
-    {
+impl Ends for Device {
+    fn end(self) {
         let Device {
             driven,
             asks: _,
             post: _,
         } = self;
-        drop(driven);
-    }
-}
-
-impl Ends for Device {
-    fn end(self) {
-        drop(self);
+        driven.end();
     }
 }
 

@@ -72,11 +72,11 @@ pub fn drive_device(kept: &mut Kept, name: &[u8]) -> u32
     ensures drives { Drives ⟦<Device as Hosted>⟧ ⟦<Device as Peripheral>⟧ kept.old name.now result kept.new }
     ensures sound { IsCounterSound ⟦<Device as Peripheral>⟧ kept.new.counter }
 {
-    if !may_be_driven(kept.profile.devices(), name) || !kept.counter.drive(name) {
-        return NO_DEVICE;
+    if may_be_driven(kept.profile.devices(), name) && kept.counter.drive(name) {
+        kept.is_driven = true;
+        return OK;
     }
-    kept.is_driven = true;
-    OK
+    NO_DEVICE
 }
 
 /// Takes the orders that devices have kept, if none is left of those that were taken before.
