@@ -1,20 +1,19 @@
 -- Lines that are not carried out yet, and lines that go on (abi/README.md, "Driven devices").
-use Rattle.std.specs.Prelude.{◌≡◌, ◌++◌, ◌∷◌, [], ℕ, List, MatchResult, drop, false, take}
+use Rattle.std.specs.Prelude.{◌≡◌, ◌++◌, ◌∷◌, [], ℕ, List, All, Err, MatchResult, Ok, drop, false, take}
 use Rattle.std.specs.declared.vec.Vec.{Vec}
 use Rattle.std.specs.declared.alloc.Global.{Global}
 use Rattle.pos_disk.specs.declared.device.Disk.{Ghosts as DiskGhosts}
 use Rattle.pos_service.specs.declared.peripheral.Peripheral.{Ghosts}
-use Rattle.pos_drive.specs.declared.courses.Progress.TheVariants as progress
 use Rattle.pos_drive.specs.declared.hosted.Hosted.{Ghosts as HostGhosts}
 use Rattle.pos_counter.specs.declared.counter.Counter.{Counter}
-use Rattle.pos_counter.specs.Counters.{Stays}
-use Rattle.pos_counter.specs.Hosts.{progress_in}
+use Rattle.pos_counter.specs.Counters.{IsCounterSound, Stays}
 use Rattle.pos_script.specs.Lines.{lines_of}
 use Rattle.pos_streams.specs.Streams.{Given, given_with}
 use Rattle.pos_streams.specs.Transfers.{given_to}
 use Rattle.pos_run.specs.Transcript.{Session}
-use Rattle.pos_run.specs.WaitingLines.{CarriesOn, CutsOff}
-use Rattle.pos_run.specs.declared.waiting_lines.Held.TheVariants.{Told, Waits}
+use Rattle.pos_run.specs.Spares.{AreSparesSound}
+use Rattle.pos_run.specs.WaitingLines.{IsOneLine, LinesLeave}
+use Rattle.pos_run.specs.declared.waiting_lines.Held.TheVariants.{Told}
 use Rattle.kijolvar.specs.declared.device.Device.{Device}
 use Rattle.kijolvar.specs.declared.kept.Kept.{Kept}
 use Rattle.kijolvar.specs.TillDisks.{HostedDisk}
@@ -30,6 +29,16 @@ pub record SplitsOff (text : List ℕ) (count : ℕ) : Type 0 where
 abbrev pub behind_first : {A : Type 0} → List A → List A → List A
 behind_first these [] = these
 behind_first these (first ∷ those) = first ∷ these ++ those
+
+-- Each text is one line.
+pub record AreHeld (texts : List (Vec ℕ Global)) : Type 0 where
+  pub each : All IsOneLine texts
+
+-- What is true of every till: its counter and its spares are sound, and each text that is held is one line.
+pub record IsTillSound (peripherals : Ghosts Device) (till : Kept) : Type 0 where
+  pub counter : IsCounterSound peripherals till.counter
+  pub spares : AreSparesSound peripherals till.spares
+  pub held : AreHeld till.held.items
 
 -- the answer to earlier lines is forgotten, and nothing else changes
 pub record BeginsAnswer (old new : Kept) : Type 0 where
@@ -48,10 +57,9 @@ pub record DropsHeld (peripherals : Ghosts Device) (old new : Kept) : Type 0 whe
 pub record GoesOn (bound : DiskGhosts HostedDisk) (hosts : HostGhosts Device) (peripherals : Ghosts Device)
     (counter : Counter HostedDisk Device) (session : Session) (before : Given) (lines : List (Vec ℕ Global))
     (new : Kept) : Type 0 where
-  pub told : MatchResult new.outcome
-      (λ u. CarriesOn bound peripherals counter session lines new.held.items before (given_to new.answer) new.counter
-      (session_in peripherals new))
-      (λ fault. (later : List (Vec ℕ Global)) × CutsOff bound peripherals counter session lines later before
-      (given_to new.answer) new.counter (session_in peripherals new) × (new.held.items ≡ []))
-  pub all : new.left ≡ Told → new.held.items ≡ []
-  pub waits : new.left ≡ Waits → progress_in hosts new.counter ≡ progress.Waits
+  pub ends : MatchResult new.outcome
+      (λ u. LinesLeave bound peripherals hosts counter session lines new.held.items before (given_to new.answer)
+      (Ok new.left) new.counter (session_in peripherals new))
+      (λ fault. (later : List (Vec ℕ Global)) × LinesLeave bound peripherals hosts counter session lines later before
+      (given_to new.answer) (Err fault) new.counter (session_in peripherals new)
+      × (new.held.items ≡ []) × (new.left ≡ Told))

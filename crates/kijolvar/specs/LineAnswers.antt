@@ -1,5 +1,5 @@
 -- What a call with lines does and answers (abi/README.md).
-use Rattle.std.specs.Prelude.{◌≡◌, ◌≢◌, [], ℕ, List, Ok, Err, Result, MatchResult, false, true}
+use Rattle.std.specs.Prelude.{◌≡◌, ◌≢◌, ◌==◌, [], ℕ, List, Ok, Err, Result, MatchResult, false, true, if◌then◌else◌}
 use Rattle.std.specs.declared.vec.Vec.{Vec}
 use Rattle.std.specs.declared.alloc.Global.{Global}
 use Rattle.pos_disk.specs.declared.device.Disk.{Ghosts as DiskGhosts}
@@ -16,7 +16,7 @@ use Rattle.kijolvar.specs.declared.settlement.Settlement.TheVariants.{InMemory, 
 use Rattle.kijolvar.specs.Codes.{disk_failed, no_memory, undone, waits}
 use Rattle.kijolvar.specs.HeldLines.{GoesOn}
 use Rattle.kijolvar.specs.TillDisks.{HostedDisk}
-use Rattle.kijolvar.specs.Tills.{CarriesOut, HandsOver, KeepsRest, TellsNothing, Undone, session_in, settlement_of}
+use Rattle.kijolvar.specs.Tills.{CarriesOut, HandsOver, KeepsRest, Undone, session_in, settlement_of}
 
 -- The lines of a text are carried out by a till with driven devices, up to one that waits.
 pub record CarriesOutDriven (bound : DiskGhosts HostedDisk) (hosts : HostGhosts Device) (peripherals : Ghosts Device)
@@ -37,12 +37,17 @@ pub record TakesLines (bound : DiskGhosts HostedDisk) (hosts : HostGhosts Device
   pub driven : old.held.items ≡ [] → old.is_driven ≡ true → MatchResult result
       (λ u. CarriesOutDriven bound hosts peripherals old text new) (λ why. (why ≡ no_memory) × (new ≡ old))
 
--- the answer is handed over, or nothing is told, and the code says why
+-- Nothing is carried out, and the code says why. Where there was no memory, an answer of no bytes is told.
+pub record TellsWhy (before after : List ℕ) (needed_before needed code why : ℕ) : Type 0 where
+  pub text_stays : after ≡ before
+  pub needed_told : needed ≡ (if why == no_memory then 0 else needed_before)
+  pub code_told : code ≡ why
+
+-- the answer is handed over, or the code says why nothing was carried out
 abbrev pub AnswersAs : Result (Unit {0}) ℕ → (till : Kept) (before after : List ℕ) (needed_before needed code : ℕ)
     → Type 0
 AnswersAs (Ok u) till before after needed_before needed code = HandsOver till before after needed_before needed code
-AnswersAs (Err why) till before after needed_before needed code =
-    TellsNothing before after needed_before needed code why
+AnswersAs (Err why) till before after needed_before needed code = TellsWhy before after needed_before needed code why
 
 -- lines are carried out, and their answer is handed over
 pub record Served (bound : DiskGhosts HostedDisk) (hosts : HostGhosts Device) (peripherals : Ghosts Device)

@@ -1,13 +1,8 @@
 //! Lines of a till with driven devices. An order of such a device is answered only after the host's report.
-ghost use Rattle.std.specs.Prelude.{◌≡◌, ◌≢◌, ◌⊎◌, [], All, Err, MatchResult, Ok, false, true};
-ghost use Rattle.pos_counter.specs.Counters.{IsCounterSound};
-ghost use Rattle.pos_counter.specs.Hosts.{progress_in};
-ghost use Rattle.pos_drive.specs.declared.courses.Progress.TheVariants.{HandedOut};
-ghost use Rattle.pos_run.specs.Spares.{AreSparesSound};
-ghost use Rattle.pos_run.specs.WaitingLines.{IsOneLine};
+ghost use Rattle.std.specs.Prelude.{◌≡◌, ◌⊎◌, MatchResult, false};
 ghost use Rattle.pos_streams.specs.Transfers.{given_to};
 ghost use Rattle.kijolvar.specs.Codes.{no_memory};
-ghost use Rattle.kijolvar.specs.HeldLines.{BeginsAnswer, DropsHeld, GoesOn};
+ghost use Rattle.kijolvar.specs.HeldLines.{BeginsAnswer, DropsHeld, GoesOn, IsTillSound};
 ghost use Rattle.kijolvar.specs.LineAnswers.{CarriesOutDriven};
 ghost use Rattle.kijolvar.specs.Reports.{CutsInputs, TakesDone, TakesFailure, TakesReport};
 ghost use Rattle.kijolvar.specs.Tills.{KeepsRest, session_in};
@@ -30,7 +25,9 @@ const DONE: u32 = 0;
 impl Kept {
     /// Forgets the answer to earlier lines.
     fn begin_answer(&mut self)
-        ensures { BeginsAnswer self.old self.new }
+        requires { IsTillSound ⟦<Device as Peripheral>⟧ self.old }
+        ensures begins { BeginsAnswer self.old self.new }
+        ensures sound { IsTillSound ⟦<Device as Peripheral>⟧ self.new }
     {
         self.told = false;
         self.answer.clear();
@@ -38,9 +35,9 @@ impl Kept {
 
     /// Drops the lines that are held, and what the host has of their order.
     fn drop_held(&mut self)
-        requires { IsCounterSound ⟦<Device as Peripheral>⟧ self.old.counter }
-        ensures { DropsHeld ⟦<Device as Peripheral>⟧ self.old self.new }
-        ensures sound { IsCounterSound ⟦<Device as Peripheral>⟧ self.new.counter }
+        requires { IsTillSound ⟦<Device as Peripheral>⟧ self.old }
+        ensures drops { DropsHeld ⟦<Device as Peripheral>⟧ self.old self.new }
+        ensures sound { IsTillSound ⟦<Device as Peripheral>⟧ self.new }
     {
         self.held.clear();
         self.left = Held::Told;
@@ -50,15 +47,11 @@ impl Kept {
     /// Carries out the lines that are held, up to one that waits, and adds what they print to the answer.
     fn go_on(&mut self, alloc: Global, buffer: &mut LineBuffer)
         requires told { self.old.told ≡ false }
-        requires lines { All IsOneLine self.old.held.items }
-        requires sound { IsCounterSound ⟦<Device as Peripheral>⟧ self.old.counter }
-        requires spares { AreSparesSound ⟦<Device as Peripheral>⟧ self.old.spares }
+        requires sound { IsTillSound ⟦<Device as Peripheral>⟧ self.old }
         ensures go_on { GoesOn ⟦<TillDisk as Disk>⟧ ⟦<Device as Hosted>⟧ ⟦<Device as Peripheral>⟧ self.old.counter
             (session_in ⟦<Device as Peripheral>⟧ self.old) (given_to self.old.answer) self.old.held.items self.new }
         ensures rest { KeepsRest self.old self.new }
-        ensures lines { All IsOneLine self.new.held.items }
-        ensures sound { IsCounterSound ⟦<Device as Peripheral>⟧ self.new.counter }
-        ensures spares { AreSparesSound ⟦<Device as Peripheral>⟧ self.new.spares }
+        ensures sound { IsTillSound ⟦<Device as Peripheral>⟧ self.new }
     {
         match carry_on(
             alloc,
@@ -94,14 +87,10 @@ impl Kept {
         buffer: &mut LineBuffer,
         text: &[u8],
     ) -> Result<(), u32>
-        requires sound { IsCounterSound ⟦<Device as Peripheral>⟧ self.old.counter }
-        requires spares { AreSparesSound ⟦<Device as Peripheral>⟧ self.old.spares }
-        requires lines { All IsOneLine self.old.held.items }
+        requires { IsTillSound ⟦<Device as Peripheral>⟧ self.old }
         ensures carries { MatchResult result (λ u. CarriesOutDriven ⟦<TillDisk as Disk>⟧ ⟦<Device as Hosted>⟧
             ⟦<Device as Peripheral>⟧ self.old text.now self.new) (λ why. (why ≡ no_memory) × (self.new ≡ self.old)) }
-        ensures lines { All IsOneLine self.new.held.items }
-        ensures sound { IsCounterSound ⟦<Device as Peripheral>⟧ self.new.counter }
-        ensures spares { AreSparesSound ⟦<Device as Peripheral>⟧ self.new.spares }
+        ensures sound { IsTillSound ⟦<Device as Peripheral>⟧ self.new }
     {
         let Ok(lines) = split_lines(alloc, text) else {
             return Err(NO_MEMORY);
@@ -124,14 +113,10 @@ impl Kept {
         buffer: &mut LineBuffer,
         inputs: &[u8],
     ) -> Result<(), u32>
-        requires sound { IsCounterSound ⟦<Device as Peripheral>⟧ self.old.counter }
-        requires spares { AreSparesSound ⟦<Device as Peripheral>⟧ self.old.spares }
-        requires lines { All IsOneLine self.old.held.items }
+        requires { IsTillSound ⟦<Device as Peripheral>⟧ self.old }
         ensures takes { MatchResult result (λ u. TakesDone ⟦<TillDisk as Disk>⟧ ⟦<Device as Hosted>⟧
             ⟦<Device as Peripheral>⟧ self.old inputs.now self.new) (λ why. (why ≡ no_memory) × (self.new ≡ self.old)) }
-        ensures lines { All IsOneLine self.new.held.items }
-        ensures sound { IsCounterSound ⟦<Device as Peripheral>⟧ self.new.counter }
-        ensures spares { AreSparesSound ⟦<Device as Peripheral>⟧ self.new.spares }
+        ensures sound { IsTillSound ⟦<Device as Peripheral>⟧ self.new }
     {
         let Ok(lines) = split_lines(alloc, inputs) else {
             return Err(NO_MEMORY);
@@ -148,15 +133,11 @@ impl Kept {
     /// Carries out the inputs, and takes the report that the host could not do the order. Then the line that waits goes
     /// on, and then the others. If memory runs out for what an input prints, none of them does.
     fn take_failure(&mut self, alloc: Global, buffer: &mut LineBuffer, inputs: &[u8])
-        requires sound { IsCounterSound ⟦<Device as Peripheral>⟧ self.old.counter }
-        requires spares { AreSparesSound ⟦<Device as Peripheral>⟧ self.old.spares }
-        requires lines { All IsOneLine self.old.held.items }
+        requires { IsTillSound ⟦<Device as Peripheral>⟧ self.old }
         ensures takes { TakesFailure ⟦<TillDisk as Disk>⟧ ⟦<Device as Hosted>⟧ ⟦<Device as Peripheral>⟧ self.old
             inputs.now self.new ⊎ CutsInputs ⟦<TillDisk as Disk>⟧ ⟦<Device as Hosted>⟧ ⟦<Device as Peripheral>⟧
             self.old inputs.now self.new }
-        ensures lines { All IsOneLine self.new.held.items }
-        ensures sound { IsCounterSound ⟦<Device as Peripheral>⟧ self.new.counter }
-        ensures spares { AreSparesSound ⟦<Device as Peripheral>⟧ self.new.spares }
+        ensures sound { IsTillSound ⟦<Device as Peripheral>⟧ self.new }
     {
         self.begin_answer();
         self.outcome = carry_out_lines(
@@ -190,14 +171,10 @@ impl Kept {
         outcome: u32,
         inputs: &[u8],
     ) -> Result<(), u32>
-        requires sound { IsCounterSound ⟦<Device as Peripheral>⟧ self.old.counter }
-        requires spares { AreSparesSound ⟦<Device as Peripheral>⟧ self.old.spares }
-        requires lines { All IsOneLine self.old.held.items }
+        requires { IsTillSound ⟦<Device as Peripheral>⟧ self.old }
         ensures takes { TakesReport ⟦<TillDisk as Disk>⟧ ⟦<Device as Hosted>⟧ ⟦<Device as Peripheral>⟧ self.old
             outcome inputs.now result self.new }
-        ensures lines { All IsOneLine self.new.held.items }
-        ensures sound { IsCounterSound ⟦<Device as Peripheral>⟧ self.new.counter }
-        ensures spares { AreSparesSound ⟦<Device as Peripheral>⟧ self.new.spares }
+        ensures sound { IsTillSound ⟦<Device as Peripheral>⟧ self.new }
     {
         if self.left == Held::NoMemory {
             self.begin_answer();

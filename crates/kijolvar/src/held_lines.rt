@@ -1,8 +1,8 @@
 //! Lines that are not carried out yet.
-ghost use Rattle.std.specs.Prelude.{◌≡◌, ◌<◌, ◌≤◌, All, IfOk, OnErr, OnOk, length};
-ghost use Rattle.pos_run.specs.WaitingLines.{IsOneLine, lines_in};
+ghost use Rattle.std.specs.Prelude.{◌≡◌, ◌<◌, ◌≤◌, IfOk, OnErr, OnOk, length};
+ghost use Rattle.pos_run.specs.WaitingLines.{lines_in};
 ghost use Rattle.pos_script.specs.Lines.{lines_of};
-ghost use Rattle.kijolvar.specs.HeldLines.{SplitsOff, behind_first};
+ghost use Rattle.kijolvar.specs.HeldLines.{AreHeld, SplitsOff, behind_first};
 
 use std::alloc::{AllocError, Global};
 use std::collections::VecDeque;
@@ -29,7 +29,7 @@ fn first_line(text: &[u8]) -> usize
 /// [`AllocError`] if memory ran out.
 pub fn split_lines(alloc: Global, text: &[u8]) -> Result<VecDeque<Vec<u8>>, AllocError>
     ensures lines { IfOk result (λ lines. lines_in lines.items ≡ lines_of text.now) }
-    ensures each { IfOk result (λ lines. All IsOneLine lines.items) }
+    ensures each { IfOk result (λ lines. AreHeld lines.items) }
 {
     let mut lines = VecDeque::new(alloc);
     let mut rest = text;

@@ -1,6 +1,6 @@
 //! What a till has for a host with devices of its own.
-ghost use Rattle.std.specs.Prelude.{◌≡◌, [], true};
-ghost use Rattle.pos_counter.specs.Counters.{IsCounterSound};
+ghost use Rattle.std.specs.Prelude.{◌≡◌};
+ghost use Rattle.kijolvar.specs.HeldLines.{IsTillSound};
 ghost use Rattle.kijolvar.specs.Hosting.{Drives, IsHostCode, is_drivable, is_hostable, may_be_driven, may_be_hosted};
 ghost use Rattle.kijolvar.specs.NextOrders.{GivesDriven, HandsOut, NextOrder};
 ghost use Rattle.kijolvar.specs.Orders.{Refills, order_lines};
@@ -68,15 +68,18 @@ fn may_be_driven(entries: &[Entry], name: &[u8]) -> bool
 ///
 /// NO_DEVICE if no device of the name may be driven, or nothing serves it. Then nothing changes.
 pub fn drive_device(kept: &mut Kept, name: &[u8]) -> u32
-    requires sound { IsCounterSound ⟦<Device as Peripheral>⟧ kept.old.counter }
+    requires { IsTillSound ⟦<Device as Peripheral>⟧ kept.old }
     ensures drives { Drives ⟦<Device as Hosted>⟧ ⟦<Device as Peripheral>⟧ kept.old name.now result kept.new }
-    ensures sound { IsCounterSound ⟦<Device as Peripheral>⟧ kept.new.counter }
+    ensures sound { IsTillSound ⟦<Device as Peripheral>⟧ kept.new }
 {
-    if may_be_driven(kept.profile.devices(), name) && kept.counter.drive(name) {
-        kept.is_driven = true;
-        return OK;
+    if !may_be_driven(kept.profile.devices(), name) {
+        return NO_DEVICE;
     }
-    NO_DEVICE
+    if !kept.counter.drive(name) {
+        return NO_DEVICE;
+    }
+    kept.is_driven = true;
+    OK
 }
 
 /// Takes the orders that devices have kept, if none is left of those that were taken before.
@@ -95,11 +98,11 @@ fn refill(orders: &mut VecDeque<Vec<u8>>, tray: &Tray)
 ///
 /// SHORT if `text` has less room, and NO_MEMORY if memory ran out for the line. Then the host doesn't have the order.
 fn give_driven(kept: &mut Kept, alloc: Global, text: &mut [u8], needed: &mut usize) -> u32
-    requires sound { IsCounterSound ⟦<Device as Peripheral>⟧ kept.old.counter }
+    requires { IsTillSound ⟦<Device as Peripheral>⟧ kept.old }
     ensures gives { GivesDriven ⟦<Device as Hosted>⟧ ⟦<Device as Peripheral>⟧ kept.old text.old text.new needed.old
         needed.new result kept.new }
     ensures orders { kept.new.orders ≡ kept.old.orders }
-    ensures sound { IsCounterSound ⟦<Device as Peripheral>⟧ kept.new.counter }
+    ensures sound { IsTillSound ⟦<Device as Peripheral>⟧ kept.new }
 {
     if kept.counter.progress() != Progress::Waits {
         *needed = 0;
@@ -129,10 +132,10 @@ fn give_driven(kept: &mut Kept, alloc: Global, text: &mut [u8], needed: &mut usi
 ///
 /// NO_MEMORY if memory ran out for the line of a driven device. Then nothing is written.
 fn tell_next(kept: &mut Kept, tray: &Tray, text: &mut [u8], needed: &mut usize) -> u32
-    requires sound { IsCounterSound ⟦<Device as Peripheral>⟧ kept.old.counter }
+    requires { IsTillSound ⟦<Device as Peripheral>⟧ kept.old }
     ensures hands_out { HandsOut ⟦<Device as Hosted>⟧ ⟦<Device as Peripheral>⟧ kept.old text.old text.new needed.old
         needed.new result kept.new }
-    ensures sound { IsCounterSound ⟦<Device as Peripheral>⟧ kept.new.counter }
+    ensures sound { IsTillSound ⟦<Device as Peripheral>⟧ kept.new }
 {
     refill(&mut kept.orders, tray);
     if kept.is_driven && kept.orders.is_empty() {
@@ -148,10 +151,10 @@ fn tell_next(kept: &mut Kept, tray: &Tray, text: &mut [u8], needed: &mut usize) 
 /// - ERRANDS if errands are left, and DISK_FAILED if one failed. Then nothing is written.
 /// - NO_MEMORY if memory ran out for the line of a driven device. Then nothing is written.
 pub fn next_order(kept: &mut Kept, tray: &Tray, text: &mut [u8], needed: &mut usize) -> u32
-    requires sound { IsCounterSound ⟦<Device as Peripheral>⟧ kept.old.counter }
+    requires { IsTillSound ⟦<Device as Peripheral>⟧ kept.old }
     ensures next { NextOrder ⟦<Device as Hosted>⟧ ⟦<Device as Peripheral>⟧ kept.old text.old text.new needed.old
         needed.new result kept.new }
-    ensures sound { IsCounterSound ⟦<Device as Peripheral>⟧ kept.new.counter }
+    ensures sound { IsTillSound ⟦<Device as Peripheral>⟧ kept.new }
 {
     match kept.settlement() {
         Settlement::Owed => ERRANDS,

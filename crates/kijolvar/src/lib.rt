@@ -21,7 +21,7 @@ ghost use Rattle.kijolvar.specs.Controls.{FindsNumber, NextEvent};
 ghost use Rattle.kijolvar.specs.Errands.{no_work};
 ghost use Rattle.kijolvar.specs.DeviceTexts.{AnswersDevices};
 ghost use Rattle.kijolvar.specs.Hosting.{Drives, IsHostCode};
-ghost use Rattle.kijolvar.specs.LineAnswers.{Answers, AnswersAs};
+ghost use Rattle.kijolvar.specs.LineAnswers.{Answers};
 ghost use Rattle.kijolvar.specs.Mistakes.{AnswersMistake};
 ghost use Rattle.kijolvar.specs.NextOrders.{NextOrder};
 ghost use Rattle.kijolvar.specs.Opening.{AnswersMove, AnswersOpening, IsFormattedOf, IsMovedOf, Opens};
@@ -46,6 +46,7 @@ mod kept;
 mod loose;
 mod mistakes;
 mod orders;
+mod reports;
 mod session;
 mod settlement;
 mod surveys;
@@ -64,6 +65,7 @@ use pos_drive::Hosted;
 use pos_image::new_disk;
 use pos_profile::{Profile, ProfileFault};
 use pos_service::{NoMemory, Peripheral};
+use reports::report;
 use session::Session;
 use settlement::Settlement;
 use std::alloc::Global;
@@ -350,21 +352,6 @@ pub extern "C" fn kijolvar_survey(
     tell_survey(alloc, bytes, at, text, needed)
 }
 
-/// Writes the answer to lines, or returns the code that says why none was carried out.
-fn answer(
-    session: &Session,
-    taken: Result<(), u32>,
-    text: &mut [u8],
-    needed: &mut usize,
-) -> u32
-    ensures { AnswersAs taken session.now text.old text.new needed.old needed.new result }
-{
-    match taken {
-        Ok(()) => session.hand_over(text, needed),
-        Err(code) => code,
-    }
-}
-
 /// Carries out lines and writes their answer, if no errand is left and none failed.
 fn serve(session: &mut Session, lines: &[u8], text: &mut [u8], needed: &mut usize) -> u32
     ensures { Answers ⟦<TillDisk as Disk>⟧ ⟦<Device as Hosted>⟧ ⟦<Device as Peripheral>⟧ session.old lines.now
@@ -375,29 +362,7 @@ fn serve(session: &mut Session, lines: &[u8], text: &mut [u8], needed: &mut usiz
         Settlement::Failed => DISK_FAILED,
         Settlement::InMemory | Settlement::Settled => {
             let taken = session.carry_out(lines);
-            answer(session, taken, text, needed)
-        }
-    }
-}
-
-/// Takes the host's report of an order and writes the answer of the lines that it lets go on, if no errand is left and
-/// none failed.
-fn take_report(
-    session: &mut Session,
-    outcome: u32,
-    inputs: &[u8],
-    text: &mut [u8],
-    needed: &mut usize,
-) -> u32
-    ensures { AnswersReport ⟦<TillDisk as Disk>⟧ ⟦<Device as Hosted>⟧ ⟦<Device as Peripheral>⟧ session.old outcome
-        inputs.now text.old text.new needed.old needed.new result session.new }
-{
-    match session.settlement() {
-        Settlement::Owed => UNDONE,
-        Settlement::Failed => DISK_FAILED,
-        Settlement::InMemory | Settlement::Settled => {
-            let taken = session.take_report(outcome, inputs);
-            answer(session, taken, text, needed)
+            session.answer(taken, text, needed)
         }
     }
 }
@@ -418,8 +383,8 @@ fn take_report(
 /// - WAITS if a line waits for an order of the device. The lines before it were carried out, and `text` has their
 ///   answer. It and the lines after it are held, and go on with `kijolvar_order_done`.
 /// - WAITS also if lines of an earlier call are held. Nothing was carried out or written.
-/// - NO_MEMORY if memory ran out for the lines. Nothing was carried out or written. If it ran out for a line later, the
-///   answer of those before it is in `text`, and it and the lines after it are held.
+/// - NO_MEMORY if memory ran out for the lines. Nothing was carried out, and `needed` is 0. If it ran out for a line
+///   later, the answer of those before it is in `text`, and it and the lines after it are held.
 ///
 /// Of a till over a file also:
 ///
@@ -590,8 +555,8 @@ pub extern "C" fn kijolvar_next_order(
 ///
 /// - SHORT, CUT, ERRANDS and DISK_FAILED as `kijolvar_carry_out` has them. After CUT no line is held.
 /// - WAITS if the next line waits for an order. `text` has the answer of the lines before it.
-/// - NO_MEMORY if memory ran out. If nothing is written, nothing was done. Else the answer of the lines that went on is
-///   in `text`, and the report is kept. The host may make the same call again: what was taken isn't taken twice.
+/// - NO_MEMORY if memory ran out. The answer of the lines that went on is in `text`: no bytes if none did. The host may
+///   make the same call again: a report that was taken is kept, and isn't taken twice.
 /// - NO_ORDER if the host has no order of a driven device. Nothing was carried out or written.
 #[unsafe(no_mangle)]
 pub extern "C" fn kijolvar_order_done(
@@ -606,7 +571,7 @@ pub extern "C" fn kijolvar_order_done(
         ⟦<Device as Peripheral>⟧ till.session outcome inputs.now text.old text.new needed.old needed.new result) }
 {
     let mut session = take(till);
-    let code = take_report(&mut session, outcome, inputs, text, needed);
+    let code = report(&mut session, outcome, inputs, text, needed);
     leave(session, out);
     code
 }

@@ -3,12 +3,12 @@ ghost use Rattle.std.specs.Prelude.{◌≡◌, [], IfOk};
 ghost use Rattle.pos_run.specs.Names.{names_of, number_named};
 ghost use Rattle.kijolvar.specs.Controls.{FindsNumber, NextEvent};
 ghost use Rattle.kijolvar.specs.Hosting.{Drives, IsHostCode};
-ghost use Rattle.kijolvar.specs.LineAnswers.{TakesLines};
+ghost use Rattle.kijolvar.specs.LineAnswers.{AnswersAs, TakesLines};
 ghost use Rattle.kijolvar.specs.NextOrders.{NextOrder};
 ghost use Rattle.kijolvar.specs.Reports.{TakesReport};
 ghost use Rattle.kijolvar.specs.Tills.{Begins, CarriesOut, Fails, HandsOver, AnswersNextErrand, settlement_of};
 
-use crate::codes::{DISK_FAILED, ERRANDS, WAITS, code_of};
+use crate::codes::{DISK_FAILED, ERRANDS, NO_MEMORY, WAITS, code_of};
 use crate::controls::{find_number, next_event};
 use crate::device::Device;
 use crate::hosting::{drive_device, host_device, next_order};
@@ -38,10 +38,7 @@ pub struct Session {
 }
 
 impl Model for Session {
-    ghost use Rattle.std.specs.Prelude.{All};
-    ghost use Rattle.pos_counter.specs.Counters.{IsCounterSound};
-    ghost use Rattle.pos_run.specs.Spares.{AreSparesSound};
-    ghost use Rattle.pos_run.specs.WaitingLines.{IsOneLine};
+    ghost use Rattle.kijolvar.specs.HeldLines.{IsTillSound};
     ghost use Rattle.kijolvar.specs.contracts.kept.Kept as kept_row;
     ghost use Rattle.kijolvar.specs.declared.kept.Kept.{Kept as KeptTill};
 
@@ -51,8 +48,7 @@ impl Model for Session {
 
     ghost view = { λ s. s.kept };
 
-    ghost invariant = { λ s. IsCounterSound ⟦<Device as Peripheral>⟧ s.kept.counter
-        × AreSparesSound ⟦<Device as Peripheral>⟧ s.kept.spares × All IsOneLine s.kept.held.items };
+    ghost invariant = { λ s. IsTillSound ⟦<Device as Peripheral>⟧ s.kept };
 }
 
 impl Session {
@@ -177,6 +173,22 @@ impl Session {
                 tell(self.kept.answer.as_slice(), text, needed),
                 self.kept.left,
             ),
+        }
+    }
+
+    /// Writes the answer to lines, or returns the code that says why none was carried out. If memory ran out, the answer
+    /// has no bytes.
+    pub fn answer(&self, taken: Result<(), u32>, text: &mut [u8], needed: &mut usize) -> u32
+        ensures { AnswersAs taken self.now text.old text.new needed.old needed.new result }
+    {
+        match taken {
+            Ok(()) => self.hand_over(text, needed),
+            Err(code) => {
+                if code == NO_MEMORY {
+                    *needed = 0;
+                }
+                code
+            }
         }
     }
 
