@@ -3,6 +3,7 @@ ghost use Rattle.std.specs.Prelude.{◌≡◌, ◌≤◌, IfOk, option_map};
 ghost use Rattle.pos_run.specs.Simulating.{IsDeviceFor, IsDisplay, IsSimulable, IsSimulatedFor, simulated_for, state_of, wrapped_state};
 
 use crate::wrapped::{Wrapped, wrap};
+use pos_drive::Preview;
 use pos_profile::Entry;
 use pos_service::{Input, Kind, NoMemory, Order, Peripheral, Reply, Signs, Snapshot, Taken};
 use pos_sims::{PlainDisplay, PlainDrawer, PlainScanner, RingDisplay, RollPrinter};
@@ -93,6 +94,18 @@ impl Peripheral for Simulation {
             Simulation::Display(display) => display.is_parked(),
             Simulation::Ring(ring) => ring.is_parked(),
             Simulation::Printer(printer) => printer.is_parked(),
+        }
+    }
+}
+
+impl Preview for Simulation {
+    fn would(&self, order: &Order) -> Reply {
+        match self {
+            Simulation::Drawer(drawer) => drawer.would(order),
+            Simulation::Scanner(scanner) => scanner.would(order),
+            Simulation::Display(display) => display.would(order),
+            Simulation::Ring(ring) => ring.would(order),
+            Simulation::Printer(printer) => printer.would(order),
         }
     }
 }

@@ -3,6 +3,7 @@ ghost use Rattle.std.specs.Prelude.{◌≡◌, false, true};
 ghost use Rattle.pos_run.specs.Simulating.{state_of, wrapped_by, wrapped_state};
 
 use crate::simulation::Simulation;
+use pos_drive::Preview;
 use pos_service::{Ends, Input, Kind, NoMemory, Order, Peripheral, Reply, Signs, Snapshot, Taken};
 use pos_sims::{Flaky, Recorder};
 
@@ -102,6 +103,17 @@ impl Peripheral for Wrapped {
             Wrapped::Flaky(flaky) => flaky.is_parked(),
             Wrapped::Recorded(recorder) => recorder.is_parked(),
             Wrapped::Both(recorder) => recorder.is_parked(),
+        }
+    }
+}
+
+impl Preview for Wrapped {
+    fn would(&self, order: &Order) -> Reply {
+        match self {
+            Wrapped::Bare(device) => device.would(order),
+            Wrapped::Flaky(flaky) => flaky.would(order),
+            Wrapped::Recorded(recorder) => recorder.would(order),
+            Wrapped::Both(recorder) => recorder.would(order),
         }
     }
 }

@@ -9,3 +9,4 @@ pub mod Rings
 pub mod RingDisplays
 pub mod Flakies
 pub mod Recorders
+pub mod PaperNeeds

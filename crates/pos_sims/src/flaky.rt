@@ -3,6 +3,7 @@ ghost use Rattle.std.specs.Prelude.{◌≡◌, ◌+◌, ◌&&◌, true, false, n
 ghost use Rattle.pos_service.specs.Peripherals.{Asked, Fed, Parks, input_fits, order_fits};
 ghost use Rattle.pos_sims.specs.Flakies.{CountsOrder, Fails, KeepsSchedule, fails_next, flaky_of, state_of};
 
+use pos_drive::Preview;
 use pos_service::{Input, Kind, NoMemory, Order, Peripheral, Reply, Signs, Snapshot, Taken};
 
 /// A peripheral with a flaky line. The orders with the numbers `first` to `first + times - 1`, counted from 1, meet a
@@ -95,5 +96,11 @@ impl<P: Peripheral> Peripheral for Flaky<P> {
 
     fn is_parked(&self) -> bool {
         self.inner.is_parked()
+    }
+}
+
+impl<P: Preview> Preview for Flaky<P> {
+    fn would(&self, order: &Order) -> Reply {
+        self.inner.would(order)
     }
 }

@@ -6,13 +6,15 @@
 //! - [`Flaky`] fails chosen orders of a peripheral, and [`Recorder`] counts all of them.
 //!
 //! The layer above relies on this: each peripheral meets the trait `Peripheral`, so it does what the standard says of
-//! its kind. Orders to a drawer, a scanner and a display take no memory.
+//! its kind. Orders to a drawer, a scanner and a display take no memory. Each also says before an order what it would
+//! reply, by the trait `Preview`, which takes no memory.
 #![tactic(auto)]
 
 mod flaky;
 mod grid;
 mod laying;
 mod line_display;
+mod paper_needs;
 mod plain_drawer;
 mod plain_scanner;
 mod power;

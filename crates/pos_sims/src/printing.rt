@@ -269,6 +269,14 @@ impl Tape {
         }
     }
 
+    /// Returns how many characters the line buffer has.
+    pub fn begun(&self) -> u32
+        ensures count { result ≡ length (printed_on self.now).buffer }
+        ensures within { result ≤ self.now.chars }
+    {
+        (self.characters.len() - self.start) as u32
+    }
+
     /// Returns the line buffer.
     pub fn buffer(&self) -> &[PrintedCharacter]
         ensures { result.now ≡ (printed_on self.now).buffer }

@@ -3,6 +3,7 @@ ghost use Rattle.std.specs.Prelude.{◌≡◌, true, false};
 ghost use Rattle.pos_service.specs.Peripherals.{Asked, counted, order_fits};
 ghost use Rattle.pos_sims.specs.Recorders.{recorder_of, state_of};
 
+use pos_drive::Preview;
 use pos_service::{Input, Kind, NoMemory, Order, Peripheral, Reply, Signs, Snapshot, Taken};
 
 /// A peripheral whose orders are counted, whatever comes of them. Each is passed on to the inner peripheral, and what
@@ -68,5 +69,11 @@ impl<P: Peripheral> Peripheral for Recorder<P> {
 
     fn is_parked(&self) -> bool {
         self.inner.is_parked()
+    }
+}
+
+impl<P: Preview> Preview for Recorder<P> {
+    fn would(&self, order: &Order) -> Reply {
+        self.inner.would(order)
     }
 }

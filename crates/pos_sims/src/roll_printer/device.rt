@@ -7,6 +7,7 @@ ghost use Rattle.pos_sims.specs.ReceiptPrinters.{printer_state, reply_of, state_
 use super::RollPrinter;
 use crate::power::passes_by;
 use crate::roll::Roll;
+use pos_drive::Preview;
 use pos_service::receipt_text::Outcome;
 use pos_service::{
     Form, Input, Kind, NoMemory, Order, PaperLevel, Peripheral, Plant, Receipt, Reply, Signs,
@@ -121,5 +122,18 @@ impl Peripheral for RollPrinter {
 
     fn is_parked(&self) -> bool {
         self.is_parked
+    }
+}
+
+impl Preview for RollPrinter {
+    fn would(&self, order: &Order) -> Reply {
+        if !self.powered {
+            return Reply::Offline;
+        }
+        match order {
+            Order::Print { bytes } => reply_of(self.roll.would_print(bytes.as_slice())),
+            Order::Cut { percentage } => reply_of(self.roll.would_cut(*percentage)),
+            _ => Reply::LineFault,
+        }
     }
 }
