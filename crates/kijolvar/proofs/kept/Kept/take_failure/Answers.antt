@@ -1,4 +1,4 @@
-use Rattle.kijolvar.proofs.Common.{inl, refl}
+use Rattle.kijolvar.proofs.Common.{inl, refl, sym, ◌∙◌}
 use Rattle.std.proofs.Common.{inr}
 use Rattle.pos_script.specs.Lines.{lines_of}
 use Rattle.kijolvar.proofs.DrivenLemmas.{cuts_inputs, takes_failure}
@@ -17,7 +17,7 @@ returns-then-is_ok-clause-takes c =
     inl (takes_failure disks hosts devices c.args.self.now begun
     (record begun { counter = c.report.new.self; names = ran.new.names; spares = ran.new.spares; answer = ran.new.writer; outcome = ran.result })
     ran.new.counter c.report.new.self _ _ ran.result c.go_on.new.self c.args.inputs.now c.begin_answer.ensures.begins ran.ensures.lines
-    c.if-is_ok.true file c.report.ensures.stays c.report.ensures.hosts refl c.go_on.ensures.go_on c.go_on.ensures.rest)
+    (sym c.is_ok.ensures.value ∙ c.if-is_ok.true) file c.report.ensures.stays c.report.ensures.hosts refl c.go_on.ensures.go_on c.go_on.ensures.rest)
 
 pub returns-else-is_ok-clause-takes : goal.returns-else-is_ok-clause-takes
 returns-else-is_ok-clause-takes c =
@@ -27,4 +27,4 @@ returns-else-is_ok-clause-takes c =
     inr (cuts_inputs disks hosts devices c.args.self.now begun
     (record begun { counter = ran.new.counter; names = ran.new.names; spares = ran.new.spares; answer = ran.new.writer; outcome = ran.result })
     ran.new.counter ran.result c.drop_held.new.self c.args.inputs.now c.begin_answer.ensures.begins ran.ensures.lines
-    c.if-is_ok.false file refl c.drop_held.ensures.drops (rw c.disk.ensures at c.is_in_step.ensures))
+    (sym c.is_ok.ensures.value ∙ c.if-is_ok.false) file refl c.drop_held.ensures.drops (rw c.disk.ensures at c.is_in_step.ensures))
