@@ -5,7 +5,7 @@ use Rattle.std.specs.Prelude.{Result, is_ok}
 use Rattle.pos_disk.specs.declared.device.Disk.{Ghosts as DiskGhosts}
 use Rattle.pos_service.specs.declared.peripheral.Peripheral.{Ghosts}
 use Rattle.pos_drive.specs.Courses.{reported_course}
-use Rattle.pos_drive.specs.declared.hosted.Hosted.{Ghosts as HostGhosts}
+use Rattle.pos_drive.specs.declared.courses.Course.{Course}
 use Rattle.pos_counter.specs.Counters.{Stays}
 use Rattle.pos_counter.specs.Hosts.{changed_pending, hosts_in}
 use Rattle.pos_counter.specs.declared.counter.Counter.{Counter}
@@ -42,7 +42,7 @@ rest_from old mid new file failed profile orders is_driven rest = record {
   is_driven = rest.is_driven ∙ is_driven;
 }
 
-module _ (bound : DiskGhosts HostedDisk) (hosts : HostGhosts Device) (peripherals : Ghosts Device) where
+module _ (bound : DiskGhosts HostedDisk) (hosts : Device → Course) (peripherals : Ghosts Device) where
   -- lines go on, from the same
   goes_from : (counter : Counter HostedDisk Device) (s t : Session) (b d : Given) (ls ms : List (Vec ℕ Global)) (new : Kept) → s ≡ t → b ≡ d
       → ls ≡ ms → GoesOn bound hosts peripherals counter s b ls new → GoesOn bound hosts peripherals counter t d ms new

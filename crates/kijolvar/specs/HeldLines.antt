@@ -1,10 +1,10 @@
 -- Lines that are not carried out yet, and lines that go on (abi/README.md, "Driven devices").
-use Rattle.std.specs.Prelude.{◌≡◌, ◌++◌, ◌∷◌, [], ℕ, List, All, Err, MatchResult, Ok, drop, false, take}
+use Rattle.std.specs.Prelude.{◌≡◌, ◌++◌, ◌∷◌, [], ℕ, List, All, Err, MatchResult, Ok, Result, drop, false, take}
 use Rattle.std.specs.declared.vec.Vec.{Vec}
 use Rattle.std.specs.declared.alloc.Global.{Global}
 use Rattle.pos_disk.specs.declared.device.Disk.{Ghosts as DiskGhosts}
 use Rattle.pos_service.specs.declared.peripheral.Peripheral.{Ghosts}
-use Rattle.pos_drive.specs.declared.hosted.Hosted.{Ghosts as HostGhosts}
+use Rattle.pos_drive.specs.declared.courses.Course.{Course}
 use Rattle.pos_counter.specs.declared.counter.Counter.{Counter}
 use Rattle.pos_counter.specs.Counters.{IsCounterSound, Stays}
 use Rattle.pos_script.specs.Lines.{lines_of}
@@ -13,7 +13,9 @@ use Rattle.pos_streams.specs.Transfers.{given_to}
 use Rattle.pos_run.specs.Transcript.{Session}
 use Rattle.pos_run.specs.Spares.{AreSparesSound}
 use Rattle.pos_run.specs.WaitingLines.{IsOneLine, LinesLeave}
+use Rattle.pos_run.specs.declared.waiting_lines.Held.{Held}
 use Rattle.pos_run.specs.declared.waiting_lines.Held.TheVariants.{Told}
+use Rattle.pos_streams.specs.declared.sink.WriteFault.{WriteFault}
 use Rattle.kijolvar.specs.declared.device.Device.{Device}
 use Rattle.kijolvar.specs.declared.kept.Kept.{Kept}
 use Rattle.kijolvar.specs.TillDisks.{HostedDisk}
@@ -51,10 +53,16 @@ pub record DropsHeld (peripherals : Ghosts Device) (old new : Kept) : Type 0 whe
   pub counter : Stays peripherals old.counter new.counter
   pub held : new.held.items ≡ []
 
+-- How lines ended is noted. Where memory ran out for what one prints, none is held any more.
+pub record EndsLines (went : Result Held WriteFault) (old new : Kept) : Type 0 where
+  pub stays : new ≡ record old { outcome = new.outcome; held = new.held; left = new.left }
+  pub ends : MatchResult went (λ left. (new.outcome ≡ Ok tt) × (new.left ≡ left) × (new.held ≡ old.held))
+      (λ fault. (new.outcome ≡ Err fault) × (new.left ≡ Told) × (new.held.items ≡ []))
+
 -- Lines go on from a counter and a session. From the front on they are carried out, once each, and their text is added
 -- to the answer; the others are held. Where memory ran out for what a line prints, that line is the last, and none is
 -- held.
-pub record GoesOn (bound : DiskGhosts HostedDisk) (hosts : HostGhosts Device) (peripherals : Ghosts Device)
+pub record GoesOn (bound : DiskGhosts HostedDisk) (hosts : Device → Course) (peripherals : Ghosts Device)
     (counter : Counter HostedDisk Device) (session : Session) (before : Given) (lines : List (Vec ℕ Global))
     (new : Kept) : Type 0 where
   pub ends : MatchResult new.outcome

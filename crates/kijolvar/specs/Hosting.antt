@@ -5,7 +5,7 @@ use Rattle.std.specs.Bool.{MatchBool}
 use Rattle.pos_profile.specs.declared.entry.Entry.{Entry}
 use Rattle.pos_profile.specs.Kinds.{kind_of}
 use Rattle.pos_drive.specs.Courses.{driven_course}
-use Rattle.pos_drive.specs.declared.hosted.Hosted.{Ghosts as HostGhosts}
+use Rattle.pos_drive.specs.declared.courses.Course.{Course}
 use Rattle.pos_service.specs.declared.peripheral.Peripheral.{Ghosts}
 use Rattle.pos_counter.specs.Counters.{Stays}
 use Rattle.pos_counter.specs.Hosts.{changed_named, course_named, hosts_in}
@@ -35,12 +35,12 @@ abbrev pub may_be_driven : List Entry → List ℕ → Bool
 may_be_driven entries name = list_any (is_drivable name) entries
 
 -- a device of this name may be driven, and has a peripheral
-abbrev pub is_drivable_now : HostGhosts Device → Kept → List ℕ → Bool
+abbrev pub is_drivable_now : (Device → Course) → Kept → List ℕ → Bool
 is_drivable_now hosts till name =
     may_be_driven till.profile.devices name && is_some (course_named name (hosts_in hosts till.counter))
 
 -- Each order of the device of this name waits for the host from now on. Nothing else changes.
-pub record IsDriven (hosts : HostGhosts Device) (peripherals : Ghosts Device) (old : Kept) (name : List ℕ) (code : ℕ)
+pub record IsDriven (hosts : Device → Course) (peripherals : Ghosts Device) (old : Kept) (name : List ℕ) (code : ℕ)
     (new : Kept) : Type 0 where
   pub code_told : code ≡ ok
   pub counter : Stays peripherals old.counter new.counter
@@ -48,6 +48,6 @@ pub record IsDriven (hosts : HostGhosts Device) (peripherals : Ghosts Device) (o
   pub stays : new ≡ record old { counter = new.counter; is_driven = true }
 
 -- what a host is told that drives a device, and what that does
-abbrev pub Drives : HostGhosts Device → Ghosts Device → (old : Kept) (name : List ℕ) (code : ℕ) (new : Kept) → Type 0
+abbrev pub Drives : (Device → Course) → Ghosts Device → (old : Kept) (name : List ℕ) (code : ℕ) (new : Kept) → Type 0
 Drives hosts peripherals old name code new = MatchBool (is_drivable_now hosts old name)
     (IsDriven hosts peripherals old name code new) ((code ≡ no_device) × (new ≡ old))

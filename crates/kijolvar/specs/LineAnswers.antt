@@ -4,7 +4,7 @@ use Rattle.std.specs.declared.vec.Vec.{Vec}
 use Rattle.std.specs.declared.alloc.Global.{Global}
 use Rattle.pos_disk.specs.declared.device.Disk.{Ghosts as DiskGhosts}
 use Rattle.pos_service.specs.declared.peripheral.Peripheral.{Ghosts}
-use Rattle.pos_drive.specs.declared.hosted.Hosted.{Ghosts as HostGhosts}
+use Rattle.pos_drive.specs.declared.courses.Course.{Course}
 use Rattle.pos_script.specs.Lines.{lines_of}
 use Rattle.pos_streams.specs.Streams.{given_with}
 use Rattle.pos_streams.specs.Transfers.{given_to}
@@ -19,7 +19,7 @@ use Rattle.kijolvar.specs.TillDisks.{HostedDisk}
 use Rattle.kijolvar.specs.Tills.{CarriesOut, HandsOver, KeepsRest, Undone, session_in, settlement_of}
 
 -- The lines of a text are carried out by a till with driven devices, up to one that waits.
-pub record CarriesOutDriven (bound : DiskGhosts HostedDisk) (hosts : HostGhosts Device) (peripherals : Ghosts Device)
+pub record CarriesOutDriven (bound : DiskGhosts HostedDisk) (hosts : Device → Course) (peripherals : Ghosts Device)
     (old : Kept) (text : List ℕ) (new : Kept) : Type 0 where
   pub lines : List (Vec ℕ Global)
   pub are : lines_in lines ≡ lines_of text
@@ -29,7 +29,7 @@ pub record CarriesOutDriven (bound : DiskGhosts HostedDisk) (hosts : HostGhosts 
 
 -- what lines do to a till, or the code that says why they do nothing: one waits already, or there was no memory for
 -- them; without a driven device, and where none waits, they are carried out at once
-pub record TakesLines (bound : DiskGhosts HostedDisk) (hosts : HostGhosts Device) (peripherals : Ghosts Device)
+pub record TakesLines (bound : DiskGhosts HostedDisk) (hosts : Device → Course) (peripherals : Ghosts Device)
     (old : Kept) (text : List ℕ) (result : Result (Unit {0}) ℕ) (new : Kept) : Type 0 where
   pub one_waits : old.held.items ≢ [] → (result ≡ Err waits) × (new ≡ old)
   pub at_once : old.held.items ≡ [] → old.is_driven ≡ false →
@@ -50,14 +50,14 @@ AnswersAs (Ok u) till before after needed_before needed code = HandsOver till be
 AnswersAs (Err why) till before after needed_before needed code = TellsWhy before after needed_before needed code why
 
 -- lines are carried out, and their answer is handed over
-pub record Served (bound : DiskGhosts HostedDisk) (hosts : HostGhosts Device) (peripherals : Ghosts Device)
+pub record Served (bound : DiskGhosts HostedDisk) (hosts : Device → Course) (peripherals : Ghosts Device)
     (old : Kept) (text before after : List ℕ) (needed_before needed code : ℕ) (new : Kept) : Type 0 where
   pub result : Result (Unit {0}) ℕ
   pub takes : TakesLines bound hosts peripherals old text result new
   pub answers : AnswersAs result new before after needed_before needed code
 
 -- what a call with lines leaves, by how the till's host stands to its disk
-abbrev pub AnswersBy : Settlement → DiskGhosts HostedDisk → HostGhosts Device → Ghosts Device → (old : Kept)
+abbrev pub AnswersBy : Settlement → DiskGhosts HostedDisk → (Device → Course) → Ghosts Device → (old : Kept)
     (text before after : List ℕ) (needed_before needed code : ℕ) (new : Kept) → Type 0
 AnswersBy InMemory bound hosts peripherals old text before after needed_before needed code new =
     Served bound hosts peripherals old text before after needed_before needed code new
@@ -68,6 +68,6 @@ AnswersBy Owed bound hosts peripherals old text before after needed_before neede
 AnswersBy Failed bound hosts peripherals old text before after needed_before needed code new =
     Undone old before after needed_before needed code disk_failed new
 
-abbrev pub Answers : DiskGhosts HostedDisk → HostGhosts Device → Ghosts Device → (old : Kept)
+abbrev pub Answers : DiskGhosts HostedDisk → (Device → Course) → Ghosts Device → (old : Kept)
     (text before after : List ℕ) (needed_before needed code : ℕ) (new : Kept) → Type 0
 Answers bound hosts peripherals old = AnswersBy (settlement_of old) bound hosts peripherals old

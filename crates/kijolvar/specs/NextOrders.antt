@@ -4,7 +4,7 @@ use Rattle.pos_service.specs.declared.order.Order.{Order}
 use Rattle.pos_service.specs.declared.peripheral.Peripheral.{Ghosts}
 use Rattle.pos_drive.specs.Courses.{handed_out_course}
 use Rattle.pos_drive.specs.declared.courses.Progress.TheVariants as progress
-use Rattle.pos_drive.specs.declared.hosted.Hosted.{Ghosts as HostGhosts}
+use Rattle.pos_drive.specs.declared.courses.Course.{Course}
 use Rattle.pos_counter.specs.Counters.{Stays}
 use Rattle.pos_counter.specs.Hosts.{changed_pending, hosts_in, progress_in, waiting_in}
 use Rattle.kijolvar.specs.declared.device.Device.{Device}
@@ -17,7 +17,7 @@ use Rattle.kijolvar.specs.TillDisks.{IsInFile}
 use Rattle.kijolvar.specs.Tills.{TellsNothing, Undone, disk_of, settlement_of}
 
 -- The order of a driven device is given to the host: its line is written, and the host has it from then on.
-pub record GivesOrder (hosts : HostGhosts Device) (peripherals : Ghosts Device) (old : Kept) (line before after : List ℕ)
+pub record GivesOrder (hosts : Device → Course) (peripherals : Ghosts Device) (old : Kept) (line before after : List ℕ)
     (needed code : ℕ) (new : Kept) : Type 0 where
   pub fits : length line ≤ length before
   pub written : after ≡ line ++ drop (length line) before
@@ -50,7 +50,7 @@ pub record HasNoLine (old : Kept) (before after : List ℕ) (needed_before neede
 
 -- The order that waits of a driven device is given to the host, once: the line has the device's name, the order's word
 -- and its arguments.
-pub record GivesDriven (hosts : HostGhosts Device) (peripherals : Ghosts Device) (old : Kept) (before after : List ℕ)
+pub record GivesDriven (hosts : Device → Course) (peripherals : Ghosts Device) (old : Kept) (before after : List ℕ)
     (needed_before needed code : ℕ) (new : Kept) : Type 0 where
   pub none : progress_in hosts old.counter ≢ progress.Waits → HasNone old before after needed code new
   pub given : (device : List ℕ) (asked : Order) → progress_in hosts old.counter ≡ progress.Waits →
@@ -61,7 +61,7 @@ pub record GivesDriven (hosts : HostGhosts Device) (peripherals : Ghosts Device)
 
 -- The oldest of the orders that wait is told, or of those that devices have kept since where none waits, and nothing
 -- else changes. Where there is none, the order that waits of a driven device is given to the host.
-pub record HandsOut (hosts : HostGhosts Device) (peripherals : Ghosts Device) (old : Kept) (before after : List ℕ)
+pub record HandsOut (hosts : Device → Course) (peripherals : Ghosts Device) (old : Kept) (before after : List ℕ)
     (needed_before needed code : ℕ) (new : Kept) : Type 0 where
   pub waiting : List (List ℕ)
   pub those : Refills (order_lines old.orders.items) waiting
@@ -73,7 +73,7 @@ pub record HandsOut (hosts : HostGhosts Device) (peripherals : Ghosts Device) (o
 
 -- what a host that asks for the next order is told, by how it stands to the disk: an order, and its file has the bytes
 -- of the totals' disk; or nothing while errands are left or one failed
-abbrev pub NextOrderBy : Settlement → HostGhosts Device → Ghosts Device → (old : Kept) (before after : List ℕ)
+abbrev pub NextOrderBy : Settlement → (Device → Course) → Ghosts Device → (old : Kept) (before after : List ℕ)
     (needed_before needed code : ℕ) (new : Kept) → Type 0
 NextOrderBy InMemory hosts peripherals old before after needed_before needed code new =
     HandsOut hosts peripherals old before after needed_before needed code new
@@ -84,6 +84,6 @@ NextOrderBy Owed hosts peripherals old before after needed_before needed code ne
 NextOrderBy Failed hosts peripherals old before after needed_before needed code new =
     Undone old before after needed_before needed code disk_failed new
 
-abbrev pub NextOrder : HostGhosts Device → Ghosts Device → (old : Kept) (before after : List ℕ)
+abbrev pub NextOrder : (Device → Course) → Ghosts Device → (old : Kept) (before after : List ℕ)
     (needed_before needed code : ℕ) (new : Kept) → Type 0
 NextOrder hosts peripherals old = NextOrderBy (settlement_of old) hosts peripherals old

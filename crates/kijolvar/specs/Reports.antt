@@ -6,7 +6,7 @@ use Rattle.pos_disk.specs.declared.device.Disk.{Ghosts as DiskGhosts}
 use Rattle.pos_service.specs.declared.peripheral.Peripheral.{Ghosts}
 use Rattle.pos_drive.specs.Courses.{reported_course}
 use Rattle.pos_drive.specs.declared.courses.Progress.TheVariants as progress
-use Rattle.pos_drive.specs.declared.hosted.Hosted.{Ghosts as HostGhosts}
+use Rattle.pos_drive.specs.declared.courses.Course.{Course}
 use Rattle.pos_counter.specs.declared.counter.Counter.{Counter}
 use Rattle.pos_counter.specs.Counters.{Stays}
 use Rattle.pos_counter.specs.Hosts.{changed_pending, hosts_in, progress_in}
@@ -28,20 +28,20 @@ use Rattle.kijolvar.specs.TillDisks.{HostedDisk}
 use Rattle.kijolvar.specs.Tills.{KeepsRest, Undone, session_in, settlement_of}
 
 -- The device whose order the host has takes the report that it is done, or is not. Nothing else changes.
-pub record IsReported (hosts : HostGhosts Device) (peripherals : Ghosts Device) (is_done : Bool)
+pub record IsReported (hosts : Device → Course) (peripherals : Ghosts Device) (is_done : Bool)
     (old new : Counter HostedDisk Device) : Type 0 where
   pub stays : Stays peripherals old new
   pub course : hosts_in hosts new ≡ changed_pending (reported_course is_done) (hosts_in hosts old)
 
 -- Lines that found no memory go on.
-pub record Resumes (bound : DiskGhosts HostedDisk) (hosts : HostGhosts Device) (peripherals : Ghosts Device)
+pub record Resumes (bound : DiskGhosts HostedDisk) (hosts : Device → Course) (peripherals : Ghosts Device)
     (old new : Kept) : Type 0 where
   pub go_on : GoesOn bound hosts peripherals old.counter (session_in peripherals old)
       (given_with [] (given_to old.answer).faults) old.held.items new
   pub rest : KeepsRest old new
 
 -- The order is done. The line that waits goes on, then the inputs, and then the others.
-pub record TakesDone (bound : DiskGhosts HostedDisk) (hosts : HostGhosts Device) (peripherals : Ghosts Device)
+pub record TakesDone (bound : DiskGhosts HostedDisk) (hosts : Device → Course) (peripherals : Ghosts Device)
     (old : Kept) (inputs : List ℕ) (new : Kept) : Type 0 where
   pub reported : Counter HostedDisk Device
   pub reports : IsReported hosts peripherals true old.counter reported
@@ -53,7 +53,7 @@ pub record TakesDone (bound : DiskGhosts HostedDisk) (hosts : HostGhosts Device)
 
 -- The order is not done. The inputs are carried out first, then the report is taken, and the line that waits goes on,
 -- and then the others.
-pub record TakesFailure (bound : DiskGhosts HostedDisk) (hosts : HostGhosts Device) (peripherals : Ghosts Device)
+pub record TakesFailure (bound : DiskGhosts HostedDisk) (hosts : Device → Course) (peripherals : Ghosts Device)
     (old : Kept) (inputs : List ℕ) (new : Kept) : Type 0 where
   pub fed : Counter HostedDisk Device
   pub session : Session
@@ -66,7 +66,7 @@ pub record TakesFailure (bound : DiskGhosts HostedDisk) (hosts : HostGhosts Devi
   pub rest : KeepsRest old new
 
 -- The order is not done, and memory ran out for what an input prints. No later line is carried out, and none is held.
-pub record CutsInputs (bound : DiskGhosts HostedDisk) (hosts : HostGhosts Device) (peripherals : Ghosts Device)
+pub record CutsInputs (bound : DiskGhosts HostedDisk) (hosts : Device → Course) (peripherals : Ghosts Device)
     (old : Kept) (inputs : List ℕ) (new : Kept) : Type 0 where
   pub fed : Counter HostedDisk Device
   pub carries : CarriesOutLines {E = Unit {0}} bound peripherals old.counter (session_in peripherals old)
@@ -81,9 +81,9 @@ pub record CutsInputs (bound : DiskGhosts HostedDisk) (hosts : HostGhosts Device
 abbrev pub is_done : ℕ → Bool
 is_done outcome = outcome == 0
 
--- What a report does to a till, or the code that says why it does nothing: the host has no order, or there was no memory
--- for the inputs. Where lines found no memory they go on, and nothing of the report is read.
-pub record TakesReport (bound : DiskGhosts HostedDisk) (hosts : HostGhosts Device) (peripherals : Ghosts Device)
+-- What a report does to a till, or the code that says why it does nothing: the host has no order, or there was no
+-- memory for the inputs. Where lines found no memory they go on, and nothing of the report is read.
+pub record TakesReport (bound : DiskGhosts HostedDisk) (hosts : Device → Course) (peripherals : Ghosts Device)
     (old : Kept) (outcome : ℕ) (inputs : List ℕ) (result : Result (Unit {0}) ℕ) (new : Kept) : Type 0 where
   pub resumes : old.left ≡ NoMemory → (result ≡ Ok tt) × Resumes bound hosts peripherals old new
   pub no_order : old.left ≢ NoMemory → progress_in hosts old.counter ≢ progress.HandedOut →
@@ -96,7 +96,7 @@ pub record TakesReport (bound : DiskGhosts HostedDisk) (hosts : HostGhosts Devic
       ⊎ CutsInputs bound hosts peripherals old inputs new)
 
 -- a report is taken, and the answer of its lines is handed over
-pub record Reports (bound : DiskGhosts HostedDisk) (hosts : HostGhosts Device) (peripherals : Ghosts Device)
+pub record Reports (bound : DiskGhosts HostedDisk) (hosts : Device → Course) (peripherals : Ghosts Device)
     (old : Kept) (outcome : ℕ) (inputs before after : List ℕ) (needed_before needed code : ℕ) (new : Kept) : Type 0
   where
     pub result : Result (Unit {0}) ℕ
@@ -104,7 +104,7 @@ pub record Reports (bound : DiskGhosts HostedDisk) (hosts : HostGhosts Device) (
     pub answers : AnswersAs result new before after needed_before needed code
 
 -- what a call with a report leaves, by how the till's host stands to its disk
-abbrev pub AnswersReportBy : Settlement → DiskGhosts HostedDisk → HostGhosts Device → Ghosts Device → (old : Kept)
+abbrev pub AnswersReportBy : Settlement → DiskGhosts HostedDisk → (Device → Course) → Ghosts Device → (old : Kept)
     (outcome : ℕ) (inputs before after : List ℕ) (needed_before needed code : ℕ) (new : Kept) → Type 0
 AnswersReportBy InMemory bound hosts peripherals old outcome inputs before after needed_before needed code new =
     Reports bound hosts peripherals old outcome inputs before after needed_before needed code new
@@ -115,6 +115,6 @@ AnswersReportBy Owed bound hosts peripherals old outcome inputs before after nee
 AnswersReportBy Failed bound hosts peripherals old outcome inputs before after needed_before needed code new =
     Undone old before after needed_before needed code disk_failed new
 
-abbrev pub AnswersReport : DiskGhosts HostedDisk → HostGhosts Device → Ghosts Device → (old : Kept) (outcome : ℕ)
+abbrev pub AnswersReport : DiskGhosts HostedDisk → (Device → Course) → Ghosts Device → (old : Kept) (outcome : ℕ)
     (inputs before after : List ℕ) (needed_before needed code : ℕ) (new : Kept) → Type 0
 AnswersReport bound hosts peripherals old = AnswersReportBy (settlement_of old) bound hosts peripherals old

@@ -2,7 +2,7 @@
 ghost use Rattle.std.specs.Prelude.{◌≡◌, ◌⊎◌, MatchResult, false};
 ghost use Rattle.pos_streams.specs.Transfers.{given_to};
 ghost use Rattle.kijolvar.specs.Codes.{no_memory};
-ghost use Rattle.kijolvar.specs.HeldLines.{BeginsAnswer, DropsHeld, GoesOn, IsTillSound};
+ghost use Rattle.kijolvar.specs.HeldLines.{BeginsAnswer, DropsHeld, EndsLines, GoesOn, IsTillSound};
 ghost use Rattle.kijolvar.specs.LineAnswers.{CarriesOutDriven};
 ghost use Rattle.kijolvar.specs.Reports.{CutsInputs, TakesDone, TakesFailure, TakesReport};
 ghost use Rattle.kijolvar.specs.Tills.{KeepsRest, session_in};
@@ -17,6 +17,7 @@ use pos_drive::{Hosted, Progress};
 use pos_run::{Held, carry_on, carry_out_lines};
 use pos_script::LineBuffer;
 use pos_service::Peripheral;
+use pos_streams::WriteFault;
 use std::alloc::Global;
 
 /// The outcome of an order that the host's hardware has done.
@@ -44,24 +45,13 @@ impl Kept {
         self.counter.settle();
     }
 
-    /// Carries out the lines that are held, up to one that waits, and adds what they print to the answer.
-    fn go_on(&mut self, alloc: Global, buffer: &mut LineBuffer)
-        requires told { self.old.told ≡ false }
-        requires sound { IsTillSound ⟦<Device as Peripheral>⟧ self.old }
-        ensures go_on { GoesOn ⟦<TillDisk as Disk>⟧ ⟦<Device as Hosted>⟧ ⟦<Device as Peripheral>⟧ self.old.counter
-            (session_in ⟦<Device as Peripheral>⟧ self.old) (given_to self.old.answer) self.old.held.items self.new }
-        ensures rest { KeepsRest self.old self.new }
+    /// Notes how lines ended. If memory ran out for what one prints, none is held any more.
+    fn end_lines(&mut self, went: Result<Held, WriteFault>)
+        requires { IsTillSound ⟦<Device as Peripheral>⟧ self.old }
+        ensures ends { EndsLines went self.old self.new }
         ensures sound { IsTillSound ⟦<Device as Peripheral>⟧ self.new }
     {
-        match carry_on(
-            alloc,
-            &mut self.held,
-            buffer,
-            &mut self.answer,
-            &mut self.counter,
-            &mut self.names,
-            &mut self.spares,
-        ) {
+        match went {
             Ok(left) => {
                 self.outcome = Ok(());
                 self.left = left;
@@ -72,6 +62,27 @@ impl Kept {
                 self.held.clear();
             }
         }
+    }
+
+    /// Carries out the lines that are held, up to one that waits, and adds what they print to the answer.
+    fn go_on(&mut self, alloc: Global, buffer: &mut LineBuffer)
+        requires told { self.old.told ≡ false }
+        requires sound { IsTillSound ⟦<Device as Peripheral>⟧ self.old }
+        ensures go_on { GoesOn ⟦<TillDisk as Disk>⟧ ⟦<Device as Hosted>⟧.course ⟦<Device as Peripheral>⟧
+            self.old.counter (session_in ⟦<Device as Peripheral>⟧ self.old) (given_to self.old.answer) self.old.held.items self.new }
+        ensures rest { KeepsRest self.old self.new }
+        ensures sound { IsTillSound ⟦<Device as Peripheral>⟧ self.new }
+    {
+        let went = carry_on(
+            alloc,
+            &mut self.held,
+            buffer,
+            &mut self.answer,
+            &mut self.counter,
+            &mut self.names,
+            &mut self.spares,
+        );
+        self.end_lines(went);
         self.counter.disk().is_in_step();
     }
 
@@ -88,7 +99,7 @@ impl Kept {
         text: &[u8],
     ) -> Result<(), u32>
         requires { IsTillSound ⟦<Device as Peripheral>⟧ self.old }
-        ensures carries { MatchResult result (λ u. CarriesOutDriven ⟦<TillDisk as Disk>⟧ ⟦<Device as Hosted>⟧
+        ensures carries { MatchResult result (λ u. CarriesOutDriven ⟦<TillDisk as Disk>⟧ ⟦<Device as Hosted>⟧.course
             ⟦<Device as Peripheral>⟧ self.old text.now self.new) (λ why. (why ≡ no_memory) × (self.new ≡ self.old)) }
         ensures sound { IsTillSound ⟦<Device as Peripheral>⟧ self.new }
     {
@@ -114,7 +125,7 @@ impl Kept {
         inputs: &[u8],
     ) -> Result<(), u32>
         requires { IsTillSound ⟦<Device as Peripheral>⟧ self.old }
-        ensures takes { MatchResult result (λ u. TakesDone ⟦<TillDisk as Disk>⟧ ⟦<Device as Hosted>⟧
+        ensures takes { MatchResult result (λ u. TakesDone ⟦<TillDisk as Disk>⟧ ⟦<Device as Hosted>⟧.course
             ⟦<Device as Peripheral>⟧ self.old inputs.now self.new) (λ why. (why ≡ no_memory) × (self.new ≡ self.old)) }
         ensures sound { IsTillSound ⟦<Device as Peripheral>⟧ self.new }
     {
@@ -134,8 +145,8 @@ impl Kept {
     /// on, and then the others. If memory runs out for what an input prints, none of them does.
     fn take_failure(&mut self, alloc: Global, buffer: &mut LineBuffer, inputs: &[u8])
         requires { IsTillSound ⟦<Device as Peripheral>⟧ self.old }
-        ensures takes { TakesFailure ⟦<TillDisk as Disk>⟧ ⟦<Device as Hosted>⟧ ⟦<Device as Peripheral>⟧ self.old
-            inputs.now self.new ⊎ CutsInputs ⟦<TillDisk as Disk>⟧ ⟦<Device as Hosted>⟧ ⟦<Device as Peripheral>⟧
+        ensures takes { TakesFailure ⟦<TillDisk as Disk>⟧ ⟦<Device as Hosted>⟧.course ⟦<Device as Peripheral>⟧ self.old
+            inputs.now self.new ⊎ CutsInputs ⟦<TillDisk as Disk>⟧ ⟦<Device as Hosted>⟧.course ⟦<Device as Peripheral>⟧
             self.old inputs.now self.new }
         ensures sound { IsTillSound ⟦<Device as Peripheral>⟧ self.new }
     {
@@ -158,8 +169,8 @@ impl Kept {
         }
     }
 
-    /// Takes the host's report of an order, with the inputs that belong to it, and carries out the lines that it lets go
-    /// on. Lines that found no memory go on whatever the report says.
+    /// Takes the host's report of an order, with the inputs that belong to it, and carries out the lines that it lets
+    /// go on. Lines that found no memory go on whatever the report says.
     ///
     /// # Errors
     ///
@@ -172,7 +183,7 @@ impl Kept {
         inputs: &[u8],
     ) -> Result<(), u32>
         requires { IsTillSound ⟦<Device as Peripheral>⟧ self.old }
-        ensures takes { TakesReport ⟦<TillDisk as Disk>⟧ ⟦<Device as Hosted>⟧ ⟦<Device as Peripheral>⟧ self.old
+        ensures takes { TakesReport ⟦<TillDisk as Disk>⟧ ⟦<Device as Hosted>⟧.course ⟦<Device as Peripheral>⟧ self.old
             outcome inputs.now result self.new }
         ensures sound { IsTillSound ⟦<Device as Peripheral>⟧ self.new }
     {

@@ -69,7 +69,7 @@ fn may_be_driven(entries: &[Entry], name: &[u8]) -> bool
 /// NO_DEVICE if no device of the name may be driven, or nothing serves it. Then nothing changes.
 pub fn drive_device(kept: &mut Kept, name: &[u8]) -> u32
     requires { IsTillSound ⟦<Device as Peripheral>⟧ kept.old }
-    ensures drives { Drives ⟦<Device as Hosted>⟧ ⟦<Device as Peripheral>⟧ kept.old name.now result kept.new }
+    ensures drives { Drives ⟦<Device as Hosted>⟧.course ⟦<Device as Peripheral>⟧ kept.old name.now result kept.new }
     ensures sound { IsTillSound ⟦<Device as Peripheral>⟧ kept.new }
 {
     if !may_be_driven(kept.profile.devices(), name) {
@@ -99,8 +99,8 @@ fn refill(orders: &mut VecDeque<Vec<u8>>, tray: &Tray)
 /// SHORT if `text` has less room, and NO_MEMORY if memory ran out for the line. Then the host doesn't have the order.
 fn give_driven(kept: &mut Kept, alloc: Global, text: &mut [u8], needed: &mut usize) -> u32
     requires { IsTillSound ⟦<Device as Peripheral>⟧ kept.old }
-    ensures gives { GivesDriven ⟦<Device as Hosted>⟧ ⟦<Device as Peripheral>⟧ kept.old text.old text.new needed.old
-        needed.new result kept.new }
+    ensures gives { GivesDriven ⟦<Device as Hosted>⟧.course ⟦<Device as Peripheral>⟧ kept.old text.old text.new
+        needed.old needed.new result kept.new }
     ensures orders { kept.new.orders ≡ kept.old.orders }
     ensures sound { IsTillSound ⟦<Device as Peripheral>⟧ kept.new }
 {
@@ -133,8 +133,8 @@ fn give_driven(kept: &mut Kept, alloc: Global, text: &mut [u8], needed: &mut usi
 /// NO_MEMORY if memory ran out for the line of a driven device. Then nothing is written.
 fn tell_next(kept: &mut Kept, tray: &Tray, text: &mut [u8], needed: &mut usize) -> u32
     requires { IsTillSound ⟦<Device as Peripheral>⟧ kept.old }
-    ensures hands_out { HandsOut ⟦<Device as Hosted>⟧ ⟦<Device as Peripheral>⟧ kept.old text.old text.new needed.old
-        needed.new result kept.new }
+    ensures hands_out { HandsOut ⟦<Device as Hosted>⟧.course ⟦<Device as Peripheral>⟧ kept.old text.old text.new
+        needed.old needed.new result kept.new }
     ensures sound { IsTillSound ⟦<Device as Peripheral>⟧ kept.new }
 {
     refill(&mut kept.orders, tray);
@@ -152,8 +152,8 @@ fn tell_next(kept: &mut Kept, tray: &Tray, text: &mut [u8], needed: &mut usize) 
 /// - NO_MEMORY if memory ran out for the line of a driven device. Then nothing is written.
 pub fn next_order(kept: &mut Kept, tray: &Tray, text: &mut [u8], needed: &mut usize) -> u32
     requires { IsTillSound ⟦<Device as Peripheral>⟧ kept.old }
-    ensures next { NextOrder ⟦<Device as Hosted>⟧ ⟦<Device as Peripheral>⟧ kept.old text.old text.new needed.old
-        needed.new result kept.new }
+    ensures next { NextOrder ⟦<Device as Hosted>⟧.course ⟦<Device as Peripheral>⟧ kept.old text.old text.new
+        needed.old needed.new result kept.new }
     ensures sound { IsTillSound ⟦<Device as Peripheral>⟧ kept.new }
 {
     match kept.settlement() {

@@ -354,7 +354,7 @@ pub extern "C" fn kijolvar_survey(
 
 /// Carries out lines and writes their answer, if no errand is left and none failed.
 fn serve(session: &mut Session, lines: &[u8], text: &mut [u8], needed: &mut usize) -> u32
-    ensures { Answers ⟦<TillDisk as Disk>⟧ ⟦<Device as Hosted>⟧ ⟦<Device as Peripheral>⟧ session.old lines.now
+    ensures { Answers ⟦<TillDisk as Disk>⟧ ⟦<Device as Hosted>⟧.course ⟦<Device as Peripheral>⟧ session.old lines.now
         text.old text.new needed.old needed.new result session.new }
 {
     match session.settlement() {
@@ -401,8 +401,8 @@ pub extern "C" fn kijolvar_carry_out(
     text: &mut [u8],
     needed: &mut usize,
 ) -> u32
-    ensures { MatchOption out.new.left ⊥ (Answers ⟦<TillDisk as Disk>⟧ ⟦<Device as Hosted>⟧ ⟦<Device as Peripheral>⟧
-        till.session lines.now text.old text.new needed.old needed.new result) }
+    ensures { MatchOption out.new.left ⊥ (Answers ⟦<TillDisk as Disk>⟧ ⟦<Device as Hosted>⟧.course
+        ⟦<Device as Peripheral>⟧ till.session lines.now text.old text.new needed.old needed.new result) }
 {
     let mut session = take(till);
     let code = serve(&mut session, lines, text, needed);
@@ -494,19 +494,20 @@ pub extern "C" fn kijolvar_host(till: Till, out: &mut Slot, name: &[u8]) -> u32
     code
 }
 
-/// Makes each order of the device of this name wait for the host from now on, and returns OK. The line that orders is
-/// answered only after the host has passed the order to its hardware (`kijolvar_next_order`) and reported what became of
-/// it (`kijolvar_order_done`). An order that the simulated device would refuse is refused at once. A host may call this
-/// again. It may have called `kijolvar_host` before, whose part ends. The till is what is written to `out` from then on.
+/// Makes each order of the device of this name wait for the host from now on, and returns OK. A line that orders
+/// something is answered only after the host has passed the order to its hardware (`kijolvar_next_order`) and reported
+/// what became of it (`kijolvar_order_done`). An order that the simulated device would refuse is refused at once. A host
+/// may call this again, and may have called `kijolvar_host` before, which has no effect then. The till is what is
+/// written to `out` from then on.
 ///
 /// # Errors
 ///
-/// NO_DEVICE if the profile has no device of the name, it is one of Hard Totals, its line is `flaky`, or it is detached.
-/// Then nothing changes.
+/// NO_DEVICE if the profile has no device of the name, it is one of Hard Totals, its line is `flaky`, or it is
+/// detached. Then nothing changes.
 #[unsafe(no_mangle)]
 pub extern "C" fn kijolvar_drive(till: Till, out: &mut Slot, name: &[u8]) -> u32
     ensures { MatchOption out.new.left ⊥
-        (Drives ⟦<Device as Hosted>⟧ ⟦<Device as Peripheral>⟧ till.session name.now result) }
+        (Drives ⟦<Device as Hosted>⟧.course ⟦<Device as Peripheral>⟧ till.session name.now result) }
 {
     let mut session = take(till);
     let code = session.drive(name);
@@ -533,7 +534,7 @@ pub extern "C" fn kijolvar_next_order(
     text: &mut [u8],
     needed: &mut usize,
 ) -> u32
-    ensures { MatchOption out.new.left ⊥ (NextOrder ⟦<Device as Hosted>⟧ ⟦<Device as Peripheral>⟧ till.session
+    ensures { MatchOption out.new.left ⊥ (NextOrder ⟦<Device as Hosted>⟧.course ⟦<Device as Peripheral>⟧ till.session
         text.old text.new needed.old needed.new result) }
 {
     let mut session = take(till);
@@ -547,9 +548,9 @@ pub extern "C" fn kijolvar_next_order(
 /// writes to `text` what these lines print, and to `needed` how many bytes that is, and returns OK. The till is what is
 /// written to `out` from then on.
 ///
-/// `inputs` are `input` lines, which say what happened at the hardware meanwhile. If the order is done, they are carried
-/// out after its line. If it isn't, they are carried out first: then the line is answered as the device stands, such as
-/// with an open cover, or it fails (E_FAILURE) if they don't say why.
+/// `inputs` are `input` lines, which say what happened at the hardware meanwhile. If the order is done, they are
+/// carried out after its line. If it isn't, they are carried out first: then the line is answered as the device stands,
+/// such as with an open cover, or it fails (E_FAILURE) if they don't say why.
 ///
 /// # Errors
 ///
@@ -567,7 +568,7 @@ pub extern "C" fn kijolvar_order_done(
     text: &mut [u8],
     needed: &mut usize,
 ) -> u32
-    ensures { MatchOption out.new.left ⊥ (AnswersReport ⟦<TillDisk as Disk>⟧ ⟦<Device as Hosted>⟧
+    ensures { MatchOption out.new.left ⊥ (AnswersReport ⟦<TillDisk as Disk>⟧ ⟦<Device as Hosted>⟧.course
         ⟦<Device as Peripheral>⟧ till.session outcome inputs.now text.old text.new needed.old needed.new result) }
 {
     let mut session = take(till);

@@ -19,8 +19,8 @@ pub fn report(
     text: &mut [u8],
     needed: &mut usize,
 ) -> u32
-    ensures { AnswersReport ⟦<TillDisk as Disk>⟧ ⟦<Device as Hosted>⟧ ⟦<Device as Peripheral>⟧ session.old outcome
-        inputs.now text.old text.new needed.old needed.new result session.new }
+    ensures { AnswersReport ⟦<TillDisk as Disk>⟧ ⟦<Device as Hosted>⟧.course ⟦<Device as Peripheral>⟧ session.old
+        outcome inputs.now text.old text.new needed.old needed.new result session.new }
 {
     match session.settlement() {
         Settlement::Owed => UNDONE,

@@ -126,8 +126,8 @@ impl Session {
     /// WAITS if a line of an earlier text waits. NO_MEMORY if a device is driven and memory ran out for the lines. Then
     /// nothing changes.
     pub fn carry_out(&mut self, lines: &[u8]) -> Result<(), u32>
-        ensures { TakesLines ⟦<TillDisk as Disk>⟧ ⟦<Device as Hosted>⟧ ⟦<Device as Peripheral>⟧ self.old lines.now
-            result self.new }
+        ensures { TakesLines ⟦<TillDisk as Disk>⟧ ⟦<Device as Hosted>⟧.course ⟦<Device as Peripheral>⟧ self.old
+            lines.now result self.new }
     {
         if !self.kept.held.is_empty() {
             return Err(WAITS);
@@ -141,14 +141,14 @@ impl Session {
         Ok(())
     }
 
-    /// Takes the host's report of an order, with the inputs that belong to it, and carries out the lines that it lets go
-    /// on.
+    /// Takes the host's report of an order, with the inputs that belong to it, and carries out the lines that it lets
+    /// go on.
     ///
     /// # Errors
     ///
     /// NO_ORDER if the host has no order, and NO_MEMORY if memory ran out for the inputs. Then nothing changes.
     pub fn take_report(&mut self, outcome: u32, inputs: &[u8]) -> Result<(), u32>
-        ensures { TakesReport ⟦<TillDisk as Disk>⟧ ⟦<Device as Hosted>⟧ ⟦<Device as Peripheral>⟧ self.old outcome
+        ensures { TakesReport ⟦<TillDisk as Disk>⟧ ⟦<Device as Hosted>⟧.course ⟦<Device as Peripheral>⟧ self.old outcome
             inputs.now result self.new }
     {
         self.kept
@@ -176,8 +176,8 @@ impl Session {
         }
     }
 
-    /// Writes the answer to lines, or returns the code that says why none was carried out. If memory ran out, the answer
-    /// has no bytes.
+    /// Writes the answer to lines, or returns the code that says why none was carried out. If memory ran out, the
+    /// answer has no bytes.
     pub fn answer(&self, taken: Result<(), u32>, text: &mut [u8], needed: &mut usize) -> u32
         ensures { AnswersAs taken self.now text.old text.new needed.old needed.new result }
     {
@@ -221,7 +221,7 @@ impl Session {
     ///
     /// NO_DEVICE if no device of the name may be driven, or nothing serves it. Then nothing changes.
     pub fn drive(&mut self, name: &[u8]) -> u32
-        ensures { Drives ⟦<Device as Hosted>⟧ ⟦<Device as Peripheral>⟧ self.old name.now result self.new }
+        ensures { Drives ⟦<Device as Hosted>⟧.course ⟦<Device as Peripheral>⟧ self.old name.now result self.new }
     {
         drive_device(&mut self.kept, name)
     }
@@ -234,7 +234,7 @@ impl Session {
     /// - ERRANDS if errands are left, and DISK_FAILED if one failed. Then nothing is written.
     /// - NO_MEMORY if memory ran out for the line of a driven device. Then nothing is written.
     pub fn next_order(&mut self, text: &mut [u8], needed: &mut usize) -> u32
-        ensures { NextOrder ⟦<Device as Hosted>⟧ ⟦<Device as Peripheral>⟧ self.old text.old text.new needed.old
+        ensures { NextOrder ⟦<Device as Hosted>⟧.course ⟦<Device as Peripheral>⟧ self.old text.old text.new needed.old
             needed.new result self.new }
     {
         next_order(&mut self.kept, &self.tray, text, needed)

@@ -1,6 +1,6 @@
 use Rattle.kijolvar.proofs.Common.{refl}
 use Rattle.kijolvar.proofs.DrivenLemmas.{held_behind, takes_done}
-use Rattle.kijolvar.specs.contracts.device.DeviceHosted.TheImpl.{ghosts as hosts}
+use Rattle.kijolvar.specs.Orders.{device_course as hosts}
 use Rattle.kijolvar.specs.contracts.device.DevicePeripheral.TheImpl.{ghosts as devices}
 use Rattle.kijolvar.specs.contracts.till_disk.TillDiskDisk.TheImpl.{ghosts as disks}
 use Rattle.kijolvar.proofs.kept.Kept.take_done.Goals as goal

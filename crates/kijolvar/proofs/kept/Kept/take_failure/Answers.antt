@@ -4,7 +4,7 @@ use Rattle.pos_script.specs.Lines.{lines_of}
 use Rattle.kijolvar.proofs.DrivenLemmas.{cuts_inputs, takes_failure}
 use Rattle.kijolvar.proofs.RunLemmas.{lines_fixed}
 use Rattle.kijolvar.specs.Tills.{session_in}
-use Rattle.kijolvar.specs.contracts.device.DeviceHosted.TheImpl.{ghosts as hosts}
+use Rattle.kijolvar.specs.Orders.{device_course as hosts}
 use Rattle.kijolvar.specs.contracts.device.DevicePeripheral.TheImpl.{ghosts as devices}
 use Rattle.kijolvar.specs.contracts.till_disk.TillDiskDisk.TheImpl.{ghosts as disks}
 use Rattle.kijolvar.proofs.kept.Kept.take_failure.Goals as goal
