@@ -48,6 +48,20 @@ impl<P: Peripheral> Driven<P> {
         &self.twin
     }
 
+    /// Returns the twin, which has no host any more.
+    pub fn into_twin(self) -> P
+        ensures { result ≡ self.twin }
+    {
+        let Driven {
+            alloc: _,
+            twin,
+            asks: _,
+            faults: _,
+            course: _,
+        } = self;
+        twin
+    }
+
     /// Exchanges how it stands to its host, and returns how it stood.
     fn exchange(&mut self, course: Course) -> Course
         ensures old { result ≡ self.old.course }
@@ -168,13 +182,6 @@ impl<P: Preview> Hosted for Driven<P> {
 
 impl<P: Preview + Ends> Ends for Driven<P> {
     fn end(self) {
-        let Driven {
-            alloc: _,
-            twin,
-            asks: _,
-            faults: _,
-            course: _,
-        } = self;
-        twin.end();
+        self.into_twin().end();
     }
 }

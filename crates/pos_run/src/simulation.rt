@@ -6,7 +6,9 @@ use crate::wrapped::{Wrapped, wrap};
 use pos_drive::Preview;
 use pos_profile::Entry;
 use pos_service::{Input, Kind, NoMemory, Order, Peripheral, Reply, Signs, Snapshot, Taken};
-use pos_sims::{PlainDisplay, PlainDrawer, PlainScanner, RingDisplay, RollPrinter};
+use pos_sims::{
+    PlainDisplay, PlainDrawer, PlainScanner, PrintPreview, RingDisplay, Roll, RollPrinter,
+};
 use std::alloc::Global;
 
 /// A simulated peripheral without a wrapper.
@@ -106,6 +108,15 @@ impl Preview for Simulation {
             Simulation::Display(display) => display.would(order),
             Simulation::Ring(ring) => ring.would(order),
             Simulation::Printer(printer) => printer.would(order),
+        }
+    }
+}
+
+impl PrintPreview for Simulation {
+    fn would_add(&self, alloc: Global, order: &Order) -> Result<Option<Roll>, NoMemory> {
+        match self {
+            Simulation::Printer(printer) => printer.would_add(alloc, order),
+            _ => Ok(None),
         }
     }
 }

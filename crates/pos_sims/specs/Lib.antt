@@ -10,3 +10,4 @@ pub mod RingDisplays
 pub mod Flakies
 pub mod Recorders
 pub mod PaperNeeds
+pub mod Additions

@@ -1,5 +1,5 @@
 //! The roll of a receipt printer.
-ghost use Rattle.std.specs.Prelude.{◌≡◌, ◌≤◌, List, false, None, IfOk, IfSome, OnErr};
+ghost use Rattle.std.specs.Prelude.{◌≡◌, ◌≤◌, List, [], false, None, IfOk, IfSome, OnErr};
 ghost use Rattle.pos_service.specs.declared.receipt_text.Piece.{Piece};
 ghost use Rattle.pos_service.specs.Receipts.{Prints, empty_roll, pieces, cut_pieces, items_from, buffer_from};
 ghost use Rattle.pos_sims.specs.PaperNeeds.{outcome_by};
@@ -42,6 +42,21 @@ impl Roll {
             left: lines,
             is_cover_open: false,
         }
+    }
+
+    /// Returns a roll that differs from this one only in that nothing is printed on it. It has the same line buffer.
+    ///
+    /// # Errors
+    ///
+    /// [`NoMemory`] if memory ran out.
+    pub fn begun(&self, alloc: Global) -> Result<Roll, NoMemory>
+        ensures { IfOk result (λ begun. begun ≡ record self.now { items = [] }) }
+    {
+        Ok(Roll {
+            tape: self.tape.begun(alloc)?,
+            left: self.left,
+            is_cover_open: self.is_cover_open,
+        })
     }
 
     /// Opens or closes the cover.
@@ -123,7 +138,7 @@ impl Roll {
         if let Some(outcome) = self.hindrance() {
             return outcome;
         }
-        let begun = self.tape.begun();
+        let begun = self.tape.buffer_length();
         if request_fits(self.chars(), self.left, begun, asked) {
             Outcome::Done
         } else {
