@@ -679,7 +679,7 @@ completed() {
 }
 told 'a command is completed' 'check create' "$(completed kijolvar c | tr ' ' '\n' | grep -E '^(check|create)$' | tr '\n' ' ' | sed 's/ $//')"
 told 'an option is completed' '--profile' "$(completed kijolvar run --p)"
-told 'a file is completed' 'till.toml' "$(completed kijolvar run till.to)"
+told 'a file is completed' 'till.toml' "$(completed kijolvar run till.tom)"
 told 'a shell is completed' 'fish' "$(completed kijolvar completions f)"
 ends 'completions of no shell' 1 'kijolvar: no completions for tcsh'$'\n''hint: there are some for bash, zsh and fish' '' completions tcsh
 "$tool" man > kijolvar.1
