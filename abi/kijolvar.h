@@ -26,7 +26,7 @@ typedef struct {
 enum {
     /* The call did what it says. */
     KIJOLVAR_OK = 0,
-    /* Memory ran out, and nothing was done. */
+    /* Memory ran out, and nothing was done. Lines before one that is held may have been carried out. */
     KIJOLVAR_NO_MEMORY = 1,
     /* The profile is refused (docs/reference/profile.md). */
     KIJOLVAR_BAD_PROFILE = 2,
@@ -278,8 +278,8 @@ uint32_t kijolvar_survey(const uint8_t *bytes, size_t bytes_len, uint64_t *at, u
    - WAITS if a line waits for an order of the device. The lines before it were carried out, and text has their
      answer. It and the lines after it are held, and go on with kijolvar_order_done.
    - WAITS also if lines of an earlier call are held. Nothing was carried out or written.
-   - NO_MEMORY if memory ran out for the lines. Nothing was carried out or written. If it ran out for a line later, the
-     answer of those before it is in text, and it and the lines after it are held.
+   - NO_MEMORY if memory ran out for the lines. Nothing was carried out, and needed is 0. If it ran out for a line
+     later, the answer of those before it is in text, and it and the lines after it are held.
 
    Of a till over a file also:
 
@@ -331,15 +331,16 @@ void kijolvar_errand_failed(kijolvar_till till, void **out);
    Then nothing changes. */
 uint32_t kijolvar_host(kijolvar_till till, void **out, const uint8_t *name, size_t name_len);
 
-/* Makes each order of the device of this name wait for the host from now on, and returns OK. The line that orders is
-   answered only after the host has passed the order to its hardware (kijolvar_next_order) and reported what became of
-   it (kijolvar_order_done). An order that the simulated device would refuse is refused at once. A host may call this
-   again. It may have called kijolvar_host before, whose part ends. The till is what is written to out from then on.
+/* Makes each order of the device of this name wait for the host from now on, and returns OK. A line that orders
+   something is answered only after the host has passed the order to its hardware (kijolvar_next_order) and reported
+   what became of it (kijolvar_order_done). An order that the simulated device would refuse is refused at once. The
+   host may call this again, and may have called kijolvar_host before, which has no effect then. The till is what is
+   written to out from then on.
 
    Errors:
 
-   NO_DEVICE if the profile has no device of the name, it is one of Hard Totals, its line is flaky, or it is detached.
-   Then nothing changes. */
+   NO_DEVICE if the profile has no device of the name, it is one of Hard Totals, its line is flaky, or it is
+   detached. Then nothing changes. */
 uint32_t kijolvar_drive(kijolvar_till till, void **out, const uint8_t *name, size_t name_len);
 
 /* Removes the oldest order of the devices that the host has, and writes its line to text and to needed how many
@@ -361,16 +362,16 @@ uint32_t kijolvar_next_order(kijolvar_till till, void **out, uint8_t *text, size
    writes to text what these lines print, and to needed how many bytes that is, and returns OK. The till is what is
    written to out from then on.
 
-   inputs are input lines, which say what happened at the hardware meanwhile. If the order is done, they are carried
-   out after its line. If it isn't, they are carried out first: then the line is answered as the device stands, such as
-   with an open cover, or it fails (E_FAILURE) if they don't say why.
+   inputs are input lines, which say what happened at the hardware meanwhile. If the order is done, they are
+   carried out after its line. If it isn't, they are carried out first: then the line is answered as the device stands,
+   such as with an open cover, or it fails (E_FAILURE) if they don't say why.
 
    Errors:
 
    - SHORT, CUT, ERRANDS and DISK_FAILED as kijolvar_carry_out has them. After CUT no line is held.
    - WAITS if the next line waits for an order. text has the answer of the lines before it.
-   - NO_MEMORY if memory ran out. If nothing is written, nothing was done. Else the answer of the lines that went on is
-     in text, and the report is kept. The host may make the same call again: what was taken isn't taken twice.
+   - NO_MEMORY if memory ran out. The answer of the lines that went on is in text: no bytes if none did. The host may
+     make the same call again: a report that was taken is kept, and isn't taken twice.
    - NO_ORDER if the host has no order of a driven device. Nothing was carried out or written. */
 uint32_t kijolvar_order_done(kijolvar_till till, void **out, uint32_t outcome, const uint8_t *inputs, size_t inputs_len,
     uint8_t *text, size_t text_len, size_t *needed);

@@ -148,7 +148,7 @@ static void goes_on(void) {
     order(&self, "r1 print 410a");
     done(&self, "", KIJOLVAR_WAITS, "ok\n");
     order(&self, "d1 openDrawer");
-    done(&self, "input d1 drawer closed\n", KIJOLVAR_WAITS, "ok\nok\nok false\n");
+    done(&self, "input d1 closed\n", KIJOLVAR_WAITS, "ok\nok\nok false\n");
     order(&self, "r1 print 420a");
     done(&self, "", KIJOLVAR_OK, "ok\nok closed 98 -:- l:41:0 l:42:0\n");
     kijolvar_close(self.till);
@@ -183,7 +183,7 @@ static void works(void) {
     lines(&self, "call r printNormal 2 420a\nwork r1\ndeliver r retry\nwork r1\ndeliver r\nshow r1\n", KIJOLVAR_WAITS,
           "ok\n");
     order(&self, "r1 print 420a");
-    not_done(&self, "", KIJOLVAR_WAITS, "failed 111\nevent ErrorEvent 111 0 1\n");
+    not_done(&self, "", KIJOLVAR_WAITS, "failed 111 0\nevent ErrorEvent 111 0 1\n");
     order(&self, "r1 print 420a");
     done(&self, "", KIJOLVAR_OK, "done 2\nevent OutputCompleteEvent 2\nok closed 98 -:- l:41:0 l:42:0\n");
     kijolvar_close(self.till);
@@ -225,7 +225,10 @@ int main(void) {
     goes_on();
     fails();
     works();
-    for (n = 0; runs_out(n, 0, "input d1 drawer closed\n", "ok\nok\nok 2\n", ""); n++) wants("an end", n < 1000);
+    for (n = 0; runs_out(n, 0, "input d1 closed\n", "ok\nok\nok 2\n",
+                         "ok closed 97 -:- l:4142434445464748:00000000 l:4950515253545556:00000000 l:57585960:0000\n");
+         n++)
+        wants("an end", n < 1000);
     for (n = 0; runs_out(n, 1, "input r1 cover open\n", "ok\nerr 114 201\nok 2\n", "ok open 100 -:-\n"); n++)
         wants("an end", n < 1000);
     printf("as they should be\n");

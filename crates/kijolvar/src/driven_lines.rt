@@ -69,7 +69,8 @@ impl Kept {
         requires told { self.old.told ≡ false }
         requires sound { IsTillSound ⟦<Device as Peripheral>⟧ self.old }
         ensures go_on { GoesOn ⟦<TillDisk as Disk>⟧ ⟦<Device as Hosted>⟧.course ⟦<Device as Peripheral>⟧
-            self.old.counter (session_in ⟦<Device as Peripheral>⟧ self.old) (given_to self.old.answer) self.old.held.items self.new }
+            self.old.counter (session_in ⟦<Device as Peripheral>⟧ self.old) (given_to self.old.answer)
+            self.old.held.items self.new }
         ensures rest { KeepsRest self.old self.new }
         ensures sound { IsTillSound ⟦<Device as Peripheral>⟧ self.new }
     {

@@ -496,8 +496,8 @@ pub extern "C" fn kijolvar_host(till: Till, out: &mut Slot, name: &[u8]) -> u32
 
 /// Makes each order of the device of this name wait for the host from now on, and returns OK. A line that orders
 /// something is answered only after the host has passed the order to its hardware (`kijolvar_next_order`) and reported
-/// what became of it (`kijolvar_order_done`). An order that the simulated device would refuse is refused at once. A host
-/// may call this again, and may have called `kijolvar_host` before, which has no effect then. The till is what is
+/// what became of it (`kijolvar_order_done`). An order that the simulated device would refuse is refused at once. The
+/// host may call this again, and may have called `kijolvar_host` before, which has no effect then. The till is what is
 /// written to `out` from then on.
 ///
 /// # Errors
