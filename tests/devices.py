@@ -86,7 +86,10 @@ def raised(call, *words, **named):
 def opened(profile=PROFILE, totals=None, **named):
     """A till over the library, or over a stand-in for the calls that it hasn't got yet."""
     library = LIBRARY
-    if not IS_WHOLE:
+    if PROGRAM is not None:
+        from half_library import HalfLibrary
+        library = HalfLibrary(os.fspath(LIBRARY), os.fspath(PROGRAM))
+    elif not IS_WHOLE:
         from fake_library import FakeLibrary
         library = FakeLibrary(os.fspath(LIBRARY))
     return kijolvar.open(profile, totals, library=library, **named)
@@ -928,10 +931,11 @@ if __name__ == "__main__":
     reader.add_argument("--only", default="")
     reader.add_argument("--port", default=None)
     reader.add_argument("--columns", type=int, default=42)
+    reader.add_argument("--program", default=None)
     WORDS = reader.parse_args()
     LIBRARY = pathlib.Path(WORDS.library).resolve()
-    IS_WHOLE = LIBRARY.suffix == ".so"
-    if IS_WHOLE and not hasattr(ctypes.CDLL(os.fspath(LIBRARY)), "kijolvar_drive"):
+    IS_WHOLE, PROGRAM = LIBRARY.suffix == ".so" and WORDS.program is None, WORDS.program
+    if LIBRARY.suffix == '.so' and not hasattr(ctypes.CDLL(os.fspath(LIBRARY)), "kijolvar_drive"):
         print("failed: the library has no kijolvar_drive\n0 passed, 1 failed")
         sys.exit(1)
     if not IS_WHOLE:
