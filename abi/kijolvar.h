@@ -26,7 +26,7 @@ typedef struct {
 enum {
     /* The call did what it says. */
     KIJOLVAR_OK = 0,
-    /* Memory ran out, and nothing was done. */
+    /* Memory ran out, and nothing was done. Lines before one that is held may have been carried out. */
     KIJOLVAR_NO_MEMORY = 1,
     /* The profile is refused (docs/reference/profile.md). */
     KIJOLVAR_BAD_PROFILE = 2,
@@ -64,6 +64,10 @@ enum {
     KIJOLVAR_EVENT = 18,
     /* No control has the name. */
     KIJOLVAR_NO_CONTROL = 19,
+    /* A line waits until the host has reported what became of an order. */
+    KIJOLVAR_WAITS = 20,
+    /* The host has no order that it may report. */
+    KIJOLVAR_NO_ORDER = 21,
 };
 
 /* The result codes of the standard, which stand in answers. */
@@ -269,6 +273,14 @@ uint32_t kijolvar_survey(const uint8_t *bytes, size_t bytes_len, uint64_t *at, u
    - CUT if memory ran out for what a line prints. That line was carried out, and no later one, and a front of the
      answer is kept.
 
+   Of a till with a driven device (kijolvar_drive) also:
+
+   - WAITS if a line waits for an order of the device. The lines before it were carried out, and text has their
+     answer. It and the lines after it are held, and go on with kijolvar_order_done.
+   - WAITS also if lines of an earlier call are held. Nothing was carried out or written.
+   - NO_MEMORY if memory ran out for the lines. Nothing was carried out, and needed is 0. If it ran out for a line
+     later, the answer of those before it is in text, and it and the lines after it are held.
+
    Of a till over a file also:
 
    - ERRANDS if the lines were carried out, and their answer is kept until the host has done its errands. Nothing is
@@ -285,6 +297,7 @@ uint32_t kijolvar_carry_out(kijolvar_till till, void **out, const uint8_t *lines
    Errors:
 
    - SHORT if text has less room, and CUT as kijolvar_carry_out has it. Then a front of the answer is there.
+   - WAITS and NO_MEMORY if lines are held. Then the answer of those before them is there.
    - ERRANDS if errands are left, and DISK_FAILED if one failed. Then nothing is written. */
 uint32_t kijolvar_answer(kijolvar_till till, void **out, uint8_t *text, size_t text_len, size_t *needed);
 
@@ -318,15 +331,50 @@ void kijolvar_errand_failed(kijolvar_till till, void **out);
    Then nothing changes. */
 uint32_t kijolvar_host(kijolvar_till till, void **out, const uint8_t *name, size_t name_len);
 
+/* Makes each order of the device of this name wait for the host from now on, and returns OK. A line that orders
+   something is answered only after the host has passed the order to its hardware (kijolvar_next_order) and reported
+   what became of it (kijolvar_order_done). An order that the simulated device would refuse is refused at once. The
+   host may call this again, and may have called kijolvar_host before, which has no effect then. The till is what is
+   written to out from then on.
+
+   Errors:
+
+   NO_DEVICE if the profile has no device of the name, it is one of Hard Totals, its line is flaky, or it is
+   detached. Then nothing changes. */
+uint32_t kijolvar_drive(kijolvar_till till, void **out, const uint8_t *name, size_t name_len);
+
 /* Removes the oldest order of the devices that the host has, and writes its line to text and to needed how many
    bytes it has. Returns ORDER; or OK if no order is left, and needed is 0. The line has the device's name, the
    order's word and its arguments (abi/README.md). The till is what is written to out from then on.
 
+   The order of a driven device comes after all others, and once. The host owes a report of it
+   (kijolvar_order_done).
+
    Errors:
 
    - SHORT if text has less room than needed says. The order stays the next one, and nothing else is written.
-   - ERRANDS if errands are left, and DISK_FAILED if one failed. Then nothing is written. */
+   - ERRANDS if errands are left, and DISK_FAILED if one failed. Then nothing is written.
+   - NO_MEMORY if memory ran out for the line of a driven device. Then nothing is written. */
 uint32_t kijolvar_next_order(kijolvar_till till, void **out, uint8_t *text, size_t text_len, size_t *needed);
+
+/* Reports the order of a driven device that the host has: outcome is 0 if the hardware has done it, and any other
+   number if not. The line that waits for it goes on, and then the others that are held, up to one that waits again. It
+   writes to text what these lines print, and to needed how many bytes that is, and returns OK. The till is what is
+   written to out from then on.
+
+   inputs are input lines, which say what happened at the hardware meanwhile. If the order is done, they are
+   carried out after its line. If it isn't, they are carried out first: then the line is answered as the device stands,
+   such as with an open cover, or it fails (E_FAILURE) if they don't say why.
+
+   Errors:
+
+   - SHORT, CUT, ERRANDS and DISK_FAILED as kijolvar_carry_out has them. After CUT no line is held.
+   - WAITS if the next line waits for an order. text has the answer of the lines before it.
+   - NO_MEMORY if memory ran out. The answer of the lines that went on is in text: no bytes if none did. The host may
+     make the same call again: a report that was taken is kept, and isn't taken twice.
+   - NO_ORDER if the host has no order of a driven device. Nothing was carried out or written. */
+uint32_t kijolvar_order_done(kijolvar_till till, void **out, uint32_t outcome, const uint8_t *inputs, size_t inputs_len,
+    uint8_t *text, size_t text_len, size_t *needed);
 
 /* Writes the number of the control of this name to control, and returns OK. The controls of a till are numbered from
    0, in the order of their new lines that were answered ok. The till is what is written to out from then on.

@@ -107,6 +107,8 @@ tries() {
   told "$who: short answers" "as they should be" "$("$work/program" 2>&1 | tail -n 1)"
   links "$who: devices of the host's" "$abi/c/orders.c" "${typed[*]}" "$@"
   told "$who: devices of the host's" "as they should be" "$("$work/program" 2>&1 | tail -n 1)"
+  links "$who: driven devices" "$abi/c/driven.c" "" "$@"
+  told "$who: driven devices" "as they should be" "$("$work/program" 2>&1 | tail -n 1)"
   links "$who: the next event" "$abi/c/events.c" "$abi/heap.c" "$@"
   told "$who: the next event" "as they should be" "$("$work/program" 2>&1 | tail -n 1)"
   links "$who: two threads" "$abi/c/threads.c" "$abi/heap.c" "$@"

@@ -23,6 +23,8 @@ KIJOLVAR_DAMAGED = 16
 KIJOLVAR_MOVED = 17
 KIJOLVAR_EVENT = 18
 KIJOLVAR_NO_CONTROL = 19
+KIJOLVAR_WAITS = 20
+KIJOLVAR_NO_ORDER = 21
 
 # The result codes of the standard, which stand in answers.
 E_SUCCESS = 0

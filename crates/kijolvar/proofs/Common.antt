@@ -4,7 +4,7 @@ pub use Rattle.core.proofs.atomic.Steps.{fm}
 pub use Rattle.core.proofs.cell.Inside.{Good}
 pub use Rattle.core.specs.declared.alloc.Allocator.{Ghosts}
 pub use Rattle.kijolvar.specs.Orders.{order_text, with_arguments}
-pub use Rattle.kijolvar.specs.Tills.{NextOrderBy}
+pub use Rattle.kijolvar.specs.NextOrders.{NextOrderBy}
 pub use Rattle.kijolvar.specs.declared.kept.Kept.{Kept}
 pub use Rattle.pos_service.specs.declared.order.Argument.{Argument}
 pub use Rattle.std.proofs.Common.{Err, List, Option, [], ap, arith, inl, refl, subst, sym, true≢false, ℕ, ◌++◌, ◌∙◌, ◌∷◌, ◌≡◌}

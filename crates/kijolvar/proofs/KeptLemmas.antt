@@ -5,6 +5,7 @@ use Rattle.pos_counter.specs.declared.counter.Counter.{Counter}
 use Rattle.pos_counter.specs.Counters.{IsCounterSound}
 use Rattle.kijolvar.proofs.HostedLemmas.{told_in_file}
 use Rattle.kijolvar.specs.Errands.{TellsOldest}
+use Rattle.kijolvar.specs.HeldLines.{IsTillSound}
 use Rattle.kijolvar.specs.TillDisks.{DoesTold, HostedDisk, IsInStep, errands_of}
 use Rattle.kijolvar.specs.Tills.{AnswersNextErrandBy, TellsNext, disk_of, settlement_of, with_disk}
 use Rattle.kijolvar.specs.declared.device.Device.{Device}
@@ -35,17 +36,16 @@ pub sound_over : (peripherals : Ghosts Device) (counter : Counter HostedDisk Dev
     → IsCounterSound peripherals (with_disk counter disk)
 sound_over peripherals counter disk is = record { machine = is.machine; devices = is.devices }
 
--- whatever a host is told of an errand, the counter is as sound, and the spares stay
+-- whatever a host is told of an errand, the till is as sound
 pub next_keeps : (settlement : Settlement) (peripherals : Ghosts Device) (old : Kept) (at_before at : ℕ) (before after : List ℕ)
     (needed_before needed code : ℕ) (new : Kept) → AnswersNextErrandBy settlement old at_before at before after needed_before needed code new
-    → IsCounterSound peripherals old.counter → IsCounterSound peripherals new.counter × (new.spares ≡ old.spares)
+    → IsTillSound peripherals old → IsTillSound peripherals new
 next_keeps InMemory peripherals old at_before at before after needed_before needed code new told sound =
-    (subst (λ (k : Kept). IsCounterSound peripherals k.counter) (sym told.stays) sound, ap (λ (k : Kept). k.spares) told.stays)
+    subst (IsTillSound peripherals) (sym told.stays) sound
 next_keeps Settled peripherals old at_before at before after needed_before needed code new (in_file, told) sound =
-    (subst (λ (k : Kept). IsCounterSound peripherals k.counter) (sym told.stays) sound, ap (λ (k : Kept). k.spares) told.stays)
-next_keeps Owed peripherals old at_before at before after needed_before needed code new told sound = (
-  subst (IsCounterSound peripherals) (sym (ap (λ (k : Kept). k.counter) told.stays)) (sound_over peripherals old.counter (disk_of new) sound),
-  ap (λ (k : Kept). k.spares) told.stays,
-)
+    subst (IsTillSound peripherals) (sym told.stays) sound
+next_keeps Owed peripherals old at_before at before after needed_before needed code new told sound =
+    subst (IsTillSound peripherals) (sym told.stays)
+    (record { counter = sound_over peripherals old.counter (disk_of new) sound.counter; spares = sound.spares; held = sound.held })
 next_keeps Failed peripherals old at_before at before after needed_before needed code new told sound =
-    (subst (λ (k : Kept). IsCounterSound peripherals k.counter) (sym told.stays) sound, ap (λ (k : Kept). k.spares) told.stays)
+    subst (IsTillSound peripherals) (sym told.stays) sound

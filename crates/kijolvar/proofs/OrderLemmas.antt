@@ -1,6 +1,5 @@
 -- Orders, and what is told of them.
-use Rattle.kijolvar.proofs.Common.{Err, Kept, List, NextOrderBy, arith, ℕ, ◌≡◌}
-use Rattle.kijolvar.specs.declared.settlement.Settlement.{Settlement}
+use Rattle.kijolvar.proofs.Common.{Err}
 use Rattle.pos_service.specs.Peripherals.{Asked, PeripheralState}
 use Rattle.pos_service.specs.declared.memory.NoMemory.{NoMemory}
 use Rattle.pos_service.specs.declared.order.Order.{Order}
@@ -8,8 +7,3 @@ use Rattle.pos_service.specs.declared.order.Order.{Order}
 -- want of memory is the same, whoever tells it
 pub any_want : (old new : PeripheralState) (asked : Order) (one other : NoMemory) → Asked old asked (Err one) new → Asked old asked (Err other) new
 any_want old new asked one other a = record { kind = a.kind; unparked = a.unparked; orders = a.orders; answer = a.answer }
-
--- whatever is told of an order, the counter and the spares stay
-pub told_keeps : (settlement : Settlement) (old : Kept) (before after : List ℕ) (needed_before needed code : ℕ) (new : Kept)
-    → NextOrderBy settlement old before after needed_before needed code new → (new.counter ≡ old.counter) × (new.spares ≡ old.spares)
-told_keeps settlement old before after needed_before needed code new told = grind arith

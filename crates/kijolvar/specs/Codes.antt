@@ -1,5 +1,7 @@
 -- What C is told by a number (abi/README.md, "Codes").
 use Rattle.std.specs.Prelude.{ℕ, Bool, true, false, Result, Ok, Err}
+use Rattle.pos_run.specs.declared.waiting_lines.Held.{Held}
+use Rattle.pos_run.specs.declared.waiting_lines.Held.TheVariants.{Told, Waits, NoMemory}
 
 -- the call did what it says
 abbrev pub ok : ℕ
@@ -81,6 +83,14 @@ event_there = 18
 abbrev pub no_control : ℕ
 no_control = 19
 
+-- a line waits for the host
+abbrev pub waits : ℕ
+waits = 20
+
+-- the host has no order
+abbrev pub no_order : ℕ
+no_order = 21
+
 -- the code of a text that is told, by whether the room holds it: this one, or that it doesn't
 abbrev pub told_as : ℕ → Bool → ℕ
 told_as fine true = fine
@@ -91,8 +101,15 @@ abbrev pub told : Bool → ℕ
 told true = ok
 told false = short
 
+-- the code of the line that is left
+abbrev pub left_code : Held → ℕ
+left_code Told = ok
+left_code Waits = waits
+left_code NoMemory = no_memory
+
 -- the code of lines that were carried out, all of them or as far as there was memory for what they print, by whether
--- the room holds the answer
-abbrev pub carried : {E : Type 0} → Result (Unit {0}) E → Bool → ℕ
-carried (Ok u) holds = told holds
-carried (Err fault) holds = cut
+-- the room holds the answer, and by what is left
+abbrev pub carried : {E : Type 0} → Result (Unit {0}) E → Bool → Held → ℕ
+carried (Ok u) true left = left_code left
+carried (Ok u) false left = short
+carried (Err fault) holds left = cut

@@ -3,6 +3,10 @@ pub mod Controls
 pub mod Errands
 pub mod TillDisks
 pub mod Orders
+pub mod HeldLines
+pub mod LineAnswers
+pub mod NextOrders
+pub mod Reports
 pub mod Hosting
 pub mod Opening
 pub mod Tills

@@ -9,8 +9,12 @@ use Rattle.pos_service.specs.declared.order.Reply.{Reply}
 use Rattle.pos_service.specs.declared.order.Reply.TheVariants as reply
 use Rattle.pos_service.specs.Peripherals.{Asked, PeripheralState, order_arguments, order_fits, order_word}
 use Rattle.pos_script.specs.Text.{hex_text}
+use Rattle.pos_drive.specs.declared.courses.Course.{Course}
+use Rattle.pos_drive.specs.declared.courses.Course.TheVariants.{Free}
+use Rattle.pos_drive.specs.declared.driven.Driven.{Driven}
+use Rattle.pos_drive.specs.DrivenPeripherals.{driven_state}
 use Rattle.pos_run.specs.declared.wrapped.Wrapped.{Wrapped}
-use Rattle.pos_run.specs.Simulating.{Mounts, wrapped_state}
+use Rattle.pos_run.specs.Simulating.{Mounts, wrapped_devices}
 use Rattle.kijolvar.specs.declared.device.Device.{Device}
 use Rattle.kijolvar.specs.Codes.{ok, order_told, short}
 
@@ -35,21 +39,31 @@ with_arguments line (argument ∷ arguments) = with_arguments (line ++ argument_
 abbrev pub order_text : List ℕ → Order → List ℕ
 order_text device asked = with_arguments (device ++ codes " " ++ order_word asked) (order_arguments asked)
 
+-- what contracts see of a simulated peripheral that may be driven
+abbrev pub twin_state : Driven Wrapped → PeripheralState
+twin_state driven = driven_state wrapped_devices driven
+
 -- what contracts see of a till's device: the simulated peripheral in it, with the count of the orders that came by the
 -- device
 abbrev pub device_state : Device → PeripheralState
-device_state device = record (wrapped_state device.twin) { orders = device.asks }
+device_state device = record (twin_state device.driven) { orders = device.asks }
 
--- a simulated peripheral is put into a device, whose orders are kept under the name of its entry; a spare's aren't kept
+-- how a till's device stands to the host
+abbrev pub device_course : Device → Course
+device_course device = device.driven.course
+
+-- a simulated peripheral is put into a device that is not driven, whose orders are kept under the name of its entry; a
+-- spare's aren't kept
 abbrev pub mounts_device : Mounts Device
 mounts_device entry made device =
-    (device.twin ≡ made) × IfSome device.post (λ post. post.device.items ≡ entry.name)
+    (device.driven.twin ≡ made) × (device.driven.course ≡ Free)
+    × IfSome device.post (λ post. post.device.items ≡ entry.name)
 
 -- the simulated peripheral was given an order; or there was no memory for its line, and it wasn't
-abbrev pub AsksTwin : Wrapped → Order → Result Reply NoMemory → Wrapped → Type 0
+abbrev pub AsksTwin : Driven Wrapped → Order → Result Reply NoMemory → Driven Wrapped → Type 0
 AsksTwin old asked outcome new =
-    ((wrapped_state old).is_parked ≡ false → order_fits (wrapped_state old).kind asked ≡ true
-    → Asked (wrapped_state old) asked outcome (wrapped_state new))
+    ((twin_state old).is_parked ≡ false → order_fits (twin_state old).kind asked ≡ true
+    → Asked (twin_state old) asked outcome (twin_state new))
     ⊎ MatchResult outcome (λ said. ⊥) (λ want. new ≡ old)
 
 -- the bytes of lines

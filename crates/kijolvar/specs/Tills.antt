@@ -12,15 +12,15 @@ use Rattle.pos_streams.specs.Transfers.{given_to}
 use Rattle.pos_run.specs.Carried.{CarriesOutLines, session_of}
 use Rattle.pos_run.specs.Running.{begun_with, off_over}
 use Rattle.pos_run.specs.Simulating.{simulated_all, simulated_devices}
+use Rattle.pos_run.specs.declared.waiting_lines.Held.TheVariants.{Told}
 use Rattle.pos_run.specs.Transcript.{Session, begun_session}
 use Rattle.kijolvar.specs.declared.device.Device.{Device}
 use Rattle.kijolvar.specs.declared.kept.Kept.{Kept}
 use Rattle.kijolvar.specs.declared.settlement.Settlement.{Settlement}
 use Rattle.kijolvar.specs.declared.settlement.Settlement.TheVariants.{InMemory, Settled, Owed, Failed}
-use Rattle.kijolvar.specs.Orders.{Refills, TellsOrder, order_lines}
 use Rattle.kijolvar.specs.Errands.{TellsOldest}
 use Rattle.kijolvar.specs.TillDisks.{DoesTold, HostedDisk, IsInFile, IsInStep, errands_of, file_of, settlement_with}
-use Rattle.kijolvar.specs.Codes.{carried, disk_failed, errands_left, ok, undone}
+use Rattle.kijolvar.specs.Codes.{carried, disk_failed, errands_left, ok}
 
 -- what the lines of a till have: the names of its controls, and its spares
 abbrev pub session_in : Ghosts Device → Kept → Session
@@ -51,21 +51,32 @@ pub record Begins (peripherals : Ghosts Device) (contents : Contents) (disk : Ho
   pub told : till.told ≡ false
   pub failed : till.failed ≡ false
   pub orders : till.orders.items ≡ []
+  pub is_driven : till.is_driven ≡ false
+  pub held : till.held.items ≡ []
+  pub left : till.left ≡ Told
 
--- The lines of a text are carried out in order, and the new answer is what they print; or, where there was no memory
--- for that, they are as far as it is there, and it is a front. The host's file stays as it is, and none of the errands
--- was told; once they are done in it, it has the bytes of the totals' disk. The orders that wait already stay too.
-pub record CarriesOut (bound : DiskGhosts HostedDisk) (peripherals : Ghosts Device) (old : Kept)
-    (text : List ℕ) (new : Kept) : Type 0 where
-  pub lines : CarriesOutLines bound peripherals old.counter (session_in peripherals old) (lines_of text)
-      (given_with [] (given_to old.answer).faults) (given_to new.answer) new.outcome (session_in peripherals new)
-      new.counter
+-- Beside the counter, the names, the spares and the answer nothing changes. The host's file stays as it is, and none of
+-- the errands was told; once they are done in it, it has the bytes of the totals' disk. The orders that wait already
+-- stay too.
+pub record KeepsRest (old new : Kept) : Type 0 where
   pub file : file_of (disk_of new) ≡ file_of (disk_of old)
   pub in_step : IsInStep (disk_of new)
   pub told : new.told ≡ false
   pub failed : new.failed ≡ old.failed
   pub profile : new.profile ≡ old.profile
   pub orders : new.orders ≡ old.orders
+  pub is_driven : new.is_driven ≡ old.is_driven
+
+-- The lines of a text are carried out in order, and the new answer is what they print; or, where there was no memory
+-- for that, they are as far as it is there, and it is a front. None is held.
+pub record CarriesOut (bound : DiskGhosts HostedDisk) (peripherals : Ghosts Device) (old : Kept)
+    (text : List ℕ) (new : Kept) : Type 0 where
+  pub lines : CarriesOutLines bound peripherals old.counter (session_in peripherals old) (lines_of text)
+      (given_with [] (given_to old.answer).faults) (given_to new.answer) new.outcome (session_in peripherals new)
+      new.counter
+  pub held : new.held.items ≡ []
+  pub left : new.left ≡ Told
+  pub rest : KeepsRest old new
 
 -- The front of an answer that there is room for is written, what stands behind it in the room stays, and how long the
 -- answer is is told.
@@ -82,7 +93,8 @@ pub record TellsNothing (before after : List ℕ) (needed_before needed code why
 -- the answer is told, and the code of its lines
 pub record TellsAll (till : Kept) (before after : List ℕ) (needed code : ℕ) : Type 0 where
   pub tells : Tells (given_to till.answer).bytes before after needed
-  pub code_told : code ≡ carried till.outcome (nat_le (length (given_to till.answer).bytes) (length before))
+  pub code_told : code
+      ≡ carried till.outcome (nat_le (length (given_to till.answer).bytes) (length before)) till.left
 
 -- what is handed over of a till's answer, by how its host stands to its disk: all of it, and the host's file has the
 -- bytes of the totals' disk; or nothing while errands are left or one failed
@@ -98,32 +110,10 @@ HandsOverBy Failed till before after needed_before needed code =
 abbrev pub HandsOver : (till : Kept) (before after : List ℕ) (needed_before needed code : ℕ) → Type 0
 HandsOver till = HandsOverBy (settlement_of till) till
 
--- the lines of a text are carried out, and their answer is handed over
-pub record Served (bound : DiskGhosts HostedDisk) (peripherals : Ghosts Device) (old : Kept)
-    (text before after : List ℕ) (needed_before needed code : ℕ) (new : Kept) : Type 0 where
-  pub carries : CarriesOut bound peripherals old text new
-  pub hands_over : HandsOver new before after needed_before needed code
-
 -- nothing is carried out or told, and the code says why
 pub record Undone (old : Kept) (before after : List ℕ) (needed_before needed code why : ℕ) (new : Kept) : Type 0 where
   pub stays : new ≡ old
   pub tells : TellsNothing before after needed_before needed code why
-
--- what a call with lines leaves, by how the till's host stands to its disk
-abbrev pub AnswersBy : Settlement → DiskGhosts HostedDisk → Ghosts Device → (old : Kept)
-    (text before after : List ℕ) (needed_before needed code : ℕ) (new : Kept) → Type 0
-AnswersBy InMemory bound peripherals old text before after needed_before needed code new =
-    Served bound peripherals old text before after needed_before needed code new
-AnswersBy Settled bound peripherals old text before after needed_before needed code new =
-    Served bound peripherals old text before after needed_before needed code new
-AnswersBy Owed bound peripherals old text before after needed_before needed code new =
-    Undone old before after needed_before needed code undone new
-AnswersBy Failed bound peripherals old text before after needed_before needed code new =
-    Undone old before after needed_before needed code disk_failed new
-
-abbrev pub Answers : DiskGhosts HostedDisk → Ghosts Device → (old : Kept)
-    (text before after : List ℕ) (needed_before needed code : ℕ) (new : Kept) → Type 0
-Answers bound peripherals old = AnswersBy (settlement_of old) bound peripherals old
 
 -- No errand is told, the code says why, and the till is the same.
 pub record TellsNoErrand (old : Kept) (at_before at : ℕ) (before after : List ℕ) (needed_before needed code why : ℕ)
@@ -162,26 +152,3 @@ pub record Fails (old new : Kept) : Type 0 where
   pub stays : new ≡ record old { failed = true }
   pub failed : settlement_of old ≢ InMemory → settlement_of new ≡ Failed
   pub in_memory : settlement_of old ≡ InMemory → settlement_of new ≡ InMemory
-
--- The oldest of the orders that wait is told, or of those that devices have kept since where none waits, and nothing
--- else changes.
-pub record HandsOut (old : Kept) (before after : List ℕ) (needed code : ℕ) (new : Kept) : Type 0 where
-  pub waiting : List (List ℕ)
-  pub those : Refills (order_lines old.orders.items) waiting
-  pub tells : TellsOrder waiting before after needed code (order_lines new.orders.items)
-  pub stays : new ≡ record old { orders = new.orders }
-
--- what a host that asks for the next order is told, by how it stands to the disk: an order, and its file has the bytes
--- of the totals' disk; or nothing while errands are left or one failed
-abbrev pub NextOrderBy : Settlement → (old : Kept) (before after : List ℕ) (needed_before needed code : ℕ) (new : Kept)
-    → Type 0
-NextOrderBy InMemory old before after needed_before needed code new = HandsOut old before after needed code new
-NextOrderBy Settled old before after needed_before needed code new =
-    IsInFile (disk_of old) × HandsOut old before after needed code new
-NextOrderBy Owed old before after needed_before needed code new =
-    Undone old before after needed_before needed code errands_left new
-NextOrderBy Failed old before after needed_before needed code new =
-    Undone old before after needed_before needed code disk_failed new
-
-abbrev pub NextOrder : (old : Kept) (before after : List ℕ) (needed_before needed code : ℕ) (new : Kept) → Type 0
-NextOrder old = NextOrderBy (settlement_of old) old

@@ -2,12 +2,13 @@
 ghost use Rattle.std.specs.Prelude.{◌≡◌};
 ghost use Rattle.kijolvar.specs.Codes.{carried};
 
+use pos_run::Held;
 use pos_streams::WriteFault;
 
 /// The call did what it says.
 pub const OK: u32 = 0;
 
-/// Memory ran out, and nothing was done.
+/// Memory ran out, and nothing was done. Lines before one that is held may have been carried out.
 pub const NO_MEMORY: u32 = 1;
 
 /// The profile is refused (docs/reference/profile.md).
@@ -64,14 +65,24 @@ pub const EVENT: u32 = 18;
 /// No control has the name.
 pub const NO_CONTROL: u32 = 19;
 
-/// Returns the code of lines that were carried out: OK; SHORT if the room doesn't hold their answer; CUT if memory ran
-/// out for it.
-pub fn code_of(outcome: Result<(), WriteFault>, holds: bool) -> u32
-    ensures { result ≡ carried outcome holds }
+/// A line waits until the host has reported what became of an order.
+pub const WAITS: u32 = 20;
+
+/// The host has no order that it may report.
+pub const NO_ORDER: u32 = 21;
+
+/// Returns the code of lines that were carried out, all of them or as far as none waited: OK; SHORT if the room doesn't
+/// hold their answer; CUT if memory ran out for it; WAITS if the next one waits, and NO_MEMORY if it found no memory.
+pub fn code_of(outcome: Result<(), WriteFault>, holds: bool, left: Held) -> u32
+    ensures { result ≡ carried outcome holds left }
 {
     match outcome {
-        Ok(()) if holds => OK,
-        Ok(()) => SHORT,
+        Ok(()) if !holds => SHORT,
+        Ok(()) => match left {
+            Held::Told => OK,
+            Held::Waits => WAITS,
+            Held::NoMemory => NO_MEMORY,
+        },
         Err(WriteFault) => CUT,
     }
 }

@@ -1,21 +1,23 @@
 //! The devices of a till.
-ghost use Rattle.std.specs.Prelude.{◌≡◌, true};
 ghost use Rattle.kijolvar.specs.Orders.{device_state, mounts_device};
 
 use crate::tray::{Post, Tray};
+use pos_drive::{Driven, Hosted, Progress};
 use pos_profile::Entry;
 use pos_run::{Mount, Wrapped};
 use pos_service::{
     Ends, Input, Kind, NoMemory, Order, Peripheral, Reply, Signs, Snapshot, Taken, park_and_end,
 };
 
-/// A device of a till, or a spare: a simulated peripheral. If the host has the hardware, the simulated one answers for
-/// it at once, and each order that it carries out is kept for the host. A spare has no name, and none of its orders is
-/// kept.
+/// A device of a till, or a spare: a simulated peripheral. If the host has the hardware, it is one of these:
 ///
-/// It ends only parked: whoever drops it must show that.
+/// - The simulated one answers for it at once, and each order that it carries out is kept for the host (its post). A
+///   spare has no name, and none of its orders is kept.
+/// - It is driven: an order is answered only after the host has reported what became of it. None of its orders is kept.
+///
+/// It ends only out of service: whoever ends it must show that.
 pub struct Device {
-    twin: Wrapped,
+    driven: Driven<Wrapped>,
     asks: u64,
     post: Option<Post>,
 }
@@ -24,54 +26,78 @@ impl Peripheral for Device {
     ghost state = { λ device. device_state device };
 
     fn kind(&self) -> Kind {
-        self.twin.kind()
+        self.driven.kind()
     }
 
     fn signs(&self) -> Signs {
-        self.twin.signs()
+        self.driven.signs()
     }
 
     fn ask(&mut self, order: &Order) -> Result<Reply, NoMemory> {
         self.asks = self.asks.saturating_add(1);
         match &self.post {
-            Some(post) => post.ask(&mut self.twin, order),
-            None => self.twin.ask(order),
+            Some(post) if self.driven.progress() == Progress::Free => {
+                post.ask(&mut self.driven, order)
+            }
+            _ => self.driven.ask(order),
         }
     }
 
     fn feed(&mut self, input: &Input) -> Result<Taken, NoMemory> {
-        self.twin.feed(input)
+        self.driven.feed(input)
     }
 
     fn snapshot(&self) -> Result<Snapshot, NoMemory> {
-        self.twin.snapshot()
+        self.driven.snapshot()
     }
 
     fn park(&mut self) {
-        self.twin.park();
+        self.driven.park();
     }
 
     fn is_parked(&self) -> bool {
-        self.twin.is_parked()
+        self.driven.is_parked()
     }
 }
 
-impl Drop for Device {
-    fn drop(self)
-        requires { (device_state self).is_parked ≡ true }
-    {
-        let Device {
-            twin,
-            asks: _,
-            post: _,
-        } = self;
-        drop(twin);
+impl Hosted for Device {
+    ghost use Rattle.kijolvar.specs.Orders.{device_course};
+
+    ghost course = { device_course };
+
+    fn progress(&self) -> Progress {
+        self.driven.progress()
+    }
+
+    fn waiting(&self) -> Option<&Order> {
+        self.driven.waiting()
+    }
+
+    fn drive(&mut self) {
+        self.driven.drive();
+    }
+
+    fn hand_out(&mut self) {
+        self.driven.hand_out();
+    }
+
+    fn report(&mut self, is_done: bool) {
+        self.driven.report(is_done);
+    }
+
+    fn settle(&mut self) {
+        self.driven.settle();
     }
 }
 
 impl Ends for Device {
     fn end(self) {
-        drop(self);
+        let Device {
+            driven,
+            asks: _,
+            post: _,
+        } = self;
+        driven.end();
     }
 }
 
@@ -90,7 +116,7 @@ impl Mount<Device> for Tray {
             Some(post)
         };
         Ok(Device {
-            twin: simulation,
+            driven: Driven::new(self.allocator(), simulation),
             asks: 0,
             post,
         })

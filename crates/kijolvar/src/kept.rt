@@ -12,7 +12,7 @@ use crate::settlement::Settlement;
 use crate::till_disk::TillDisk;
 use pos_counter::Counter;
 use pos_profile::Profile;
-use pos_run::{Names, Spares};
+use pos_run::{Held, Names, Spares};
 use pos_streams::{MemorySink, WriteFault};
 use std::collections::VecDeque;
 
@@ -36,6 +36,12 @@ pub struct Kept {
     pub failed: bool,
     /// The lines of the orders that the host gets next.
     pub orders: VecDeque<Vec<u8>>,
+    /// Whether a device's orders wait for the host.
+    pub is_driven: bool,
+    /// The lines that are not carried out yet. The first waits for the host.
+    pub held: VecDeque<Vec<u8>>,
+    /// How the lines ended that were carried out last.
+    pub left: Held,
 }
 
 impl Kept {

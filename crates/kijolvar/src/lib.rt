@@ -5,7 +5,7 @@
 //!   [`Session`].
 //! - [`TillDisk`] is the disk of a till: in memory, or in a file of the host, who does its [`errands::Errand`]s.
 //! - [`Device`] is a device of a till. The host may have the hardware, and then gets the orders that the device carries
-//!   out.
+//!   out. Of a driven device it reports what became of an order, and only then the order is answered.
 //! - Each export answers a code of `codes`.
 //!
 //! The caller relies on this: lines do to the till what the standard asks, and no line is answered before what it
@@ -20,13 +20,16 @@ ghost use Rattle.kijolvar.specs.Codes.{ok};
 ghost use Rattle.kijolvar.specs.Controls.{FindsNumber, NextEvent};
 ghost use Rattle.kijolvar.specs.Errands.{no_work};
 ghost use Rattle.kijolvar.specs.DeviceTexts.{AnswersDevices};
-ghost use Rattle.kijolvar.specs.Hosting.{IsHostCode};
+ghost use Rattle.kijolvar.specs.Hosting.{Drives, IsHostCode};
+ghost use Rattle.kijolvar.specs.LineAnswers.{Answers};
 ghost use Rattle.kijolvar.specs.Mistakes.{AnswersMistake};
+ghost use Rattle.kijolvar.specs.NextOrders.{NextOrder};
 ghost use Rattle.kijolvar.specs.Opening.{AnswersMove, AnswersOpening, IsFormattedOf, IsMovedOf, Opens};
 ghost use Rattle.kijolvar.specs.Opening.{format_code, open_code};
 ghost use Rattle.kijolvar.specs.Profiles.{GivesProfile, IsRefused, RefusesProfile};
+ghost use Rattle.kijolvar.specs.Reports.{AnswersReport};
 ghost use Rattle.kijolvar.specs.Surveys.{AnswersSurvey};
-ghost use Rattle.kijolvar.specs.Tills.{Answers, Begins, Fails, HandsOver, AnswersNextErrand, NextOrder};
+ghost use Rattle.kijolvar.specs.Tills.{Begins, Fails, HandsOver, AnswersNextErrand};
 ghost use Rattle.kijolvar.specs.TillDisks.{hosted};
 
 mod codes;
@@ -34,13 +37,16 @@ mod controls;
 mod device;
 mod device_texts;
 mod disk;
+mod driven_lines;
 mod errands;
+mod held_lines;
 mod host_file;
 mod hosting;
 mod kept;
 mod loose;
 mod mistakes;
 mod orders;
+mod reports;
 mod session;
 mod settlement;
 mod surveys;
@@ -55,9 +61,11 @@ use device_texts::devices_text;
 use disk::{SIZE, format_in_file, move_in_file};
 use mistakes::tell_mistake;
 use pos_disk::Disk;
+use pos_drive::Hosted;
 use pos_image::new_disk;
 use pos_profile::{Profile, ProfileFault};
 use pos_service::{NoMemory, Peripheral};
+use reports::report;
 use session::Session;
 use settlement::Settlement;
 use std::alloc::Global;
@@ -346,15 +354,15 @@ pub extern "C" fn kijolvar_survey(
 
 /// Carries out lines and writes their answer, if no errand is left and none failed.
 fn serve(session: &mut Session, lines: &[u8], text: &mut [u8], needed: &mut usize) -> u32
-    ensures { Answers ⟦<TillDisk as Disk>⟧ ⟦<Device as Peripheral>⟧ session.old lines.now text.old text.new needed.old
-        needed.new result session.new }
+    ensures { Answers ⟦<TillDisk as Disk>⟧ ⟦<Device as Hosted>⟧.course ⟦<Device as Peripheral>⟧ session.old lines.now
+        text.old text.new needed.old needed.new result session.new }
 {
     match session.settlement() {
         Settlement::Owed => UNDONE,
         Settlement::Failed => DISK_FAILED,
         Settlement::InMemory | Settlement::Settled => {
-            session.carry_out(lines);
-            session.hand_over(text, needed)
+            let taken = session.carry_out(lines);
+            session.answer(taken, text, needed)
         }
     }
 }
@@ -369,6 +377,14 @@ fn serve(session: &mut Session, lines: &[u8], text: &mut [u8], needed: &mut usiz
 ///   `kijolvar_answer` writes all of it.
 /// - CUT if memory ran out for what a line prints. That line was carried out, and no later one, and a front of the
 ///   answer is kept.
+///
+/// Of a till with a driven device (`kijolvar_drive`) also:
+///
+/// - WAITS if a line waits for an order of the device. The lines before it were carried out, and `text` has their
+///   answer. It and the lines after it are held, and go on with `kijolvar_order_done`.
+/// - WAITS also if lines of an earlier call are held. Nothing was carried out or written.
+/// - NO_MEMORY if memory ran out for the lines. Nothing was carried out, and `needed` is 0. If it ran out for a line
+///   later, the answer of those before it is in `text`, and it and the lines after it are held.
 ///
 /// Of a till over a file also:
 ///
@@ -385,8 +401,8 @@ pub extern "C" fn kijolvar_carry_out(
     text: &mut [u8],
     needed: &mut usize,
 ) -> u32
-    ensures { MatchOption out.new.left ⊥ (Answers ⟦<TillDisk as Disk>⟧ ⟦<Device as Peripheral>⟧ till.session lines.now
-        text.old text.new needed.old needed.new result) }
+    ensures { MatchOption out.new.left ⊥ (Answers ⟦<TillDisk as Disk>⟧ ⟦<Device as Hosted>⟧.course
+        ⟦<Device as Peripheral>⟧ till.session lines.now text.old text.new needed.old needed.new result) }
 {
     let mut session = take(till);
     let code = serve(&mut session, lines, text, needed);
@@ -400,6 +416,7 @@ pub extern "C" fn kijolvar_carry_out(
 /// # Errors
 ///
 /// - SHORT if `text` has less room, and CUT as `kijolvar_carry_out` has it. Then a front of the answer is there.
+/// - WAITS and NO_MEMORY if lines are held. Then the answer of those before them is there.
 /// - ERRANDS if errands are left, and DISK_FAILED if one failed. Then nothing is written.
 #[unsafe(no_mangle)]
 pub extern "C" fn kijolvar_answer(
@@ -477,14 +494,39 @@ pub extern "C" fn kijolvar_host(till: Till, out: &mut Slot, name: &[u8]) -> u32
     code
 }
 
+/// Makes each order of the device of this name wait for the host from now on, and returns OK. A line that orders
+/// something is answered only after the host has passed the order to its hardware (`kijolvar_next_order`) and reported
+/// what became of it (`kijolvar_order_done`). An order that the simulated device would refuse is refused at once. The
+/// host may call this again, and may have called `kijolvar_host` before, which has no effect then. The till is what is
+/// written to `out` from then on.
+///
+/// # Errors
+///
+/// NO_DEVICE if the profile has no device of the name, it is one of Hard Totals, its line is `flaky`, or it is
+/// detached. Then nothing changes.
+#[unsafe(no_mangle)]
+pub extern "C" fn kijolvar_drive(till: Till, out: &mut Slot, name: &[u8]) -> u32
+    ensures { MatchOption out.new.left ⊥
+        (Drives ⟦<Device as Hosted>⟧.course ⟦<Device as Peripheral>⟧ till.session name.now result) }
+{
+    let mut session = take(till);
+    let code = session.drive(name);
+    leave(session, out);
+    code
+}
+
 /// Removes the oldest order of the devices that the host has, and writes its line to `text` and to `needed` how many
 /// bytes it has. Returns ORDER; or OK if no order is left, and `needed` is 0. The line has the device's name, the
 /// order's word and its arguments (abi/README.md). The till is what is written to `out` from then on.
+///
+/// The order of a driven device comes after all others, and once. The host owes a report of it
+/// (`kijolvar_order_done`).
 ///
 /// # Errors
 ///
 /// - SHORT if `text` has less room than `needed` says. The order stays the next one, and nothing else is written.
 /// - ERRANDS if errands are left, and DISK_FAILED if one failed. Then nothing is written.
+/// - NO_MEMORY if memory ran out for the line of a driven device. Then nothing is written.
 #[unsafe(no_mangle)]
 pub extern "C" fn kijolvar_next_order(
     till: Till,
@@ -492,10 +534,45 @@ pub extern "C" fn kijolvar_next_order(
     text: &mut [u8],
     needed: &mut usize,
 ) -> u32
-    ensures { MatchOption out.new.left ⊥ (NextOrder till.session text.old text.new needed.old needed.new result) }
+    ensures { MatchOption out.new.left ⊥ (NextOrder ⟦<Device as Hosted>⟧.course ⟦<Device as Peripheral>⟧ till.session
+        text.old text.new needed.old needed.new result) }
 {
     let mut session = take(till);
     let code = session.next_order(text, needed);
+    leave(session, out);
+    code
+}
+
+/// Reports the order of a driven device that the host has: `outcome` is 0 if the hardware has done it, and any other
+/// number if not. The line that waits for it goes on, and then the others that are held, up to one that waits again. It
+/// writes to `text` what these lines print, and to `needed` how many bytes that is, and returns OK. The till is what is
+/// written to `out` from then on.
+///
+/// `inputs` are `input` lines, which say what happened at the hardware meanwhile. If the order is done, they are
+/// carried out after its line. If it isn't, they are carried out first: then the line is answered as the device stands,
+/// such as with an open cover, or it fails (E_FAILURE) if they don't say why.
+///
+/// # Errors
+///
+/// - SHORT, CUT, ERRANDS and DISK_FAILED as `kijolvar_carry_out` has them. After CUT no line is held.
+/// - WAITS if the next line waits for an order. `text` has the answer of the lines before it.
+/// - NO_MEMORY if memory ran out. The answer of the lines that went on is in `text`: no bytes if none did. The host may
+///   make the same call again: a report that was taken is kept, and isn't taken twice.
+/// - NO_ORDER if the host has no order of a driven device. Nothing was carried out or written.
+#[unsafe(no_mangle)]
+pub extern "C" fn kijolvar_order_done(
+    till: Till,
+    out: &mut Slot,
+    outcome: u32,
+    inputs: &[u8],
+    text: &mut [u8],
+    needed: &mut usize,
+) -> u32
+    ensures { MatchOption out.new.left ⊥ (AnswersReport ⟦<TillDisk as Disk>⟧ ⟦<Device as Hosted>⟧.course
+        ⟦<Device as Peripheral>⟧ till.session outcome inputs.now text.old text.new needed.old needed.new result) }
+{
+    let mut session = take(till);
+    let code = report(&mut session, outcome, inputs, text, needed);
     leave(session, out);
     code
 }

@@ -4,6 +4,7 @@ ghost use Rattle.kijolvar.specs.Orders.{AsksTwin, Keeps, TellsOrder, argument_te
 
 use crate::codes::{OK, ORDER, SHORT};
 use itoa::Buffer;
+use pos_drive::Driven;
 use pos_run::Wrapped;
 use pos_service::{Argument, NoMemory, Order, Peripheral, Reply};
 use std::alloc::{AllocError, Global};
@@ -83,7 +84,7 @@ pub fn ask_keeping(
     alloc: Global,
     lines: &mut VecDeque<Vec<u8>>,
     device: &[u8],
-    twin: &mut Wrapped,
+    twin: &mut Driven<Wrapped>,
     order: &Order,
 ) -> Result<Reply, NoMemory>
     ensures asks { AsksTwin twin.old order.now result twin.new }

@@ -1,22 +1,26 @@
 //! What is behind a till's pointer.
-ghost use Rattle.std.specs.Prelude.{◌≡◌, IfOk};
+ghost use Rattle.std.specs.Prelude.{◌≡◌, [], IfOk};
 ghost use Rattle.pos_run.specs.Names.{names_of, number_named};
 ghost use Rattle.kijolvar.specs.Controls.{FindsNumber, NextEvent};
-ghost use Rattle.kijolvar.specs.Hosting.{IsHostCode};
-ghost use Rattle.kijolvar.specs.Tills.{Begins, CarriesOut, Fails, HandsOver, AnswersNextErrand, NextOrder, settlement_of};
+ghost use Rattle.kijolvar.specs.Hosting.{Drives, IsHostCode};
+ghost use Rattle.kijolvar.specs.LineAnswers.{AnswersAs, TakesLines};
+ghost use Rattle.kijolvar.specs.NextOrders.{NextOrder};
+ghost use Rattle.kijolvar.specs.Reports.{TakesReport};
+ghost use Rattle.kijolvar.specs.Tills.{Begins, CarriesOut, Fails, HandsOver, AnswersNextErrand, settlement_of};
 
-use crate::codes::{DISK_FAILED, ERRANDS, code_of};
+use crate::codes::{DISK_FAILED, ERRANDS, NO_MEMORY, WAITS, code_of};
 use crate::controls::{find_number, next_event};
 use crate::device::Device;
-use crate::hosting::{host_device, next_order};
+use crate::hosting::{drive_device, host_device, next_order};
 use crate::kept::Kept;
 use crate::settlement::Settlement;
 use crate::telling::tell;
 use crate::till_disk::TillDisk;
 use crate::tray::Tray;
 use pos_disk::Disk;
+use pos_drive::Hosted;
 use pos_profile::Profile;
-use pos_run::{Names, carry_out_lines, end_counter, simulate_profile};
+use pos_run::{Held, Names, carry_out_lines, end_counter, simulate_profile};
 use pos_script::LineBuffer;
 use pos_service::{NoMemory, Peripheral};
 use pos_streams::{MemorySink, WriteFault};
@@ -34,8 +38,7 @@ pub struct Session {
 }
 
 impl Model for Session {
-    ghost use Rattle.pos_counter.specs.Counters.{IsCounterSound};
-    ghost use Rattle.pos_run.specs.Spares.{AreSparesSound};
+    ghost use Rattle.kijolvar.specs.HeldLines.{IsTillSound};
     ghost use Rattle.kijolvar.specs.contracts.kept.Kept as kept_row;
     ghost use Rattle.kijolvar.specs.declared.kept.Kept.{Kept as KeptTill};
 
@@ -45,8 +48,7 @@ impl Model for Session {
 
     ghost view = { λ s. s.kept };
 
-    ghost invariant = { λ s. IsCounterSound ⟦<Device as Peripheral>⟧ s.kept.counter
-        × AreSparesSound ⟦<Device as Peripheral>⟧ s.kept.spares };
+    ghost invariant = { λ s. IsTillSound ⟦<Device as Peripheral>⟧ s.kept };
 }
 
 impl Session {
@@ -76,6 +78,9 @@ impl Session {
             told: false,
             failed: false,
             orders: VecDeque::new(alloc),
+            is_driven: false,
+            held: VecDeque::new(alloc),
+            left: Held::Told,
         };
         Ok(Session {
             alloc,
@@ -94,9 +99,11 @@ impl Session {
 
     /// Carries out the lines of a text, and keeps what they print as the answer. If memory runs out for what a line
     /// prints, that line was carried out, and no later one, and a front of the answer is kept.
-    pub fn carry_out(&mut self, lines: &[u8])
+    fn carry_out_at_once(&mut self, lines: &[u8])
+        requires { self.old.held.items ≡ [] }
         ensures { CarriesOut ⟦<TillDisk as Disk>⟧ ⟦<Device as Peripheral>⟧ self.old lines.now self.new }
     {
+        self.kept.left = Held::Told;
         self.kept.told = false;
         self.kept.answer.clear();
         self.kept.outcome = carry_out_lines(
@@ -111,11 +118,49 @@ impl Session {
         self.kept.counter.disk().is_in_step();
     }
 
+    /// Carries out the lines of a text, and keeps what they print as the answer. With a driven device it carries them
+    /// out up to one that waits.
+    ///
+    /// # Errors
+    ///
+    /// WAITS if a line of an earlier text waits. NO_MEMORY if a device is driven and memory ran out for the lines. Then
+    /// nothing changes.
+    pub fn carry_out(&mut self, lines: &[u8]) -> Result<(), u32>
+        ensures { TakesLines ⟦<TillDisk as Disk>⟧ ⟦<Device as Hosted>⟧.course ⟦<Device as Peripheral>⟧ self.old
+            lines.now result self.new }
+    {
+        if !self.kept.held.is_empty() {
+            return Err(WAITS);
+        }
+        if self.kept.is_driven {
+            return self
+                .kept
+                .carry_out_driven(self.alloc, &mut self.buffer, lines);
+        }
+        self.carry_out_at_once(lines);
+        Ok(())
+    }
+
+    /// Takes the host's report of an order, with the inputs that belong to it, and carries out the lines that it lets
+    /// go on.
+    ///
+    /// # Errors
+    ///
+    /// NO_ORDER if the host has no order, and NO_MEMORY if memory ran out for the inputs. Then nothing changes.
+    pub fn take_report(&mut self, outcome: u32, inputs: &[u8]) -> Result<(), u32>
+        ensures { TakesReport ⟦<TillDisk as Disk>⟧ ⟦<Device as Hosted>⟧.course ⟦<Device as Peripheral>⟧ self.old outcome
+            inputs.now result self.new }
+    {
+        self.kept
+            .take_report(self.alloc, &mut self.buffer, outcome, inputs)
+    }
+
     /// Writes the answer to the lines that were carried out last, and how many bytes it has, and returns OK.
     ///
     /// # Errors
     ///
     /// - SHORT if `text` has less room, and CUT if memory ran out for the answer. Then a front of it is written.
+    /// - WAITS if the next line waits for the host, and NO_MEMORY if it found no memory. The answer is written.
     /// - ERRANDS if errands are left, and DISK_FAILED if one failed. Then nothing is written.
     pub fn hand_over(&self, text: &mut [u8], needed: &mut usize) -> u32
         ensures { HandsOver self.now text.old text.new needed.old needed.new result }
@@ -126,7 +171,24 @@ impl Session {
             Settlement::InMemory | Settlement::Settled => code_of(
                 self.kept.outcome,
                 tell(self.kept.answer.as_slice(), text, needed),
+                self.kept.left,
             ),
+        }
+    }
+
+    /// Writes the answer to lines, or returns the code that says why none was carried out. If memory ran out, the
+    /// answer has no bytes.
+    pub fn answer(&self, taken: Result<(), u32>, text: &mut [u8], needed: &mut usize) -> u32
+        ensures { AnswersAs taken self.now text.old text.new needed.old needed.new result }
+    {
+        match taken {
+            Ok(()) => self.hand_over(text, needed),
+            Err(code) => {
+                if code == NO_MEMORY {
+                    *needed = 0;
+                }
+                code
+            }
         }
     }
 
@@ -153,14 +215,27 @@ impl Session {
         host_device(&self.kept.profile, &self.tray, name)
     }
 
+    /// Makes the orders of the device of a name wait for the host from now on, and returns OK.
+    ///
+    /// # Errors
+    ///
+    /// NO_DEVICE if no device of the name may be driven, or nothing serves it. Then nothing changes.
+    pub fn drive(&mut self, name: &[u8]) -> u32
+        ensures { Drives ⟦<Device as Hosted>⟧.course ⟦<Device as Peripheral>⟧ self.old name.now result self.new }
+    {
+        drive_device(&mut self.kept, name)
+    }
+
     /// Writes the next order of the devices that the host has, and removes it. It returns ORDER, or OK if none is left.
     ///
     /// # Errors
     ///
     /// - SHORT if `text` has less room than `needed` says. The order stays the next one.
     /// - ERRANDS if errands are left, and DISK_FAILED if one failed. Then nothing is written.
+    /// - NO_MEMORY if memory ran out for the line of a driven device. Then nothing is written.
     pub fn next_order(&mut self, text: &mut [u8], needed: &mut usize) -> u32
-        ensures { NextOrder self.old text.old text.new needed.old needed.new result self.new }
+        ensures { NextOrder ⟦<Device as Hosted>⟧.course ⟦<Device as Peripheral>⟧ self.old text.old text.new needed.old
+            needed.new result self.new }
     {
         next_order(&mut self.kept, &self.tray, text, needed)
     }
@@ -214,6 +289,9 @@ impl Drop for Session {
             told: _,
             failed: _,
             orders: _,
+            is_driven: _,
+            held: _,
+            left: _,
         } = kept;
         end_counter(counter);
         spares.park_all();

@@ -3,6 +3,7 @@ ghost use Rattle.std.specs.Prelude.{◌≡◌, IfOk};
 ghost use Rattle.kijolvar.specs.Orders.{AsksTwin};
 
 use crate::orders::ask_keeping;
+use pos_drive::Driven;
 use pos_run::Wrapped;
 use pos_service::{NoMemory, Order, Peripheral, Reply};
 use std::alloc::{AllocError, Global};
@@ -41,6 +42,11 @@ impl Tray {
             Ok(shared) => Ok(Tray { alloc, shared }),
             Err(_) => Err(AllocError),
         }
+    }
+
+    /// Returns where it takes memory.
+    pub fn allocator(&self) -> Global {
+        self.alloc
     }
 
     /// Returns the same tray for another owner.
@@ -118,7 +124,7 @@ impl Post {
     /// # Errors
     ///
     /// [`NoMemory`] if memory ran out. For the host's line it is taken before the order is passed on.
-    pub fn ask(&self, twin: &mut Wrapped, order: &Order) -> Result<Reply, NoMemory>
+    pub fn ask(&self, twin: &mut Driven<Wrapped>, order: &Order) -> Result<Reply, NoMemory>
         ensures { AsksTwin twin.old order.now result twin.new }
     {
         let device = self.device.as_slice();

@@ -17,5 +17,6 @@ pub mod PrefixRuns
 pub mod Prefixes
 pub mod Reopening
 pub mod Errands
+pub mod HostsLemmas
 mod MovesLemmas
 pub mod NextEventLemmas

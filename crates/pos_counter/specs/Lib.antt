@@ -6,6 +6,7 @@ pub mod Errands
 pub mod Examples
 pub mod FileCalls
 pub mod History
+pub mod Hosts
 pub mod KeptDevices
 pub mod Leaving
 pub mod Machine

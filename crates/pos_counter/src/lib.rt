@@ -15,6 +15,7 @@ mod counter;
 mod devices;
 mod exchange;
 mod faults;
+mod hosts;
 mod inputs;
 pub mod laws;
 pub mod moves;

@@ -7,6 +7,8 @@ mod ample;
 #[cfg(test)]
 mod devices;
 #[cfg(test)]
+mod driven;
+#[cfg(test)]
 mod growths;
 #[cfg(test)]
 mod steps;

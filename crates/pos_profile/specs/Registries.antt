@@ -75,6 +75,10 @@ kind_at devices place = option_map (λ device. device.kind) (slice_get devices p
 abbrev pub standing_at : List Device → ℕ → Option PeripheralState
 standing_at devices place = option_and_then (λ device. device.peripheral) (slice_get devices place)
 
+-- the peripheral in the slot at a place
+abbrev pub peripheral_at : {P : Type 0} → List (Slot P) → ℕ → Option P
+peripheral_at slots place = option_and_then (λ slot. slot.peripheral) (slice_get slots place)
+
 -- the devices, with this to serve the one at a place
 abbrev pub with_peripheral : List Device → ℕ → Option PeripheralState → List Device
 with_peripheral [] place peripheral = []

@@ -5,7 +5,7 @@ ghost use Rattle.std.specs.Borrow.{sem};
 ghost use Rattle.pos_service.specs.Hardware.{StaysInService};
 ghost use Rattle.pos_profile.specs.Lending.{registry_lends, registry_with};
 ghost use Rattle.pos_profile.specs.Places.{IsIndexOf, place_of};
-ghost use Rattle.pos_profile.specs.Registries.{AreParked, Attaches, Detaches, IsNamed, IsPut, IsRegistrySound, MayServe, PutsInto, device_of, devices, devices_of, kind_at, names_of, parked, planned_of, standing_at, vacant, vacant_devices, with_peripheral};
+ghost use Rattle.pos_profile.specs.Registries.{AreParked, Attaches, Detaches, IsNamed, IsPut, IsRegistrySound, MayServe, PutsInto, device_of, devices, devices_of, kind_at, names_of, parked, peripheral_at, planned_of, standing_at, vacant, vacant_devices, with_peripheral};
 
 use crate::laws::is_profile;
 use crate::places::Places;
@@ -122,6 +122,13 @@ impl<P: Peripheral> Registry<P> {
         }
     }
 
+    /// Returns the device at a place with what serves it, or `None` if there is no such place.
+    pub fn slot(&self, place: usize) -> Option<&Slot<P>>
+        ensures { option_map (λ found. found.now) result ≡ slice_get self.now.slots.items place }
+    {
+        self.slots.get(place)
+    }
+
     /// Lends what serves the device at a place, which is not vacant. The registry stays sound if this stays in service
     /// and of its kind.
     pub fn serving(&mut self, place: usize) -> &mut P
@@ -130,6 +137,7 @@ impl<P: Peripheral> Registry<P> {
         ensures* lends { sem 𝓛 (registry_lends P.row self.entry place result) }
         ensures value { standing_at (devices P.Peripheral self.old) place
             ≡ Some (P.Peripheral.state result.now) }
+        ensures is { peripheral_at self.old.slots.items place ≡ Some result.now }
         ensures devices { (left : P) → devices P.Peripheral (registry_with self.old place left)
             ≡ with_peripheral (devices P.Peripheral self.old) place (Some (P.Peripheral.state left)) }
         ensures stays_sound { (left : P) → StaysInService (P.Peripheral.state result.now) (P.Peripheral.state left) →

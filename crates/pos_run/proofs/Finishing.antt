@@ -8,7 +8,7 @@ use Rattle.pos_run.specs.Transcript.{Transcript}
 use Rattle.pos_run.specs.declared.scripts.RunFault.TheVariants as fault
 
 -- lines and then more
-prints_join : (session : Session) (lines : List (List ℕ)) (steps : List (Request × Response)) (text : List ℕ) (mid : Session) (more : List (List ℕ))
+pub prints_join : (session : Session) (lines : List (List ℕ)) (steps : List (Request × Response)) (text : List ℕ) (mid : Session) (more : List (List ℕ))
     (further : List (Request × Response)) (rest : List ℕ) (after : Session) → LinesPrint session lines steps text mid
     → LinesPrint mid more further rest after → LinesPrint session (lines ++ more) (steps ++ further) (text ++ rest) after
 prints_join session [] steps text mid more further rest after (none, nothing, same) second = rw (none, nothing, ← same) second

@@ -9,3 +9,5 @@ pub mod Starting
 pub mod Filling
 pub mod Profiling
 pub mod MountLemmas
+pub mod WantingLemmas
+pub mod WaitingLemmas

@@ -26,7 +26,7 @@ module _ (entries : List Entry) (i : ℕ) (entry : Entry) (lt : i < length entri
   spares_more front spare so_far same =
       rw (so_far, same, one_more, map-append simulated_for (take i entries) (entry ∷ []))
 
--- what is simulated is in service, and was given no order yet
+-- what is simulated is in service, was given no order yet, and its line has never failed
 new_serves : (kind : Option Kind) (lines : ℕ) → IsInService (option_map (λ is. new_device is lines) kind)
 new_serves kind lines = grind arith
 
@@ -35,6 +35,13 @@ new_is_fresh kind lines state is = grind arith
 
 pub state_is_fresh : (entry : Entry) (state : PeripheralState) → Some state ≡ simulated_for entry → state.orders ≡ 0
 state_is_fresh entry state is = new_is_fresh (kind_of entry) entry.lines state is
+
+new_never_failed : (kind : Option Kind) (lines : ℕ) (state : PeripheralState) → Some state ≡ option_map (λ is. new_device is lines) kind
+    → state.failures ≡ 0
+new_never_failed kind lines state is = grind arith
+
+pub state_never_failed : (entry : Entry) (state : PeripheralState) → Some state ≡ simulated_for entry → state.failures ≡ 0
+state_never_failed entry state is = new_never_failed (kind_of entry) entry.lines state is
 
 pub all_serve : (entries : List Entry) → All IsInService (simulated_all entries)
 all_serve entries = All-map IsInService simulated_for entries (λ k entry lt. new_serves (kind_of (get_or entries k entry)) (get_or entries k entry).lines)

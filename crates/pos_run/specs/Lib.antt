@@ -6,3 +6,4 @@ pub mod Running
 pub mod Carried
 pub mod Sessions
 pub mod Simulating
+pub mod WaitingLines

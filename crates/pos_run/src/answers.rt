@@ -11,7 +11,7 @@ const MOST_HELD: usize = 65_536;
 
 /// Writes bytes to their end, and stops at the first write that fails. Returns how many were written, and whether it
 /// failed.
-fn write_front<W: Sink>(writer: &mut W, bytes: &[u8]) -> (usize, Result<(), WriteFault>)
+pub(crate) fn write_front<W: Sink>(writer: &mut W, bytes: &[u8]) -> (usize, Result<(), WriteFault>)
     ensures bound { result.0 ≤ length bytes.now }
     ensures given { WritesFront (W.given writer.old) bytes.now result.0 result.1 (W.given writer.new) }
 {

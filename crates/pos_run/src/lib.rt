@@ -1,6 +1,7 @@
 //! Runs of scripts over the devices of a shop counter, with spares beside them (docs/reference/console.md).
 //!
 //! - [`run`] carries out a script from a source over a counter, and [`carry_out_lines`] lines that a caller has whole.
+//!   [`carry_on`] carries out lines up to one that waits for the host of a driven device.
 //! - [`run_over_profile`] and [`simulate_profile`] make the counter and the [`Spares`] of a profile, with a simulated
 //!   peripheral for each entry.
 //! - [`ScriptReader`] and [`AnswerWriter`] keep to their limits, and [`Names`] has the numbers of a script's controls.
@@ -12,6 +13,7 @@
 mod answers;
 mod devices;
 mod given;
+mod line_texts;
 mod lines;
 mod mounting;
 mod names;
@@ -21,6 +23,7 @@ mod scripts;
 mod session;
 mod simulation;
 mod spares;
+mod waiting_lines;
 mod wrapped;
 
 pub use answers::AnswerWriter;
@@ -32,4 +35,5 @@ pub use profiled::{run_over_profile, simulate_profile};
 pub use reading::ScriptReader;
 pub use scripts::{RunFault, run};
 pub use spares::Spares;
+pub use waiting_lines::{Held, carry_on};
 pub use wrapped::Wrapped;

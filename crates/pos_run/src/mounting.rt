@@ -12,13 +12,14 @@ pub trait Mount<P: Peripheral> {
     ghost mounts: { Mounts P };
 
     /// Returns the peripheral that a simulated one is mounted in, for its entry. The simulated one was given no order
-    /// yet, and the other is in the same state.
+    /// yet, its line has never failed, and the other is in the same state.
     ///
     /// # Errors
     ///
     /// [`NoMemory`] if memory ran out. Then what is simulated is ended.
     fn mount(&self, entry: &Entry, simulation: Wrapped) -> Result<P, NoMemory>
         requires fresh { (wrapped_state simulation).orders ≡ 0 }
+        requires failures { (wrapped_state simulation).failures ≡ 0 }
         ensures state { IfOk result (λ mounted. P.Peripheral.state mounted ≡ wrapped_state simulation) }
         ensures mounts { IfOk result (λ mounted. mounts entry.now simulation mounted) };
 }

@@ -24,7 +24,7 @@ use std::alloc::Global;
 /// # Errors
 ///
 /// [`NoMemory`] if memory ran out.
-#[tactic(auto, using(crate::proofs::Profiling::state_is_fresh))]
+#[tactic(auto, using(crate::proofs::Profiling::state_is_fresh, crate::proofs::Profiling::state_never_failed))]
 fn simulate_mounted<P: Peripheral, M: Mount<P>>(
     alloc: Global,
     entry: &Entry,

@@ -3,9 +3,12 @@ ghost use Rattle.std.specs.Prelude.{◌≡◌, ◌≤◌, IfOk, option_map};
 ghost use Rattle.pos_run.specs.Simulating.{IsDeviceFor, IsDisplay, IsSimulable, IsSimulatedFor, simulated_for, state_of, wrapped_state};
 
 use crate::wrapped::{Wrapped, wrap};
+use pos_drive::Preview;
 use pos_profile::Entry;
 use pos_service::{Input, Kind, NoMemory, Order, Peripheral, Reply, Signs, Snapshot, Taken};
-use pos_sims::{PlainDisplay, PlainDrawer, PlainScanner, RingDisplay, RollPrinter};
+use pos_sims::{
+    PlainDisplay, PlainDrawer, PlainScanner, PrintPreview, RingDisplay, Roll, RollPrinter,
+};
 use std::alloc::Global;
 
 /// A simulated peripheral without a wrapper.
@@ -93,6 +96,27 @@ impl Peripheral for Simulation {
             Simulation::Display(display) => display.is_parked(),
             Simulation::Ring(ring) => ring.is_parked(),
             Simulation::Printer(printer) => printer.is_parked(),
+        }
+    }
+}
+
+impl Preview for Simulation {
+    fn would(&self, order: &Order) -> Reply {
+        match self {
+            Simulation::Drawer(drawer) => drawer.would(order),
+            Simulation::Scanner(scanner) => scanner.would(order),
+            Simulation::Display(display) => display.would(order),
+            Simulation::Ring(ring) => ring.would(order),
+            Simulation::Printer(printer) => printer.would(order),
+        }
+    }
+}
+
+impl PrintPreview for Simulation {
+    fn would_add(&self, alloc: Global, order: &Order) -> Result<Option<Roll>, NoMemory> {
+        match self {
+            Simulation::Printer(printer) => printer.would_add(alloc, order),
+            _ => Ok(None),
         }
     }
 }

@@ -3,8 +3,10 @@ ghost use Rattle.std.specs.Prelude.{◌≡◌, false, true};
 ghost use Rattle.pos_run.specs.Simulating.{state_of, wrapped_by, wrapped_state};
 
 use crate::simulation::Simulation;
+use pos_drive::Preview;
 use pos_service::{Ends, Input, Kind, NoMemory, Order, Peripheral, Reply, Signs, Snapshot, Taken};
-use pos_sims::{Flaky, Recorder};
+use pos_sims::{Flaky, PrintPreview, Recorder, Roll};
+use std::alloc::Global;
 
 /// A simulated peripheral with the wrappers that its entry asks for. One type has them all, so that a counter's devices
 /// are boxes of one type. It ends only parked, which whoever lets it go has to show.
@@ -102,6 +104,28 @@ impl Peripheral for Wrapped {
             Wrapped::Flaky(flaky) => flaky.is_parked(),
             Wrapped::Recorded(recorder) => recorder.is_parked(),
             Wrapped::Both(recorder) => recorder.is_parked(),
+        }
+    }
+}
+
+impl Preview for Wrapped {
+    fn would(&self, order: &Order) -> Reply {
+        match self {
+            Wrapped::Bare(device) => device.would(order),
+            Wrapped::Flaky(flaky) => flaky.would(order),
+            Wrapped::Recorded(recorder) => recorder.would(order),
+            Wrapped::Both(recorder) => recorder.would(order),
+        }
+    }
+}
+
+impl PrintPreview for Wrapped {
+    fn would_add(&self, alloc: Global, order: &Order) -> Result<Option<Roll>, NoMemory> {
+        match self {
+            Wrapped::Bare(device) => device.would_add(alloc, order),
+            Wrapped::Flaky(flaky) => flaky.would_add(alloc, order),
+            Wrapped::Recorded(recorder) => recorder.would_add(alloc, order),
+            Wrapped::Both(recorder) => recorder.would_add(alloc, order),
         }
     }
 }

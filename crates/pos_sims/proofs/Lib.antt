@@ -6,3 +6,4 @@ pub mod RingLemmas
 pub mod ChunkLemmas
 pub mod RequestLemmas
 pub mod TapeLemmas
+pub mod NeedLemmas

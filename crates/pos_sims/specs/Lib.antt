@@ -9,3 +9,5 @@ pub mod Rings
 pub mod RingDisplays
 pub mod Flakies
 pub mod Recorders
+pub mod PaperNeeds
+pub mod Additions

@@ -1,7 +1,9 @@
 -- The power of a simulated peripheral.
-use Rattle.std.specs.Prelude.{Bool, true, not}
+use Rattle.std.specs.Prelude.{Bool, true, not, if◌then◌else◌}
 use Rattle.pos_service.specs.declared.input.Input.{Input}
 use Rattle.pos_service.specs.declared.input.Input.TheVariants as input
+use Rattle.pos_service.specs.declared.order.Reply.{Reply}
+use Rattle.pos_service.specs.declared.order.Reply.TheVariants as reply
 use Rattle.pos_service.specs.Peripherals.{PeripheralState}
 
 -- the same peripheral, on or off
@@ -17,3 +19,7 @@ power_after other powered = powered
 abbrev pub passes_by : Bool → Input → Bool
 passes_by powered (input.PowerMoved is_on) = true
 passes_by powered other = not powered
+
+-- what is replied, by what one that is on replies
+abbrev pub reply_while : Bool → Reply → Reply
+reply_while powered on = if powered then on else reply.Offline

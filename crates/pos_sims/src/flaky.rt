@@ -3,7 +3,11 @@ ghost use Rattle.std.specs.Prelude.{◌≡◌, ◌+◌, ◌&&◌, true, false, n
 ghost use Rattle.pos_service.specs.Peripherals.{Asked, Fed, Parks, input_fits, order_fits};
 ghost use Rattle.pos_sims.specs.Flakies.{CountsOrder, Fails, KeepsSchedule, fails_next, flaky_of, state_of};
 
+use crate::print_preview::PrintPreview;
+use crate::roll::Roll;
+use pos_drive::Preview;
 use pos_service::{Input, Kind, NoMemory, Order, Peripheral, Reply, Signs, Snapshot, Taken};
+use std::alloc::Global;
 
 /// A peripheral with a flaky line. The orders with the numbers `first` to `first + times - 1`, counted from 1, meet a
 /// line fault and don't reach the peripheral; the others do.
@@ -95,5 +99,17 @@ impl<P: Peripheral> Peripheral for Flaky<P> {
 
     fn is_parked(&self) -> bool {
         self.inner.is_parked()
+    }
+}
+
+impl<P: Preview> Preview for Flaky<P> {
+    fn would(&self, order: &Order) -> Reply {
+        self.inner.would(order)
+    }
+}
+
+impl<P: PrintPreview> PrintPreview for Flaky<P> {
+    fn would_add(&self, alloc: Global, order: &Order) -> Result<Option<Roll>, NoMemory> {
+        self.inner.would_add(alloc, order)
     }
 }

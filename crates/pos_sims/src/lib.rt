@@ -6,16 +6,19 @@
 //! - [`Flaky`] fails chosen orders of a peripheral, and [`Recorder`] counts all of them.
 //!
 //! The layer above relies on this: each peripheral meets the trait `Peripheral`, so it does what the standard says of
-//! its kind. Orders to a drawer, a scanner and a display take no memory.
+//! its kind. Orders to a drawer, a scanner and a display take no memory. Each also says before an order what it would
+//! reply, by the trait `Preview`, which takes no memory. [`PrintPreview`] says what the order would print.
 #![tactic(auto)]
 
 mod flaky;
 mod grid;
 mod laying;
 mod line_display;
+mod paper_needs;
 mod plain_drawer;
 mod plain_scanner;
 mod power;
+mod print_preview;
 mod printing;
 mod recorder;
 mod ring;
@@ -31,6 +34,7 @@ pub use flaky::Flaky;
 pub use line_display::{LineDisplay, PlainDisplay, RingDisplay};
 pub use plain_drawer::PlainDrawer;
 pub use plain_scanner::PlainScanner;
+pub use print_preview::PrintPreview;
 pub use recorder::Recorder;
 pub use ring::Ring;
 pub use roll::Roll;

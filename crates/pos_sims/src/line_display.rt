@@ -4,10 +4,11 @@ ghost use Rattle.pos_service.specs.Displays.{blank_display};
 ghost use Rattle.pos_service.specs.Peripherals.{Asked, Fed, order_fits};
 ghost use Rattle.pos_sims.specs.LineDisplays.{display_state, state_on};
 
-use crate::power::passes_by;
+use crate::power::{passes_by, reply_while};
 use crate::ring::Ring;
 use crate::screen::Screen;
 use crate::window::Window;
+use pos_drive::Preview;
 use pos_service::display_text::Place;
 use pos_service::{
     Form, Input, Kind, NoMemory, Order, PaperLevel, Peripheral, Plant, Reply, Signs, Snapshot,
@@ -132,5 +133,11 @@ impl<S: Screen> Peripheral for LineDisplay<S> {
 
     fn is_parked(&self) -> bool {
         self.is_parked
+    }
+}
+
+impl<S: Screen> Preview for LineDisplay<S> {
+    fn would(&self, _: &Order) -> Reply {
+        reply_while(self.powered, Reply::Done)
     }
 }

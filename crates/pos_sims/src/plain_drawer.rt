@@ -3,7 +3,8 @@ ghost use Rattle.std.specs.Prelude.{◌≡◌, true, false, IsOk, IfOk};
 ghost use Rattle.pos_service.specs.Peripherals.{Asked, Fed, input_fits, order_fits};
 ghost use Rattle.pos_sims.specs.Drawers.{drawer_state, state_of};
 
-use crate::power::passes_by;
+use crate::power::{passes_by, reply_while};
+use pos_drive::Preview;
 use pos_service::{
     Form, Input, Kind, NoMemory, Order, PaperLevel, Peripheral, Plant, Reply, Signs, Snapshot,
     Taken,
@@ -99,5 +100,11 @@ impl Peripheral for PlainDrawer {
 
     fn is_parked(&self) -> bool {
         self.is_parked
+    }
+}
+
+impl Preview for PlainDrawer {
+    fn would(&self, _: &Order) -> Reply {
+        reply_while(self.powered, Reply::Done)
     }
 }

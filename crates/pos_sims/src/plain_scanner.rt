@@ -4,6 +4,7 @@ ghost use Rattle.pos_service.specs.Peripherals.{Asked, Fed, input_fits};
 ghost use Rattle.pos_sims.specs.Scanners.{scanner_state, state_of};
 
 use crate::power::passes_by;
+use pos_drive::Preview;
 use pos_service::{
     Form, Input, Kind, NoMemory, Order, PaperLevel, Peripheral, Plant, Reply, Signs, Snapshot,
     Taken,
@@ -90,5 +91,11 @@ impl Peripheral for PlainScanner {
 
     fn is_parked(&self) -> bool {
         self.is_parked
+    }
+}
+
+impl Preview for PlainScanner {
+    fn would(&self, _: &Order) -> Reply {
+        Reply::LineFault
     }
 }

@@ -1,8 +1,8 @@
 //! The power of a simulated peripheral.
 ghost use Rattle.std.specs.Prelude.{◌≡◌};
-ghost use Rattle.pos_sims.specs.Powers.{passes_by, power_after};
+ghost use Rattle.pos_sims.specs.Powers.{passes_by, power_after, reply_while};
 
-use pos_service::Input;
+use pos_service::{Input, Reply};
 
 /// Takes an input if it is one of the power. Returns whether nothing more comes of the input: the power has moved, or
 /// is off.
@@ -15,4 +15,11 @@ pub(crate) fn passes_by(powered: &mut bool, input: &Input) -> bool
         return true;
     }
     !*powered
+}
+
+/// Returns what a peripheral replies: what it replies while it is on, or that it is off.
+pub(crate) fn reply_while(powered: bool, on: Reply) -> Reply
+    ensures { result ≡ reply_while powered on }
+{
+    if powered { on } else { Reply::Offline }
 }

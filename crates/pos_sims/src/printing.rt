@@ -4,6 +4,7 @@ ghost use Rattle.pos_service.specs.Receipts.{characters_in, plain, pieces, piece
 ghost use Rattle.pos_sims.specs.Tapes.{Adds, IsPrinted, StopsShort, add_cut, end_begun, end_full, end_line, lines_on, pieces_asked, printed_on, put_character, step, work_after, work_of};
 
 use crate::tape::{Asked, Stop, Tape};
+use pos_service::NoMemory;
 use pos_service::receipt_text::{
     Alignment, Mark, Piece, PrintedCharacter, Token, cut_of, next_character, next_token,
 };
@@ -26,6 +27,28 @@ impl Tape {
             used: 0,
             limit: 0,
         }
+    }
+
+    /// Returns a tape with the same line buffer, on which nothing is printed.
+    ///
+    /// # Errors
+    ///
+    /// [`NoMemory`] if memory ran out.
+    pub fn begun(&self, alloc: Global) -> Result<Tape, NoMemory>
+        ensures made { IfOk result (λ begun.
+            printed_on begun ≡ record { items = []; buffer = (printed_on self.now).buffer }) }
+        ensures chars { IfOk result (λ begun. begun.chars ≡ self.now.chars) }
+    {
+        Ok(Tape {
+            chars: self.chars,
+            characters: Vec::from_slice(alloc, self.buffer())?,
+            marks: Vec::new(alloc),
+            start: 0,
+            is_bold: false,
+            alignment: Alignment::Left,
+            used: 0,
+            limit: 0,
+        })
     }
 
     /// Begins a request.
@@ -267,6 +290,14 @@ impl Tape {
                 Err(stop)
             }
         }
+    }
+
+    /// Returns how many characters the line buffer has.
+    pub fn buffer_length(&self) -> u32
+        ensures count { result ≡ length (printed_on self.now).buffer }
+        ensures within { result ≤ self.now.chars }
+    {
+        (self.characters.len() - self.start) as u32
     }
 
     /// Returns the line buffer.

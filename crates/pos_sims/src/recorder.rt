@@ -3,7 +3,11 @@ ghost use Rattle.std.specs.Prelude.{◌≡◌, true, false};
 ghost use Rattle.pos_service.specs.Peripherals.{Asked, counted, order_fits};
 ghost use Rattle.pos_sims.specs.Recorders.{recorder_of, state_of};
 
+use crate::print_preview::PrintPreview;
+use crate::roll::Roll;
+use pos_drive::Preview;
 use pos_service::{Input, Kind, NoMemory, Order, Peripheral, Reply, Signs, Snapshot, Taken};
+use std::alloc::Global;
 
 /// A peripheral whose orders are counted, whatever comes of them. Each is passed on to the inner peripheral, and what
 /// this one is, shows and takes is what that one does.
@@ -68,5 +72,17 @@ impl<P: Peripheral> Peripheral for Recorder<P> {
 
     fn is_parked(&self) -> bool {
         self.inner.is_parked()
+    }
+}
+
+impl<P: Preview> Preview for Recorder<P> {
+    fn would(&self, order: &Order) -> Reply {
+        self.inner.would(order)
+    }
+}
+
+impl<P: PrintPreview> PrintPreview for Recorder<P> {
+    fn would_add(&self, alloc: Global, order: &Order) -> Result<Option<Roll>, NoMemory> {
+        self.inner.would_add(alloc, order)
     }
 }

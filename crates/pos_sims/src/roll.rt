@@ -1,9 +1,11 @@
 //! The roll of a receipt printer.
-ghost use Rattle.std.specs.Prelude.{◌≡◌, ◌≤◌, List, false, None, IfOk, IfSome, OnErr};
+ghost use Rattle.std.specs.Prelude.{◌≡◌, ◌≤◌, List, [], false, None, IfOk, IfSome, OnErr};
 ghost use Rattle.pos_service.specs.declared.receipt_text.Piece.{Piece};
 ghost use Rattle.pos_service.specs.Receipts.{Prints, empty_roll, pieces, cut_pieces, items_from, buffer_from};
+ghost use Rattle.pos_sims.specs.PaperNeeds.{outcome_by};
 ghost use Rattle.pos_sims.specs.Tapes.{pieces_asked};
 
+use crate::paper_needs::request_fits;
 use crate::tape::{Asked, Stop, Tape};
 use pos_service::NoMemory;
 use pos_service::receipt_text::{Mark, Outcome, PrintedCharacter};
@@ -40,6 +42,21 @@ impl Roll {
             left: lines,
             is_cover_open: false,
         }
+    }
+
+    /// Returns a roll that differs from this one only in that nothing is printed on it. It has the same line buffer.
+    ///
+    /// # Errors
+    ///
+    /// [`NoMemory`] if memory ran out.
+    pub fn begun(&self, alloc: Global) -> Result<Roll, NoMemory>
+        ensures { IfOk result (λ begun. begun ≡ record self.now { items = [] }) }
+    {
+        Ok(Roll {
+            tape: self.tape.begun(alloc)?,
+            left: self.left,
+            is_cover_open: self.is_cover_open,
+        })
     }
 
     /// Opens or closes the cover.
@@ -112,6 +129,35 @@ impl Roll {
         ensures no_memory { OnErr result (self.new ≡ self.old) }
     {
         self.request(&Asked::Cut(percentage))
+    }
+
+    /// Returns what would come of a request.
+    fn would(&self, asked: &Asked<'_>) -> Outcome
+        ensures { result ≡ outcome_by self.now (pieces_asked asked.now) }
+    {
+        if let Some(outcome) = self.hindrance() {
+            return outcome;
+        }
+        let begun = self.tape.buffer_length();
+        if request_fits(self.chars(), self.left, begun, asked) {
+            Outcome::Done
+        } else {
+            Outcome::PaperEnd
+        }
+    }
+
+    /// Returns what would come of the data of a request if they were printed, and memory didn't run out.
+    pub fn would_print(&self, bytes: &[u8]) -> Outcome
+        ensures { result ≡ outcome_by self.now (pieces bytes.now) }
+    {
+        self.would(&Asked::Text(bytes))
+    }
+
+    /// Returns what would come of a cut by so many percent, if memory didn't run out.
+    pub fn would_cut(&self, percentage: u8) -> Outcome
+        ensures { result ≡ outcome_by self.now (cut_pieces percentage) }
+    {
+        self.would(&Asked::Cut(percentage))
     }
 
     /// Returns how many characters a line has, 1 to 255.

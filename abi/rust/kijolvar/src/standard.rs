@@ -10,7 +10,7 @@ pub(crate) mod library {
     pub(crate) const DISK_LENGTH: u64 = 327680;
     /// The call did what it says.
     pub(crate) const OK: u32 = 0;
-    /// Memory ran out, and nothing was done.
+    /// Memory ran out, and nothing was done. Lines before one that is held may have been carried out.
     pub(crate) const NO_MEMORY: u32 = 1;
     /// The profile is refused (docs/reference/profile.md).
     pub(crate) const BAD_PROFILE: u32 = 2;
@@ -48,6 +48,10 @@ pub(crate) mod library {
     pub(crate) const EVENT: u32 = 18;
     /// No control has the name.
     pub(crate) const NO_CONTROL: u32 = 19;
+    /// A line waits until the host has reported what became of an order.
+    pub(crate) const WAITS: u32 = 20;
+    /// The host has no order that it may report.
+    pub(crate) const NO_ORDER: u32 = 21;
 }
 
 /// A result code of the standard (ErrorCode) by which a control refuses a call.

@@ -6,7 +6,9 @@ ghost use Rattle.pos_sims.specs.ReceiptPrinters.{printer_state, reply_of, state_
 
 use super::RollPrinter;
 use crate::power::passes_by;
+use crate::print_preview::PrintPreview;
 use crate::roll::Roll;
+use pos_drive::Preview;
 use pos_service::receipt_text::Outcome;
 use pos_service::{
     Form, Input, Kind, NoMemory, Order, PaperLevel, Peripheral, Plant, Receipt, Reply, Signs,
@@ -121,5 +123,37 @@ impl Peripheral for RollPrinter {
 
     fn is_parked(&self) -> bool {
         self.is_parked
+    }
+}
+
+impl Preview for RollPrinter {
+    fn would(&self, order: &Order) -> Reply {
+        if !self.powered {
+            return Reply::Offline;
+        }
+        match order {
+            Order::Print { bytes } => reply_of(self.roll.would_print(bytes.as_slice())),
+            Order::Cut { percentage } => reply_of(self.roll.would_cut(*percentage)),
+            _ => Reply::LineFault,
+        }
+    }
+}
+
+impl PrintPreview for RollPrinter {
+    fn would_add(&self, alloc: Global, order: &Order) -> Result<Option<Roll>, NoMemory> {
+        if !self.powered || !order.fits(self.kind()) {
+            return Ok(None);
+        }
+        let mut roll = self.roll.begun(alloc)?;
+        let outcome = match order {
+            Order::Print { bytes } => roll.print(bytes.as_slice())?,
+            Order::Cut { percentage } => roll.cut(*percentage)?,
+            _ => unreachable!(),
+        };
+        if outcome == Outcome::Done {
+            Ok(Some(roll))
+        } else {
+            Ok(None)
+        }
     }
 }

@@ -1,4 +1,4 @@
-use Rattle.pos_profile.proofs.Common.{Device, Some, arith, devices, gets, length, refl, slice_get, standing_at, with_peripheral, ◌<◌, ◌∙◌, ◌≡◌}
+use Rattle.pos_profile.proofs.Common.{Device, Some, ap, arith, devices, gets, length, option_and_then, refl, slice_get, standing_at, with_peripheral, ◌<◌, ◌∙◌, ◌≡◌}
 use Rattle.pos_profile.specs.Lending.{registry_with}
 use Rattle.pos_profile.proofs.RegistryLemmas.{devices_count, devices_set, served_kind, sound_with, standing_within, device_at}
 use Rattle.pos_profile.proofs.registry.Registry.serving.Goals as goal
@@ -21,6 +21,7 @@ returns g c =
       record {
         lends = tt;
         value = stands;
+        is = ap (option_and_then (λ slot. slot.peripheral)) at ∙ c.serving.ensures.value;
         devices = goes_on;
         stays_sound = λ left stays.
             sound_with peripherals old (registry_with old place left) place (Some (peripherals.state left)) c.requires.sound refl (goes_on left)

@@ -1,0 +1,165 @@
+-- Lines that wait for what a host reports.
+use Rattle.std.specs.Prelude.{◌≡◌, ◌≢◌, ◌++◌, ◌∷◌, [], ℕ, Bool, true, false, List, Result, Ok, Err, codes, if◌then◌else◌, nat_lt, take}
+use Rattle.std.specs.declared.vec.Vec.{Vec}
+use Rattle.pos_counter.specs.Counters.{machine}
+use Rattle.pos_counter.specs.Hosts.{progress_in}
+use Rattle.pos_counter.specs.Leaving.{Leaves, part_of}
+use Rattle.pos_counter.specs.Steps.{Run}
+use Rattle.pos_counter.specs.declared.counter.Counter.{Counter}
+use Rattle.pos_disk.specs.Keeps.{KeepsDisk}
+use Rattle.pos_disk.specs.declared.device.Disk.{Ghosts as DiskGhosts}
+use Rattle.pos_drive.specs.declared.courses.Course.{Course}
+use Rattle.pos_drive.specs.declared.courses.Progress.{Progress}
+use Rattle.pos_drive.specs.declared.courses.Progress.TheVariants as progress
+use Rattle.pos_script.specs.Lines.{lines_of}
+use Rattle.pos_service.specs.declared.peripheral.Peripheral.{Ghosts}
+use Rattle.pos_store.specs.Standing.{Standing}
+use Rattle.pos_streams.specs.Streams.{Appends, Given, given_with}
+use Rattle.pos_streams.specs.Transfers.{given_to}
+use Rattle.pos_streams.specs.declared.sink.WriteFault.{WriteFault}
+use Rattle.pos_run.specs.Transcript.{Session, Transcript}
+use Rattle.pos_run.specs.declared.line_texts.LineText.{LineText}
+use Rattle.pos_run.specs.declared.waiting_lines.Held.{Held}
+use Rattle.pos_run.specs.declared.waiting_lines.Held.TheVariants as held
+
+-- what a line prints: the bytes that are kept first, and what follows them
+abbrev pub text_of : LineText → Given
+text_of text = if nat_lt text.count 8 then given_with (take text.count text.first) 0
+    else given_with (text.first ++ (given_to text.rest).bytes) (given_to text.rest).faults
+
+-- the host has a pending order, or is to get it
+abbrev pub is_out : Progress → Bool
+is_out progress.Waits = true
+is_out progress.HandedOut = true
+is_out other = false
+
+-- an order is pending
+abbrev pub is_held : Progress → Bool
+is_held progress.Reported = true
+is_held other = is_out other
+
+-- a line with this text isn't one of a pending order
+abbrev pub IsNotHeld : Progress → List ℕ → Type 0
+IsNotHeld done text = is_held done ≡ true → text ≢ codes "memory\n"
+
+-- what becomes of a line with this text, by how far the host is with a pending order
+abbrev pub HoldsBy : Progress → List ℕ → Held → Type 0
+HoldsBy done text held.Told = IsNotHeld done text
+HoldsBy done text held.Waits = (is_out done ≡ true) × (text ≡ codes "memory\n")
+HoldsBy done text held.NoMemory = (done ≡ progress.Reported) × (text ≡ codes "memory\n")
+
+-- no order is pending, whatever a line prints
+abbrev pub IsReady : Progress → List ℕ → Type 0
+IsReady done text = done ≡ progress.Ready
+
+-- The machine that a counter stands for, and what the lines have, are as they were: for all that the disk may leave.
+abbrev pub StaysTo : {D P : Type 0} → DiskGhosts D → Ghosts P → Counter D P → Session → Counter D P → Session → Type 0
+StaysTo bound peripherals old session new left =
+    (standing : List Standing) → Leaves bound old.totals standing
+    → (after : List Standing) × Leaves bound new.totals after
+    × (machine peripherals new (part_of bound new.totals after)
+    ≡ machine peripherals old (part_of bound old.totals standing))
+    × (left ≡ session)
+
+-- The machine has run by lines, and this is their text: for all that the disk may leave.
+abbrev pub RunsLines : {D P : Type 0} → DiskGhosts D → Ghosts P → Counter D P → Session → List (List ℕ)
+    → (text : List ℕ) → Counter D P → Session → Type 0
+RunsLines bound peripherals old session lines text new left =
+    (standing : List Standing) → Leaves bound old.totals standing
+    → (later : List Standing) × Leaves bound new.totals later
+    × Transcript Run (machine peripherals old (part_of bound old.totals standing)) session lines text left
+    (machine peripherals new (part_of bound new.totals later))
+
+-- a front of a text was given
+abbrev pub GivesFront : Given → Given → List ℕ → Type 0
+GivesFront old new text = (front : List ℕ) × (back : List ℕ) × (text ≡ front ++ back) × (new.bytes ≡ old.bytes ++ front)
+
+-- The machine has run by lines, and their text was given.
+pub record Tells {D P : Type 0} (bound : DiskGhosts D) (peripherals : Ghosts P) (old : Counter D P) (session : Session)
+    (lines : List (List ℕ)) (before after : Given) (new : Counter D P) (left : Session) : Type 0 where
+  pub text : List ℕ
+  pub runs : RunsLines bound peripherals old session lines text new left
+  pub written : Appends before after text
+  pub kept : KeepsDisk bound old.totals.disk new.totals.disk
+
+-- The machine has run by a line, and a front of its text was given.
+pub record Cuts {D P : Type 0} (bound : DiskGhosts D) (peripherals : Ghosts P) (old : Counter D P) (session : Session)
+    (line : List ℕ) (before after : Given) (new : Counter D P) (left : Session) : Type 0 where
+  pub text : List ℕ
+  pub runs : RunsLines bound peripherals old session (line ∷ []) text new left
+  pub front : GivesFront before after text
+  pub kept : KeepsDisk bound old.totals.disk new.totals.disk
+
+-- A line is held back: the machine is as it was, and nothing was given.
+pub record Holds {D P : Type 0} (bound : DiskGhosts D) (peripherals : Ghosts P) (old : Counter D P) (session : Session)
+    (before after : Given) (new : Counter D P) (left : Session) : Type 0 where
+  pub stays : StaysTo bound peripherals old session new left
+  pub nothing : after ≡ before
+  pub kept : KeepsDisk bound old.totals.disk new.totals.disk
+
+-- What a line leaves, by what becomes of it, with this of its text and of how far the host is after it.
+abbrev pub LineLeaves : {D P : Type 0} → DiskGhosts D → Ghosts P → (P → Course) → (Progress → List ℕ → Type 0)
+    → Counter D P → Session → (line : List ℕ) → (before after : Given) → Result Held WriteFault → Counter D P → Session
+    → Type 0
+LineLeaves bound peripherals course_of Then old session line before after (Ok held.Told) new left =
+    (tells : Tells bound peripherals old session (line ∷ []) before after new left)
+    × Then (progress_in course_of new) tells.text
+LineLeaves bound peripherals course_of Then old session line before after (Ok held.Waits) new left =
+    Holds bound peripherals old session before after new left × (is_out (progress_in course_of new) ≡ true)
+LineLeaves bound peripherals course_of Then old session line before after (Ok held.NoMemory) new left =
+    Holds bound peripherals old session before after new left × (progress_in course_of new ≡ progress.Reported)
+LineLeaves bound peripherals course_of Then old session line before after (Err fault) new left =
+    (cuts : Cuts bound peripherals old session line before after new left) × Then (progress_in course_of new) cuts.text
+
+-- the lines of texts
+abbrev pub lines_in : {A : Type 0} → List (Vec ℕ A) → List (List ℕ)
+lines_in [] = []
+lines_in (text ∷ texts) = lines_of text.items ++ lines_in texts
+
+-- a text has one line
+abbrev pub IsLine : List ℕ → Type 0
+IsLine text = (line : List ℕ) × (lines_of text ≡ line ∷ [])
+
+-- likewise, a text in memory
+abbrev pub IsOneLine : {A : Type 0} → Vec ℕ A → Type 0
+IsOneLine text = IsLine text.items
+
+-- From the front on, lines are carried out, and what they print is given, once each. The others are left.
+pub record CarriesOn {A D P : Type 0} (bound : DiskGhosts D) (peripherals : Ghosts P) (old : Counter D P)
+    (session : Session) (texts left_texts : List (Vec ℕ A)) (before after : Given) (new : Counter D P) (left : Session)
+    : Type 0 where
+  pub carried : List (List ℕ)
+  pub split : lines_in texts ≡ carried ++ lines_in left_texts
+  pub tells : Tells bound peripherals old session carried before after new left
+
+-- From the front on, lines are carried out, and what they print is given, once each. Then one line is carried out, and
+-- a front of what it prints is given. The others are left.
+pub record CutsOff {A D P : Type 0} (bound : DiskGhosts D) (peripherals : Ghosts P) (old : Counter D P)
+    (session : Session) (texts left_texts : List (Vec ℕ A)) (before after : Given) (new : Counter D P) (left : Session)
+    : Type 0 where
+  pub carried : List (List ℕ)
+  pub line : List ℕ
+  pub given : Given
+  pub mid : Counter D P
+  pub between : Session
+  pub split : lines_in texts ≡ carried ++ line ∷ lines_in left_texts
+  pub tells : Tells bound peripherals old session carried before given mid between
+  pub cuts : Cuts bound peripherals mid between line given after new left
+
+-- how lines end: if all were carried out, none is left and no order is pending; else an order waits or is with the
+-- host, or the host has reported
+abbrev pub EndsWith : {A : Type 0} → Held → List (Vec ℕ A) → Progress → Type 0
+EndsWith held.Told left_texts done = (left_texts ≡ []) × (done ≡ progress.Ready)
+EndsWith held.Waits left_texts done = is_out done ≡ true
+EndsWith held.NoMemory left_texts done = done ≡ progress.Reported
+
+-- What lines leave, by what becomes of them.
+abbrev pub LinesLeave : {A D P : Type 0} → DiskGhosts D → Ghosts P → (P → Course) → Counter D P → Session
+    → (texts left_texts : List (Vec ℕ A)) → (before after : Given) → Result Held WriteFault → Counter D P → Session
+    → Type 0
+LinesLeave bound peripherals course_of old session texts left_texts before after (Ok kind) new left =
+    CarriesOn bound peripherals old session texts left_texts before after new left
+    × EndsWith kind left_texts (progress_in course_of new)
+LinesLeave bound peripherals course_of old session texts left_texts before after (Err fault) new left =
+    CutsOff bound peripherals old session texts left_texts before after new left
+    × (progress_in course_of new ≡ progress.Ready)
