@@ -3,8 +3,9 @@
 Usage: devices.py LIBRARY [--faults N] [--seed N] [--only WORD]
        devices.py LIBRARY --port PORT [--columns N]
 
-LIBRARY is libkijolvar.so; or the program pos_console, over which a stand-in for the library is tried. N random faults
-are tried, by default 150, from a seed. --only tries what has the word in its name. With --port it prints a page on a real printer at that port and says what has to be on it; PORT is a path or
+LIBRARY is libkijolvar.so; or the program pos_console, over which a stand-in for the library is tried. --program
+PROGRAM is pos_console, for a library without the calls with bytes. N random faults are tried, by default 150, from a
+seed. --only tries what has the word in its name. With --port it prints a page on a real printer at that port and says what has to be on it; PORT is a path or
 tcp://HOST:PORT. The last line is 'N passed, M failed'.
 """
 import argparse
@@ -96,8 +97,8 @@ def opened(profile=PROFILE, totals=None, **named):
 
 
 def cable(kind="usb"):
-    """A new cable: "usb" hangs up with the device, "serial" doesn't, and "tcp" is a network printer's. "asked" is a simpler
-    printer on "usb"."""
+    """A new cable: "usb" hangs up with the device, "serial" doesn't, and "tcp" is a network printer's. "asked" is a
+    simpler printer on "usb"."""
     global made
     made += 1
     return TcpCable() if kind == "tcp" else PtyCable(WORK / f"port-{made}", hangs_up=kind != "serial")

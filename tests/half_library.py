@@ -1,9 +1,11 @@
-"""A library with driven devices, and a stand-in for its two calls with bytes: pos_console carries out the same lines."""
+"""A library with driven devices, and a stand-in for its two calls with bytes: pos_console carries out the same
+lines."""
 import ctypes
 from collections import deque
 
 from fake_library import Call, FakeLibrary, Twin
-from kijolvar._library import WAITS, declare
+from kijolvar._constants import KIJOLVAR_WAITS as WAITS
+from kijolvar._library import declare
 
 
 class HalfLibrary(FakeLibrary):
