@@ -3,8 +3,9 @@
 Usage: devices.py LIBRARY [--faults N] [--seed N] [--only WORD]
        devices.py LIBRARY --port PORT [--columns N]
 
-LIBRARY is libkijolvar.so; or the program pos_console, over which a stand-in for the library is tried. N random faults
-are tried, by default 150, from a seed. --only tries what has the word in its name. With --port it prints a page on a real printer at that port and says what has to be on it; PORT is a path or
+LIBRARY is libkijolvar.so; or the program pos_console, over which a stand-in for the library is tried. --program
+PROGRAM is pos_console, for a library without the calls with bytes. N random faults are tried, by default 150, from a
+seed. --only tries what has the word in its name. With --port it prints a page on a real printer at that port and says what has to be on it; PORT is a path or
 tcp://HOST:PORT. The last line is 'N passed, M failed'.
 """
 import argparse
@@ -86,15 +87,18 @@ def raised(call, *words, **named):
 def opened(profile=PROFILE, totals=None, **named):
     """A till over the library, or over a stand-in for the calls that it hasn't got yet."""
     library = LIBRARY
-    if not IS_WHOLE:
+    if PROGRAM is not None:
+        from half_library import HalfLibrary
+        library = HalfLibrary(os.fspath(LIBRARY), os.fspath(PROGRAM))
+    elif not IS_WHOLE:
         from fake_library import FakeLibrary
         library = FakeLibrary(os.fspath(LIBRARY))
     return kijolvar.open(profile, totals, library=library, **named)
 
 
 def cable(kind="usb"):
-    """A new cable: "usb" hangs up with the device, "serial" doesn't, and "tcp" is a network printer's. "asked" is a simpler
-    printer on "usb"."""
+    """A new cable: "usb" hangs up with the device, "serial" doesn't, and "tcp" is a network printer's. "asked" is a
+    simpler printer on "usb"."""
     global made
     made += 1
     return TcpCable() if kind == "tcp" else PtyCable(WORK / f"port-{made}", hangs_up=kind != "serial")
@@ -928,10 +932,11 @@ if __name__ == "__main__":
     reader.add_argument("--only", default="")
     reader.add_argument("--port", default=None)
     reader.add_argument("--columns", type=int, default=42)
+    reader.add_argument("--program", default=None)
     WORDS = reader.parse_args()
     LIBRARY = pathlib.Path(WORDS.library).resolve()
-    IS_WHOLE = LIBRARY.suffix == ".so"
-    if IS_WHOLE and not hasattr(ctypes.CDLL(os.fspath(LIBRARY)), "kijolvar_drive"):
+    IS_WHOLE, PROGRAM = LIBRARY.suffix == ".so" and WORDS.program is None, WORDS.program
+    if LIBRARY.suffix == '.so' and not hasattr(ctypes.CDLL(os.fspath(LIBRARY)), "kijolvar_drive"):
         print("failed: the library has no kijolvar_drive\n0 passed, 1 failed")
         sys.exit(1)
     if not IS_WHOLE:

@@ -8,8 +8,8 @@ from collections import deque
 
 from kijolvar._constants import (KIJOLVAR_EVENT, KIJOLVAR_NO_DEVICE, KIJOLVAR_OK, KIJOLVAR_ORDER, KIJOLVAR_SHORT,
                                  KIJOLVAR_VERSION)
+from kijolvar._constants import KIJOLVAR_NO_ORDER as NO_ORDER, KIJOLVAR_WAITS as WAITS
 from kijolvar._devices import DisplayView, DrawerView, PrintedCut, PrintedLine, PrinterView, read_view
-from kijolvar._library import NO_ORDER, WAITS
 
 ORDERS = ("openDrawer", "displayText", "displayTextAt", "clearText", "scrollText", "printNormal", "printImmediate",
           "cutPaper")

@@ -12,8 +12,6 @@ from .errors import LibraryError
 
 Path = Union[str, "os.PathLike[str]"]
 
-# Not in the description yet.
-WAITS, NO_ORDER = 20, 21
 NAME = "libkijolvar.so"
 VARIABLE = "KIJOLVAR_LIBRARY"
 

@@ -9,9 +9,8 @@ from collections.abc import Callable, Iterator
 from typing import Any, BinaryIO, NoReturn
 
 from ._constants import (KIJOLVAR_DISK_FAILED, KIJOLVAR_DISK_LENGTH, KIJOLVAR_ERRANDS, KIJOLVAR_EVENT,
-                         KIJOLVAR_NO_MEMORY, KIJOLVAR_OK, KIJOLVAR_ORDER, KIJOLVAR_SHORT, KIJOLVAR_SYNC,
-                         KIJOLVAR_UNDONE, KIJOLVAR_WRITE)
-from ._library import NO_ORDER as KIJOLVAR_NO_ORDER, WAITS as KIJOLVAR_WAITS
+                         KIJOLVAR_NO_MEMORY, KIJOLVAR_NO_ORDER, KIJOLVAR_OK, KIJOLVAR_ORDER, KIJOLVAR_SHORT,
+                         KIJOLVAR_SYNC, KIJOLVAR_UNDONE, KIJOLVAR_WAITS, KIJOLVAR_WRITE)
 from ._library import Raw, carrier, check
 from .errors import ThreadError, TillClosedError, library_fault
 
@@ -174,8 +173,8 @@ class Session:
         return carry_out
 
     def _carry_on(self, code: int, lines: bytes) -> bytes:
-        """What is left to do where a call with lines isn't done: the errands, a longer room, and the orders for which lines
-        wait. An interrupt may have left errands or lines of an earlier call; then the call is made again."""
+        """What is left to do where a call with lines isn't done: the errands, a longer room, and the orders for which
+        lines wait. An interrupt may have left errands or lines of an earlier call; then the call is made again."""
         if code == KIJOLVAR_UNDONE:
             self._settle()
             return self.carry_out(lines)
@@ -198,7 +197,7 @@ class Session:
             code, room = self._answered(code, room)
             is_taken = True
             if code == KIJOLVAR_NO_MEMORY:
-                # If lines wait, the report wasn't taken. If this is said again, it was, and they go on by another call.
+                # Lines are held. If they wait, the report wasn't taken. If this is said again, it was, and they go on.
                 code, room = self._answered(self._answer_into(room), room)
                 is_taken, tries = code == KIJOLVAR_NO_MEMORY, tries + 1
                 if code == KIJOLVAR_OK or tries == _TRIES:

@@ -106,8 +106,8 @@ class EscPosPrinter(Driver):
         is_open_high: Whether the drawer is open when pin 3 of its connector is high.
         lines: How many lines the till counts with when the sensors see enough paper, at most 100,000. If it has counted
             down to the near end and they still see enough, it begins again.
-        is_asked: Whether the printer says nothing by itself, and doesn't know GS ( H, as simpler ones. Then it is asked for
-            its status (DLE EOT), and whether an order is printed (GS r).
+        is_asked: Whether the printer says nothing by itself, and doesn't know GS ( H, as simpler ones. Then it is asked
+            for its status (DLE EOT), and whether an order is printed (GS r).
         timeout: How long an order may take, in seconds.
         pause: How long to wait before a lost port is tried again, in seconds.
     """

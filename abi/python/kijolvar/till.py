@@ -275,8 +275,8 @@ class Till:
         self._drives.add(found, driver)
 
     def run_devices(self, timeout: float = 0.0) -> bool:
-        """Does what the driven devices need: tells the till what they say of themselves and what was scanned, opens lost
-        ports again, and prints output that waits (AsyncMode). Call it regularly, and then deliver events.
+        """Does what the driven devices need: tells the till what they say of themselves and what was scanned, opens
+        lost ports again, and prints output that waits (AsyncMode). Call it regularly, and then deliver events.
 
         Args:
             timeout: How long to wait for something to happen, in seconds. Printing may take longer.
