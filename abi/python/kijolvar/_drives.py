@@ -22,17 +22,23 @@ class Drive:
     def __init__(self, device: ProfileDevice, driver: Driver) -> None:
         self.name, self.category, self.driver = device.name, device.category, driver
         self.word = device_word(device.name)
-        # What the till was told of the device.
-        self.is_on = self.is_new = True
-        # The device may show anything yet.
-        self.needs_view = driver.needs_view
+        # Whether the till takes the device as switched on.
+        self.is_on = True
 
     def power_off(self) -> bytes:
         """The input that says that the device isn't there, the first time."""
         if not self.is_on:
             return b""
-        self.is_on, self.needs_view = False, self.driver.needs_view
+        self.is_on = False
         return b"input %b power off\n" % self.word
+
+    def inputs(self) -> bytes:
+        """What has happened at the device, as lines of inputs. One that is back is on first."""
+        if not self.driver.is_online:
+            return self.power_off()
+        lines = b"" if self.is_on else b"input %b power on\n" % self.word
+        self.is_on = True
+        return lines + b"".join(b"input %b %b\n" % (self.word, words.encode()) for words in self.driver.happened())
 
 
 class Drives:
@@ -67,26 +73,9 @@ class Drives:
         """Carries out an order: whether the device has done it, and what happened at the device if it hasn't."""
         order = read_order(line.decode())
         drive = self._drives[order.device]
-        driver = drive.driver
-        data = self._session.order_bytes(driver.settings) if driver.settings else b""
-        if driver.is_online and driver.carry_out(order, data):
+        if drive.driver.is_online and drive.driver.carry_out(order):
             return True, b""
-        if not driver.is_online:
-            return False, drive.power_off()
-        return False, self._inputs(drive)
-
-    def _inputs(self, drive: Drive) -> bytes:
-        """What the device says of itself, as lines of inputs, so far as its device in the till shows something else."""
-        _, status = drive.driver.status()
-        if not status:
-            return b""
-        lines = self._session.replies(drive.word, drive.driver.settings, status)
-        drive.is_on = True
-        if drive.is_new:
-            drive.is_new = False
-            first = drive.driver.first_input()
-            lines += b"input %b %b\n" % (drive.word, first) if first else b""
-        return lines
+        return False, drive.inputs()
 
     # Inputs.
 
@@ -101,25 +90,10 @@ class Drives:
             self._is_handing_in = False
 
     def _hand_in(self, drive: Drive) -> bool:
-        lines = self._lines(drive)
+        lines = drive.inputs()
         if lines:
             self._happens(lines)
-        if drive.needs_view and drive.is_on and drive.driver.is_online:
-            drive.needs_view = False
-            drive.driver.shown(Device(self._till, drive.name).show())
         return lines != b""
-
-    def _lines(self, drive: Drive) -> bytes:
-        """What is to be told of a device, as lines of inputs."""
-        driver = drive.driver
-        if not driver.is_online:
-            return drive.power_off()
-        if driver.is_silent:
-            if drive.is_on:
-                return b""
-            drive.is_on = True
-            return b"input %b power on\n" % drive.word
-        return self._inputs(drive)
 
     def _happens(self, lines: bytes) -> None:
         for answer in self._session.carry_out(lines).decode().splitlines():

@@ -1,7 +1,6 @@
 """Finds and loads the library, a shared object."""
 from __future__ import annotations
 
-import contextlib
 import ctypes
 import os
 import pathlib
@@ -41,7 +40,9 @@ def declare(library: ctypes.CDLL) -> ctypes.CDLL:
         "kijolvar_next_errand": ([Raw, out, place, text, size, needed], number),
         "kijolvar_errand_failed": ([Raw, out], None),
         "kijolvar_host": ([Raw, out, text, size], number),
+        "kijolvar_drive": ([Raw, out, text, size], number),
         "kijolvar_next_order": ([Raw, out, text, size, needed], number),
+        "kijolvar_order_done": ([Raw, out, number, text, size, text, size, needed], number),
         "kijolvar_control": ([Raw, out, text, size, needed], number),
         "kijolvar_next_event": ([Raw, out, size, needed], number),
         "kijolvar_close": ([Raw], None),
@@ -49,21 +50,7 @@ def declare(library: ctypes.CDLL) -> ctypes.CDLL:
     for name, (taken, given) in exports.items():
         call = getattr(library, name)
         call.argtypes, call.restype = taken, given
-    for name, (taken, given) in _driven(out, text, size, needed, number).items():
-        with contextlib.suppress(AttributeError):
-            call = getattr(library, name)
-            call.argtypes, call.restype = taken, given
     return library
-
-
-def _driven(out: Any, text: Any, size: Any, needed: Any, number: Any) -> dict[str, tuple[list[Any], Any]]:
-    """The exports for devices that a host drives."""
-    return {
-        "kijolvar_drive": ([Raw, out, text, size], number),
-        "kijolvar_order_done": ([Raw, out, number, text, size, text, size, needed], number),
-        "kijolvar_order_bytes": ([Raw, out, text, size, text, size, needed], number),
-        "kijolvar_replies": ([Raw, out, text, size, text, size, text, size, needed, text, size, needed], number),
-    }
 
 
 def carrier(library: ctypes.CDLL) -> Any:

@@ -302,29 +302,6 @@ class Session:
             self._mark_calls()
         self._driven.add(device)
 
-    def order_bytes(self, settings: bytes) -> bytes:
-        """The bytes that the device has to get for the order that was taken out last."""
-        return self._written(self._library.kijolvar_order_bytes, settings, len(settings))
-
-    def replies(self, device: bytes, settings: bytes, data: bytes) -> bytes:
-        """What a device has sent, as lines of inputs, so far as its device in the till shows something else."""
-        read = ctypes.c_size_t()
-        return self._written(self._library.kijolvar_replies, device, len(device), settings, len(settings), data,
-                             len(data), ctypes.byref(read))
-
-    def _written(self, call: Any, *words: Any) -> bytes:
-        """What a call writes."""
-        self.check()
-        room: Any = ctypes.create_string_buffer(_ROOM)
-        needed = ctypes.c_size_t()
-        code = call(self._raw, self._out, *words, room, len(room), ctypes.byref(needed))
-        if code == KIJOLVAR_SHORT:
-            room = ctypes.create_string_buffer(needed.value)
-            code = call(self._raw, self._out, *words, room, len(room), ctypes.byref(needed))
-        if code != KIJOLVAR_OK:
-            raise library_fault(code)
-        return bytes(room[:needed.value])
-
     def orders(self) -> Iterator[bytes]:
         """The orders of the devices that the host has, oldest first. Each is taken out as it is given."""
         while self._hosted:
