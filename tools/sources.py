@@ -234,7 +234,7 @@ class Tree:
     def function(self, path):
         """The function that `crate::Owner::name` or `crate::name` means, or None."""
         crate, *owner, name = path.split("::")
-        for function in self.functions(crate):
+        for function in sorted(self.functions(crate), key=lambda it: it.owner[-1:] != owner[-1:]):
             here = not owner or owner[-1] in function.owner or function.path.endswith(f"/{owner[-1]}.rt")
             if function.name == name and here:
                 return function

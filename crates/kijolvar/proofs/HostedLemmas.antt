@@ -9,7 +9,7 @@ use Rattle.kijolvar.specs.Codes.{ok}
 use Rattle.kijolvar.specs.Errands.{Does, HostWork, IsSync, IsWrite, TellsOldest, file_after, file_after_all}
 use Rattle.kijolvar.specs.TillDisks.{AddsIfHosted, DoesIfHosted, HostedDisk, IsInFile, IsInStep, errands_of, failures_by, failures_of, hosted, hosted_state}
 use Rattle.kijolvar.specs.TillDisks.{DoesTold, settlement_by, settlement_with}
-use Rattle.kijolvar.specs.declared.settlement.Settlement.TheVariants.{Failed, InMemory, Owed, Settled}
+use Rattle.kijolvar.specs.declared.till_disk.Settlement.TheVariants.{Failed, InMemory, Owed, Settled}
 use Rattle.kijolvar.specs.declared.errands.Errand.{Errand}
 use Rattle.kijolvar.specs.declared.errands.Errand.TheVariants.{Sync, Write}
 

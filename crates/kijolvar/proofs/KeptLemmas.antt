@@ -9,8 +9,8 @@ use Rattle.kijolvar.specs.HeldLines.{IsTillSound}
 use Rattle.kijolvar.specs.TillDisks.{DoesTold, HostedDisk, IsInStep, errands_of}
 use Rattle.kijolvar.specs.Tills.{AnswersNextErrandBy, TellsNext, disk_of, settlement_of, with_disk}
 use Rattle.kijolvar.specs.declared.device.Device.{Device}
-use Rattle.kijolvar.specs.declared.settlement.Settlement.{Settlement}
-use Rattle.kijolvar.specs.declared.settlement.Settlement.TheVariants.{Failed, InMemory, Owed, Settled}
+use Rattle.kijolvar.specs.declared.till_disk.Settlement.{Settlement}
+use Rattle.kijolvar.specs.declared.till_disk.Settlement.TheVariants.{Failed, InMemory, Owed, Settled}
 
 -- the errand that was told is done, and then the oldest is told
 pub tells_next : (old mid new : Kept) (at_before at : ℕ) (before after : List ℕ) (needed_before needed code : ℕ)

@@ -9,7 +9,7 @@ use Rattle.kijolvar.specs.Codes.{no_memory}
 use Rattle.kijolvar.specs.Errands.{no_work}
 use Rattle.kijolvar.specs.Opening.{IsMovedOf, RefusesMove, move_code}
 use Rattle.kijolvar.specs.TillDisks.{HostedDisk, IsInStep, file_of, hosted, hosted_state, settlement_with}
-use Rattle.kijolvar.specs.declared.settlement.Settlement.TheVariants.{Owed}
+use Rattle.kijolvar.specs.declared.till_disk.Settlement.TheVariants.{Owed}
 
 -- a disk of the file that was moved, with its errands, is the one that the move makes; one was lost for want of memory
 pub is_moved : (bytes : List ℕ) (old new : HostedDisk) (result : Result HostedDisk ℕ) → old ≡ hosted (fresh bytes) (Some (no_work bytes))

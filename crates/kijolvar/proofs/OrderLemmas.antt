@@ -1,7 +1,7 @@
 -- Orders, and what is told of them.
 use Rattle.kijolvar.proofs.Common.{Err}
 use Rattle.pos_service.specs.Peripherals.{Asked, PeripheralState}
-use Rattle.pos_service.specs.declared.memory.NoMemory.{NoMemory}
+use Rattle.pos_service.specs.declared.faults.NoMemory.{NoMemory}
 use Rattle.pos_service.specs.declared.order.Order.{Order}
 
 -- want of memory is the same, whoever tells it

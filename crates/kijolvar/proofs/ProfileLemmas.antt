@@ -6,8 +6,8 @@ use Rattle.kijolvar.specs.Profiles.{IsRefused}
 use Rattle.pos_profile.specs.Entries.{Contents}
 use Rattle.pos_profile.specs.Profiles.{FromDocument, is_repeated, names_of}
 use Rattle.pos_profile.specs.declared.entry.Entry.{Entry}
-use Rattle.pos_profile.specs.declared.fault.ProfileFault.{ProfileFault}
-use Rattle.pos_profile.specs.declared.fault.ProfileFault.TheVariants.{BadEntry, BadText, Duplicate, NoMemory}
+use Rattle.pos_profile.specs.declared.profile.ProfileFault.{ProfileFault}
+use Rattle.pos_profile.specs.declared.profile.ProfileFault.TheVariants.{BadEntry, BadText, Duplicate, NoMemory}
 use Rattle.toml.specs.Data.{Members}
 use Rattle.toml.specs.Parse.{parse_document}
 

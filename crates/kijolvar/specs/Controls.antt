@@ -6,8 +6,8 @@ use Rattle.pos_counter.specs.NextEvent.{IsNextEvent}
 use Rattle.pos_counter.specs.Totals.{TotalsPart}
 use Rattle.kijolvar.specs.declared.device.Device.{Device}
 use Rattle.kijolvar.specs.declared.kept.Kept.{Kept}
-use Rattle.kijolvar.specs.declared.settlement.Settlement.{Settlement}
-use Rattle.kijolvar.specs.declared.settlement.Settlement.TheVariants.{InMemory, Settled, Owed, Failed}
+use Rattle.kijolvar.specs.declared.till_disk.Settlement.{Settlement}
+use Rattle.kijolvar.specs.declared.till_disk.Settlement.TheVariants.{InMemory, Settled, Owed, Failed}
 use Rattle.kijolvar.specs.Codes.{disk_failed, errands_left, event_there, no_control, ok}
 use Rattle.kijolvar.specs.TillDisks.{IsInFile}
 use Rattle.kijolvar.specs.Tills.{disk_of, settlement_of}

@@ -11,8 +11,8 @@ use Rattle.pos_streams.specs.Transfers.{given_to}
 use Rattle.pos_run.specs.WaitingLines.{lines_in}
 use Rattle.kijolvar.specs.declared.device.Device.{Device}
 use Rattle.kijolvar.specs.declared.kept.Kept.{Kept}
-use Rattle.kijolvar.specs.declared.settlement.Settlement.{Settlement}
-use Rattle.kijolvar.specs.declared.settlement.Settlement.TheVariants.{InMemory, Settled, Owed, Failed}
+use Rattle.kijolvar.specs.declared.till_disk.Settlement.{Settlement}
+use Rattle.kijolvar.specs.declared.till_disk.Settlement.TheVariants.{InMemory, Settled, Owed, Failed}
 use Rattle.kijolvar.specs.Codes.{disk_failed, no_memory, undone, waits}
 use Rattle.kijolvar.specs.HeldLines.{GoesOn}
 use Rattle.kijolvar.specs.TillDisks.{HostedDisk}

@@ -16,8 +16,8 @@ use Rattle.pos_profile.specs.declared.mistake.Reason.TheVariants as reason
 use Rattle.pos_profile.specs.declared.number.NumberKey.{NumberKey}
 use Rattle.pos_profile.specs.declared.optional.OptionalKey.{OptionalKey}
 use Rattle.pos_profile.specs.declared.optional.OptionalKey.TheVariants.{Ring, Flaky, Record}
-use Rattle.pos_profile.specs.declared.role.Role.{Role}
-use Rattle.pos_profile.specs.declared.role.Role.TheVariants.{Device, Spare}
+use Rattle.pos_profile.specs.declared.entry.Role.{Role}
+use Rattle.pos_profile.specs.declared.entry.Role.TheVariants.{Device, Spare}
 use Rattle.pos_program.specs.ProfileFiles.{Reads}
 use Rattle.pos_program.specs.declared.profile_fault.ProfileFileFault.{ProfileFileFault}
 use Rattle.pos_program.specs.declared.profile_fault.ProfileFileFault.TheVariants as fault

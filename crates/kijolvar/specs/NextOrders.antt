@@ -9,8 +9,8 @@ use Rattle.pos_counter.specs.Counters.{Stays}
 use Rattle.pos_counter.specs.Hosts.{changed_pending, hosts_in, progress_in, waiting_in}
 use Rattle.kijolvar.specs.declared.device.Device.{Device}
 use Rattle.kijolvar.specs.declared.kept.Kept.{Kept}
-use Rattle.kijolvar.specs.declared.settlement.Settlement.{Settlement}
-use Rattle.kijolvar.specs.declared.settlement.Settlement.TheVariants.{InMemory, Settled, Owed, Failed}
+use Rattle.kijolvar.specs.declared.till_disk.Settlement.{Settlement}
+use Rattle.kijolvar.specs.declared.till_disk.Settlement.TheVariants.{InMemory, Settled, Owed, Failed}
 use Rattle.kijolvar.specs.Codes.{disk_failed, errands_left, no_memory, ok, order_told, short}
 use Rattle.kijolvar.specs.Orders.{Refills, TellsOrder, order_lines, order_text}
 use Rattle.kijolvar.specs.TillDisks.{IsInFile}

@@ -17,7 +17,7 @@ use Rattle.kijolvar.specs.Profiles.{GivesProfile, IsRefused, RefusesProfile}
 use Rattle.kijolvar.specs.Tills.{Begins}
 use Rattle.kijolvar.specs.declared.device.Device.{Device}
 use Rattle.kijolvar.specs.declared.kept.Kept.{Kept}
-use Rattle.kijolvar.specs.declared.settlement.Settlement.TheVariants.{Owed}
+use Rattle.kijolvar.specs.declared.till_disk.Settlement.TheVariants.{Owed}
 use Rattle.kijolvar.specs.TillDisks.{HostedDisk, IsInStep, file_of, hosted, hosted_state, settlement_with}
 
 -- the code for the bytes of a file: whether they are enough for a disk

@@ -1,7 +1,7 @@
 -- What a till's host is told of its devices' orders (abi/README.md, "Devices of one's own").
 use Rattle.std.specs.Prelude.{◌≡◌, ◌≤◌, ◌<◌, ◌⊎◌, ◌++◌, ◌∷◌, [], ℕ, List, IfSome, MatchResult, Result, Ok, false, true, codes, decimal, drop, length, map}
 use Rattle.std.specs.declared.vec.Vec.{Vec}
-use Rattle.pos_service.specs.declared.memory.NoMemory.{NoMemory}
+use Rattle.pos_service.specs.declared.faults.NoMemory.{NoMemory}
 use Rattle.pos_service.specs.declared.order.Argument.{Argument}
 use Rattle.pos_service.specs.declared.order.Argument.TheVariants.{Bytes, Number}
 use Rattle.pos_service.specs.declared.order.Order.{Order}

@@ -4,8 +4,8 @@ use Rattle.toml.specs.Parse.{parse_document}
 use Rattle.pos_profile.specs.Built.{built}
 use Rattle.pos_profile.specs.Entries.{Contents}
 use Rattle.pos_profile.specs.Profiles.{FromDocument}
-use Rattle.pos_profile.specs.declared.fault.ProfileFault.{ProfileFault}
-use Rattle.pos_profile.specs.declared.fault.ProfileFault.TheVariants as refusal
+use Rattle.pos_profile.specs.declared.profile.ProfileFault.{ProfileFault}
+use Rattle.pos_profile.specs.declared.profile.ProfileFault.TheVariants as refusal
 use Rattle.kijolvar.specs.Codes.{bad_profile, no_memory}
 
 -- the profile of these bytes: the built one if there are none, else that of their text

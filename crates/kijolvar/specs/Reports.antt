@@ -19,8 +19,8 @@ use Rattle.pos_run.specs.WaitingLines.{lines_in}
 use Rattle.pos_run.specs.declared.waiting_lines.Held.TheVariants.{NoMemory, Told}
 use Rattle.kijolvar.specs.declared.device.Device.{Device}
 use Rattle.kijolvar.specs.declared.kept.Kept.{Kept}
-use Rattle.kijolvar.specs.declared.settlement.Settlement.{Settlement}
-use Rattle.kijolvar.specs.declared.settlement.Settlement.TheVariants.{InMemory, Settled, Owed, Failed}
+use Rattle.kijolvar.specs.declared.till_disk.Settlement.{Settlement}
+use Rattle.kijolvar.specs.declared.till_disk.Settlement.TheVariants.{InMemory, Settled, Owed, Failed}
 use Rattle.kijolvar.specs.Codes.{disk_failed, no_memory, no_order, undone}
 use Rattle.kijolvar.specs.HeldLines.{GoesOn, behind_first}
 use Rattle.kijolvar.specs.LineAnswers.{AnswersAs}

@@ -6,8 +6,8 @@ use Rattle.pos_disk.specs.Kept.{counts, only}
 use Rattle.pos_disk.specs.Memory.{Memory, state_of, synced, written}
 use Rattle.kijolvar.specs.Errands.{Adds, Does, HostWork, IsSync, IsWrite, file_after_all}
 use Rattle.kijolvar.specs.declared.errands.Errand.{Errand}
-use Rattle.kijolvar.specs.declared.settlement.Settlement.{Settlement}
-use Rattle.kijolvar.specs.declared.settlement.Settlement.TheVariants.{InMemory, Settled, Owed, Failed}
+use Rattle.kijolvar.specs.declared.till_disk.Settlement.{Settlement}
+use Rattle.kijolvar.specs.declared.till_disk.Settlement.TheVariants.{InMemory, Settled, Owed, Failed}
 
 -- A till's disk: its bytes in memory, and what its host has to do, if it has a host that keeps them in a file.
 pub record HostedDisk : Type 0 where

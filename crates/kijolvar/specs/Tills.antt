@@ -16,8 +16,8 @@ use Rattle.pos_run.specs.declared.waiting_lines.Held.TheVariants.{Told}
 use Rattle.pos_run.specs.Transcript.{Session, begun_session}
 use Rattle.kijolvar.specs.declared.device.Device.{Device}
 use Rattle.kijolvar.specs.declared.kept.Kept.{Kept}
-use Rattle.kijolvar.specs.declared.settlement.Settlement.{Settlement}
-use Rattle.kijolvar.specs.declared.settlement.Settlement.TheVariants.{InMemory, Settled, Owed, Failed}
+use Rattle.kijolvar.specs.declared.till_disk.Settlement.{Settlement}
+use Rattle.kijolvar.specs.declared.till_disk.Settlement.TheVariants.{InMemory, Settled, Owed, Failed}
 use Rattle.kijolvar.specs.Errands.{TellsOldest}
 use Rattle.kijolvar.specs.TillDisks.{DoesTold, HostedDisk, IsInFile, IsInStep, errands_of, file_of, settlement_with}
 use Rattle.kijolvar.specs.Codes.{carried, disk_failed, errands_left, ok}

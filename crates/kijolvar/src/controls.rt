@@ -5,7 +5,7 @@ ghost use Rattle.kijolvar.specs.Controls.{FindsNumber, NextEvent, WritesEvent};
 use crate::codes::{DISK_FAILED, ERRANDS, EVENT, NO_CONTROL, OK};
 use crate::device::Device;
 use crate::kept::Kept;
-use crate::settlement::Settlement;
+use crate::till_disk::Settlement;
 use pos_run::Names;
 use pos_service::Peripheral;
 
@@ -14,7 +14,7 @@ use pos_service::Peripheral;
 /// # Errors
 ///
 /// NO_CONTROL if no control has the name. Then nothing is written.
-pub fn find_number(names: &Names, name: &[u8], control: &mut usize) -> u32
+pub(crate) fn find_number(names: &Names, name: &[u8], control: &mut usize) -> u32
     ensures { FindsNumber (number_named (names_of names.now) name.now) control.old control.new result }
 {
     match names.find(name) {
@@ -45,7 +45,7 @@ fn write_event(number: Option<usize>, control: &mut usize) -> u32
 /// # Errors
 ///
 /// ERRANDS if errands are left, and DISK_FAILED if one failed. Then nothing is written, and neither with OK.
-pub fn next_event(kept: &Kept, from: usize, control: &mut usize) -> u32
+pub(crate) fn next_event(kept: &Kept, from: usize, control: &mut usize) -> u32
     ensures { NextEvent ⟦<Device as Peripheral>⟧ kept.now from control.old control.new result }
 {
     match kept.settlement() {

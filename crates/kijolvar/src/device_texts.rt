@@ -62,7 +62,7 @@ fn add_device(text: &mut Vec<u8>, entry: &Entry) -> Result<(), AllocError>
 /// # Errors
 ///
 /// [`AllocError`] if memory ran out.
-pub fn devices_text(alloc: Global, entries: &[Entry]) -> Result<Vec<u8>, AllocError>
+pub(crate) fn devices_text(alloc: Global, entries: &[Entry]) -> Result<Vec<u8>, AllocError>
     ensures { IfOk result (λ text. text.items ≡ devices_text entries.now) }
 {
     let mut text = Vec::new(alloc);

@@ -5,18 +5,17 @@ ghost use Rattle.kijolvar.specs.Opening.{IsFormattedOf, IsMovedOf, RefusesMove, 
 ghost use Rattle.pos_disk.specs.Memory.{fresh};
 ghost use Rattle.kijolvar.specs.Errands.{no_work};
 ghost use Rattle.kijolvar.specs.TillDisks.{IsInStep, file_of, hosted, settlement_with};
-ghost use Rattle.kijolvar.specs.declared.settlement.Settlement.TheVariants.{Owed};
+ghost use Rattle.kijolvar.specs.declared.till_disk.Settlement.TheVariants.{Owed};
 
 use crate::codes::{DAMAGED, FORMATTED, MOVED, NO_MEMORY, TOO_SMALL, UNFORMATTED};
-use crate::settlement::Settlement;
-use crate::till_disk::TillDisk;
+use crate::till_disk::{Settlement, TillDisk};
 use pos_image::{ImageFault, Images};
 use pos_program::migrate_disk;
 use pos_store::StoreFault;
 use std::alloc::Global;
 
 /// How many bytes the disk of the totals has.
-pub const SIZE: usize = 327_680;
+pub(crate) const SIZE: usize = 327_680;
 
 /// Returns the disk of a file of these bytes, formatted: its totals have no files. What formatting writes are errands
 /// of the host.
@@ -25,7 +24,7 @@ pub const SIZE: usize = 327_680;
 ///
 /// - TOO_SMALL if the file has fewer than 327,680 bytes, and FORMATTED if it has totals.
 /// - NO_MEMORY if memory ran out.
-pub fn format_in_file(alloc: Global, bytes: &[u8]) -> Result<TillDisk, u32>
+pub(crate) fn format_in_file(alloc: Global, bytes: &[u8]) -> Result<TillDisk, u32>
     ensures { MatchResult result
         (λ formatted. (format_code bytes.now ≡ ok) × IsFormattedOf bytes.now formatted)
         (λ code. (code ≡ no_memory) ⊎ ((code ≡ format_code bytes.now) × (code ≢ ok))) }
@@ -78,7 +77,7 @@ fn move_code(why: StoreFault) -> u32
 ///   damaged.
 /// - MOVED if they have layout 2 already.
 /// - NO_MEMORY if memory ran out.
-pub fn move_in_file(alloc: Global, bytes: &[u8]) -> Result<TillDisk, u32>
+pub(crate) fn move_in_file(alloc: Global, bytes: &[u8]) -> Result<TillDisk, u32>
     ensures { MatchResult result (IsMovedOf bytes.now) (RefusesMove bytes.now) }
 {
     if bytes.len() < SIZE {

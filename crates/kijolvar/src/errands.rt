@@ -23,7 +23,7 @@ pub enum Errand {
 /// # Errors
 ///
 /// [`AllocError`] if memory ran out.
-pub fn write_errand(alloc: Global, at: u64, bytes: &[u8]) -> Result<Errand, AllocError>
+pub(crate) fn write_errand(alloc: Global, at: u64, bytes: &[u8]) -> Result<Errand, AllocError>
     ensures { IfOk result (λ errand. IsWrite at bytes.now errand) }
 {
     Ok(Errand::Write {
@@ -38,7 +38,12 @@ pub fn write_errand(alloc: Global, at: u64, bytes: &[u8]) -> Result<Errand, Allo
 ///
 /// SHORT if `bytes` has less room than the errand has bytes. Then `needed` says how many it has, and nothing else is
 /// written.
-pub fn tell_errand(errand: &Errand, at: &mut u64, bytes: &mut [u8], needed: &mut usize) -> u32
+pub(crate) fn tell_errand(
+    errand: &Errand,
+    at: &mut u64,
+    bytes: &mut [u8],
+    needed: &mut usize,
+) -> u32
     ensures { TellsErrand errand.now at.old at.new bytes.old bytes.new needed.old needed.new result }
 {
     match errand {

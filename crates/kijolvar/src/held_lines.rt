@@ -27,7 +27,7 @@ fn first_line(text: &[u8]) -> usize
 /// # Errors
 ///
 /// [`AllocError`] if memory ran out.
-pub fn split_lines(alloc: Global, text: &[u8]) -> Result<VecDeque<Vec<u8>>, AllocError>
+pub(crate) fn split_lines(alloc: Global, text: &[u8]) -> Result<VecDeque<Vec<u8>>, AllocError>
     ensures lines { IfOk result (λ lines. lines_in lines.items ≡ lines_of text.now) }
     ensures each { IfOk result (λ lines. AreHeld lines.items) }
 {
@@ -49,7 +49,7 @@ pub fn split_lines(alloc: Global, text: &[u8]) -> Result<VecDeque<Vec<u8>>, Allo
 /// # Errors
 ///
 /// [`AllocError`] if memory ran out. Then nothing changes.
-pub fn insert_behind_first(
+pub(crate) fn insert_behind_first(
     held: &mut VecDeque<Vec<u8>>,
     mut lines: VecDeque<Vec<u8>>,
 ) -> Result<(), AllocError>

@@ -3,13 +3,12 @@ ghost use Rattle.std.specs.Prelude.{◌≡◌};
 ghost use Rattle.kijolvar.specs.Errands.{TellsOldest};
 ghost use Rattle.kijolvar.specs.TillDisks.{DoesTold, IsInFile, errands_of};
 ghost use Rattle.kijolvar.specs.Tills.{AnswersNextErrand, TellsNext, disk_of, settlement_of, with_disk};
-ghost use Rattle.kijolvar.specs.declared.settlement.Settlement.TheVariants.{Owed, Settled};
+ghost use Rattle.kijolvar.specs.declared.till_disk.Settlement.TheVariants.{Owed, Settled};
 
 use crate::codes::{DISK_FAILED, OK, SHORT};
 use crate::device::Device;
 use crate::errands::tell_errand;
-use crate::settlement::Settlement;
-use crate::till_disk::TillDisk;
+use crate::till_disk::{Settlement, TillDisk};
 use pos_counter::Counter;
 use pos_profile::Profile;
 use pos_run::{Held, Names, Spares};

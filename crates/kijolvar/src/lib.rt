@@ -32,6 +32,7 @@ ghost use Rattle.kijolvar.specs.Surveys.{AnswersSurvey};
 ghost use Rattle.kijolvar.specs.Tills.{Begins, Fails, HandsOver, AnswersNextErrand};
 ghost use Rattle.kijolvar.specs.TillDisks.{hosted};
 
+mod answers;
 mod codes;
 mod controls;
 mod device;
@@ -41,20 +42,19 @@ mod driven_lines;
 mod errands;
 mod held_lines;
 mod host_file;
-mod hosting;
+mod hosted_devices;
 mod kept;
 mod loose;
 mod mistakes;
 mod orders;
 mod reports;
 mod session;
-mod settlement;
 mod surveys;
-mod telling;
 mod till;
 mod till_disk;
 mod tray;
 
+use answers::tell_text;
 use codes::{BAD_PROFILE, DISK_FAILED, NO_MEMORY, OK, TOO_SMALL, UNDONE};
 use device::Device;
 use device_texts::devices_text;
@@ -67,13 +67,11 @@ use pos_profile::{Profile, ProfileFault};
 use pos_service::{NoMemory, Peripheral};
 use reports::report;
 use session::Session;
-use settlement::Settlement;
 use std::alloc::Global;
 use std::str;
 use surveys::tell_survey;
-use telling::tell_text;
 use till::{Slot, Till, hold, put, take};
-use till_disk::TillDisk;
+use till_disk::{Settlement, TillDisk};
 
 /// Returns the version of this interface. It changes if a call's meaning or its parameters change, but not with the
 /// language of the lines.

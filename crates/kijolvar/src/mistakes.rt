@@ -4,8 +4,8 @@ ghost use Rattle.toml.specs.Parse.{parse_document};
 ghost use Rattle.kijolvar.specs.Mistakes.{AnswersDocument, AnswersMistake, AnswersRefusal, category_reason};
 ghost use Rattle.kijolvar.specs.Mistakes.{mistake_text, number_reason, option_reason, place_text, reason_text};
 
+use crate::answers::tell_text;
 use crate::codes::{BAD_PROFILE, BAD_TEXT, NO_MEMORY, OK};
-use crate::telling::tell_text;
 use itoa::Buffer;
 use pos_profile::{Mistake, NumberKey, OptionalKey, Place, Reason, Role};
 use pos_program::{ProfileFileFault, profile_of_text};
@@ -176,7 +176,7 @@ fn tell_document(
 /// - BAD_TEXT if they are not UTF-8 or no TOML document. `at` is the place where reading them stopped.
 /// - BAD_PROFILE if something in the document isn't sound.
 /// - SHORT if `text` has less room than the reason has bytes, and NO_MEMORY if memory ran out.
-pub fn tell_mistake(
+pub(crate) fn tell_mistake(
     alloc: Global,
     profile: &[u8],
     at: &mut u64,

@@ -61,7 +61,7 @@ fn line_with(alloc: Global, device: &[u8], word: &str) -> Result<Vec<u8>, AllocE
 /// # Errors
 ///
 /// [`AllocError`] if memory ran out.
-pub fn order_line(alloc: Global, device: &[u8], order: &Order) -> Result<Vec<u8>, AllocError>
+pub(crate) fn order_line(alloc: Global, device: &[u8], order: &Order) -> Result<Vec<u8>, AllocError>
     ensures { IfOk result (λ line. line.items ≡ order_text device.now order.now) }
 {
     let mut line = line_with(alloc, device, order.word())?;
@@ -80,7 +80,7 @@ pub fn order_line(alloc: Global, device: &[u8], order: &Order) -> Result<Vec<u8>
 /// # Errors
 ///
 /// [`NoMemory`] if memory ran out. For the line it is taken before the peripheral is asked.
-pub fn ask_keeping(
+pub(crate) fn ask_keeping(
     alloc: Global,
     lines: &mut VecDeque<Vec<u8>>,
     device: &[u8],
@@ -106,7 +106,7 @@ pub fn ask_keeping(
 /// # Errors
 ///
 /// SHORT if `text` has less room. Then the line stays.
-pub fn tell_order(lines: &mut VecDeque<Vec<u8>>, text: &mut [u8], needed: &mut usize) -> u32
+pub(crate) fn tell_order(lines: &mut VecDeque<Vec<u8>>, text: &mut [u8], needed: &mut usize) -> u32
     ensures { TellsOrder (order_lines lines.old.items) text.old text.new needed.new result
         (order_lines lines.new.items) }
 {

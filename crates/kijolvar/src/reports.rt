@@ -4,15 +4,14 @@ ghost use Rattle.kijolvar.specs.Reports.{AnswersReport};
 use crate::codes::{DISK_FAILED, UNDONE};
 use crate::device::Device;
 use crate::session::Session;
-use crate::settlement::Settlement;
-use crate::till_disk::TillDisk;
+use crate::till_disk::{Settlement, TillDisk};
 use pos_disk::Disk;
 use pos_drive::Hosted;
 use pos_service::Peripheral;
 
 /// Takes the host's report of an order and writes the answer of the lines that it lets go on, if no errand is left and
 /// none failed.
-pub fn report(
+pub(crate) fn report(
     session: &mut Session,
     outcome: u32,
     inputs: &[u8],

@@ -8,14 +8,13 @@ ghost use Rattle.kijolvar.specs.NextOrders.{NextOrder};
 ghost use Rattle.kijolvar.specs.Reports.{TakesReport};
 ghost use Rattle.kijolvar.specs.Tills.{Begins, CarriesOut, Fails, HandsOver, AnswersNextErrand, settlement_of};
 
+use crate::answers::tell;
 use crate::codes::{DISK_FAILED, ERRANDS, NO_MEMORY, WAITS, code_of};
 use crate::controls::{find_number, next_event};
 use crate::device::Device;
-use crate::hosting::{drive_device, host_device, next_order};
+use crate::hosted_devices::{drive_device, host_device, next_order};
 use crate::kept::Kept;
-use crate::settlement::Settlement;
-use crate::telling::tell;
-use crate::till_disk::TillDisk;
+use crate::till_disk::{Settlement, TillDisk};
 use crate::tray::Tray;
 use pos_disk::Disk;
 use pos_drive::Hosted;

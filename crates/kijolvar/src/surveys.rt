@@ -1,8 +1,8 @@
 //! What the bytes of a totals file hold (docs/reference/console.md, "What a totals file holds").
 ghost use Rattle.kijolvar.specs.Surveys.{AnswersSurvey, TellsBreak};
 
+use crate::answers::tell_text;
 use crate::codes::{DAMAGED, NO_MEMORY, OK, TOO_SMALL, UNFORMATTED};
-use crate::telling::tell_text;
 use pos_survey::{Survey, SurveyFault, words_of};
 use std::alloc::Global;
 
@@ -28,7 +28,7 @@ fn tell_break(why: SurveyFault, at: &mut u64, text: &mut [u8], needed: &mut usiz
 /// - DAMAGED if they break a rule: `text` says which, and `at` the place.
 /// - SHORT if `text` has less room for either. Then a front of it is written.
 /// - TOO_SMALL, UNFORMATTED, and NO_MEMORY if memory ran out.
-pub fn tell_survey(
+pub(crate) fn tell_survey(
     alloc: Global,
     bytes: &[u8],
     at: &mut u64,

@@ -65,21 +65,21 @@ fn unwrap(till: Till) -> Loose<Session, Global>
 }
 
 /// Returns the till of a session.
-pub fn hold(session: Box<Session>) -> Till
+pub(crate) fn hold(session: Box<Session>) -> Till
     ensures { result.session ≡ session.value }
 {
     wrap(Loose::of(session))
 }
 
 /// Returns the session of a till.
-pub fn take(till: Till) -> Box<Session>
+pub(crate) fn take(till: Till) -> Box<Session>
     ensures { result.value ≡ till.session }
 {
     unwrap(till).into_box()
 }
 
 /// Returns C's variable with this till in it.
-pub fn put(till: Till) -> Slot
+pub(crate) fn put(till: Till) -> Slot
     ensures { result.left ≡ Some till.session }
 {
     let Till { at, alloc } = till;

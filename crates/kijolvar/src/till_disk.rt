@@ -1,11 +1,10 @@
-//! The disk of a till.
+//! The disk of a till, and whether its changes are in its host's file.
 ghost use Rattle.std.specs.Prelude.{◌≡◌, IfOk, None, Some, option_map};
 ghost use Rattle.pos_disk.specs.Memory.{fresh};
 ghost use Rattle.kijolvar.specs.Errands.{IsOldest, IsSync, IsWrite, no_work};
 ghost use Rattle.kijolvar.specs.TillDisks.{AddsIfHosted, DoesIfHosted, IsInStep, errands_of, hosted, settlement_with};
 
 use crate::errands::{Errand, Errands};
-use crate::settlement::Settlement;
 use pos_disk::{Disk, DiskFault, MemDisk, Relay};
 use std::alloc::{AllocError, Global};
 use std::marker::Model;
@@ -178,4 +177,17 @@ impl Relay for TillDisk {
     fn next(&mut self) -> Option<Errand> {
         next_of(&mut self.errands)
     }
+}
+
+/// Whether what a till's lines wrote to its disk is where it must stay.
+#[derive(Clone, Copy, PartialEq, Eq)]
+pub enum Settlement {
+    /// The disk is in memory alone, and nothing must stay.
+    InMemory,
+    /// All of it is in the host's file.
+    Settled,
+    /// The host has errands left.
+    Owed,
+    /// An errand failed or was lost, so it can't be put into the file any more.
+    Failed,
 }

@@ -8,8 +8,8 @@ pub use Rattle.pos_service.specs.Properties.{is_in, needs_of, needs_to_set, row_
 pub use Rattle.pos_service.specs.Refusals.{Decided, Row, first_refusal, when}
 pub use Rattle.pos_service.specs.Statuses.{heard_signs}
 pub use Rattle.pos_service.specs.declared.answer.Answer.{Answer}
-pub use Rattle.pos_service.specs.declared.memory.NoMemory.{NoMemory}
-pub use Rattle.pos_service.specs.declared.scan.Scan.{Scan}
+pub use Rattle.pos_service.specs.declared.faults.NoMemory.{NoMemory}
+pub use Rattle.pos_service.specs.declared.input.Scan.{Scan}
 pub use Rattle.std.proofs.Common.{All, Bool, Err, List, Ok, [], ap, arith, cond, drop, false, get_or, length, length-append, map, refl, set, subst, sym, take}
 pub use Rattle.std.proofs.Common.{true, ℕ, ◌++◌, ◌+◌, ◌<◌, ◌∙◌, ◌∷◌, ◌≡◌, ◌≤◌}
 pub use Rattle.std.proofs.lemmas.List.{drop-drop, drop-set-lt, drop_more, get_or-map, length-map, map-set, set-get_or, take_all, take_more_set}

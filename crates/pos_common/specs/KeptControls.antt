@@ -6,9 +6,9 @@ use Rattle.pos_service.specs.declared.answer.Value.{Value}
 use Rattle.pos_service.specs.declared.answer.Value.TheVariants as value
 use Rattle.pos_service.specs.declared.input.Input.{Input}
 use Rattle.pos_service.specs.declared.input.Input.TheVariants as input
-use Rattle.pos_service.specs.declared.memory.NoMemory.{NoMemory}
+use Rattle.pos_service.specs.declared.faults.NoMemory.{NoMemory}
 use Rattle.pos_service.specs.declared.property.Property.{Property}
-use Rattle.pos_service.specs.declared.scan.Scan.{Scan}
+use Rattle.pos_service.specs.declared.input.Scan.{Scan}
 use Rattle.pos_service.specs.Properties.{is_of_bytes}
 use Rattle.pos_service.specs.Controls.{Control, listens, if_listening, read as read_by}
 use Rattle.pos_service.specs.Refusals.{Row, Decided, first_refusal}

@@ -10,7 +10,8 @@ mod properties;
 
 use crate::shown::Shown;
 use crate::writer::Writer;
-pub use events::{INPUT_EVENTS, SIGN_EVENTS, WORK_EVENTS};
+pub use events::WORK_EVENTS;
+pub(crate) use events::{INPUT_EVENTS, SIGN_EVENTS};
 use pos_events::EventQueue;
 use pos_service::display_text::Cursor;
 use pos_service::{Category, Change, Settings};

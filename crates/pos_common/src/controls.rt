@@ -1,6 +1,6 @@
 //! What comes to all controls of a device at once.
 ghost use Rattle.std.specs.Prelude.{◌≡◌, [], ◌∷◌, ℕ, ◌+◌, All, OnOk, OnErr, IfOk};
-ghost use Rattle.pos_service.specs.declared.scan.Scan.{Scan};
+ghost use Rattle.pos_service.specs.declared.input.Scan.{Scan};
 ghost use Rattle.pos_service.specs.Controls.{all_listening, read, failed};
 ghost use Rattle.pos_service.specs.Statuses.{heard_signs};
 ghost use Rattle.pos_common.specs.KeptControls.{HasRoom, AreCopies, ReadsCopy, controls_of, sign_events, scan_events, fault_events};

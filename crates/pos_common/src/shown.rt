@@ -14,7 +14,7 @@ pub(crate) struct Shown {
 }
 
 impl Model for Shown {
-    ghost use Rattle.pos_service.specs.declared.scan.Scan.{Scan};
+    ghost use Rattle.pos_service.specs.declared.input.Scan.{Scan};
 
     ghost Value = { Scan };
 

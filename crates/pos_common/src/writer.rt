@@ -1,6 +1,6 @@
 //! The requests of output that a control has, with the OutputID that it gave last.
 ghost use Rattle.std.specs.Prelude.{◌≡◌, ◌<◌, Some, OnOk, OnErr, IfSome, IsSome, option_map};
-ghost use Rattle.pos_output.specs.declared.fault.PutFault.TheVariants as put_fault;
+ghost use Rattle.pos_output.specs.declared.queue.PutFault.TheVariants as put_fault;
 ghost use Rattle.pos_service.specs.Controls.{default_writer, queued_by, with_output};
 ghost use Rattle.pos_service.specs.Output.{is_outstanding, last_output_id, output_after, output_deleted};
 ghost use Rattle.pos_service.specs.Output.{request_done, request_failed, request_to_do};

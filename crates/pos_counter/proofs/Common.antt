@@ -17,7 +17,7 @@ pub use Rattle.pos_common.specs.KeptControls.{Gets, KeptControl, SetsTo, control
 pub use Rattle.pos_dir.specs.Changes.{and_then, outcome, outcome_of_all}
 pub use Rattle.pos_dir.specs.declared.fault.DirectoryFault.{DirectoryFault}
 pub use Rattle.pos_dir.specs.declared.file.File.{File as PlainFile}
-pub use Rattle.pos_dir.specs.declared.limits.Limits.{Limits}
+pub use Rattle.pos_dir.specs.declared.file.Limits.{Limits}
 pub use Rattle.pos_disk.specs.State.{LeavesOnly, MayLeave, Rises}
 pub use Rattle.pos_disk.specs.declared.device.Disk.{Ghosts as DiskGhosts}
 pub use Rattle.pos_image.specs.declared.layout.Layout.TheVariants.{Layout1, Layout2}
@@ -50,7 +50,7 @@ pub use Rattle.pos_service.specs.declared.display_text.Cursor.{Cursor}
 pub use Rattle.pos_service.specs.declared.display_text.Place.{Place}
 pub use Rattle.pos_service.specs.declared.input.Input.{Input}
 pub use Rattle.pos_service.specs.declared.kind.Kind.{Kind}
-pub use Rattle.pos_service.specs.declared.memory.NoMemory.{NoMemory}
+pub use Rattle.pos_service.specs.declared.faults.NoMemory.{NoMemory}
 pub use Rattle.pos_service.specs.declared.peripheral.Peripheral.{Ghosts}
 pub use Rattle.pos_service.specs.declared.property.Property.{Property}
 pub use Rattle.pos_service.specs.declared.signs.Signs.{Signs}

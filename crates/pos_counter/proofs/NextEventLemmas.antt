@@ -3,7 +3,7 @@ use Rattle.pos_counter.proofs.Common.{Control, Device, KeptControl, List, Machin
 use Rattle.pos_counter.proofs.Common.{is_some, length, length-map, machine_with, refl, slice_get, subst, true, ℕ, ◌+◌, ◌<◌, ◌≡◌, ◌≤◌, ⊎_elim}
 use Rattle.std.proofs.lemmas.Bool.{cases_lt}
 use Rattle.std.proofs.lemmas.Option.{slice_get_past}
-use Rattle.pos_counter.proofs.Lifts.{kept_at}
+use Rattle.pos_counter.proofs.LiftLemmas.{kept_at}
 use Rattle.pos_counter.specs.NextEvent.{GivesEvent, GivesNone}
 use Rattle.pos_service.specs.declared.event.Event.{Event}
 use Rattle.pos_service.specs.Controls.{deliverable}

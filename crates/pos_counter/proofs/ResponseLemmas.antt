@@ -11,11 +11,11 @@ use Rattle.pos_counter.specs.declared.faults.SnapshotFault.TheVariants as snapsh
 use Rattle.pos_counter.specs.declared.faults.WorkFault.{WorkFault}
 use Rattle.pos_counter.specs.declared.faults.WorkFault.TheVariants as work_fault
 use Rattle.pos_service.specs.declared.answer.Answer.{Answer}
-use Rattle.pos_service.specs.declared.memory.NoMemory.{NoMemory}
+use Rattle.pos_service.specs.declared.faults.NoMemory.{NoMemory}
 use Rattle.pos_service.specs.declared.peripheral.Peripheral.{Ghosts}
 use Rattle.pos_service.specs.declared.plant.Snapshot.{Snapshot}
 use Rattle.pos_service.specs.declared.request.Response.{Response}
-use Rattle.pos_service.specs.declared.worked.Worked.{Worked}
+use Rattle.pos_service.specs.declared.answer.Worked.{Worked}
 use Rattle.pos_counter.specs.Steps as machine
 
 -- a response has no peripheral in it, and is the machine's

@@ -2,7 +2,7 @@
 use Rattle.std.specs.Prelude.{◌≡◌, ◌⊎◌, ◌&&◌, not, ℕ, true, List, MatchOption, Result, slice_get}
 use Rattle.pos_service.specs.declared.answer.Answer.{Answer}
 use Rattle.pos_service.specs.declared.call.Call.{Call}
-use Rattle.pos_service.specs.declared.memory.NoMemory.{NoMemory}
+use Rattle.pos_service.specs.declared.faults.NoMemory.{NoMemory}
 use Rattle.pos_totals.specs.HardTotals.{Mode, is_ready}
 use Rattle.pos_totals.specs.TotalsCalls.{file_call}
 use Rattle.pos_common.specs.KeptControls.{KeptControl, controls_of}

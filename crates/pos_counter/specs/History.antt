@@ -5,7 +5,7 @@ use Rattle.pos_dir.specs.Changes.{outcome_of_all, and_then}
 use Rattle.pos_dir.specs.declared.change.Change.{Change as FileChange}
 use Rattle.pos_dir.specs.declared.fault.DirectoryFault.{DirectoryFault}
 use Rattle.pos_dir.specs.declared.file.File.{File as PlainFile}
-use Rattle.pos_dir.specs.declared.limits.Limits.{Limits}
+use Rattle.pos_dir.specs.declared.file.Limits.{Limits}
 use Rattle.pos_image.specs.declared.layout.Layout.{Layout}
 use Rattle.pos_service.specs.declared.answer.Answer.TheVariants as answer
 use Rattle.pos_store.specs.Layouts.{limits_of}

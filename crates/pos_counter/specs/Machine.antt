@@ -2,8 +2,8 @@
 use Rattle.std.specs.Prelude.{ℕ, ◌+◌, ◌||◌, List, [], ◌∷◌, Option, Some, None, is_none, is_some, slice_get, slice_set, bytes_eq, if◌then◌else◌}
 use Rattle.pos_service.specs.declared.category.Category.{Category}
 use Rattle.pos_service.specs.declared.category.Category.TheVariants as category
-use Rattle.pos_service.specs.declared.finding.Finding.{Finding}
-use Rattle.pos_service.specs.declared.finding.Finding.TheVariants as finding
+use Rattle.pos_service.specs.declared.facts.Finding.{Finding}
+use Rattle.pos_service.specs.declared.facts.Finding.TheVariants as finding
 use Rattle.pos_service.specs.declared.kind.Kind.{Kind}
 use Rattle.pos_service.specs.declared.signs.Signs.{Signs}
 use Rattle.pos_service.specs.Categories.{serves}

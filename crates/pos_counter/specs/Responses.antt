@@ -1,16 +1,16 @@
 -- A counter's requests and what its calls answer, as requests and responses of the machine.
 use Rattle.std.specs.Prelude.{◌≡◌, ℕ, true, false, List, Result, Ok, Err, map, zip, ⊤}
 use Rattle.pos_service.specs.declared.answer.Answer.{Answer}
-use Rattle.pos_service.specs.declared.memory.NoMemory.{NoMemory}
+use Rattle.pos_service.specs.declared.faults.NoMemory.{NoMemory}
 use Rattle.pos_service.specs.declared.peripheral.Peripheral.{Ghosts}
 use Rattle.pos_service.specs.declared.plant.Snapshot.{Snapshot}
 use Rattle.pos_service.specs.declared.request.Request.{Request}
 use Rattle.pos_service.specs.declared.request.Request.TheVariants as request
 use Rattle.pos_service.specs.declared.request.Response.{Response}
 use Rattle.pos_service.specs.declared.request.Response.TheVariants as response
-use Rattle.pos_service.specs.declared.worked.Worked.{Worked}
-use Rattle.pos_service.specs.declared.exchange_fault.AttachFault.{AttachFault}
-use Rattle.pos_service.specs.declared.exchange_fault.DetachFault.{DetachFault}
+use Rattle.pos_service.specs.declared.answer.Worked.{Worked}
+use Rattle.pos_service.specs.declared.faults.AttachFault.{AttachFault}
+use Rattle.pos_service.specs.declared.faults.DetachFault.{DetachFault}
 use Rattle.pos_service.specs.Peripherals.{PeripheralState}
 use Rattle.pos_service.specs.Requests.{request_by, response_by}
 use Rattle.pos_service.specs.Hardware.{Hardware, hardware_of}

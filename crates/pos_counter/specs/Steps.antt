@@ -40,10 +40,10 @@ pub use Rattle.pos_service.specs.declared.request.Request.TheVariants.{NewContro
 use Rattle.pos_service.specs.declared.request.Response.{Response as ResponseOf}
 pub use Rattle.pos_service.specs.declared.request.Response.TheVariants.{Made, Full, Answered, TakenIn, NoDevice, WrongInput, Worked, Delivered, Shown, Attached}
 pub use Rattle.pos_service.specs.declared.request.Response.TheVariants.{NotAttached, Detached, NotDetached, OutOfMemory}
-use Rattle.pos_service.specs.declared.exchange_fault.AttachFault.{AttachFault}
-use Rattle.pos_service.specs.declared.exchange_fault.AttachFault.TheVariants as attach
-use Rattle.pos_service.specs.declared.exchange_fault.DetachFault.{DetachFault}
-use Rattle.pos_service.specs.declared.exchange_fault.DetachFault.TheVariants as detach
+use Rattle.pos_service.specs.declared.faults.AttachFault.{AttachFault}
+use Rattle.pos_service.specs.declared.faults.AttachFault.TheVariants as attach
+use Rattle.pos_service.specs.declared.faults.DetachFault.{DetachFault}
+use Rattle.pos_service.specs.declared.faults.DetachFault.TheVariants as detach
 use Rattle.pos_totals.specs.HardTotals.{totals_limits, in_transaction, with_control as with_place}
 use Rattle.pos_totals.specs.TotalsClaims.{is_area_taken, without_control}
 use Rattle.pos_totals.specs.TotalsCalls.{file_call, file_rows}

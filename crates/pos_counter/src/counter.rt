@@ -8,6 +8,7 @@ ghost use Rattle.pos_counter.specs.KeptDevices.{HandsOver};
 ghost use Rattle.pos_counter.specs.Responses.{HandsOut, OffersInService, made, request_of, response_of, steps_of};
 ghost use Rattle.pos_counter.specs.Totals.{TotalsPart};
 ghost use Rattle.pos_counter.specs.Counters.{machine, Begins, IsStep, IsStepBeside, IsRun, Stays, IsCounterSound};
+ghost use Rattle.pos_counter.specs.NextEvent.{IsNextEvent};
 
 use crate::devices::Devices;
 use crate::faults::ControlFault;
@@ -216,5 +217,20 @@ impl<D: Disk, P: Peripheral> Counter<D, P> {
             disk: totals.into_disk(),
             entries: devices.into_entries(),
         }
+    }
+}
+
+impl<D: Disk, P: Peripheral> Counter<D, P> {
+    /// Returns the lowest number, `from` or above, of a control to which `deliver` would give an event now, or `None`
+    /// if there is no such control. It takes no memory.
+    pub fn next_event(&self, from: usize) -> Option<usize>
+        ensures { (part : TotalsPart) → IsNextEvent (machine P.Peripheral self.now part) from result }
+    {
+        for number in from..self.controls.len() {
+            if self.controls[number].has_deliverable() {
+                return Some(number);
+            }
+        }
+        None
     }
 }

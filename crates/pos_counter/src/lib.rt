@@ -19,12 +19,11 @@ mod hosts;
 mod inputs;
 pub mod laws;
 pub mod moves;
-mod next_event;
+mod output;
 mod properties;
 mod relay;
 pub mod responses;
 mod totals_calls;
-mod working;
 
 pub use counter::{Counter, Ended};
 pub use faults::{ControlFault, InputFault, SnapshotFault, WorkFault};

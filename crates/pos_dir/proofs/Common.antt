@@ -33,5 +33,5 @@ pub use Rattle.pos_dir.specs.declared.change.Change.{Change}
 pub use Rattle.pos_dir.specs.declared.fault.DirectoryFault.{DirectoryFault}
 pub use Rattle.pos_dir.specs.declared.fault.DirectoryFault.TheVariants.{NoMemory, Range}
 pub use Rattle.pos_dir.specs.declared.file.File.{File}
-pub use Rattle.pos_dir.specs.declared.limits.Limits.{Limits}
+pub use Rattle.pos_dir.specs.declared.file.Limits.{Limits}
 pub use Rattle.pos_dir.specs.declared.outlines.Outline.{Outline}

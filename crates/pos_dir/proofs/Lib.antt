@@ -1,8 +1,8 @@
 pub mod Common
-pub mod Outcomes
-pub mod Kept
-pub mod Readers
-pub mod Items
-pub mod Directories
-pub mod Groups
-pub mod Outlined
+pub mod OutcomeLemmas
+pub mod ChangeLemmas
+pub mod FieldLemmas
+pub mod ItemLemmas
+pub mod DirectoryLemmas
+pub mod GroupLemmas
+pub mod OutlineLemmas

@@ -4,7 +4,7 @@ use Rattle.std.specs.Prelude.{slice_get, slice_set, Option, Some, None, Result, 
 use Rattle.std.specs.Result.{result_ok, result_err}
 use Rattle.std.specs.List.{AllByRecursion}
 use Rattle.pos_dir.specs.declared.file.File.{File}
-use Rattle.pos_dir.specs.declared.limits.Limits.{Limits}
+use Rattle.pos_dir.specs.declared.file.Limits.{Limits}
 use Rattle.pos_dir.specs.declared.change.Change.{Change}
 use Rattle.pos_dir.specs.declared.change.Change.TheVariants.{Create, Delete, Rename, Write, SetAll}
 use Rattle.pos_dir.specs.declared.fault.DirectoryFault.{DirectoryFault}

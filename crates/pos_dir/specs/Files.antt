@@ -3,8 +3,8 @@ use Rattle.std.specs.Prelude.{◌≡◌, ℕ, ◌≤◌, ◌<◌, ◌^◌, Bool,
 use Rattle.std.specs.List.{list_any, list_all}
 use Rattle.std.specs.Str.{bytes_eq}
 use Rattle.pos_dir.specs.declared.file.File.{File}
-use Rattle.pos_dir.specs.declared.limits.Limits.{Limits}
-use Rattle.pos_dir.specs.declared.limits.TheConstants.{LAYOUT_2}
+use Rattle.pos_dir.specs.declared.file.Limits.{Limits}
+use Rattle.pos_dir.specs.declared.file.TheConstants.{LAYOUT_2}
 
 -- a byte that a name may have
 abbrev pub is_name_byte : ℕ → Bool

@@ -5,7 +5,7 @@ use Rattle.std.specs.List.{flat_map}
 use Rattle.pos_dir.specs.declared.file.File.{File}
 use Rattle.pos_dir.specs.declared.flaw.Flaw.{Flaw}
 use Rattle.pos_dir.specs.declared.flaw.Flaw.TheVariants as flaw
-use Rattle.pos_dir.specs.declared.limits.Limits.{Limits}
+use Rattle.pos_dir.specs.declared.file.Limits.{Limits}
 use Rattle.pos_dir.specs.Files.{is_name, has_name, are_distinct, total_size}
 use Rattle.pos_dir.specs.Fields.{◌>>=◌, byte_at, part_at, number_at}
 use Rattle.pos_dir.specs.Reading.{file_at, items_at}

@@ -2,8 +2,8 @@
 use Rattle.std.specs.Prelude.{◌≡◌, List, [], ◌∷◌, replicate, Option, Some, None}
 use Rattle.pos_dir.specs.declared.change.Change.{Change}
 use Rattle.pos_dir.specs.declared.change.Change.TheVariants.{Create, Rename}
-use Rattle.pos_dir.specs.declared.supplying.Supply.{Supply}
-use Rattle.pos_dir.specs.declared.supplying.Supply.TheVariants.{NewFile, NewName}
+use Rattle.pos_dir.specs.declared.supplies.Supply.{Supply}
+use Rattle.pos_dir.specs.declared.supplies.Supply.TheVariants.{NewFile, NewName}
 
 -- what a change takes: the file of zero bytes that it adds, or the name that it gives
 abbrev pub supplies_of : Change → List Supply

@@ -6,10 +6,9 @@ ghost use Rattle.pos_dir.specs.Changes.{flaw_of, least_size_of, outcome, HasWidt
 ghost use Rattle.pos_dir.specs.Supplies.{IsSupplied};
 
 use crate::fault::DirectoryFault;
-use crate::file::File;
-use crate::limits::Limits;
+use crate::file::{File, Limits};
 use crate::names::is_name;
-use crate::supplying::Supply;
+use crate::supplies::Supply;
 use pos_bytes::LentBytes;
 
 /// The most bytes that one Write may have.

@@ -8,10 +8,10 @@ ghost use Rattle.pos_dir.specs.Spelling.{change_limit};
 ghost use Rattle.pos_dir.specs.Reading.{items_at, group_at, Locates};
 
 use crate::change::{Change, WRITE_LIMIT};
-use crate::collecting::Item;
+use crate::encoder::{put, put_name, put_text, put_u16, put_u32};
 use crate::fault::DirectoryFault;
 use crate::fields::{read_byte, read_name, read_text, read_u16, read_u32};
-use crate::writing::{put, put_name, put_text, put_u16, put_u32};
+use crate::items::Item;
 use pos_bytes::LentBytes;
 use std::alloc::Global;
 
@@ -181,7 +181,7 @@ impl<'a> Item<'a> for Change<'a> {
 }
 
 /// Returns the bytes after so many changes.
-#[tactic(auto, using(crate::proofs::Items::counting))]
+#[tactic(auto, using(crate::proofs::ItemLemmas::counting))]
 fn skip_changes(count: u16, bytes: &[u8]) -> Option<&[u8]>
     ensures { option_map (λ x. x.now) result ≡ option_map (λ x. x.1) (items_at change_at count bytes.now) }
 {

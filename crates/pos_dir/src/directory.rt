@@ -1,11 +1,10 @@
 //! The files of Hard Totals, in memory.
 ghost use Rattle.std.specs.Prelude.{◌≡◌, ◌≤◌, [], length, slice_get};
 ghost use Rattle.std.specs.Option.{option_copied, option_map};
-ghost use Rattle.pos_dir.specs.declared.limits.TheConstants.{LAYOUT_2};
+ghost use Rattle.pos_dir.specs.declared.file.TheConstants.{LAYOUT_2};
 ghost use Rattle.pos_dir.specs.Files.{AreWider, directory_of, index_of, total_size};
 
-use crate::file::{File, sum_sizes};
-use crate::limits::Limits;
+use crate::file::{File, Limits, sum_sizes};
 use std::alloc::Global;
 use std::marker::Model;
 

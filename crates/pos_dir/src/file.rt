@@ -1,8 +1,7 @@
-//! A file of Hard Totals.
+//! A file of Hard Totals, and how much a directory of them may hold.
 ghost use Rattle.std.specs.Prelude.{◌≡◌, ◌≤◌};
 ghost use Rattle.pos_dir.specs.Files.{total_size};
 
-use crate::limits::Limits;
 use pos_bytes::Bytes;
 
 /// A file of Hard Totals: its name and its bytes. It keeps the size with which it was created, which may be 0
@@ -22,3 +21,24 @@ pub(crate) fn sum_sizes(limits: Limits, files: &[File]) -> usize
 {
     files.iter().map(|file| file.bytes.as_slice().len()).sum()
 }
+
+/// How much a directory may hold.
+#[derive(Clone, Copy, PartialEq, Eq)]
+pub struct Limits {
+    /// The most bytes of all files in total.
+    pub bytes: u32,
+    /// The most files, at most 250.
+    pub files: u16,
+}
+
+/// The limits of a totals disk of layout 1: 8,192 bytes, 64 files.
+pub const LAYOUT_1: Limits = Limits {
+    bytes: 8_192,
+    files: 64,
+};
+
+/// The limits of a totals disk of layout 2: 65,536 bytes, 250 files. No directory has more files.
+pub const LAYOUT_2: Limits = Limits {
+    bytes: 65_536,
+    files: 250,
+};

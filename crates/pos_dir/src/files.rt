@@ -5,11 +5,10 @@ ghost use Rattle.pos_dir.specs.Texts.{file_of};
 ghost use Rattle.pos_dir.specs.Files.{has_name, are_distinct};
 ghost use Rattle.pos_dir.specs.Reading.{file_at, items_at, end_within, directory_at, Locates};
 
-use crate::collecting::Item;
 use crate::fault::DirectoryFault;
 use crate::fields::{read_name, read_text, read_u16};
-use crate::file::File;
-use crate::limits::Limits;
+use crate::file::{File, Limits};
+use crate::items::Item;
 use pos_bytes::Bytes;
 use std::alloc::Global;
 
@@ -54,7 +53,7 @@ impl<'a> Item<'a> for File {
 }
 
 /// Returns the bytes after so many files, if their sizes are at most the room in total.
-#[tactic(auto, using(crate::proofs::Items::counting))]
+#[tactic(auto, using(crate::proofs::ItemLemmas::counting))]
 fn skip_files(count: u16, bytes: &[u8], room: usize) -> Option<&[u8]>
     ensures { option_map (λ x. x.now) result ≡ end_within room (items_at file_at count bytes.now) }
 {
@@ -69,7 +68,7 @@ fn skip_files(count: u16, bytes: &[u8], room: usize) -> Option<&[u8]>
 }
 
 /// Returns whether one of so many files has the name, if the bytes begin with so many.
-#[tactic(auto, using(crate::proofs::Items::counting))]
+#[tactic(auto, using(crate::proofs::ItemLemmas::counting))]
 pub(crate) fn is_used(count: u16, bytes: &[u8], name: &[u8]) -> bool
     ensures { IfSome (items_at file_at count bytes.now) (λ files. result ≡ has_name files.0 name.now) }
 {
@@ -87,7 +86,7 @@ pub(crate) fn is_used(count: u16, bytes: &[u8], name: &[u8]) -> bool
 }
 
 /// Returns whether no two of so many files have one name, if the bytes begin with so many.
-#[tactic(auto, using(crate::proofs::Items::counting))]
+#[tactic(auto, using(crate::proofs::ItemLemmas::counting))]
 fn are_distinct(count: u16, bytes: &[u8]) -> bool
     ensures { IfSome (items_at file_at count bytes.now) (λ files. result ≡ are_distinct files.0) }
 {
@@ -105,7 +104,7 @@ fn are_distinct(count: u16, bytes: &[u8]) -> bool
 }
 
 /// Returns the number of files and the bytes that spell them, if the bytes spell a directory.
-#[tactic(auto, unfolding(crate::specs::Reading::directory_at), using(crate::proofs::Items::counting))]
+#[tactic(auto, unfolding(crate::specs::Reading::directory_at), using(crate::proofs::ItemLemmas::counting))]
 pub(crate) fn locate_files(limits: Limits, bytes: &[u8]) -> Option<(u16, &[u8])>
     ensures { MatchOption result (directory_at limits bytes.now ≡ None)
         (λ x. Locates file_at (directory_at limits bytes.now) x.0 x.1.now) }

@@ -6,9 +6,9 @@ ghost use Rattle.pos_dir.specs.Reading.{file_at};
 ghost use Rattle.pos_dir.specs.Flaws.{has_bad_name, HasFlaw, IsFileFlaw, Passes, StopsFor};
 
 use crate::fields::{read_byte, read_part, read_u16};
+use crate::file::Limits;
 use crate::files::{is_used, read_file};
 use crate::flaw::Flaw;
-use crate::limits::Limits;
 use crate::names::is_name;
 
 /// Returns whether there is a name with its length that isn't a good one.

@@ -1,7 +1,7 @@
 //! Laws over the definitions, and what is true of each directory and each group.
 ghost use Rattle.std.specs.Prelude.{◌≡◌, ◌≤◌, List, length};
 ghost use Rattle.pos_dir.specs.declared.file.File.{File};
-ghost use Rattle.pos_dir.specs.declared.limits.Limits.{Limits};
+ghost use Rattle.pos_dir.specs.declared.file.Limits.{Limits};
 ghost use Rattle.pos_dir.specs.declared.change.Change.{Change};
 ghost use Rattle.pos_dir.specs.Files.{IsDirectory, AreWider, AreWritable};
 ghost use Rattle.pos_dir.specs.Changes.{IsGroup};

@@ -8,11 +8,11 @@
 //! was encoded decodes to the same files, and no two directories are spelled alike.
 #![tactic(auto)]
 
-mod applying;
 mod change;
 mod changes;
-mod collecting;
+mod decoder;
 mod directory;
+mod encoder;
 mod fault;
 mod fields;
 mod file;
@@ -20,25 +20,23 @@ mod files;
 mod flaw;
 mod flaws;
 mod group;
+mod items;
 pub mod laws;
-mod limits;
 mod names;
 mod outlines;
-mod reading;
-mod supplying;
-mod writing;
+mod supplies;
+mod updates;
 
-pub use applying::{apply_and_encode, apply_applicable, apply_group};
 pub use change::Change;
+pub use decoder::{decode, decode_group};
 pub use directory::Directory;
+pub use encoder::{encode, encode_group, measure_group};
 pub use fault::DirectoryFault;
-pub use file::File;
+pub use file::{File, LAYOUT_1, LAYOUT_2, Limits};
 pub use flaw::Flaw;
 pub use flaws::find_flaw;
 pub use group::Group;
-pub use limits::{LAYOUT_1, LAYOUT_2, Limits};
 pub use names::is_name;
 pub use outlines::check_group;
 pub use pos_bytes::{Bytes, LentBytes};
-pub use reading::{decode, decode_group};
-pub use writing::{encode, encode_group, measure_group};
+pub use updates::{apply_and_encode, apply_applicable, apply_group};

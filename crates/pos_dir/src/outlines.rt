@@ -10,9 +10,8 @@ ghost use Rattle.pos_dir.specs.Outlines.{AreOutlines, is_named, size_in, answer_
 use crate::change::{Change, find_least_size};
 use crate::directory::Directory;
 use crate::fault::DirectoryFault;
-use crate::file::File;
+use crate::file::{File, LAYOUT_1, LAYOUT_2, Limits};
 use crate::group::Group;
-use crate::limits::{LAYOUT_1, LAYOUT_2, Limits};
 use arrayvec::ArrayVec;
 
 /// The most files within the limits of layout 1.
@@ -44,7 +43,7 @@ fn sum_outlines(outlines: &[Outline<'_>]) -> usize
 }
 
 /// Checks a Create.
-#[tactic(auto, using(crate::proofs::Outlined::outlining))]
+#[tactic(auto, using(crate::proofs::OutlineLemmas::outlining))]
 fn check_create<'a, const N: usize>(
     outlines: &mut ArrayVec<Outline<'a>, N>,
     limits: Limits,

@@ -1,9 +1,9 @@
 pub mod Common
-pub mod Bytes
-mod Calls
-pub mod Moments
-pub mod Same
-pub mod Spoils
-mod Stamps
-pub mod Within
-mod Written
+pub mod ByteLemmas
+mod CallLemmas
+pub mod MomentLemmas
+pub mod SameDiskLemmas
+pub mod SpoilLemmas
+mod StampLemmas
+pub mod RangeLemmas
+mod WriteLemmas

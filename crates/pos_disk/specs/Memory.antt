@@ -1,8 +1,8 @@
 -- A disk in memory, as contracts see it.
 use Rattle.std.specs.Prelude.{◌≡◌, ◌⊎◌, ◌≤◌, ◌<◌, ◌++◌, ℕ, List, [], ◌∷◌, Bool, true, false, length, get_or, replicate, Ok}
 use Rattle.pos_disk.specs.State.{DiskState, Answer, splice}
-use Rattle.pos_disk.specs.declared.fill.Fill.{Fill}
-use Rattle.pos_disk.specs.declared.fill.Fill.TheVariants.{Old, New, Byte}
+use Rattle.pos_disk.specs.declared.memory.Fill.{Fill}
+use Rattle.pos_disk.specs.declared.memory.Fill.TheVariants.{Old, New, Byte}
 
 -- what a disk in memory shows at one moment, and for each place whether it is loose
 pub record Moment : Type 0 where

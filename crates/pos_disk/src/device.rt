@@ -1,6 +1,6 @@
 //! A disk as the layers above see it, honest or not.
 ghost use Rattle.std.specs.Prelude.{◌↔◌, ◌≡◌, ◌≤◌, ◌+◌, List, Option, ℕ, length};
-ghost use Rattle.pos_disk.specs.State.{DiskState, Answer, IsBytes, MayLeave, Reads, Writes, Syncs};
+ghost use Rattle.pos_disk.specs.State.{DiskState, Answer, IsBytes, MayLeave, Reads, Writes, Syncs, IsSame};
 
 use thiserror::Error;
 
@@ -95,4 +95,20 @@ pub trait Disk {
     /// A crash since this very moment leaves what a crash may leave now.
     ghost only_now: { (disk : Self) (bytes : List ℕ) → honest disk → (state disk).left_since (state disk).moment bytes
         → MayLeave (state disk) bytes };
+}
+
+/// A disk that keeps errands for its owner, oldest first: for example what a host outside is still to do.
+pub trait Relay: Disk {
+    /// One errand.
+    type Errand;
+
+    /// What taking out the oldest errand of this very disk does: the disk before and after, and what was taken.
+    ghost takes: { Self → Self → Option Self.Errand → Type 0 };
+
+    /// Takes out the oldest errand, and returns it, or `None` if there is none. The disk is otherwise as it was.
+    fn next(&mut self) -> Option<Self::Errand>
+        ensures size { Self.size self.new ≡ Self.size self.old }
+        ensures honest { Self.honest self.old ↔ Self.honest self.new }
+        ensures same { Self.honest self.old → IsSame (Self.state self.old) (Self.state self.new) }
+        ensures takes { takes self.old self.new result };
 }

@@ -10,14 +10,10 @@
 #![tactic(auto)]
 
 mod device;
-mod fill;
 mod fuse;
 mod memory;
 mod past;
-mod relay;
 
-pub use device::{Disk, DiskFault};
-pub use fill::Fill;
+pub use device::{Disk, DiskFault, Relay};
 pub use fuse::FuseDisk;
-pub use memory::MemDisk;
-pub use relay::Relay;
+pub use memory::{Fill, MemDisk};

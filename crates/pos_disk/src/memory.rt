@@ -6,7 +6,7 @@ ghost use Rattle.pos_disk.specs.State.{IsBytes, splice};
 ghost use Rattle.pos_disk.specs.Stamps.{IsSaved};
 
 use crate::past::Past;
-use crate::{Disk, DiskFault, Fill};
+use crate::{Disk, DiskFault};
 use std::alloc::{AllocError, Global};
 use std::marker::Model;
 
@@ -242,4 +242,15 @@ impl Disk for MemDisk {
         self.stamp = next_stamp(&mut self.stamps, self.stamp);
         Ok(())
     }
+}
+
+/// What a crash puts into the loose places: the byte of the last sync, what a read gives, or one byte.
+#[derive(Clone, Copy, PartialEq, Eq)]
+pub enum Fill {
+    /// The byte that was there at the last sync.
+    Old,
+    /// The byte that a read gives.
+    New,
+    /// This byte.
+    Byte(u8),
 }

@@ -20,7 +20,7 @@ use Rattle.pos_service.specs.Peripherals.{place_at}
 use Rattle.pos_service.specs.Refusals.{Row, when}
 use Rattle.pos_service.specs.declared.answer.Answer.{Answer}
 use Rattle.pos_service.specs.declared.category.Category.TheVariants as category
-use Rattle.pos_service.specs.declared.memory.NoMemory.{NoMemory}
+use Rattle.pos_service.specs.declared.faults.NoMemory.{NoMemory}
 use Rattle.pos_service.specs.Hardware.{Effect}
 use Rattle.pos_common.specs.OwnCalls.{OwnCall, OwnOrders}
 use Rattle.pos_service.specs.Controls.{Control}

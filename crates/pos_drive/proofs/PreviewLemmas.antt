@@ -1,6 +1,6 @@
 -- What was foretold of an order that is done.
 use Rattle.std.proofs.Common.{◌≡◌, MatchResult, Ok, Result, subst, sym}
-use Rattle.pos_service.specs.declared.memory.NoMemory.{NoMemory}
+use Rattle.pos_service.specs.declared.faults.NoMemory.{NoMemory}
 use Rattle.pos_service.specs.declared.order.Order.{Order}
 use Rattle.pos_service.specs.declared.order.Reply.{Reply}
 use Rattle.pos_service.specs.declared.order.Reply.TheVariants as reply

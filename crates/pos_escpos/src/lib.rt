@@ -14,12 +14,11 @@ mod begun;
 mod bytes_fault;
 mod display_bytes;
 mod inputs;
-mod order_laws;
+mod laws;
 mod printer_bytes;
 mod printer_commands;
 mod receipt_progress;
 mod replies;
-mod reply_laws;
 mod settings;
 mod statuses;
 #[cfg(test)]
@@ -28,12 +27,11 @@ mod tests;
 pub use bytes_fault::BytesFault;
 pub use display_bytes::{blank_cells, display_start_bytes, rows_bytes};
 pub use inputs::{drawer_inputs, printer_inputs};
-pub use order_laws::orders_fit;
+pub use laws::{losses_are_seen, orders_fit, replies_are_found};
 pub use printer_bytes::receipt_bytes;
 pub use printer_commands::{NowStatus, OrderStatus, job_bytes, start_bytes};
 pub use receipt_progress::SentReceipt;
 pub use replies::ReplyReader;
-pub use reply_laws::{losses_are_seen, replies_are_found};
 pub use settings::{
     CutSettings, Cutter, DisplayProtocol, DrawerKick, DrawerPin, LineSettings, PrinterSettings,
     SensorSettings,

@@ -14,4 +14,4 @@ pub use Rattle.pos_events.specs.declared.others.Other.{Other}
 pub use Rattle.pos_events.specs.declared.told.Told.{Told}
 pub use Rattle.pos_service.specs.Events.{Data, Enqueued, EventList, after_reply, delivered, input_cleared, input_error, input_failed, is_data, is_output_error}
 pub use Rattle.pos_service.specs.Events.{is_waiting, left_by, output_cleared, scanned, split, with_input_data}
-pub use Rattle.pos_service.specs.declared.scan.Scan.{Scan}
+pub use Rattle.pos_service.specs.declared.input.Scan.{Scan}

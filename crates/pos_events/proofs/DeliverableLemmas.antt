@@ -1,7 +1,7 @@
 -- Whether an event of a queue's list may be delivered.
 use Rattle.pos_events.proofs.Common.{Bool, Enqueued, List, Other, Scan, [], arith, drop, events_in, false, length, not, refl, split, take, told_event}
 use Rattle.pos_events.proofs.Common.{true, waiting_in, weave, with_input_data, ◌++◌, ◌<◌, ◌==◌, ◌∷◌, ◌≡◌}
-use Rattle.pos_events.proofs.DeliveringLemmas.{deliverable_told}
+use Rattle.pos_events.proofs.DeliveryLemmas.{deliverable_told}
 use Rattle.std.specs.Prelude.{is_some}
 
 -- some event of the list may be delivered

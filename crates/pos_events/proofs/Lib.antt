@@ -1,7 +1,7 @@
 pub mod Common
 pub mod OthersLemmas
-pub mod EnqueuingLemmas
-pub mod ReadingLemmas
-pub mod ClearingLemmas
-pub mod DeliveringLemmas
+pub mod EnqueueLemmas
+pub mod DataCountLemmas
+pub mod ClearLemmas
+pub mod DeliveryLemmas
 pub mod DeliverableLemmas

@@ -1,6 +1,6 @@
 -- What the parts of a queue mean as one list.
 use Rattle.std.specs.Prelude.{◌≡◌, ℕ, ◌+◌, ◌-◌, ◌<◌, Bool, true, false, IsTrue, List, [], ◌∷◌, ◌++◌, Option, Some, None, length, map, take, drop, if◌then◌else◌}
-use Rattle.pos_service.specs.declared.scan.Scan.{Scan}
+use Rattle.pos_service.specs.declared.input.Scan.{Scan}
 use Rattle.pos_service.specs.declared.event.Locus.TheVariants as locus
 use Rattle.pos_service.specs.Events.{EventList, Enqueued, Status, Data, Error, Complete, input_error, with_input_data}
 use Rattle.pos_events.specs.declared.others.Other.{Other}

@@ -1,7 +1,7 @@
 -- Which of the waiting events is the first.
 use Rattle.std.specs.Prelude.{Bool, true, false}
-use Rattle.pos_events.specs.declared.queue.delivering.Waiting.{Waiting}
-use Rattle.pos_events.specs.declared.queue.delivering.Waiting.TheVariants as waiting
+use Rattle.pos_events.specs.declared.queue.Waiting.{Waiting}
+use Rattle.pos_events.specs.declared.queue.Waiting.TheVariants as waiting
 
 -- EL_INPUT_DATA stands before the scans, and EL_INPUT behind them
 abbrev pub first_waiting : Bool → Bool → Waiting

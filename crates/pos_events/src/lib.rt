@@ -8,10 +8,8 @@
 //! event is lost.
 #![tactic(auto)]
 
-mod delivery;
 mod others;
 mod queue;
 mod told;
 
-pub use delivery::Delivery;
-pub use queue::EventQueue;
+pub use queue::{Delivery, EventQueue};

@@ -3,7 +3,7 @@ ghost use Rattle.std.specs.Prelude.{◌≡◌};
 ghost use Rattle.pos_events.specs.Queue.{delivery_of};
 ghost use Rattle.pos_events.specs.QueueParts.{is_error, told_event};
 
-use crate::delivery::{Delivery, without_scan};
+use crate::queue::{Delivery, without_scan};
 use pos_service::{Code, Event, Locus};
 
 /// An event that doesn't wait for DataEventEnabled.

@@ -5,8 +5,8 @@ use Rattle.pos_disk.specs.Kept.{to_moment}
 use Rattle.pos_disk.specs.Memory.{LeftAt, LeftSince, Memory, Moment, state_of, synced, written}
 use Rattle.pos_file.specs.Calls.{Call, is_whole}
 use Rattle.pos_file.specs.Courses.{CallMakes, CourseLeaves, CourseMakes, KindMakes, PutsDown, TakesAll}
-use Rattle.pos_file.specs.declared.call_kind.CallKind.{CallKind}
-use Rattle.pos_file.specs.declared.call_kind.CallKind.TheVariants.{Lock, Share, Measure, Resize, Read, Write, Sync}
+use Rattle.pos_file.specs.declared.history.CallKind.{CallKind}
+use Rattle.pos_file.specs.declared.history.CallKind.TheVariants.{Lock, Share, Measure, Resize, Read, Write, Sync}
 
 -- one course after another
 pub joined : (done rest : List Call) (old mid new : Memory) → CourseMakes done old mid → CourseMakes rest mid new → CourseMakes (done ++ rest) old new

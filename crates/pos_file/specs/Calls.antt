@@ -2,8 +2,8 @@
 use Rattle.std.specs.Prelude.{ℕ, List, [], Bool, true, false, cond, ◌==◌, Option, Some, None, Result, Ok, Err}
 use Rattle.std.specs.declared.fs.locks.TryLockError.{TryLockError}
 use Rattle.std.specs.declared.fs.locks.TryLockError.TheVariants as lock
-use Rattle.pos_file.specs.declared.call_kind.CallKind.{CallKind}
-use Rattle.pos_file.specs.declared.call_kind.CallKind.TheVariants.{Lock, Share, Measure, Resize, Read, Write, Sync}
+use Rattle.pos_file.specs.declared.history.CallKind.{CallKind}
+use Rattle.pos_file.specs.declared.history.CallKind.TheVariants.{Lock, Share, Measure, Resize, Read, Write, Sync}
 
 -- One call of a file.
 pub record Call : Type 0 where

@@ -5,8 +5,8 @@ use Rattle.std.specs.Bool.{MatchBool}
 use Rattle.pos_disk.specs.Memory.{Memory, fresh, state_of, synced, written}
 use Rattle.pos_disk.specs.State.{MayLeave, part}
 use Rattle.pos_file.specs.Calls.{Call, is_whole}
-use Rattle.pos_file.specs.declared.call_kind.CallKind.{CallKind}
-use Rattle.pos_file.specs.declared.call_kind.CallKind.TheVariants.{Lock, Share, Measure, Resize, Read, Write, Sync}
+use Rattle.pos_file.specs.declared.history.CallKind.{CallKind}
+use Rattle.pos_file.specs.declared.history.CallKind.TheVariants.{Lock, Share, Measure, Resize, Read, Write, Sync}
 
 -- bytes were put down within a range, which is loose now: these if all of them were taken, else any
 abbrev pub PutsDown : Bool → ℕ → List ℕ → Memory → Memory → Type 0

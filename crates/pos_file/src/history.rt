@@ -1,9 +1,8 @@
-//! The calls of a file so far. Only contracts and proofs read them; they take no memory.
+//! The calls of a file so far, and their kinds. Only contracts and proofs read a history; it takes no memory.
 ghost use Rattle.std.specs.Prelude.{◌≡◌, ◌++◌, [], ◌∷◌, cond, List, None, Option, Some};
 ghost use Rattle.std.specs.Borrow.{ftrue};
 ghost use Rattle.pos_file.specs.Calls.{Call, call_of};
 
-use crate::call_kind::CallKind;
 use std::marker::Model;
 
 /// The calls of a file so far, the first one first. Only contracts see them, and they take no memory.
@@ -49,4 +48,23 @@ impl CallHistory {
             None => *self = self.and(&kind, &at, bytes, &false, &0),
         }
     }
+}
+
+/// What a file is asked for.
+#[derive(Clone, Copy, PartialEq, Eq)]
+pub enum CallKind {
+    /// A lock for this program alone.
+    Lock,
+    /// A lock for reading.
+    Share,
+    /// Its length.
+    Measure,
+    /// Another length.
+    Resize,
+    /// A read.
+    Read,
+    /// A write.
+    Write,
+    /// A sync.
+    Sync,
 }

@@ -12,7 +12,6 @@
 
 mod answers;
 mod block_file;
-mod call_kind;
 mod courses;
 mod fault;
 mod file_disk;
@@ -21,10 +20,9 @@ mod memory_file;
 mod system_file;
 
 pub use block_file::BlockFile;
-pub use call_kind::CallKind;
 pub use courses::{a_course_goes_on, a_course_is_one, a_course_leaves, a_disk_follows};
 pub use fault::DiskFileFault;
 pub use file_disk::FileDisk;
-pub use history::CallHistory;
+pub use history::{CallHistory, CallKind};
 pub use memory_file::MemoryFile;
 pub use system_file::SystemFile;

@@ -3,8 +3,7 @@ ghost use Rattle.std.specs.Prelude.{◌≡◌, []};
 
 use crate::answers::{done, locks, number};
 use crate::block_file::BlockFile;
-use crate::call_kind::CallKind;
-use crate::history::CallHistory;
+use crate::history::{CallHistory, CallKind};
 use std::fs::TryLockError;
 use std::io;
 use std::io::ErrorKind;

@@ -6,9 +6,9 @@ pub use Rattle.std.proofs.lemmas.Bool.Decides.{nat_tests}
 pub use Rattle.std.specs.Int.{from_be_bytes, w32, w64}
 pub use Rattle.std.specs.Prelude.{MatchOption, if◌then◌else◌, ⊤}
 pub use Rattle.byteorder.specs.Endian.{big_bytes}
-pub use Rattle.pos_disk.proofs.Bytes.{get_or-part, in_range, length-part, length-splice, part-part, part-splice, splice_elsewhere, spliced_within}
-pub use Rattle.pos_disk.proofs.Moments.{followed_by, goes_on, rest_leaves, started, watches_on, watches_read, watches_sync, weaker}
-pub use Rattle.pos_disk.proofs.Within.{kept_part, leaves_within, spliced_same, within_here, within_write}
+pub use Rattle.pos_disk.proofs.ByteLemmas.{get_or-part, in_range, length-part, length-splice, part-part, part-splice, splice_elsewhere, spliced_within}
+pub use Rattle.pos_disk.proofs.MomentLemmas.{followed_by, goes_on, rest_leaves, started, watches_on, watches_read, watches_sync, weaker}
+pub use Rattle.pos_disk.proofs.RangeLemmas.{kept_part, leaves_within, spliced_same, within_here, within_write}
 pub use Rattle.pos_disk.specs.State.{DiskState, InRange, IsAtRest, LeavesOnly, MayLeave, Syncs, Watches, Writes, part, splice}
 pub use Rattle.pos_disk.specs.Within.{IsWithin, SameBut}
 pub use Rattle.pos_disk.specs.declared.device.Disk.{Ghosts}
@@ -23,8 +23,8 @@ pub use Rattle.pos_image.specs.Slots.{HasFields, HasHead, HasHeads, IsCurrent, I
 pub use Rattle.pos_image.specs.Spans.{IsHeld, IsInSpan, IsWritable, KeepsImage, WritesOnly, WritesSpan, span_of}
 pub use Rattle.pos_image.specs.Standing.{DamagedImage, HasImage, HasNewImage, IsNewDisk, NoImage, ShowsImage, current_on, image_in, is_marked, is_tied, log_in}
 unfoldable pub use Rattle.pos_image.specs.Standing.{image_on, log_of}
-pub use Rattle.pos_image.specs.declared.formatting.TheConstants.{GATES}
+pub use Rattle.pos_image.specs.declared.new_disks.TheConstants.{GATES}
 pub use Rattle.pos_image.specs.declared.layout.Layout.{Layout}
-pub use Rattle.pos_image.specs.declared.reading.Head.{Head}
+pub use Rattle.pos_image.specs.declared.heads.Head.{Head}
 pub use Rattle.pos_image.specs.declared.slot.Slot.{Slot}
 pub use Rattle.pos_image.specs.declared.slot.Slot.TheVariants.{First, Fourth, Second, Third}

@@ -5,8 +5,8 @@ use Rattle.pos_image.specs.Layout.{disk_size, longest, log_place, body_place, st
 use Rattle.pos_image.specs.Layout.{layout_on, is_open, sequence_at, length_at, body_at}
 use Rattle.pos_image.specs.declared.layout.Layout.{Layout}
 use Rattle.pos_image.specs.declared.slot.Slot.{Slot}
-use Rattle.pos_image.specs.declared.reading.Head.{Head}
-use Rattle.pos_image.specs.declared.reading.Heads.{Heads}
+use Rattle.pos_image.specs.declared.heads.Head.{Head}
+use Rattle.pos_image.specs.declared.heads.Heads.{Heads}
 
 -- The image in this slot is the current one.
 pub record IsCurrent (bytes : List ℕ) (slot : Slot) (body : List ℕ) (sequence : ℕ) : Type 0 where

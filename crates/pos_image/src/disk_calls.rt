@@ -8,9 +8,9 @@ ghost use Rattle.pos_image.specs.DiskCalls.{IsWritten, Keeps, CrashKeeps, Closes
 ghost use Rattle.pos_image.specs.DiskCalls.{HasNoLog, KeepsBeside, Stages, CrashStages};
 ghost use Rattle.pos_image.specs.Slots.{HasFields};
 
+use crate::heads::read_gate;
 use crate::image::Image;
 use crate::layout::{BODY, CLOSED, SEQUENCE};
-use crate::reading::read_gate;
 use byteorder::{BigEndian, ByteOrder};
 use pos_disk::{Disk, DiskFault};
 
@@ -19,7 +19,7 @@ use pos_disk::{Disk, DiskFault};
 /// # Errors
 ///
 /// [`DiskFault`] if the write or the sync failed.
-pub fn write_through<D: Disk>(disk: &mut D, at: u64, bytes: &[u8]) -> Result<(), DiskFault>
+pub(crate) fn write_through<D: Disk>(disk: &mut D, at: u64, bytes: &[u8]) -> Result<(), DiskFault>
     requires fits { at + length bytes.now ≤ D.size disk.old }
     ensures keeps { KeepsDisk D.Disk disk.old disk.new }
     ensures at_rest { D.honest disk.old → OnOk result (IsAtRest (D.state disk.new)) }
@@ -37,7 +37,7 @@ pub fn write_through<D: Disk>(disk: &mut D, at: u64, bytes: &[u8]) -> Result<(),
 /// # Errors
 ///
 /// [`DiskFault`] if a call of the disk failed.
-pub fn close_gate<D: Disk>(disk: &mut D, at: u64) -> Result<(), DiskFault>
+pub(crate) fn close_gate<D: Disk>(disk: &mut D, at: u64) -> Result<(), DiskFault>
     requires fits { at + 1 ≤ D.size disk.old }
     ensures keeps { KeepsDisk D.Disk disk.old disk.new }
     ensures loose { D.honest disk.old
@@ -70,7 +70,7 @@ fn head_of(sequence: u64, length: u32) -> [u8; 12]
 /// # Errors
 ///
 /// [`DiskFault`] if a write or the sync failed.
-pub fn write_image<D: Disk>(disk: &mut D, image: &Image) -> Result<(), DiskFault>
+pub(crate) fn write_image<D: Disk>(disk: &mut D, image: &Image) -> Result<(), DiskFault>
     requires large { disk_size ≤ D.size disk.old }
     requires short { length image.now.body.items ≤ longest (layout_of image.now.slot) }
     ensures keeps { KeepsDisk D.Disk disk.old disk.new }
@@ -100,7 +100,7 @@ pub fn write_image<D: Disk>(disk: &mut D, image: &Image) -> Result<(), DiskFault
 /// # Errors
 ///
 /// [`DiskFault`] if a call of the disk failed.
-pub fn place_image<D: Disk>(disk: &mut D, image: &Image) -> Result<(), DiskFault>
+pub(crate) fn place_image<D: Disk>(disk: &mut D, image: &Image) -> Result<(), DiskFault>
     requires large { disk_size ≤ D.size disk.old }
     requires short { length image.now.body.items ≤ longest (layout_of image.now.slot) }
     requires gate { D.honest disk.old → ¬ ((D.state disk.old).loose (start image.now.slot)) }

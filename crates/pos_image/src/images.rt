@@ -9,10 +9,9 @@ ghost use Rattle.pos_image.specs.declared.fault.ImageFault.TheVariants.{NoMemory
 
 use crate::disk_calls::{place_image, write_through};
 use crate::fault::ImageFault;
-use crate::finding::find;
-use crate::formatting::{is_marked, lay_out};
-use crate::image::Image;
+use crate::image::{Image, find};
 use crate::layout::{Layout, OPEN, SIZE};
+use crate::new_disks::{is_marked, lay_out};
 use crate::slot::Slot;
 use pos_disk::Disk;
 use std::alloc::Global;

@@ -5,16 +5,16 @@ ghost use Rattle.pos_image.specs.Layout.{slot_size, longest, log_place, log_size
 use crate::slot::Slot;
 
 /// How many bytes a disk has at least.
-pub const SIZE: u64 = 327_680;
+pub(crate) const SIZE: u64 = 327_680;
 
 /// Where the second slot of layout 1 begins, in bytes. The first begins at 0.
-pub const SECOND: u64 = 32_768;
+pub(crate) const SECOND: u64 = 32_768;
 
 /// Where the first slot of layout 2 begins, in bytes.
-pub const THIRD: u64 = 65_536;
+pub(crate) const THIRD: u64 = 65_536;
 
 /// Where the second slot of layout 2 begins, in bytes.
-pub const FOURTH: u64 = 196_608;
+pub(crate) const FOURTH: u64 = 196_608;
 
 /// Where the sequence of a slot is, counted from its gate.
 pub const SEQUENCE: u64 = 1;
@@ -26,13 +26,13 @@ pub const LENGTH: u64 = 9;
 pub const BODY: u64 = 13;
 
 /// Where the log of a slot of layout 1 begins, with its gate.
-pub const LOG: u64 = 16_384;
+pub(crate) const LOG: u64 = 16_384;
 
 /// The byte of an open gate; every other byte is a closed one.
-pub const OPEN: u8 = 0xA5;
+pub(crate) const OPEN: u8 = 0xA5;
 
 /// The byte that is written to close a gate.
-pub const CLOSED: u8 = 0;
+pub(crate) const CLOSED: u8 = 0;
 
 /// How the slots are laid out on a disk.
 #[derive(Clone, Copy, PartialEq, Eq)]

@@ -11,20 +11,18 @@
 
 mod disk_calls;
 mod fault;
-mod finding;
-mod formatting;
+mod heads;
 mod image;
 mod images;
 mod layout;
-mod memory;
-mod reading;
+mod new_disks;
 mod relay;
 mod slot;
 mod spans;
 
 pub use fault::ImageFault;
+pub use heads::{Head, Heads, read_heads};
 pub use images::Images;
 pub use layout::{BODY, LENGTH, Layout, SEQUENCE};
-pub use memory::new_disk;
-pub use reading::{Head, Heads, read_heads};
+pub use new_disks::new_disk;
 pub use slot::Slot;

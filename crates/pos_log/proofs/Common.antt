@@ -9,14 +9,14 @@ pub use Rattle.std.proofs.lemmas.Nat.{from_be_bytes-to_be_bytes_4}
 pub use Rattle.std.specs.Int.{from_be_bytes, to_be_bytes, w32}
 pub use Rattle.std.specs.List.{AllByRecursion}
 pub use Rattle.std.specs.Prelude.{slice_set}
-pub use Rattle.pos_disk.proofs.Bytes.{get_or-part, length-part, part-part, part-splice}
-pub use Rattle.pos_disk.proofs.Moments.{followed_by, weaker}
-pub use Rattle.pos_disk.proofs.Within.{kept_part, same_on, spliced_same, wider}
+pub use Rattle.pos_disk.proofs.ByteLemmas.{get_or-part, length-part, part-part, part-splice}
+pub use Rattle.pos_disk.proofs.MomentLemmas.{followed_by, weaker}
+pub use Rattle.pos_disk.proofs.RangeLemmas.{kept_part, same_on, spliced_same, wider}
 pub use Rattle.pos_disk.specs.State.{DiskState, HasNotFailed, LeavesOnly, Rises, part}
 pub use Rattle.pos_disk.specs.Within.{SameBut}
 pub use Rattle.pos_disk.specs.declared.device.Disk.{Ghosts}
-pub use Rattle.pos_image.proofs.Places.{log_some, places, same_layout}
-pub use Rattle.pos_image.proofs.Spanned.{image_length, span_length}
+pub use Rattle.pos_image.proofs.PlaceLemmas.{log_some, places, same_layout}
+pub use Rattle.pos_image.proofs.SpanLemmas.{image_length, span_length}
 pub use Rattle.pos_image.specs.Images.{CountsFaults, HasEither, IsReady, IsSound, Prepared, View, migrated_image, next_image, next_of}
 pub use Rattle.pos_image.specs.Layout.{is_open, layout_of, log_place, log_size, slot_size}
 pub use Rattle.pos_image.specs.Standing.{HasNewImage, ShowsImage, log_of}

@@ -1,9 +1,9 @@
 pub mod Common
-mod Appending
-pub mod Deciding
-pub mod Emptied
-pub mod Holding
-pub mod LaidOut
-pub mod Parsing
-mod Spanning
-pub mod Unique
+mod AppendLemmas
+pub mod DecisionLemmas
+pub mod RenewalLemmas
+pub mod RecordLemmas
+pub mod LayoutLemmas
+pub mod ReadLemmas
+mod SpanLemmas
+pub mod UniquenessLemmas

@@ -9,14 +9,13 @@
 //! changes nothing.
 #![tactic(auto)]
 
+mod append;
 mod fault;
-mod layout;
 mod log;
-mod reading;
+mod records;
 mod relay;
-mod renewing;
-mod writing;
+mod renewal;
 
 pub use fault::LogFault;
 pub use log::Log;
-pub use reading::find_damage;
+pub use records::find_damage;

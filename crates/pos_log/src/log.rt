@@ -7,11 +7,10 @@ ghost use Rattle.pos_image.specs.Layout.{slot_size, other, layout_of};
 ghost use Rattle.pos_image.specs.Standing.{log_of};
 ghost use Rattle.pos_log.specs.Records.{HoldsRecords, HoldsSome, end_of};
 
+use crate::append::{lay_out_record, write_through};
 use crate::fault::LogFault;
-use crate::layout::{HEAD, OPEN, REST};
-use crate::reading::read_records;
-use crate::renewing::{migrate_images, renew_images};
-use crate::writing::{lay_out_record, write_through};
+use crate::records::{HEAD, OPEN, REST, read_records};
+use crate::renewal::{migrate_images, renew_images};
 use pos_disk::Disk;
 use pos_image::{ImageFault, Images, Layout};
 use std::alloc::Global;

@@ -2,7 +2,7 @@
 use Rattle.std.proofs.Common.{subst}
 use Rattle.pos_disk.proofs.Common.{Bool, Err, List, Memory, Ok, arith, false, fresh, length}
 use Rattle.pos_disk.proofs.Common.{refl, sym, synced, true, written, ℕ, ◌≤◌}
-use Rattle.pos_disk.proofs.Bytes.{part-splice}
+use Rattle.pos_disk.proofs.ByteLemmas.{part-splice}
 use Rattle.pos_disk.specs.Memory.{LeftSince}
 use Rattle.pos_disk.specs.declared.device.Disk.{Ghosts}
 use Rattle.pos_mirror.proofs.ShownLemmas.{keeps, longer}

@@ -1,5 +1,5 @@
 pub mod AskedLemmas
-mod CallsLemmas
+mod CallLemmas
 mod MirrorLemmas
 mod ShownLemmas
 mod StepLemmas

@@ -1,11 +1,11 @@
 -- What memory shows of an honest disk below, and what a crash leaves of both.
 use Rattle.pos_disk.proofs.Common.{DiskState, Elapses, Err, InRange, IsAtRest, List, MayLeave, Ok, Reads, Result, Spoils, Syncs, Writes}
 use Rattle.pos_disk.proofs.Common.{arith, common_steps, false, fresh, get_or, length, part, refl, splice, state_of, sym, take, true, ℕ, ⊎_elim, ◌+◌, ◌-◌, ◌∙◌, ◌<◌, ◌≡◌, ◌≤◌}
-use Rattle.pos_disk.proofs.Bytes.{get_or-part, in_range, spliced_within}
+use Rattle.pos_disk.proofs.ByteLemmas.{get_or-part, in_range, spliced_within}
 use Rattle.pos_disk.specs.declared.device.DiskFault.{DiskFault}
 use Rattle.pos_disk.specs.Kept.{counts}
 use Rattle.pos_disk.specs.State.{CountsNow}
-use Rattle.pos_mirror.proofs.CallsLemmas.{no_time, spoils_of}
+use Rattle.pos_mirror.proofs.CallLemmas.{no_time, spoils_of}
 use Rattle.pos_mirror.specs.Mirror.{Covers, Follows, Shows}
 
 -- memory alone is written

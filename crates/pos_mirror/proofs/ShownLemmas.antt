@@ -3,8 +3,8 @@ use Rattle.std.proofs.Math.Seq.{get_or-append_seam}
 use Rattle.pos_disk.proofs.Common.{Elapses, HasCause, InRange, LeftAt, LeftSince, List, Memory, Moment, Ok, Reads, Syncs, Writes, [], arith, cases_lt}
 use Rattle.pos_disk.proofs.Common.{common_steps, false, get_or, get_or_append_left, get_or_default, inl, inr, length, length-append, length-replicate, part, refl}
 use Rattle.pos_disk.proofs.Common.{replicate, splice, state_of, synced, true, written, ℕ, ⊎_elim, ◌++◌, ◌+◌, ◌<◌, ◌∙◌, ◌∷◌, ◌≡◌, ◌≤◌, ◌⊎◌}
-use Rattle.pos_disk.proofs.Bytes.{in_range, length-splice, spliced_elsewhere, spliced_within}
-use Rattle.pos_mirror.proofs.CallsLemmas.{no_time}
+use Rattle.pos_disk.proofs.ByteLemmas.{in_range, length-splice, spliced_elsewhere, spliced_within}
+use Rattle.pos_mirror.proofs.CallLemmas.{no_time}
 
 -- one moment more has gone by
 module _ (past : List Moment) (present next : Moment) where

@@ -9,7 +9,7 @@ use Rattle.pos_disk.specs.declared.device.Disk.{Ghosts}
 use Rattle.pos_mirror.specs.Calls.{FollowsOn, Rereads}
 use Rattle.pos_mirror.specs.Mirror.{Covers, Follows, IsMirror, Makes, Mirror, Shows, begun, counts_mirrored, found, ignored, mirror_of, mirror_state}
 use Rattle.pos_mirror.specs.Mirror.{settled, unread, unsettled, wrote}
-use Rattle.pos_mirror.proofs.CallsLemmas.{no_time, spoils_of, time_under}
+use Rattle.pos_mirror.proofs.CallLemmas.{no_time, spoils_of, time_under}
 use Rattle.pos_mirror.proofs.MirrorLemmas.{covers_both, covers_looked, covers_memory, covers_sync, follows_on, follows_read, shows_found, shows_lost, shows_read}
 use Rattle.pos_mirror.proofs.MirrorLemmas.{shows_synced, shows_written}
 

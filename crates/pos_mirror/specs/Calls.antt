@@ -5,8 +5,8 @@ use Rattle.pos_disk.specs.Memory.{Memory, fresh, written, synced}
 use Rattle.pos_disk.specs.Fuse.{counted, failures_after}
 use Rattle.pos_disk.specs.Unkept.{is_fault}
 use Rattle.pos_disk.specs.declared.device.Disk.{Ghosts}
-use Rattle.pos_mirror.specs.declared.fault.MirrorFault.{MirrorFault}
-use Rattle.pos_mirror.specs.declared.fault.MirrorFault.TheVariants as fault
+use Rattle.pos_mirror.specs.declared.mirror.MirrorFault.{MirrorFault}
+use Rattle.pos_mirror.specs.declared.mirror.MirrorFault.TheVariants as fault
 use Rattle.pos_mirror.specs.Mirror.{Follows, Mirror, mirror_of, mirror_state}
 
 -- the disk that a mirror is over, or that is returned

@@ -9,10 +9,8 @@
 //! an honest disk, a crash leaves of that disk only what it may leave of the mirror.
 #![tactic(auto)]
 
-mod fault;
 mod known;
 mod mirror;
 mod shown;
 
-pub use fault::MirrorFault;
-pub use mirror::MirrorDisk;
+pub use mirror::{MirrorDisk, MirrorFault};

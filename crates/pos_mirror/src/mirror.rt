@@ -5,11 +5,11 @@ ghost use Rattle.pos_disk.specs.Fuse.{counted};
 ghost use Rattle.pos_mirror.specs.Mirror.{FollowsSince, IsMirror, mirror_state};
 ghost use Rattle.pos_mirror.specs.Calls.{Calls, Opens, disk_of};
 
-use crate::fault::MirrorFault;
 use crate::shown::Shown;
 use pos_disk::{Disk, DiskFault};
 use std::alloc::Global;
 use std::marker::Model;
+use thiserror::Error;
 
 /// A disk in memory over another disk, which needn't be honest.
 ///
@@ -203,4 +203,18 @@ impl<D: Disk> Disk for MirrorDisk<D> {
         self.memory.sync();
         Ok(())
     }
+}
+
+/// Why a disk can't be mirrored.
+#[derive(Clone, Copy, Debug, PartialEq, Eq, Error)]
+pub enum MirrorFault {
+    /// Memory for the bytes of the disk ran out.
+    #[error("there was no memory")]
+    NoMemory,
+    /// A sync of the disk failed.
+    #[error("the disk can't be synced")]
+    Sync,
+    /// A read of the disk failed.
+    #[error("the disk can't be read")]
+    Read,
 }

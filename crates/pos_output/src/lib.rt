@@ -7,8 +7,6 @@
 //! and a refusal changes nothing.
 #![tactic(auto)]
 
-mod fault;
 mod queue;
 
-pub use fault::PutFault;
-pub use queue::OutputQueue;
+pub use queue::{OutputQueue, PutFault};

@@ -1,13 +1,12 @@
 //! The outstanding output of one control.
 ghost use Rattle.std.specs.Prelude.{◌≡◌, ◌==◌, ◌<◌, true, Some, length, option_map, IsSome, IfOk, IfErr};
-ghost use Rattle.pos_service.specs.Output.{last_output_id, no_output, output_deleted, request_done, request_failed};
-ghost use Rattle.pos_service.specs.Output.{request_retried, request_to_do, with_request};
+ghost use Rattle.pos_service.specs.Output.{last_output_id, no_output, output_deleted, request_done, request_failed, request_retried, request_to_do, with_request};
 
-use crate::fault::PutFault;
 use pos_service::Order;
 use std::alloc::Global;
 use std::collections::VecDeque;
 use std::marker::Model;
+use thiserror::Error;
 
 /// The outstanding output of a control: its requests with their OutputIDs, oldest first (common chapter, OutputID). It
 /// also has whether the first has failed, and the OutputID of the next. Contracts see these.
@@ -137,4 +136,15 @@ impl OutputQueue {
         self.requests.clear();
         self.is_failed = false;
     }
+}
+
+/// Why a request was not queued. Nothing has changed then.
+#[derive(Clone, Copy, Debug, PartialEq, Eq, Error)]
+pub enum PutFault {
+    /// No OutputID is left: the next one would be 18,446,744,073,709,551,615.
+    #[error("no OutputID is left")]
+    Exhausted,
+    /// Memory ran out.
+    #[error("no memory")]
+    NoMemory,
 }

@@ -4,11 +4,11 @@ use Rattle.std.proofs.lemmas.List.{length-map, map-set}
 use Rattle.std.proofs.lemmas.Option.{get_or_from_slice_get, slice_get-get_or, slice_get-map, slice_get_within, MatchOption-at_some, option_and_then_some}
 use Rattle.std.specs.Option.{option_and_then, option_map}
 use Rattle.std.specs.Prelude.{Option, Some, None, Result, IsTrue, MatchOption, is_some, slice_get, slice_set}
-use Rattle.pos_service.specs.declared.memory.NoMemory.{NoMemory}
+use Rattle.pos_service.specs.declared.faults.NoMemory.{NoMemory}
 use Rattle.pos_service.specs.declared.order.Order.{Order}
 use Rattle.pos_service.specs.declared.signs.Signs.{Signs}
-use Rattle.pos_service.specs.declared.worked.Worked.{Worked}
-use Rattle.pos_service.specs.declared.worked.Worked.TheVariants as worked
+use Rattle.pos_service.specs.declared.answer.Worked.{Worked}
+use Rattle.pos_service.specs.declared.answer.Worked.TheVariants as worked
 use Rattle.pos_service.specs.Codes.{code_by, extended_by}
 use Rattle.pos_service.specs.Controls.{Control, all_listening, completed, if_listening, listens, output_failed}
 use Rattle.pos_service.specs.declared.order.Reply.{Reply}

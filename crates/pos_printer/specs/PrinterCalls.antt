@@ -12,13 +12,13 @@ use Rattle.pos_service.specs.declared.deed.Change.TheVariants as change
 use Rattle.pos_service.specs.declared.deed.Deed.{Deed}
 use Rattle.pos_service.specs.declared.deed.Deed.TheVariants as deed
 use Rattle.pos_service.specs.declared.kind.Kind.{Kind}
-use Rattle.pos_service.specs.declared.memory.NoMemory.{NoMemory}
+use Rattle.pos_service.specs.declared.faults.NoMemory.{NoMemory}
 use Rattle.pos_service.specs.declared.order.Order.{Order}
 use Rattle.pos_service.specs.declared.order.Order.TheVariants as order
 use Rattle.pos_service.specs.declared.order.Reply.{Reply}
 use Rattle.pos_service.specs.declared.order.Reply.TheVariants as reply
-use Rattle.pos_service.specs.declared.worked.Worked.{Worked}
-use Rattle.pos_service.specs.declared.worked.Worked.TheVariants as worked
+use Rattle.pos_service.specs.declared.answer.Worked.{Worked}
+use Rattle.pos_service.specs.declared.answer.Worked.TheVariants as worked
 use Rattle.pos_service.specs.Codes.{code_by, extended_by}
 use Rattle.pos_common.specs.DueRequests.{first_request}
 use Rattle.pos_common.specs.OwnCalls.{OwnCall, OwnOrders}

@@ -10,8 +10,8 @@
 
 mod calls;
 mod inputs;
-mod working;
+mod output;
 
 pub use calls::call;
 pub use inputs::input;
-pub use working::work;
+pub use output::work;

@@ -12,10 +12,10 @@ pub use Rattle.pos_profile.specs.Soundness.{AreOrders, IsInItsRange, IsNamedFor,
 pub use Rattle.pos_profile.specs.Tables.{allowed, category_for, data_of, failing_in, flaky_in, has_only, is_key, key_of, name_for, number_within, values_at}
 pub use Rattle.pos_profile.specs.declared.entry.Entry.{Entry}
 pub use Rattle.pos_profile.specs.declared.mistake.Reason.{Reason}
-pub use Rattle.pos_profile.specs.declared.planning.Planned.{Planned}
-pub use Rattle.pos_profile.specs.declared.reading.Numbers.{Numbers}
-pub use Rattle.pos_profile.specs.declared.role.Role.{Role}
-pub use Rattle.pos_profile.specs.declared.role.Role.TheVariants.{Spare}
+pub use Rattle.pos_profile.specs.declared.plans.Planned.{Planned}
+pub use Rattle.pos_profile.specs.declared.entry_reader.Numbers.{Numbers}
+pub use Rattle.pos_profile.specs.declared.entry.Role.{Role}
+pub use Rattle.pos_profile.specs.declared.entry.Role.TheVariants.{Spare}
 pub use Rattle.pos_profile.specs.declared.table.Keys.TheVariants.{OfEntry}
 pub use Rattle.pos_profile.specs.declared.variation.Variation.{Variation}
 pub use Rattle.pos_service.specs.Peripherals.{IsInRange, PeripheralState}

@@ -4,7 +4,7 @@ use Rattle.pos_profile.proofs.Common.{Option, Reason, Some, Spare, [], add-one, 
 use Rattle.pos_profile.proofs.Common.{is_refused_after, is_repeated, is_root, is_totals, key_of, length, length-map, map, mistake_at, names_of, option_map}
 use Rattle.pos_profile.proofs.Common.{refl, slice_get, slice_get-map, suc, sym, take, take-append-le, true, values_at, zero, ℕ, ◌++◌, ◌+◌, ◌-◌, ◌<◌, ◌∙◌, ◌∷◌}
 use Rattle.pos_profile.proofs.Common.{◌≡◌}
-use Rattle.pos_profile.specs.declared.role.Role.TheVariants.{Device}
+use Rattle.pos_profile.specs.declared.entry.Role.TheVariants.{Device}
 use Rattle.pos_profile.proofs.ListLemmas.{none_past}
 use Rattle.pos_profile.proofs.SoundLemmas.{entry_sound, list_sound}
 

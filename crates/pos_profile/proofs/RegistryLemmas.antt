@@ -16,7 +16,7 @@ use Rattle.std.proofs.lemmas.List.Elements.{All-map, filter_map-append, recursio
 use Rattle.std.proofs.lemmas.Option.{same_Some}
 use Rattle.std.specs.List.{All}
 use Rattle.std.specs.Option.{option_map}
-use Rattle.pos_profile.specs.declared.role.Role.TheVariants as role
+use Rattle.pos_profile.specs.declared.entry.Role.TheVariants as role
 
 -- what one more entry plans
 pub planned_more : (entries : List Entry) (place : ℕ) (entry : Entry) → place < length entries → entry ≡ get_or entries place entry

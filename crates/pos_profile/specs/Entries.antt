@@ -7,8 +7,8 @@ use Rattle.pos_profile.specs.declared.number.NumberKey.{NumberKey}
 use Rattle.pos_profile.specs.declared.number.NumberKey.TheVariants.{Rows, Columns, Chars, Lines, Near}
 use Rattle.pos_profile.specs.declared.optional.OptionalKey.{OptionalKey}
 use Rattle.pos_profile.specs.declared.optional.OptionalKey.TheVariants.{Ring, Flaky, Record}
-use Rattle.pos_profile.specs.declared.role.Role.{Role}
-use Rattle.pos_profile.specs.declared.reading.Numbers.{Numbers}
+use Rattle.pos_profile.specs.declared.entry.Role.{Role}
+use Rattle.pos_profile.specs.declared.entry_reader.Numbers.{Numbers}
 use Rattle.pos_profile.specs.declared.table.Keys.TheVariants.{OfEntry}
 use Rattle.pos_profile.specs.declared.variation.Variation.{Variation}
 use Rattle.pos_profile.specs.Numbers.{has_number}

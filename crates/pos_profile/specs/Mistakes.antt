@@ -10,12 +10,12 @@ use Rattle.pos_profile.specs.declared.mistake.Place.{Place}
 use Rattle.pos_profile.specs.declared.mistake.Place.TheVariants.{Root, Listed}
 use Rattle.pos_profile.specs.declared.mistake.Reason.{Reason}
 use Rattle.pos_profile.specs.declared.mistake.Reason.TheVariants as reason
-use Rattle.pos_profile.specs.declared.role.Role.{Role}
-use Rattle.pos_profile.specs.declared.role.Role.TheVariants.{Device, Spare}
-use Rattle.pos_profile.specs.declared.reading.EntryFault.{EntryFault}
-use Rattle.pos_profile.specs.declared.reading.EntryFault.TheVariants as entry
-use Rattle.pos_profile.specs.declared.listing.ListFault.{ListFault}
-use Rattle.pos_profile.specs.declared.listing.ListFault.TheVariants as list
+use Rattle.pos_profile.specs.declared.entry.Role.{Role}
+use Rattle.pos_profile.specs.declared.entry.Role.TheVariants.{Device, Spare}
+use Rattle.pos_profile.specs.declared.entry_reader.EntryFault.{EntryFault}
+use Rattle.pos_profile.specs.declared.entry_reader.EntryFault.TheVariants as entry
+use Rattle.pos_profile.specs.declared.entry_list.ListFault.{ListFault}
+use Rattle.pos_profile.specs.declared.entry_list.ListFault.TheVariants as list
 use Rattle.pos_profile.specs.declared.root.DocumentFault.{DocumentFault}
 use Rattle.pos_profile.specs.declared.root.DocumentFault.TheVariants as document
 use Rattle.pos_profile.specs.declared.root.Lists.{Lists}

@@ -4,11 +4,11 @@ use Rattle.std.specs.Prelude.{Err, ⊤}
 use Rattle.std.specs.List.{list_any}
 use Rattle.toml.specs.Data.{Members, get_member}
 use Rattle.pos_profile.specs.declared.entry.Entry.{Entry}
-use Rattle.pos_profile.specs.declared.role.Role.{Role}
-use Rattle.pos_profile.specs.declared.role.Role.TheVariants.{Device, Spare}
+use Rattle.pos_profile.specs.declared.entry.Role.{Role}
+use Rattle.pos_profile.specs.declared.entry.Role.TheVariants.{Device, Spare}
 use Rattle.pos_profile.specs.declared.table.Keys.TheVariants.{OfRoot}
-use Rattle.pos_profile.specs.declared.fault.ProfileFault.{ProfileFault}
-use Rattle.pos_profile.specs.declared.fault.ProfileFault.TheVariants as fault
+use Rattle.pos_profile.specs.declared.profile.ProfileFault.{ProfileFault}
+use Rattle.pos_profile.specs.declared.profile.ProfileFault.TheVariants as fault
 use Rattle.pos_profile.specs.Categories.{is_totals}
 use Rattle.pos_profile.specs.Tables.{has_only, is_key, is_list, key_of, values_at}
 use Rattle.pos_profile.specs.Entries.{entry_of, Contents}

@@ -6,12 +6,12 @@ use Rattle.pos_service.specs.declared.kind.Kind.{Kind}
 use Rattle.pos_service.specs.declared.peripheral.Peripheral.{Ghosts}
 use Rattle.pos_service.specs.Peripherals.{IsInRange, PeripheralState}
 use Rattle.pos_profile.specs.declared.entry.Entry.{Entry}
-use Rattle.pos_profile.specs.declared.planning.Planned.{Planned}
+use Rattle.pos_profile.specs.declared.plans.Planned.{Planned}
 use Rattle.pos_profile.specs.declared.registry.Registry.{Registry}
-use Rattle.pos_service.specs.declared.exchange_fault.AttachFault.{AttachFault}
-use Rattle.pos_service.specs.declared.exchange_fault.AttachFault.TheVariants as attach
-use Rattle.pos_service.specs.declared.exchange_fault.DetachFault.{DetachFault}
-use Rattle.pos_service.specs.declared.exchange_fault.DetachFault.TheVariants as detach
+use Rattle.pos_service.specs.declared.faults.AttachFault.{AttachFault}
+use Rattle.pos_service.specs.declared.faults.AttachFault.TheVariants as attach
+use Rattle.pos_service.specs.declared.faults.DetachFault.{DetachFault}
+use Rattle.pos_service.specs.declared.faults.DetachFault.TheVariants as detach
 use Rattle.pos_profile.specs.declared.slot.Slot.{Slot}
 use Rattle.pos_profile.specs.Kinds.{kind_of}
 use Rattle.pos_profile.specs.Places.{IsIndexOf, place_of}

@@ -8,8 +8,8 @@ use Rattle.pos_profile.specs.declared.number.NumberKey.{NumberKey}
 use Rattle.pos_profile.specs.declared.number.NumberKey.TheVariants.{Rows, Columns, Chars, Lines, Near}
 use Rattle.pos_profile.specs.declared.optional.OptionalKey.{OptionalKey}
 use Rattle.pos_profile.specs.declared.optional.OptionalKey.TheVariants.{Ring, Flaky, Record}
-use Rattle.pos_profile.specs.declared.role.Role.{Role}
-use Rattle.pos_profile.specs.declared.role.Role.TheVariants.{Device, Spare}
+use Rattle.pos_profile.specs.declared.entry.Role.{Role}
+use Rattle.pos_profile.specs.declared.entry.Role.TheVariants.{Device, Spare}
 use Rattle.pos_profile.specs.Entries.{Contents}
 use Rattle.pos_profile.specs.Kinds.{kind_of}
 use Rattle.pos_profile.specs.Numbers.{has_number, least_of, most_of}

@@ -9,8 +9,8 @@ use Rattle.pos_service.specs.Categories.{category_named}
 use Rattle.pos_profile.specs.declared.number.NumberKey.{NumberKey}
 use Rattle.pos_profile.specs.declared.optional.OptionalKey.{OptionalKey}
 use Rattle.pos_profile.specs.declared.optional.OptionalKey.TheVariants.{Flaky}
-use Rattle.pos_profile.specs.declared.role.Role.{Role}
-use Rattle.pos_profile.specs.declared.role.Role.TheVariants.{Device, Spare}
+use Rattle.pos_profile.specs.declared.entry.Role.{Role}
+use Rattle.pos_profile.specs.declared.entry.Role.TheVariants.{Device, Spare}
 use Rattle.pos_profile.specs.declared.table.Keys.{Keys}
 use Rattle.pos_profile.specs.declared.table.Keys.TheVariants.{OfRoot, OfEntry}
 use Rattle.pos_profile.specs.Numbers.{key_of_number, least_of, most_of, is_number_key}

@@ -4,8 +4,8 @@ ghost use Rattle.pos_profile.specs.Built.{built, built_devices, built_spares};
 
 use crate::category::{ALL_CATEGORIES, SPARE_CATEGORY, built_device};
 use crate::entry::Entry;
+use crate::entry_reader::{NO_NUMBERS, named_entry};
 use crate::profile::Profile;
-use crate::reading::{NO_NUMBERS, named_entry};
 use crate::variation::PLAIN;
 use pos_service::NoMemory;
 use std::alloc::Global;

@@ -4,7 +4,7 @@ ghost use Rattle.pos_profile.specs.Categories.{is_totals};
 ghost use Rattle.pos_profile.specs.Kinds.{built_entry, kind_with};
 
 use crate::entry::Entry;
-use crate::reading::{NO_NUMBERS, Numbers, named_entry};
+use crate::entry_reader::{NO_NUMBERS, Numbers, named_entry};
 use crate::variation::PLAIN;
 use pos_service::{Category, Kind, NoMemory};
 use std::alloc::Global;

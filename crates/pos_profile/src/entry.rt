@@ -1,6 +1,7 @@
-//! An entry of a profile.
+//! An entry of a profile, and the two lists of entries.
 ghost use Rattle.std.specs.Prelude.{◌≡◌};
 ghost use Rattle.pos_profile.specs.Kinds.{kind_of};
+ghost use Rattle.pos_profile.specs.Tables.{key_of};
 
 use crate::category::kind_with;
 use crate::text::Text;
@@ -40,5 +41,26 @@ impl Entry {
         ensures { result ≡ kind_of self.now }
     {
         kind_with(self.category, self)
+    }
+}
+
+/// The list of a profile that an entry is in.
+#[derive(Clone, Copy, PartialEq, Eq)]
+pub enum Role {
+    /// A device of the counter.
+    Device,
+    /// A peripheral that may be attached in place of another.
+    Spare,
+}
+
+impl Role {
+    /// Returns the key of the list at the root.
+    pub fn key(self) -> &'static str
+        ensures { result.now ≡ key_of self }
+    {
+        match self {
+            Role::Device => "device",
+            Role::Spare => "spare",
+        }
     }
 }

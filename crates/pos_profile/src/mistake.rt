@@ -1,8 +1,8 @@
 //! What isn't sound in a profile.
 use crate::category::{DEVICE_CATEGORIES, SPARE_CATEGORIES};
+use crate::entry::Role;
 use crate::number::NumberKey;
 use crate::optional::OptionalKey;
-use crate::role::Role;
 use crate::table::MOST_ORDERS;
 use crate::text::Text;
 use std::fmt;

@@ -2,7 +2,7 @@
 ghost use Rattle.std.specs.Prelude.{◌≡◌, IfOk, OnOk, map};
 ghost use Rattle.pos_profile.specs.Places.{IsIndexOf, IsNoted, found_in};
 
-use crate::planning::Planned;
+use crate::plans::Planned;
 use indexmap::IndexMap;
 use pos_service::NoMemory;
 use std::alloc::Global;

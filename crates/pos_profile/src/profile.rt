@@ -8,12 +8,13 @@ ghost use Rattle.pos_profile.specs.Profiles.{FromDocument, Gives};
 
 use crate::category::is_totals;
 use crate::entry::Entry;
-use crate::fault::ProfileFault;
-use crate::listing::first_repeated;
+use crate::entry_list::first_repeated;
 use crate::root::{DocumentFault, Lists, read_document};
+use crate::text::Text;
 use pos_service::NoMemory;
 use std::alloc::Global;
 use std::marker::Model;
+use thiserror::Error;
 use toml::Table;
 
 /// The devices of a counter and its spares, each in the order of the profile (docs/reference/profile.md).
@@ -101,4 +102,22 @@ impl Profile {
     {
         self.spares.as_slice()
     }
+}
+
+/// Why a text is no profile.
+#[derive(Debug, Drop, Error)]
+pub enum ProfileFault {
+    /// The text is no TOML document.
+    #[error("the profile is no TOML document")]
+    BadText,
+    /// An entry isn't sound. The number is the lowest of what isn't sound: 0 for the root, and from 1 on the entries,
+    /// devices counted before spares.
+    #[error("entry {0} of the profile is not sound")]
+    BadEntry(usize),
+    /// Two devices have the same name: the first that comes a second time.
+    #[error("two devices of the profile have the name {0}")]
+    Duplicate(Text),
+    /// Memory ran out.
+    #[error("no memory")]
+    NoMemory,
 }

@@ -9,7 +9,7 @@ ghost use Rattle.pos_profile.specs.Registries.{AreParked, Attaches, Detaches, Is
 
 use crate::laws::is_profile;
 use crate::places::Places;
-use crate::planning::{Planned, plan};
+use crate::plans::{Planned, plan};
 use crate::profile::Profile;
 use crate::slot::Slot;
 use pos_service::{AttachFault, DetachFault, Kind, NoMemory, Peripheral};

@@ -5,11 +5,10 @@ ghost use Rattle.pos_profile.specs.declared.root.DocumentFault.TheVariants.{Mist
 ghost use Rattle.pos_profile.specs.Mistakes.{ChecksRoot, ReadsDocument, ReadsList, mistake_at};
 ghost use Rattle.pos_profile.specs.Tables.{key_of, values_at};
 
-use crate::entry::Entry;
-use crate::listing::{Flaw, ListFault, read_entries};
+use crate::entry::{Entry, Role};
+use crate::entry_list::{Flaw, ListFault, read_entries};
+use crate::entry_reader::EntryFault;
 use crate::mistake::{Mistake, Place, Reason};
-use crate::reading::EntryFault;
-use crate::role::Role;
 use crate::table::{Keys, is_list, unknown_key, values_at};
 use crate::text::Text;
 use pos_service::NoMemory;

@@ -1,10 +1,10 @@
-//! A place of a registry.
+//! A place of a registry, and how what serves it ends.
 ghost use Rattle.std.specs.Prelude.{◌≡◌, Some, is_some, true};
 ghost use Rattle.std.specs.Borrow.{sem};
 ghost use Rattle.pos_profile.specs.Lending.{slot_lends};
-ghost use Rattle.pos_profile.specs.Registries.{device_of, parked};
+ghost use Rattle.pos_profile.specs.Registries.{device_of, parked, AreParked, devices_of};
 
-use pos_service::{Bytes, Kind, Peripheral};
+use pos_service::{Bytes, Ends, Kind, Peripheral};
 
 /// A device of a registry, and the peripheral that serves it.
 pub struct Slot<P> {
@@ -40,4 +40,21 @@ impl<P: Peripheral> Slot<P> {
             peripheral.park();
         }
     }
+}
+
+/// Ends the entries of a registry that was taken apart, each with what served it, which is out of service.
+pub fn end_all<P: Ends>(mut entries: Vec<Slot<P>>)
+    requires { AreParked (devices_of P.Peripheral entries.items) }
+{
+    while let Some(entry) = entries.pop() {
+        let Slot {
+            name: _,
+            kind: _,
+            peripheral,
+        } = entry;
+        if let Some(peripheral) = peripheral {
+            peripheral.end();
+        }
+    }
+    entries.destroy_empty();
 }

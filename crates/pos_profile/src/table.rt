@@ -6,9 +6,9 @@ ghost use Rattle.pos_profile.specs.Numbers.{is_number_key};
 ghost use Rattle.pos_profile.specs.OptionalKeys.{is_option_key, most_orders};
 ghost use Rattle.pos_profile.specs.Tables.{FindsUnknown, array_in, failing_number, failing_in, flaky_at, is_category_key, is_key, is_list, number_at, number_within, text_at, truth_at, values_at};
 
+use crate::entry::Role;
 use crate::number::{ALL_NUMBERS, NumberKey};
 use crate::optional::{ALL_OPTIONS, OptionalKey};
-use crate::role::Role;
 use pos_service::Category;
 use toml::{Table, Value};
 

@@ -5,7 +5,7 @@ use Rattle.std.proofs.Math.Seq.{get_or-append_seam}
 use Rattle.std.proofs.lemmas.Grind.{common_steps}
 use Rattle.std.proofs.lemmas.List.{take-append-drop}
 use Rattle.std.specs.Prelude.{Result, Ok, Err, OnOk}
-use Rattle.pos_disk.proofs.Moments.{rest_leaves}
+use Rattle.pos_disk.proofs.MomentLemmas.{rest_leaves}
 use Rattle.pos_disk.specs.Fuse.{may_under}
 use Rattle.pos_disk.specs.Kept.{from_moment, to_moment}
 use Rattle.pos_disk.specs.Memory.{LeftAt, Memory, Moment, state_of, written}

@@ -1,5 +1,5 @@
 mod LeftLemmas
-pub mod Migrated
+pub mod MigrationLemmas
 mod MirroredLemmas
-pub mod Parses
+pub mod ParseLemmas
 mod ReadLemmas

@@ -4,7 +4,7 @@ use Rattle.std.proofs.Common.{Err, None, Ok, Some, append_assoc, ◌++◌, ◌==
 use Rattle.std.proofs.lemmas.Bool.Decides.{nat_tests}
 use Rattle.std.proofs.Math.Seq.{take-length}
 use Rattle.std.specs.Bool.{MatchBool}
-use Rattle.pos_disk.proofs.Bytes.{part-splice}
+use Rattle.pos_disk.proofs.ByteLemmas.{part-splice}
 use Rattle.pos_disk.specs.Memory.{Memory, fresh, synced, written}
 use Rattle.pos_disk.specs.State.{Answer}
 use Rattle.pos_disk.specs.Unkept.{is_fault}

@@ -9,7 +9,7 @@ use Rattle.pos_file.specs.declared.file_disk.FileDisk.{FileDisk}
 use Rattle.pos_image.specs.Layout.{disk_size}
 use Rattle.pos_mirror.specs.Calls.{Opens as MirrorOpens}
 use Rattle.pos_mirror.specs.Mirror.{Mirror}
-use Rattle.pos_mirror.specs.declared.fault.MirrorFault.{MirrorFault}
+use Rattle.pos_mirror.specs.declared.mirror.MirrorFault.{MirrorFault}
 use Rattle.pos_program.proofs.MirroredLemmas.{all_moved, unfailed}
 use Rattle.pos_program.specs.Answers.{Passes}
 use Rattle.pos_program.specs.TotalsDisks.{AreRead, MirrorsDisk, OpensDisk, TellsDisk, TellsMirror}

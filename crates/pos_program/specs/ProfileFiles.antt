@@ -9,8 +9,8 @@ use Rattle.toml.specs.Parse.{parse_document}
 use Rattle.pos_profile.specs.Entries.{Contents}
 use Rattle.pos_profile.specs.Mistakes.{Explains}
 use Rattle.pos_profile.specs.Profiles.{FromDocument}
-use Rattle.pos_profile.specs.declared.fault.ProfileFault.{ProfileFault}
-use Rattle.pos_profile.specs.declared.fault.ProfileFault.TheVariants as refusal
+use Rattle.pos_profile.specs.declared.profile.ProfileFault.{ProfileFault}
+use Rattle.pos_profile.specs.declared.profile.ProfileFault.TheVariants as refusal
 use Rattle.pos_program.specs.declared.file_system.FileSystem.{Ghosts}
 use Rattle.pos_program.specs.declared.profile_fault.ProfileFileFault.{ProfileFileFault}
 use Rattle.pos_program.specs.declared.profile_fault.ProfileFileFault.TheVariants as fault

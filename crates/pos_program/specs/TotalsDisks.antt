@@ -15,8 +15,8 @@ use Rattle.pos_file.specs.declared.file_disk.FileDisk.{FileDisk}
 use Rattle.pos_image.specs.Layout.{disk_size}
 use Rattle.pos_mirror.specs.Calls.{Opens as MirrorOpens}
 use Rattle.pos_mirror.specs.Mirror.{Mirror, mirror_of}
-use Rattle.pos_mirror.specs.declared.fault.MirrorFault.{MirrorFault}
-use Rattle.pos_mirror.specs.declared.fault.MirrorFault.TheVariants as mirror
+use Rattle.pos_mirror.specs.declared.mirror.MirrorFault.{MirrorFault}
+use Rattle.pos_mirror.specs.declared.mirror.MirrorFault.TheVariants as mirror
 use Rattle.pos_program.specs.Answers.{AnswersFor, Passes}
 use Rattle.pos_program.specs.Faults.{TellsOpen, TellsUnreadable}
 use Rattle.pos_program.specs.Locks.{TellsUnlocked}

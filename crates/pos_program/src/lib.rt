@@ -15,15 +15,13 @@ mod fault;
 mod file_fault;
 mod file_system;
 mod first_paragraph;
-mod formatting;
-mod locking;
-mod migrating;
-mod mirrored_file;
+mod migration;
 mod named_files;
+mod new_totals;
 mod one_line;
-mod opening;
 mod profile_fault;
 mod profile_file;
+mod run_files;
 mod totals_disk;
 mod totals_file;
 mod words;
@@ -33,17 +31,16 @@ pub use fault::{Fault, status_of};
 pub use file_fault::FileFault;
 pub use file_system::FileSystem;
 pub use first_paragraph::FirstParagraph;
-pub use formatting::{format_disk, format_file, format_totals};
-pub use migrating::{migrate_disk, migrate_file, migrate_totals};
-pub use mirrored_file::file_is_mirrored;
+pub use migration::{migrate_disk, migrate_file, migrate_totals};
 pub use named_files::{NamedFiles, SystemFiles};
+pub use new_totals::{format_disk, format_file, format_totals};
 pub use one_line::OneLine;
-pub use opening::open_run;
 pub use profile_fault::ProfileFileFault;
 pub use profile_file::{profile_of_bytes, profile_of_text, read_profile};
+pub use run_files::open_run;
 pub use totals_disk::{
-    TotalsDisk, disk_over, disk_to_read, lengthened, make_totals, mirrored, open_totals,
-    sync_folder,
+    TotalsDisk, disk_over, disk_to_read, file_is_mirrored, lengthened, make_totals, mirrored,
+    open_totals, sync_folder,
 };
 pub use totals_file::{open_file, read_totals};
 pub use words::{Task, choice, read_words};

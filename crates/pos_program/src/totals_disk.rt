@@ -1,14 +1,15 @@
 //! The disk of the totals in a file, mirrored in memory.
-ghost use Rattle.std.specs.Prelude.{◌≡◌, ◌≤◌, IfOk, false, length};
+ghost use Rattle.std.specs.Prelude.{◌≡◌, ◌≤◌, IfOk, false, length, List, ℕ};
 ghost use Rattle.pos_file.specs.Calls.{lock_call, share_call};
 ghost use Rattle.pos_image.specs.Layout.{disk_size};
 ghost use Rattle.pos_program.specs.Faults.{TellsOpen};
-ghost use Rattle.pos_program.specs.TotalsDisks.{IsLongEnough, IsNewMirror, LengthensDisk, MakesLong, MakesTotals, MirrorsDisk, OpensDisk};
-ghost use Rattle.pos_program.specs.TotalsDisks.{OpensFile, OpensTotals, SyncsFolder, TellsDisk, folder_of, to_write};
+ghost use Rattle.pos_program.specs.TotalsDisks.{IsLongEnough, IsNewMirror, LengthensDisk, MakesLong, MakesTotals, MirrorsDisk, OpensDisk, OpensFile, OpensTotals, SyncsFolder, TellsDisk, folder_of, to_write};
+ghost use Rattle.pos_program.specs.Locks.{TellsUnlocked};
+ghost use Rattle.pos_mirror.specs.Mirror.{mirror_state};
+ghost use Rattle.pos_program.specs.MirroredFiles.{CutMayLeave, IsMirrored};
 
 use crate::file_fault::FileFault;
 use crate::file_system::FileSystem;
-use crate::locking::fault_of_lock;
 use pos_disk::Disk;
 use pos_file::{BlockFile, DiskFileFault, FileDisk};
 use pos_mirror::{MirrorDisk, MirrorFault};
@@ -203,4 +204,24 @@ pub fn make_totals<S: FileSystem + AllocGlobal>(
     let disk = disk_over(open_file(files, path, true)?)?;
     let disk = long_enough(files, path, disk)?;
     mirrored(files.alloc(), disk)
+}
+
+/// Returns why a file isn't locked: `NoMemory` if memory ran out, and otherwise `Lock` with the system's error.
+pub(crate) fn fault_of_lock(cause: io::Error) -> FileFault
+    ensures { TellsUnlocked cause result }
+{
+    if cause.kind() == io::ErrorKind::OutOfMemory {
+        return FileFault::NoMemory;
+    }
+    FileFault::Lock(cause)
+}
+
+/// States that the calls of the file since the mirror read it make the disk that the mirror shows. So a power cut at
+/// any moment since then leaves, of a file that keeps the crash model, what a crash may have left of the mirror.
+pub fn file_is_mirrored<F: BlockFile + Drop>(mirror: &MirrorDisk<FileDisk<F>>)
+    ensures file { IsMirrored F.BlockFile.calls mirror.now }
+    ensures cut { (is : IsMirrored F.BlockFile.calls mirror.now) (bytes : List ℕ) → CutMayLeave is bytes
+        → (mirror_state mirror.now).left_since 0 bytes }
+{
+    mirror.is_mirror();
 }

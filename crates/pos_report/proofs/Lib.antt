@@ -1,2 +1,2 @@
-mod Closing
-mod Values
+mod GateLemmas
+mod ValueLemmas

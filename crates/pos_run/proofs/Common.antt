@@ -1,5 +1,5 @@
 -- What the proofs of this crate name.
-pub use Rattle.pos_counter.proofs.Runs.{machine_runs, one_beside, one_step, runs_from, runs_join}
+pub use Rattle.pos_counter.proofs.RunLemmas.{machine_runs, one_beside, one_step, runs_from, runs_join}
 pub use Rattle.pos_counter.specs.Counters.{IsCounterSound, IsRun, IsStep, IsStepBeside, machine}
 pub use Rattle.pos_counter.specs.Machine.{Device, Machine, device_at, hardware_in, hardware_named, kind_in, kind_named, machine_with, place_from, place_of}
 pub use Rattle.pos_counter.specs.Machine.{with_standing}
@@ -20,8 +20,8 @@ pub use Rattle.pos_run.specs.Streams.{IsFlushed, Reading, ReadsOn, ReadsScript, 
 pub use Rattle.pos_run.specs.Streams.{reading_of, streams_of, writing_of}
 pub use Rattle.pos_run.specs.Transcript.{CarriesOut, Leads, LineBecomes, LinesPrint, ReadingBecomes, Session, begun_session, gives_name, rebuke, request_of}
 pub use Rattle.pos_run.specs.Transcript.{session_after, session_with}
-pub use Rattle.pos_run.specs.declared.reading.ReadState.TheVariants.{Ended, Failed, Open}
-pub use Rattle.pos_run.specs.declared.reading.ReadState.{ReadState}
+pub use Rattle.pos_run.specs.declared.script_reader.ReadState.TheVariants.{Ended, Failed, Open}
+pub use Rattle.pos_run.specs.declared.script_reader.ReadState.{ReadState}
 pub use Rattle.pos_run.specs.declared.scripts.RunFault.{RunFault}
 pub use Rattle.pos_run.specs.declared.wrapped.Wrapped.{Wrapped}
 pub use Rattle.pos_script.specs.LineBuffers.{EndsInput, IsLine, StandsFor}

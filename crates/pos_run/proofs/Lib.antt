@@ -2,12 +2,12 @@ pub mod Common
 pub mod NameLemmas
 pub mod SpareLemmas
 pub mod ResponseLemmas
-pub mod Sessions
-pub mod Finishing
+pub mod SessionLemmas
+pub mod LineLemmas
 pub mod ReadLemmas
-pub mod Starting
-pub mod Filling
-pub mod Profiling
+pub mod RunLemmas
+pub mod DeviceLemmas
+pub mod ProfileLemmas
 pub mod MountLemmas
 pub mod WantingLemmas
 pub mod WaitingLemmas

@@ -11,7 +11,7 @@ use Rattle.pos_service.specs.Hardware.{hardware_of}
 use Rattle.std.proofs.lemmas.Option.{slice_get-get_or}
 use Rattle.std.proofs.Common.{⊎_elim}
 use Rattle.std.specs.List.{AllByRecursion, filter_map}
-use Rattle.pos_run.proofs.Filling.{some_or_none, vacant_profile}
+use Rattle.pos_run.proofs.DeviceLemmas.{some_or_none, vacant_profile}
 
 -- ---- at first every device is vacant
 

@@ -13,10 +13,10 @@ use Rattle.pos_counter.specs.Steps.{NewControl}
 use Rattle.pos_script.specs.Text.{response_text}
 use Rattle.pos_service.specs.declared.answer.Answer.{Answer}
 use Rattle.pos_service.specs.declared.category.Category.{Category}
-use Rattle.pos_service.specs.declared.memory.NoMemory.{NoMemory}
+use Rattle.pos_service.specs.declared.faults.NoMemory.{NoMemory}
 use Rattle.pos_service.specs.declared.plant.Snapshot.{Snapshot}
 use Rattle.pos_service.specs.declared.request.Response.{Response as ResponseOf}
-use Rattle.pos_service.specs.declared.worked.Worked.{Worked}
+use Rattle.pos_service.specs.declared.answer.Worked.{Worked}
 
 -- a response without a peripheral prints what the machine's prints
 abbrev pub PrintsAs : ResponseOf (Unit {0}) → Response → Type 0

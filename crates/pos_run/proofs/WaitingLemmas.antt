@@ -8,12 +8,12 @@ use Rattle.std.proofs.lemmas.List.{take-append-drop}
 use Rattle.pos_streams.specs.Transfers.{given_to}
 use Rattle.pos_run.specs.Streams.{WritesFront}
 use Rattle.pos_run.specs.declared.line_texts.LineText.{LineText}
-use Rattle.pos_run.proofs.Finishing.{prints_join}
+use Rattle.pos_run.proofs.LineLemmas.{prints_join}
 use Rattle.pos_run.proofs.WantingLemmas.{one_wanting}
 use Rattle.std.proofs.Common.{length-append, slice_index_or}
 use Rattle.std.specs.Prelude.{◌≢◌}
 use Rattle.std.specs.declared.vec.Vec.{Vec}
-use Rattle.pos_counter.proofs.Runs.{run_append}
+use Rattle.pos_counter.proofs.RunLemmas.{run_append}
 use Rattle.pos_counter.specs.Counters.{Stays}
 use Rattle.pos_counter.specs.Leaving.{Leaves, part_of}
 use Rattle.pos_disk.specs.Keeps.{KeepsDisk}
@@ -23,7 +23,7 @@ use Rattle.pos_drive.specs.declared.courses.Progress.TheVariants as progress
 use Rattle.pos_script.specs.Lines.{lines_of}
 use Rattle.pos_script.specs.Text.{printed}
 use Rattle.pos_script.specs.Writing.{IsCut}
-use Rattle.pos_store.proofs.Recovered.{both_keep}
+use Rattle.pos_store.proofs.RecoveryLemmas.{both_keep}
 use Rattle.pos_streams.specs.Streams.{given_with}
 use Rattle.pos_streams.specs.declared.sink.WriteFault.{WriteFault}
 use Rattle.pos_run.specs.Running.{StopsAt}

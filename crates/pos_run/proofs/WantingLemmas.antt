@@ -7,14 +7,14 @@ use Rattle.std.specs.Prelude.{MatchOption, codes, slice_get, IsTrue}
 use Rattle.pos_service.specs.declared.call.Call.{Call}
 use Rattle.pos_service.specs.declared.answer.Answer.TheVariants as answer
 use Rattle.pos_service.specs.declared.event.Event.TheVariants as event
-use Rattle.pos_service.specs.declared.exchange_fault.AttachFault.TheVariants as attach
-use Rattle.pos_service.specs.declared.exchange_fault.DetachFault.TheVariants as detach
+use Rattle.pos_service.specs.declared.faults.AttachFault.TheVariants as attach
+use Rattle.pos_service.specs.declared.faults.DetachFault.TheVariants as detach
 use Rattle.pos_service.specs.declared.plant.Form.{Form}
 use Rattle.pos_service.specs.declared.plant.Form.TheVariants as form
-use Rattle.pos_service.specs.declared.worked.Worked.TheVariants as worked
+use Rattle.pos_service.specs.declared.answer.Worked.TheVariants as worked
 use Rattle.pos_service.specs.Controls.{Control}
 use Rattle.pos_script.specs.Text.{form_text, printed, reply_text, response_text}
-use Rattle.pos_script.specs.declared.reply.Reply.TheVariants as reply
+use Rattle.pos_script.specs.declared.print.Reply.TheVariants as reply
 use Rattle.pos_script.specs.Arguments.{Reading}
 use Rattle.pos_script.specs.Commands.{LineRequest, asked_by}
 use Rattle.pos_script.specs.Lines.{is_quiet}

@@ -11,7 +11,7 @@ use Rattle.pos_counter.specs.Steps.{Request, Response}
 use Rattle.pos_run.specs.declared.names.Names.{Names}
 use Rattle.pos_run.specs.declared.spares.Spares.{Spares}
 use Rattle.pos_script.specs.declared.arguments.LineFault.{LineFault}
-use Rattle.pos_script.specs.declared.reply.Reply.{Reply}
+use Rattle.pos_script.specs.declared.print.Reply.{Reply}
 use Rattle.pos_run.specs.Names.{names_of}
 use Rattle.pos_run.specs.Spares.{spares_in}
 use Rattle.pos_script.specs.declared.line_buffer.Line.{Line}

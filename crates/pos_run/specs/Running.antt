@@ -13,8 +13,8 @@ use Rattle.pos_totals.specs.Views.{TotalsView}
 use Rattle.pos_counter.specs.Machine.{machine_with}
 use Rattle.pos_counter.specs.Totals.{TotalsPart}
 use Rattle.pos_counter.specs.Steps.{Request, Response}
-use Rattle.pos_run.specs.declared.reading.ReadState.{ReadState}
-use Rattle.pos_run.specs.declared.reading.ReadState.TheVariants.{Open, Ended, Failed}
+use Rattle.pos_run.specs.declared.script_reader.ReadState.{ReadState}
+use Rattle.pos_run.specs.declared.script_reader.ReadState.TheVariants.{Open, Ended, Failed}
 use Rattle.pos_run.specs.declared.scripts.RunFault.{RunFault}
 use Rattle.pos_run.specs.declared.scripts.RunFault.TheVariants as fault
 use Rattle.pos_script.specs.Lines.{complete_lines, lines_of}

@@ -7,9 +7,9 @@ use Rattle.pos_streams.specs.declared.source.ReadFault.{ReadFault}
 use Rattle.pos_streams.specs.declared.source.Source.{Ghosts as SourceGhosts}
 use Rattle.pos_streams.specs.Streams.{Appends, Fails, Given, IsWhole, Taken, TakesBytes, end_after, given_after, given_with, read_fault_after, taken_after, taken_with}
 use Rattle.pos_run.specs.declared.answers.AnswerWriter.{AnswerWriter}
-use Rattle.pos_run.specs.declared.reading.ReadState.{ReadState}
-use Rattle.pos_run.specs.declared.reading.ReadState.TheVariants.{Open, Ended, Failed}
-use Rattle.pos_run.specs.declared.reading.ScriptReader.{ScriptReader}
+use Rattle.pos_run.specs.declared.script_reader.ReadState.{ReadState}
+use Rattle.pos_run.specs.declared.script_reader.ReadState.TheVariants.{Open, Ended, Failed}
+use Rattle.pos_run.specs.declared.script_reader.ScriptReader.{ScriptReader}
 
 -- how often a script is read, at most
 abbrev pub most_reads : ℕ

@@ -4,7 +4,7 @@ use Rattle.std.specs.Bool.{MatchBool}
 use Rattle.pos_service.specs.Hardware.{hardware_of}
 use Rattle.pos_counter.specs.Steps.{Request, Response, NewControl, CallOf, InputTo, Deliver, Snapshot, WorkOn, Attach, Detach, Made, Attached}
 use Rattle.pos_script.specs.declared.arguments.LineFault.{LineFault}
-use Rattle.pos_script.specs.declared.reply.Reply.TheVariants as reply
+use Rattle.pos_script.specs.declared.print.Reply.TheVariants as reply
 use Rattle.pos_script.specs.Lines.{is_quiet}
 use Rattle.pos_script.specs.Arguments.{Reading}
 use Rattle.pos_script.specs.Commands.{LineRequest, asked_by}

@@ -13,7 +13,11 @@ use pos_disk::Disk;
 use pos_service::{Ends, Peripheral, park_and_end};
 
 /// Attaches a peripheral in service to the device of a name. One that is refused is ended.
-pub fn offer<D: Disk, P: Peripheral + Ends>(counter: &mut Counter<D, P>, name: &[u8], peripheral: P)
+pub(crate) fn offer<D: Disk, P: Peripheral + Ends>(
+    counter: &mut Counter<D, P>,
+    name: &[u8],
+    peripheral: P,
+)
     requires sound { IsCounterSound P.Peripheral counter.old }
     requires unparked { (P.Peripheral.state peripheral).is_parked ≡ false }
     ensures step { (response : Response) × IsStepBeside P.Peripheral counter.old

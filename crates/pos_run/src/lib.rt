@@ -12,13 +12,13 @@
 
 mod answers;
 mod devices;
-mod given;
+mod given_lines;
 mod line_texts;
 mod lines;
-mod mounting;
+mod mount;
 mod names;
-mod profiled;
-mod reading;
+mod profile_run;
+mod script_reader;
 mod scripts;
 mod session;
 mod simulation;
@@ -28,11 +28,11 @@ mod wrapped;
 
 pub use answers::AnswerWriter;
 pub use devices::end_counter;
-pub use given::carry_out_lines;
-pub use mounting::{AsSimulated, Mount};
+pub use given_lines::carry_out_lines;
+pub use mount::{AsSimulated, Mount};
 pub use names::Names;
-pub use profiled::{run_over_profile, simulate_profile};
-pub use reading::ScriptReader;
+pub use profile_run::{run_over_profile, simulate_profile};
+pub use script_reader::ScriptReader;
 pub use scripts::{RunFault, StreamRun, run, run_streams};
 pub use spares::Spares;
 pub use waiting_lines::{Held, carry_on};

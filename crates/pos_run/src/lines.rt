@@ -36,7 +36,7 @@ fn read_alone(by: DeviceVerb, words: &[u8]) -> Result<DeviceVerb, LineFault>
 ///
 /// [`WriteFault`] if a write failed.
 #[inline(always)]
-#[tactic(auto, using(crate::proofs::Sessions::asks_nothing_unread))]
+#[tactic(auto, using(crate::proofs::SessionLemmas::asks_nothing_unread))]
 fn carry_out_read<W: Sink, D: Disk, P: Peripheral, A: Asks<D, P>>(
     writer: &mut W,
     session: &mut Session<'_, D, P>,
@@ -82,7 +82,7 @@ fn carry_out_rare<W: Sink, D: Disk, P: Peripheral, A: Asks<D, P>>(
 ///
 /// [`WriteFault`] if a write failed.
 #[inline(always)]
-#[tactic(auto, using(crate::proofs::Sessions::asks_by_words))]
+#[tactic(auto, using(crate::proofs::SessionLemmas::asks_by_words))]
 fn carry_out_command<W: Sink, D: Disk, P: Peripheral + Ends>(
     alloc: Global,
     writer: &mut W,
@@ -132,7 +132,7 @@ fn carry_out_command<W: Sink, D: Disk, P: Peripheral + Ends>(
 ///
 /// [`WriteFault`] if a write failed.
 #[inline(always)]
-#[tactic(auto, using(crate::proofs::Sessions::asks_nothing_misshapen))]
+#[tactic(auto, using(crate::proofs::SessionLemmas::asks_nothing_misshapen))]
 pub(crate) fn carry_out_words<W: Sink, D: Disk, P: Peripheral + Ends>(
     alloc: Global,
     writer: &mut W,

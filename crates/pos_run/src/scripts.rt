@@ -13,7 +13,7 @@ ghost use Rattle.pos_run.specs.Transcript.{begun_session, session_with};
 use crate::answers::AnswerWriter;
 use crate::lines::carry_out_words;
 use crate::names::Names;
-use crate::reading::ScriptReader;
+use crate::script_reader::ScriptReader;
 use crate::session::Session;
 use crate::spares::Spares;
 use pos_counter::Counter;
@@ -71,7 +71,7 @@ fn carry_out_and_print<W: Sink, D: Disk, P: Peripheral + Ends>(
 /// # Errors
 ///
 /// [`WriteFault`] if a write failed.
-#[tactic(auto, using(crate::proofs::Sessions::keeps_on))]
+#[tactic(auto, using(crate::proofs::SessionLemmas::keeps_on))]
 pub(crate) fn carry_out_piece<W: Sink, D: Disk, P: Peripheral + Ends>(
     alloc: Global,
     piece: &[u8],
@@ -149,7 +149,7 @@ fn carry_out_end<W: Sink, D: Disk, P: Peripheral + Ends>(
 /// # Errors
 ///
 /// As of `run`, but for `NoMemory`.
-#[tactic(auto, using(crate::proofs::Sessions::keeps_on))]
+#[tactic(auto, using(crate::proofs::SessionLemmas::keeps_on))]
 fn carry_out_script<R: Source, W: Sink, D: Disk, P: Peripheral + Ends>(
     alloc: Global,
     buffer: &mut LineBuffer,

@@ -38,7 +38,7 @@ pub(crate) trait Asks<D: Disk, P: Peripheral>: Sized + Drop {
 impl<D: Disk, P: Peripheral> Asks<D, P> for Category {
     ghost asked = { λ name category. NewControl name category };
 
-    #[tactic(auto, using(crate::proofs::Sessions::asks_none, crate::proofs::Sessions::asks_unkept))]
+    #[tactic(auto, using(crate::proofs::SessionLemmas::asks_none, crate::proofs::SessionLemmas::asks_unkept))]
     #[inline(always)]
     fn ask(&self, name: &[u8], session: &mut Session<'_, D, P>) -> Reply {
         if session.names.find(name).is_some() {
@@ -61,7 +61,7 @@ impl<D: Disk, P: Peripheral> Asks<D, P> for Category {
 impl<D: Disk, P: Peripheral> Asks<D, P> for Call {
     ghost asked = { λ name call. CallOf name call };
 
-    #[tactic(auto, using(crate::proofs::Sessions::asks_none))]
+    #[tactic(auto, using(crate::proofs::SessionLemmas::asks_none))]
     #[inline(always)]
     fn ask(&self, name: &[u8], session: &mut Session<'_, D, P>) -> Reply {
         let Some(number) = session.names.find(name) else {
@@ -75,7 +75,7 @@ impl<D: Disk, P: Peripheral> Asks<D, P> for Call {
 impl<D: Disk, P: Peripheral> Asks<D, P> for ErrorReply {
     ghost asked = { λ name reply. Deliver name reply };
 
-    #[tactic(auto, using(crate::proofs::Sessions::asks_none))]
+    #[tactic(auto, using(crate::proofs::SessionLemmas::asks_none))]
     #[inline(always)]
     fn ask(&self, name: &[u8], session: &mut Session<'_, D, P>) -> Reply {
         match session.names.find(name) {

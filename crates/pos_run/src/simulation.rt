@@ -178,7 +178,7 @@ fn simulate_device(alloc: Global, entry: &Entry) -> Result<Option<Simulation>, N
 /// # Errors
 ///
 /// [`NoMemory`] if memory ran out.
-pub fn simulate(alloc: Global, entry: &Entry) -> Result<Option<Wrapped>, NoMemory>
+pub(crate) fn simulate(alloc: Global, entry: &Entry) -> Result<Option<Wrapped>, NoMemory>
     requires { IsSimulable entry.now }
     ensures simulated { IfOk result (λ made. IsSimulatedFor entry.now made) }
     ensures state { IfOk result (λ made. option_map wrapped_state made ≡ simulated_for entry.now) }

@@ -6,7 +6,7 @@ ghost use Rattle.pos_run.specs.Spares.{AreSparesSound};
 ghost use Rattle.pos_run.specs.WaitingLines.{HoldsBy, IsNotHeld, IsOneLine, IsReady, LineLeaves, LinesLeave, is_out, text_of};
 ghost use Rattle.pos_script.specs.Lines.{lines_of};
 
-use crate::given::carry_out_lines;
+use crate::given_lines::carry_out_lines;
 use crate::line_texts::LineText;
 use crate::names::Names;
 use crate::spares::Spares;

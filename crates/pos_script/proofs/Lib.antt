@@ -1,4 +1,4 @@
-pub mod Pieces
+pub mod PieceLemmas
 pub mod LineLemmas
 pub mod BufferLemmas
 pub mod WriteLemmas

@@ -3,7 +3,7 @@ use Rattle.std.proofs.Common.{◌≡◌, ◌++◌, ◌∷◌, ℕ, ◌<◌, List
 use Rattle.std.specs.List.{list_all}
 use Rattle.pos_script.specs.LineBuffers.{is_no_feed}
 use Rattle.pos_script.specs.Lines.{onto_first, pieces, lines_in, ended_in, last_in, last_line, complete_lines, unfinished, without_cr}
-use Rattle.pos_script.proofs.Pieces.{front_onto, front_onto_nil, some_piece}
+use Rattle.pos_script.proofs.PieceLemmas.{front_onto, front_onto_nil, some_piece}
 
 -- the pieces of a text behind those of another: its first goes on with the last of the other
 abbrev glue : List (List ℕ) → List (List ℕ) → List (List ℕ)

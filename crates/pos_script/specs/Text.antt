@@ -10,24 +10,24 @@ use Rattle.pos_service.specs.declared.code.Code.{Code}
 use Rattle.pos_service.specs.declared.code.Code.TheVariants as code
 use Rattle.pos_service.specs.declared.event.Event.{Event}
 use Rattle.pos_service.specs.declared.event.Event.TheVariants as event
-use Rattle.pos_service.specs.declared.exchange_fault.AttachFault.{AttachFault}
-use Rattle.pos_service.specs.declared.exchange_fault.AttachFault.TheVariants as attach
-use Rattle.pos_service.specs.declared.exchange_fault.DetachFault.{DetachFault}
-use Rattle.pos_service.specs.declared.exchange_fault.DetachFault.TheVariants as detach
+use Rattle.pos_service.specs.declared.faults.AttachFault.{AttachFault}
+use Rattle.pos_service.specs.declared.faults.AttachFault.TheVariants as attach
+use Rattle.pos_service.specs.declared.faults.DetachFault.{DetachFault}
+use Rattle.pos_service.specs.declared.faults.DetachFault.TheVariants as detach
 use Rattle.pos_service.specs.declared.plant.Plant.{Plant}
 use Rattle.pos_service.specs.declared.plant.Form.{Form}
 use Rattle.pos_service.specs.declared.plant.Form.TheVariants as form
 use Rattle.pos_service.specs.declared.request.Response.{Response}
 use Rattle.pos_service.specs.declared.request.Response.TheVariants as response
-use Rattle.pos_service.specs.declared.worked.Worked.{Worked as WorkResult}
-use Rattle.pos_service.specs.declared.worked.Worked.TheVariants as worked
+use Rattle.pos_service.specs.declared.answer.Worked.{Worked as WorkResult}
+use Rattle.pos_service.specs.declared.answer.Worked.TheVariants as worked
 use Rattle.pos_service.specs.Codes.{number_of, locus_number_of}
 use Rattle.pos_script.specs.Glyphs.{cells_text}
 use Rattle.pos_script.specs.ReceiptText.{printer_text}
 use Rattle.pos_script.specs.declared.arguments.LineFault.{LineFault}
 use Rattle.pos_script.specs.declared.arguments.LineFault.TheVariants as fault
-use Rattle.pos_script.specs.declared.reply.Reply.{Reply}
-use Rattle.pos_script.specs.declared.reply.Reply.TheVariants as reply
+use Rattle.pos_script.specs.declared.print.Reply.{Reply}
+use Rattle.pos_script.specs.declared.print.Reply.TheVariants as reply
 
 -- a truth value
 abbrev pub truth_text : Bool → List ℕ

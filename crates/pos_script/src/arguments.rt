@@ -22,7 +22,7 @@ pub enum LineFault {
 }
 
 /// What a word of a line may stand for (docs/reference/console.md, "Words").
-pub trait Argument: Sized + Drop {
+pub(crate) trait Argument: Sized + Drop {
     ghost shape: { Shape Self };
 
     /// Returns whether a word is of this shape. It takes no memory.
@@ -143,7 +143,7 @@ impl Argument for Bytes {
 
 /// The name of a device, which a call keeps.
 #[derive(Drop)]
-pub struct DeviceName {
+pub(crate) struct DeviceName {
     /// Its bytes: 1 to 16 ASCII letters, digits or hyphens.
     pub name: Bytes,
 }
@@ -185,7 +185,7 @@ pub fn read_none(words: &[u8]) -> Result<(), LineFault>
 /// # Errors
 ///
 /// `WrongShape` if the word is missing or not of its shape, or another follows; `NoMemory` if memory ran out.
-pub fn read_one<A: Argument>(alloc: Global, words: &[u8]) -> Result<A, LineFault>
+pub(crate) fn read_one<A: Argument>(alloc: Global, words: &[u8]) -> Result<A, LineFault>
     ensures { Reads (one A.shape (words_of words.now)) result }
 {
     let Some((word, rest)) = next_word(words) else {
@@ -204,7 +204,10 @@ pub fn read_one<A: Argument>(alloc: Global, words: &[u8]) -> Result<A, LineFault
 /// - `WrongShape` if a word is missing or not of its shape, or another follows. All shapes are checked before memory is
 ///   taken.
 /// - `NoMemory` if memory ran out.
-pub fn read_two<A: Argument, B: Argument>(alloc: Global, words: &[u8]) -> Result<(A, B), LineFault>
+pub(crate) fn read_two<A: Argument, B: Argument>(
+    alloc: Global,
+    words: &[u8],
+) -> Result<(A, B), LineFault>
     ensures { Reads (two A.shape B.shape (words_of words.now)) result }
 {
     let Some((word, rest)) = next_word(words) else {
@@ -230,7 +233,7 @@ pub fn read_two<A: Argument, B: Argument>(alloc: Global, words: &[u8]) -> Result
 /// - `WrongShape` if a word is missing or not of its shape, or another follows. All shapes are checked before memory is
 ///   taken.
 /// - `NoMemory` if memory ran out.
-pub fn read_three<A: Argument, B: Argument, C: Argument>(
+pub(crate) fn read_three<A: Argument, B: Argument, C: Argument>(
     alloc: Global,
     words: &[u8],
 ) -> Result<(A, (B, C)), LineFault>
@@ -259,7 +262,7 @@ pub fn read_three<A: Argument, B: Argument, C: Argument>(
 /// - `WrongShape` if a word is missing or not of its shape, or another follows. All shapes are checked before memory is
 ///   taken.
 /// - `NoMemory` if memory ran out.
-pub fn read_four<A: Argument, B: Argument, C: Argument, D: Argument>(
+pub(crate) fn read_four<A: Argument, B: Argument, C: Argument, D: Argument>(
     alloc: Global,
     words: &[u8],
 ) -> Result<(A, (B, (C, D))), LineFault>

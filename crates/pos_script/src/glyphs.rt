@@ -10,7 +10,7 @@ use pos_service::receipt_text::PrintedCharacter;
 use pos_streams::{Sink, WriteFault};
 
 /// A character, and how it looks.
-pub trait Glyph {
+pub(crate) trait Glyph {
     ghost character: { Self → ℕ };
 
     ghost look: { Self → ℕ };
@@ -80,7 +80,7 @@ fn write_looks<W: Sink, G: Glyph>(writer: &mut W, glyphs: &[G]) -> Result<(), Wr
 /// # Errors
 ///
 /// [`WriteFault`] if a write failed. Then only a front of the text was written.
-pub fn write_glyphs<W: Sink, G: Glyph>(
+pub(crate) fn write_glyphs<W: Sink, G: Glyph>(
     writer: &mut W,
     separator: &str,
     glyphs: &[G],
@@ -98,7 +98,7 @@ pub fn write_glyphs<W: Sink, G: Glyph>(
 /// # Errors
 ///
 /// [`WriteFault`] if a write failed. Then only a front of the text was written.
-pub fn write_printed<W: Sink>(
+pub(crate) fn write_printed<W: Sink>(
     writer: &mut W,
     printed: &[PrintedCharacter],
 ) -> Result<(), WriteFault>

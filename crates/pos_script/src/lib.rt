@@ -12,13 +12,11 @@
 mod arguments;
 mod command;
 mod glyphs;
-mod laws;
 mod line_buffer;
 mod lines;
 mod methods;
 mod print;
 mod receipt;
-mod reply;
 mod words;
 mod write;
 
@@ -27,9 +25,9 @@ pub use command::{
     CallVerb, Command, DeviceVerb, Verb, read_called, read_category, read_command, read_happening,
     read_reply, read_spare,
 };
-pub use laws::{lines_fall_in_two, lines_go_on};
 pub use line_buffer::{EndedLine, Line, LineBuffer};
-pub use lines::{all_plain, cut, is_quiet_line, next_line, next_word};
-pub use print::{print_fault, print_reply};
-pub use reply::Reply;
+pub use lines::{
+    all_plain, cut, is_quiet_line, lines_fall_in_two, lines_go_on, next_line, next_word,
+};
+pub use print::{Reply, print_fault, print_reply};
 pub use write::write_bytes;

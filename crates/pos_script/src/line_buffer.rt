@@ -13,7 +13,7 @@ const MOST_KEPT: usize = 140_001;
 
 /// How a line looks that is too long to be kept.
 #[derive(Clone, Copy)]
-pub enum Look {
+pub(crate) enum Look {
     /// Its first byte is `#`.
     Comment,
     /// It is nothing but spaces.

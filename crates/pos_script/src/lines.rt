@@ -1,7 +1,7 @@
 //! Lines and words.
-ghost use Rattle.std.specs.Prelude.{◌≡◌, ◌<◌, ◌∷◌, [], length, MatchOption, IfSome, IfNone};
+ghost use Rattle.std.specs.Prelude.{◌≡◌, ◌<◌, ◌∷◌, [], length, MatchOption, IfSome, IfNone, ◌++◌, ℕ, List};
 ghost use Rattle.std.specs.List.{list_all};
-ghost use Rattle.pos_script.specs.Lines.{lines_of, pieces, words_of, without_cr, is_quiet, is_space, is_plain};
+ghost use Rattle.pos_script.specs.Lines.{lines_of, pieces, words_of, without_cr, is_quiet, is_space, is_plain, complete_lines, last_line, unfinished};
 
 /// Returns the front of a text up to a byte, and what follows that byte, if it is there.
 pub fn cut(text: &[u8], at: u8) -> (&[u8], Option<&[u8]>)
@@ -36,7 +36,7 @@ pub fn next_word(line: &[u8]) -> Option<(&[u8], &[u8])>
 }
 
 /// Returns a line without a carriage return at its end.
-pub fn strip_cr(line: &[u8]) -> &[u8]
+pub(crate) fn strip_cr(line: &[u8]) -> &[u8]
     ensures { result.now ≡ without_cr line.now }
 {
     let len = line.len();
@@ -62,14 +62,14 @@ pub fn next_line(text: &[u8]) -> Option<(&[u8], &[u8])>
 }
 
 /// Returns whether a line is nothing but spaces.
-pub fn all_spaces(line: &[u8]) -> bool
+pub(crate) fn all_spaces(line: &[u8]) -> bool
     ensures { result ≡ list_all is_space line.now }
 {
     line.iter().all(|b| *b == 32)
 }
 
 /// Returns whether a byte is a space or a sign that ASCII prints, 0x20 to 0x7E.
-pub fn is_plain_byte(b: u8) -> bool
+pub(crate) fn is_plain_byte(b: u8) -> bool
     ensures { result ≡ is_plain b }
 {
     32 <= b && b <= 126
@@ -88,3 +88,16 @@ pub fn is_quiet_line(line: &[u8]) -> bool
 {
     line.is_empty() || line[0] == b'#' || all_spaces(line)
 }
+
+/// Says that the lines of a script are those that a line feed ended, and the last if it isn't empty.
+pub fn lines_fall_in_two()
+    ensures { (bytes : List ℕ) → lines_of bytes ≡ complete_lines bytes ++ last_line (unfinished bytes) }
+{}
+
+/// Says how a script that is cut in two falls into lines: what is unfinished of its front goes on with what comes after
+/// it, wherever the cut is.
+pub fn lines_go_on()
+    ensures lines { (front piece : List ℕ)
+        → complete_lines (front ++ piece) ≡ complete_lines front ++ complete_lines (unfinished front ++ piece) }
+    ensures rest { (front piece : List ℕ) → unfinished (front ++ piece) ≡ unfinished (unfinished front ++ piece) }
+{}

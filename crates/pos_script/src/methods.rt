@@ -17,7 +17,7 @@ use std::alloc::Global;
 /// - `WrongShape` if there is no such method, or the words aren't its arguments. That is checked before memory is
 ///   taken.
 /// - `NoMemory` if memory ran out for what the call keeps.
-pub fn read_call(alloc: Global, method: &[u8], words: &[u8]) -> Result<Call, LineFault>
+pub(crate) fn read_call(alloc: Global, method: &[u8], words: &[u8]) -> Result<Call, LineFault>
     ensures { Reads (call_of method.now (words_of words.now)) result }
 {
     if is(method, "openDrawer") {

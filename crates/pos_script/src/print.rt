@@ -9,7 +9,6 @@ ghost use Rattle.pos_script.specs.Text.{answer_text, attach_text, delivered_text
 use crate::arguments::LineFault;
 use crate::glyphs::write_glyphs;
 use crate::receipt::write_receipt;
-use crate::reply::Reply;
 use crate::write::{write_hex, write_parts};
 use itoa::Buffer;
 use pos_service::display_text::DisplayCell;
@@ -279,4 +278,19 @@ pub fn print_fault<W: Sink>(writer: &mut W, fault: LineFault) -> Result<(), Writ
         LineFault::WrongShape => print_reply(writer, Reply::BadLine),
         LineFault::NoMemory => print_reply(writer, Reply::Memory),
     }
+}
+
+/// The reply to a line that isn't quiet (docs/reference/console.md, "Answers").
+#[derive(Drop)]
+pub enum Reply {
+    /// Its shape is wrong: `bad line`.
+    BadLine,
+    /// The name of the control is in use, or unknown: `bad control`.
+    BadControl,
+    /// No spare has the number: `bad spare`.
+    BadSpare,
+    /// Memory ran out for what is kept of the line: `memory`.
+    Memory,
+    /// What the counter answers. A peripheral that it returns is not printed.
+    Responded(Response<()>),
 }

@@ -103,7 +103,7 @@ fn write_items<W: Sink>(
 /// # Errors
 ///
 /// [`WriteFault`] if a write failed. Then only a front of the text was written.
-pub fn write_receipt<W: Sink>(writer: &mut W, receipt: &Receipt) -> Result<(), WriteFault>
+pub(crate) fn write_receipt<W: Sink>(writer: &mut W, receipt: &Receipt) -> Result<(), WriteFault>
     ensures { Writes (W.given writer.old) (W.given writer.new) (printer_text receipt.now) result }
 {
     let mut buffer = Buffer::new();

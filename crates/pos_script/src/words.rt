@@ -48,7 +48,7 @@ fn digits(word: &[u8]) -> Option<u64>
 }
 
 /// Returns the number of a word, 1 to 18 digits with or without a minus before them, or `None` if it is no such word.
-pub fn number(word: &[u8]) -> Option<i128>
+pub(crate) fn number(word: &[u8]) -> Option<i128>
     ensures { result ≡ number_named word.now }
 {
     match word {
@@ -65,7 +65,7 @@ pub fn number(word: &[u8]) -> Option<i128>
 
 /// Returns the number of a word, or `None` if it is negative or none. One past 32 bits is read as the greatest of
 /// these.
-pub fn count(word: &[u8]) -> Option<u32>
+pub(crate) fn count(word: &[u8]) -> Option<u32>
     ensures { result ≡ count_named word.now }
 {
     let number = number(word)?;
@@ -79,7 +79,7 @@ pub fn count(word: &[u8]) -> Option<u32>
 }
 
 /// Returns the truth value of a word, `true` or `false`, or `None` if it is neither.
-pub fn truth(word: &[u8]) -> Option<bool>
+pub(crate) fn truth(word: &[u8]) -> Option<bool>
     ensures { result ≡ truth_named word.now }
 {
     if is(word, "true") {
@@ -99,7 +99,7 @@ fn all_hex_digits(word: &[u8]) -> bool
 }
 
 /// Returns whether a word writes bytes: a hyphen for none, or two hex digits of either case for each.
-pub fn is_hex_word(word: &[u8]) -> bool
+pub(crate) fn is_hex_word(word: &[u8]) -> bool
     ensures { result ≡ is_some (bytes_named word.now) }
 {
     is(word, "-") || (word.len() % 2 == 0 && all_hex_digits(word))
@@ -110,7 +110,7 @@ pub fn is_hex_word(word: &[u8]) -> bool
 /// # Errors
 ///
 /// [`NoMemory`] if memory ran out.
-pub fn decode(alloc: Global, word: &[u8]) -> Result<Bytes, NoMemory>
+pub(crate) fn decode(alloc: Global, word: &[u8]) -> Result<Bytes, NoMemory>
     requires { is_some (bytes_named word.now) ≡ true }
     ensures { IfOk result (λ bytes. bytes_named word.now ≡ Some bytes) }
 {
@@ -124,7 +124,7 @@ pub fn decode(alloc: Global, word: &[u8]) -> Result<Bytes, NoMemory>
 }
 
 /// Returns the reply to an ErrorEvent of this name, or `None` if there is none (common chapter, ErrorResponse).
-pub fn error_reply(word: &[u8]) -> Option<ErrorReply>
+pub(crate) fn error_reply(word: &[u8]) -> Option<ErrorReply>
     ensures { result ≡ error_reply_named word.now }
 {
     if is(word, "retry") {
@@ -140,7 +140,7 @@ pub fn error_reply(word: &[u8]) -> Option<ErrorReply>
 }
 
 /// Returns the value of a word, `true`, `false` or a number, or `None` if it is none of them.
-pub fn value(word: &[u8]) -> Option<Value>
+pub(crate) fn value(word: &[u8]) -> Option<Value>
     ensures { result ≡ value_named word.now }
 {
     if is(word, "true") {

@@ -46,7 +46,7 @@ pub fn write_bytes<W: Sink>(writer: &mut W, bytes: &[u8]) -> Result<(), WriteFau
 ///
 /// [`WriteFault`] at the first write that fails. Then only a front of the texts was written.
 #[inline(always)]
-pub fn write_parts<W: Sink>(writer: &mut W, parts: &[&str]) -> Result<(), WriteFault>
+pub(crate) fn write_parts<W: Sink>(writer: &mut W, parts: &[&str]) -> Result<(), WriteFault>
     ensures { Writes (W.given writer.old) (W.given writer.new) (flat_map (λ part. part.now) parts.now) result }
 {
     for part in parts {
@@ -69,7 +69,7 @@ fn hex_pair(b: u8) -> [u8; 2]
 /// # Errors
 ///
 /// [`WriteFault`] at the first write that fails. Then only a front of the text was written.
-pub fn write_hex<W: Sink>(writer: &mut W, bytes: &[u8]) -> Result<(), WriteFault>
+pub(crate) fn write_hex<W: Sink>(writer: &mut W, bytes: &[u8]) -> Result<(), WriteFault>
     ensures { Writes (W.given writer.old) (W.given writer.new) (encode_lower bytes.now) result }
 {
     for b in bytes {

@@ -1,4 +1,4 @@
 pub mod StripLemmas
 pub mod PieceLemmas
 pub mod WordLemmas
-pub mod NamingLemmas
+pub mod NameLemmas

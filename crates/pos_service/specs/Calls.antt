@@ -9,8 +9,8 @@ use Rattle.pos_service.specs.declared.code.Code.TheVariants as code
 use Rattle.pos_service.specs.declared.needs.ClaimNeed.{ClaimNeed}
 use Rattle.pos_service.specs.declared.needs.ClaimNeed.TheVariants as claim_need
 use Rattle.pos_service.specs.declared.needs.Needs.{Needs}
-use Rattle.pos_service.specs.declared.finding.Finding.{Finding}
-use Rattle.pos_service.specs.declared.finding.Finding.TheVariants as finding
+use Rattle.pos_service.specs.declared.facts.Finding.{Finding}
+use Rattle.pos_service.specs.declared.facts.Finding.TheVariants as finding
 use Rattle.pos_service.specs.Categories.{is_category}
 use Rattle.pos_service.specs.Controls.{Control}
 use Rattle.pos_service.specs.Refusals.{Row, when}

@@ -10,7 +10,7 @@ use Rattle.pos_service.specs.declared.event.Locus.TheVariants as locus
 use Rattle.pos_service.specs.declared.code.Code.{Code}
 use Rattle.pos_service.specs.declared.order.Order.{Order}
 use Rattle.pos_service.specs.declared.property.Settings.{Settings}
-use Rattle.pos_service.specs.declared.scan.Scan.{Scan}
+use Rattle.pos_service.specs.declared.input.Scan.{Scan}
 use Rattle.pos_service.specs.Categories.{reports_power}
 use Rattle.pos_service.specs.Displays.{default_cursor}
 use Rattle.pos_service.specs.Events.{EventList, Enqueued, Data, Error, Complete, no_events, event_of, scan_of, enqueued, all_enqueued, input_cleared}

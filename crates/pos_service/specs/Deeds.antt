@@ -13,7 +13,7 @@ use Rattle.pos_service.specs.declared.deed.Change.TheVariants as change
 use Rattle.pos_service.specs.declared.deed.Deed.{Deed}
 use Rattle.pos_service.specs.declared.deed.Deed.TheVariants as deed
 use Rattle.pos_service.specs.declared.kind.Kind.{Kind}
-use Rattle.pos_service.specs.declared.memory.NoMemory.{NoMemory}
+use Rattle.pos_service.specs.declared.faults.NoMemory.{NoMemory}
 use Rattle.pos_service.specs.declared.order.Order.{Order}
 use Rattle.pos_service.specs.declared.order.Reply.{Reply}
 use Rattle.pos_service.specs.declared.order.Reply.TheVariants as reply

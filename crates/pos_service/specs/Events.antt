@@ -8,7 +8,7 @@ use Rattle.pos_service.specs.declared.event.Locus.{Locus}
 use Rattle.pos_service.specs.declared.event.Locus.TheVariants as locus
 use Rattle.pos_service.specs.declared.event.ErrorReply.{ErrorReply}
 use Rattle.pos_service.specs.declared.event.ErrorReply.TheVariants as reply
-use Rattle.pos_service.specs.declared.scan.Scan.{Scan}
+use Rattle.pos_service.specs.declared.input.Scan.{Scan}
 
 -- an event that is enqueued, with what its delivery needs
 pub data Enqueued : Type 0 where

@@ -20,7 +20,7 @@ use Rattle.pos_service.specs.declared.input.Taken.{Taken}
 use Rattle.pos_service.specs.declared.input.Taken.TheVariants as taken
 use Rattle.pos_service.specs.declared.signs.PaperLevel.TheVariants as paper
 use Rattle.pos_service.specs.declared.signs.Signs.{Signs}
-use Rattle.pos_service.specs.declared.memory.NoMemory.{NoMemory}
+use Rattle.pos_service.specs.declared.faults.NoMemory.{NoMemory}
 use Rattle.pos_service.specs.declared.receipt_text.Outcome.TheVariants as outcome
 use Rattle.pos_service.specs.declared.receipt_text.Piece.{Piece}
 use Rattle.pos_service.specs.Displays.{Display, ShowsText, Scrolls, attribute_number_of, blank_display, direction_number_of, is_cursor_place, is_display_text, most_units}

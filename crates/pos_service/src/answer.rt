@@ -1,4 +1,5 @@
 //! Values of properties, and what a call answers.
+
 use crate::code::Code;
 use pos_bytes::Bytes;
 
@@ -24,4 +25,15 @@ pub enum Answer {
     Done(Value),
     /// The call was refused with this code and extended code. The extended code is 0 unless the code is E_EXTENDED.
     Refused(Code, u32),
+}
+
+/// What comes of work on a device's output (common chapter, asynchronous output).
+#[derive(Clone, Copy, PartialEq, Eq)]
+pub enum Worked {
+    /// There is nothing to do.
+    Idle,
+    /// The request with this OutputID is done.
+    Done(u64),
+    /// The first request has failed, with this code and extended code, and stays the first.
+    Failed(Code, u32),
 }

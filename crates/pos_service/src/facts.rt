@@ -1,4 +1,5 @@
-//! What the properties of a control are read from beside the control.
+//! What the properties of a control are read from beside the control, and what `open` finds.
+
 use crate::kind::Kind;
 use crate::signs::Signs;
 
@@ -27,4 +28,15 @@ pub struct FileFacts {
     pub free: usize,
     /// NumberOfFiles.
     pub count: usize,
+}
+
+/// What `open` finds under a name in the profile (common chapter).
+#[derive(Clone, Copy, PartialEq, Eq)]
+pub enum Finding {
+    /// No device of the control's category has the name.
+    NotThere,
+    /// A device has it, but the device has no peripheral.
+    Vacant,
+    /// The device at this place.
+    At(usize),
 }

@@ -2,9 +2,9 @@
 ghost use Rattle.std.specs.Prelude.{◌≡◌, Bool, true, false, IfOk};
 ghost use Rattle.pos_service.specs.Peripherals.{PeripheralState, IsInRange, IsPlantOf, Asked, Fed, Parks, order_fits, input_fits, signs_of};
 
+use crate::faults::NoMemory;
 use crate::input::{Input, Taken};
 use crate::kind::Kind;
-use crate::memory::NoMemory;
 use crate::order::{Order, Reply};
 use crate::plant::Snapshot;
 use crate::signs::Signs;
@@ -61,4 +61,19 @@ pub trait Peripheral {
     /// Returns whether it is out of service.
     fn is_parked(&self) -> bool
         ensures { result ≡ (state self.now).is_parked };
+}
+
+/// A peripheral that code over any type of peripheral can end, once it is out of service.
+pub trait Ends: Peripheral {
+    /// Ends it.
+    fn end(self)
+        requires { (Self.state self).is_parked ≡ true };
+}
+
+/// Takes a peripheral out of service, and ends it. It takes no memory.
+pub fn park_and_end<P: Ends>(mut peripheral: P)
+    requires { Unit {0} }
+{
+    peripheral.park();
+    peripheral.end();
 }

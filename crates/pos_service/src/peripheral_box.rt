@@ -1,12 +1,11 @@
 //! A peripheral of any type.
 ghost use Rattle.std.specs.Prelude.{◌≡◌, true, false};
 
-use crate::ending::{Ends, park_and_end};
+use crate::faults::NoMemory;
 use crate::input::{Input, Taken};
 use crate::kind::Kind;
-use crate::memory::NoMemory;
 use crate::order::{Order, Reply};
-use crate::peripheral::Peripheral;
+use crate::peripheral::{Ends, Peripheral, park_and_end};
 use crate::plant::Snapshot;
 use crate::signs::Signs;
 

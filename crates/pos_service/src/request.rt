@@ -1,12 +1,11 @@
 //! What a counter is asked, and what it answers.
-use crate::answer::Answer;
+use crate::answer::{Answer, Worked};
 use crate::call::Call;
 use crate::category::Category;
 use crate::event::{ErrorReply, Event};
-use crate::exchange_fault::{AttachFault, DetachFault};
+use crate::faults::{AttachFault, DetachFault};
 use crate::input::Input;
 use crate::plant::Snapshot;
-use crate::worked::Worked;
 use pos_bytes::LentBytes;
 
 /// What may be asked of a counter. Devices are named by their names.

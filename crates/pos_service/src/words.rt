@@ -1,5 +1,7 @@
-//! Whether a word is a text.
+//! Whether a word is a text, and which texts name a device.
 ghost use Rattle.std.specs.Prelude.{◌≡◌, bytes_eq};
+ghost use Rattle.std.specs.List.{list_all};
+ghost use Rattle.pos_service.specs.Names.{is_device_name, is_device_name_byte};
 
 /// Returns whether a word is this text. It is inlined, so that a text of few bytes is compared at once.
 #[inline(always)]
@@ -10,4 +12,23 @@ pub fn is(word: &[u8], text: &str) -> bool
         return false;
     }
     word.starts_with(text.as_bytes())
+}
+
+/// The most bytes of a device's name.
+const MOST_BYTES: usize = 16;
+
+/// Whether each byte is an ASCII letter, a digit or a hyphen.
+fn are_name_bytes(bytes: &[u8]) -> bool
+    ensures { result ≡ list_all is_device_name_byte bytes.now }
+{
+    bytes
+        .iter()
+        .all(|byte| byte.is_ascii_alphanumeric() || *byte == b'-')
+}
+
+/// Returns whether a text names a device: 1 to 16 ASCII letters, digits or hyphens.
+pub fn is_device_name(text: &[u8]) -> bool
+    ensures { result ≡ is_device_name text.now }
+{
+    1 <= text.len() && text.len() <= MOST_BYTES && are_name_bytes(text)
 }

@@ -14,11 +14,9 @@ mod runs;
 mod scripts;
 mod told;
 mod trials;
-mod writing;
 
 pub use reasons::reason;
 pub use runs::{RunFault, profile_at, run};
 pub use scripts::{Script, TellFault, run_scripts};
-pub use told::{Form, Manner};
+pub use told::{Form, Manner, write_text};
 pub use trials::{Trials, tally, try_scripts};
-pub use writing::write_text;

@@ -10,8 +10,7 @@ ghost use Rattle.pos_shell.specs.Outputs.{output_of};
 ghost use Rattle.pos_shell.specs.Scripts.{RunsScripts, TellsAll, TellsScripts, TellsText};
 ghost use Rattle.pos_shell.specs.declared.scripts.TellFault.TheVariants.{NoMemory as WithoutMemory};
 
-use crate::told::{Manner, told};
-use crate::writing::write_text;
+use crate::told::{Manner, told, write_text};
 use pos_counter::Counter;
 use pos_disk::Disk;
 use pos_profile::Profile;

@@ -1,17 +1,18 @@
 //! What is told of a script's lines and their answers.
-ghost use Rattle.std.specs.Prelude.{◌≡◌, ◌++◌, IfOk, MatchOption, OnOk, false, true};
+ghost use Rattle.std.specs.Prelude.{◌≡◌, ◌++◌, IfOk, MatchOption, OnOk, false, true, MatchResult};
 ghost use Rattle.std.specs.Str.{is_utf8};
 ghost use Rattle.serde_json.specs.View.{view};
 ghost use Rattle.pos_script.specs.Lines.{lines_of};
-ghost use Rattle.pos_shell.specs.Told.{first, others, prefix, reason_data, reason_text, text_data, told};
-ghost use Rattle.pos_shell.specs.Told.{told_data, told_json, told_line, told_plain};
+ghost use Rattle.pos_shell.specs.Told.{first, others, prefix, reason_data, reason_text, text_data, told, told_data, told_json, told_line, told_plain};
+ghost use Rattle.pos_shell.specs.Outputs.{IsCutOff, IsWritten, output_of};
 
 use crate::names::{numbers_of, put_named};
 use crate::reasons::reason;
 use itoa::Buffer;
 use pos_report::Code;
-use pos_script::{is_quiet_line, next_line};
+use pos_script::{is_quiet_line, next_line, write_bytes};
 use pos_service::words::is;
+use pos_streams::{Sink, WriteFault};
 use serde_json::{Value, json};
 use std::alloc::{AllocError, Global};
 use std::str;
@@ -204,4 +205,18 @@ pub(crate) fn told(
         number += 1;
     }
     Ok(text)
+}
+
+/// Writes a text to its end, and flushes it.
+///
+/// # Errors
+///
+/// [`WriteFault`] at the first write that fails, or if the flush does.
+pub fn write_text<W: Sink>(writer: &mut W, text: &[u8]) -> Result<(), WriteFault>
+    ensures { MatchResult result
+        (λ _. IsWritten (output_of W.Sink writer.old) (output_of W.Sink writer.new) text.now)
+        (λ _. IsCutOff (output_of W.Sink writer.old) (output_of W.Sink writer.new) text.now) }
+{
+    write_bytes(writer, text)?;
+    writer.flush()
 }

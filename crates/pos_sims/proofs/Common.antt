@@ -14,7 +14,7 @@ pub use Rattle.pos_service.specs.declared.receipt_text.PrintedCharacter.{Printed
 pub use Rattle.pos_sims.specs.Rings.{IsAbove, IsBelow, StandsAt, blanked, shown_on, turned}
 pub use Rattle.pos_sims.specs.Tapes.{Adds, Extends, Work, add_cut, end_begun, end_line, ended, pieces_asked, printed_on, put, request_on, step, steps, work_of}
 pub use Rattle.pos_sims.specs.Windows.{Follows, IsWithin, MovesToEnd, MovesToFront, SameSize, ShiftsToEnd, ShiftsToFront, display_of, is_character, with_run_at}
-pub use Rattle.pos_sims.specs.declared.laying.Manner.{Manner}
+pub use Rattle.pos_sims.specs.declared.text_layout.Manner.{Manner}
 pub use Rattle.std.proofs.Common.{List, [], ap, append_assoc, arith, drop, false, get_or, inl, inr, length, refl, replicate, rules, set, suc, take, true, zero}
 pub use Rattle.std.proofs.Common.{ℕ, ◌%◌, ◌&&◌, ◌*◌, ◌++◌, ◌+◌, ◌-◌, ◌<◌, ◌∙◌, ◌∷◌, ◌≡◌, ◌≢◌, ◌≤◌, ◌⊎◌}
 pub use Rattle.std.proofs.Math.Nat.{mul-le-mul_right}

@@ -4,7 +4,7 @@ use Rattle.std.specs.Prelude.{if◌then◌else◌}
 use Rattle.pos_service.specs.declared.display_text.Attribute.{Attribute}
 use Rattle.pos_service.specs.declared.display_text.DisplayCell.{DisplayCell}
 use Rattle.pos_service.specs.declared.display_text.Place.{Place}
-use Rattle.pos_sims.specs.declared.laying.Manner.{Manner}
+use Rattle.pos_sims.specs.declared.text_layout.Manner.{Manner}
 use Rattle.pos_service.specs.Displays.{Display, Strip, cell_with, rows_above, shown_at, blank, with_text, text_from, IsWindow}
 
 -- the cells of a display, row by row

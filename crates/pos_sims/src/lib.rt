@@ -12,22 +12,21 @@
 
 mod flaky;
 mod grid;
-mod laying;
 mod line_display;
 mod paper_needs;
 mod plain_drawer;
 mod plain_scanner;
 mod power;
 mod print_preview;
-mod printing;
 mod recorder;
 mod ring;
+mod ring_places;
 mod roll;
 mod roll_printer;
 mod screen;
-mod scrolling;
+mod scroll;
 mod tape;
-mod turning;
+mod text_layout;
 mod window;
 
 pub use flaky::Flaky;

@@ -4,11 +4,12 @@ ghost use Rattle.pos_service.specs.declared.receipt_text.Piece.{Piece};
 ghost use Rattle.pos_service.specs.Receipts.{Prints, empty_roll, pieces, cut_pieces, items_from, buffer_from};
 ghost use Rattle.pos_sims.specs.PaperNeeds.{outcome_by};
 ghost use Rattle.pos_sims.specs.Tapes.{pieces_asked};
+ghost use Rattle.pos_sims.specs.ReceiptPrinters.{reply_of};
 
 use crate::paper_needs::request_fits;
 use crate::tape::{Asked, Stop, Tape};
-use pos_service::NoMemory;
 use pos_service::receipt_text::{Mark, Outcome, PrintedCharacter};
+use pos_service::{NoMemory, Reply};
 use std::alloc::Global;
 use std::marker::Model;
 
@@ -196,5 +197,16 @@ impl Roll {
         ensures { result.now ≡ self.now.buffer }
     {
         self.tape.buffer()
+    }
+}
+
+/// Returns what a printer replies, once this has come of a request.
+pub(crate) fn reply_of(outcome: Outcome) -> Reply
+    ensures { result ≡ reply_of outcome }
+{
+    match outcome {
+        Outcome::Done => Reply::Done,
+        Outcome::CoverOpen => Reply::CoverOpen,
+        Outcome::PaperEnd => Reply::PaperEnd,
     }
 }

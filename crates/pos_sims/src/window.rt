@@ -1,8 +1,8 @@
 //! A device window whose cells are kept row by row.
 use crate::grid::Grid;
-use crate::laying::{Manner, lay_text, put_characters};
 use crate::screen::Screen;
-use crate::scrolling::{scroll_cells, shift_to_front};
+use crate::scroll::{scroll_cells, shift_to_front};
+use crate::text_layout::{Manner, lay_text, put_characters};
 use pos_service::display_text::{Attribute, BLANK, Direction, DisplayCell, Place};
 use pos_service::{DisplayCells, Kind, NoMemory};
 use std::alloc::Global;

@@ -1,7 +1,7 @@
 -- What the proofs of this crate cite of the crates below it and of its own definitions.
-pub use Rattle.pos_dir.proofs.Directories.{directory_takes, layout_1_writable, layout_2_writable, no_body, one_spelling}
-pub use Rattle.pos_dir.proofs.Groups.{group_takes, no_group, one_group_spelling}
-pub use Rattle.pos_dir.proofs.Readers.{IsBytes, IsBytes-drop, IsBytes-take}
+pub use Rattle.pos_dir.proofs.DirectoryLemmas.{directory_takes, layout_1_writable, layout_2_writable, no_body, one_spelling}
+pub use Rattle.pos_dir.proofs.GroupLemmas.{group_takes, no_group, one_group_spelling}
+pub use Rattle.pos_dir.proofs.FieldLemmas.{IsBytes, IsBytes-drop, IsBytes-take}
 pub use Rattle.pos_dir.specs.Calls.{Decodes, IsBody}
 pub use Rattle.pos_dir.specs.Changes.{IsGroup, fault_of, outcome_of_all}
 pub use Rattle.pos_dir.specs.Files.{AreWritable, DirectoryView, IsDirectory}
@@ -10,13 +10,13 @@ pub use Rattle.pos_dir.specs.Spelling.{body_limit, group_spelling, spelling}
 pub use Rattle.pos_dir.specs.declared.change.Change.{Change}
 pub use Rattle.pos_dir.specs.declared.fault.DirectoryFault.{DirectoryFault}
 pub use Rattle.pos_dir.specs.declared.file.File.{File}
-pub use Rattle.pos_dir.specs.declared.limits.Limits.{Limits}
-pub use Rattle.pos_disk.proofs.Moments.{seen_before, started, watches_on, weaker}
+pub use Rattle.pos_dir.specs.declared.file.Limits.{Limits}
+pub use Rattle.pos_disk.proofs.MomentLemmas.{seen_before, started, watches_on, weaker}
 pub use Rattle.pos_disk.specs.Keeps.{KeepsDisk}
 pub use Rattle.pos_disk.specs.State.{CountsNow, DiskState, HasNotFailed, LeavesOnly, MayLeave, Rises, Watches}
 pub use Rattle.pos_disk.specs.declared.device.Disk.{Ghosts}
-pub use Rattle.pos_image.proofs.Places.{log_some}
-pub use Rattle.pos_image.proofs.Spanned.{image_length}
+pub use Rattle.pos_image.proofs.PlaceLemmas.{log_some}
+pub use Rattle.pos_image.proofs.SpanLemmas.{image_length}
 pub use Rattle.pos_image.specs.Images.{IsReady, View}
 pub use Rattle.pos_image.specs.Layout.{layout_of, log_place, log_size, longest, sequence_at, start}
 pub use Rattle.pos_image.specs.NewDisk.{no_files}
@@ -24,9 +24,9 @@ pub use Rattle.pos_image.specs.Standing.{image_on}
 pub use Rattle.pos_image.specs.declared.fault.ImageFault.{ImageFault}
 pub use Rattle.pos_image.specs.declared.layout.Layout.{Layout}
 pub use Rattle.pos_image.specs.declared.layout.Layout.TheVariants.{Layout1, Layout2}
-pub use Rattle.pos_log.proofs.Deciding.{records_or_none}
-pub use Rattle.pos_log.proofs.Emptied.{no_records}
-pub use Rattle.pos_log.proofs.Unique.{one_log}
+pub use Rattle.pos_log.proofs.DecisionLemmas.{records_or_none}
+pub use Rattle.pos_log.proofs.RenewalLemmas.{no_records}
+pub use Rattle.pos_log.proofs.UniquenessLemmas.{one_log}
 pub use Rattle.pos_log.specs.Logs.{Appends, HasNoRecords, HasOldOrNew, IsLogReady, KeepsRecords, LogView, Renews, log_over}
 pub use Rattle.pos_log.specs.Records.{HoldsRecords, HoldsSome}
 pub use Rattle.pos_log.specs.declared.fault.LogFault.{LogFault}

@@ -1,10 +1,10 @@
-mod Committed
+mod CommitLemmas
 pub mod Common
-pub mod Deciding
-mod Drafted
-pub mod FilesOnDisk
-pub mod Found
-mod Migrated
-pub mod Passing
-pub mod Recovered
-pub mod Stepped
+pub mod DecisionLemmas
+mod DraftLemmas
+pub mod DiskFileLemmas
+pub mod StandingLemmas
+mod MigrationLemmas
+pub mod CrashLemmas
+pub mod RecoveryLemmas
+pub mod RecordLemmas

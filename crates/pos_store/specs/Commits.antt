@@ -16,8 +16,8 @@ use Rattle.pos_log.specs.Records.{end_of}
 use Rattle.pos_store.specs.Layouts.{limits_of}
 use Rattle.pos_store.specs.StoreViews.{StoreState, StoreView, Off, Ready, settled}
 use Rattle.pos_store.specs.Standing.{Standing, Stands, Passes}
-use Rattle.pos_store.specs.declared.draft.Draft.{Draft}
-use Rattle.pos_store.specs.declared.draft.Draft.TheVariants as draft
+use Rattle.pos_store.specs.declared.commits.Draft.{Draft}
+use Rattle.pos_store.specs.declared.commits.Draft.TheVariants as draft
 use Rattle.pos_store.specs.declared.fault.StoreFault.{StoreFault}
 use Rattle.pos_store.specs.declared.fault.StoreFault.TheVariants as fault
 

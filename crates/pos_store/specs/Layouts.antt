@@ -1,6 +1,6 @@
 -- What a totals disk may hold, by its layout. docs/reference/totals-file.md, "The layouts".
-use Rattle.pos_dir.specs.declared.limits.Limits.{Limits}
-use Rattle.pos_dir.specs.declared.limits.TheConstants.{LAYOUT_1, LAYOUT_2}
+use Rattle.pos_dir.specs.declared.file.Limits.{Limits}
+use Rattle.pos_dir.specs.declared.file.TheConstants.{LAYOUT_1, LAYOUT_2}
 use Rattle.pos_image.specs.declared.layout.Layout.{Layout}
 use Rattle.pos_image.specs.declared.layout.Layout.TheVariants.{Layout1, Layout2}
 

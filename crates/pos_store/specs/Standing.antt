@@ -9,7 +9,7 @@ use Rattle.pos_dir.specs.Files.{IsDirectory}
 use Rattle.pos_dir.specs.Spelling.{spelling, group_spelling}
 use Rattle.pos_dir.specs.declared.change.Change.{Change}
 use Rattle.pos_dir.specs.declared.file.File.{File}
-use Rattle.pos_dir.specs.declared.limits.Limits.{Limits}
+use Rattle.pos_dir.specs.declared.file.Limits.{Limits}
 use Rattle.pos_image.specs.declared.layout.Layout.{Layout}
 use Rattle.pos_store.specs.Layouts.{limits_of}
 

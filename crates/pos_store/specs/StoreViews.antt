@@ -10,8 +10,8 @@ use Rattle.pos_store.specs.Layouts.{limits_of}
 use Rattle.pos_store.specs.Standing.{Standing, Stands, HoldsFiles, LeavesOneOf}
 use Rattle.pos_store.specs.declared.disk_or_log.DiskOrLog.{DiskOrLog}
 use Rattle.pos_store.specs.declared.disk_or_log.DiskOrLog.TheVariants as which
-use Rattle.pos_store.specs.declared.mode.Mode.{Mode}
-use Rattle.pos_store.specs.declared.mode.Mode.TheVariants as mode
+use Rattle.pos_store.specs.declared.store.Mode.{Mode}
+use Rattle.pos_store.specs.declared.store.Mode.TheVariants as mode
 
 -- Off, or ready with these files and the sequence of the image that they are from
 pub data StoreState : Type 0 where

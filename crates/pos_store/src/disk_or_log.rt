@@ -9,7 +9,7 @@ use pos_log::Log;
 
 /// What a store is made of.
 #[derive(Drop)]
-pub enum DiskOrLog<D: Disk> {
+pub(crate) enum DiskOrLog<D: Disk> {
     /// The store is off: the disk, and the layout that was found or made last.
     Off(D, Layout),
     /// The store is ready: the log of the disk, and the files that it holds.
@@ -17,7 +17,7 @@ pub enum DiskOrLog<D: Disk> {
 }
 
 /// Drops the log and the files, and returns the store that is off: the disk with its layout.
-pub fn turn_off<D: Disk>(log: Log<D>) -> DiskOrLog<D>
+pub(crate) fn turn_off<D: Disk>(log: Log<D>) -> DiskOrLog<D>
     ensures { result ≡ DiskOrLog.Off log.images.disk (layout_of log.images.slot) }
 {
     let images = log.into_images();

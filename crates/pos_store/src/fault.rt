@@ -39,7 +39,7 @@ pub enum StoreFault {
 }
 
 /// Returns the store's fault for a refusal by the images.
-pub fn tell_images(fault: ImageFault) -> StoreFault
+pub(crate) fn tell_images(fault: ImageFault) -> StoreFault
     requires new { fault ≢ ImageFault.AlreadyFormatted }
     requires short { fault ≢ ImageFault.TooLarge }
     ensures { Tells fault result }
@@ -55,7 +55,7 @@ pub fn tell_images(fault: ImageFault) -> StoreFault
 }
 
 /// Returns the store's fault for a log that can't be opened.
-pub fn tell_log(fault: LogFault) -> StoreFault
+pub(crate) fn tell_log(fault: LogFault) -> StoreFault
     requires { fault ≢ LogFault.Full }
     ensures { TellsLog fault result }
 {
@@ -68,7 +68,7 @@ pub fn tell_log(fault: LogFault) -> StoreFault
 }
 
 /// Returns the store's fault for a record whose group isn't applied: `Damaged`, unless memory ran out.
-pub fn tell_broken(fault: DirectoryFault) -> StoreFault
+pub(crate) fn tell_broken(fault: DirectoryFault) -> StoreFault
     ensures { result ≡ broken fault }
 {
     match fault {

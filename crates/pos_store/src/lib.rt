@@ -8,19 +8,15 @@
 //! the disk fails, the store is off, and a recovery finds either. Any other refusal changes nothing.
 #![tactic(auto)]
 
-mod committing;
+mod commits;
 mod disk_or_log;
-mod draft;
 mod fault;
 pub mod laws;
-mod layouts;
-mod migrating;
-mod mode;
-mod recovering;
+mod migrations;
+mod recoveries;
 mod relay;
 mod store;
 
 pub use fault::StoreFault;
-pub use layouts::limits_of;
-pub use mode::Mode;
-pub use store::Store;
+pub use recoveries::limits_of;
+pub use store::{Mode, Store};

@@ -1,12 +1,11 @@
 //! A store: the files of a totals disk, and their changes.
 ghost use Rattle.std.specs.Prelude.{◌≡◌, ◌<◌, length, IfSome};
 
-use crate::committing::commit_group;
+use crate::commits::commit_group;
 use crate::disk_or_log::DiskOrLog;
 use crate::fault::StoreFault;
-use crate::migrating::migrate_files;
-use crate::mode::Mode;
-use crate::recovering::recover_files;
+use crate::migrations::migrate_files;
+use crate::recoveries::recover_files;
 use core::mem::replace_with;
 use pos_dir::{Directory, DirectoryFault, Group, check_group};
 use pos_disk::Disk;
@@ -183,4 +182,16 @@ impl<D: Disk> Store<D> {
             DiskOrLog::Ready(log, _) => log.into_images().into_disk(),
         }
     }
+}
+
+/// Whether the files of a store are known.
+#[derive(Clone, Copy, PartialEq, Eq)]
+pub enum Mode {
+    /// They aren't: the disk was not read yet, or it failed in a change.
+    Off,
+    /// They are.
+    Ready {
+        /// The sequence of the current image: 1 after formatting, and one more with each new image.
+        sequence: u64,
+    },
 }

@@ -1,5 +1,5 @@
-pub mod Applied
-pub mod Behind
-pub mod Broken
-pub mod Heads
-pub mod Told
+pub mod GroupLemmas
+pub mod RecordLemmas
+pub mod DamageLemmas
+pub mod HeadLemmas
+pub mod LineLemmas

@@ -8,7 +8,7 @@ use Rattle.pos_dir.specs.declared.flaw.Flaw.{Flaw}
 use Rattle.pos_dir.specs.Spelling as directory
 use Rattle.pos_dir.specs.declared.change.Change.{Change}
 use Rattle.pos_dir.specs.declared.file.File.{File}
-use Rattle.pos_dir.specs.declared.limits.Limits.{Limits}
+use Rattle.pos_dir.specs.declared.file.Limits.{Limits}
 use Rattle.pos_image.specs.Layout.{disk_size, longest, body_place, log_place, start, other, first_of, layout_of}
 use Rattle.pos_image.specs.Layout.{layout_on, length_at}
 use Rattle.pos_image.specs.Slots.{IsCurrent}

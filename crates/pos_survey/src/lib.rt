@@ -8,10 +8,10 @@
 //! names a rule that they do break.
 #![tactic(auto)]
 
+mod current_image;
 mod fault;
 mod image;
 mod log;
-mod opening;
 mod records;
 mod survey;
 mod text;

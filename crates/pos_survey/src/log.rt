@@ -14,7 +14,7 @@ use pos_log::{Log, LogFault, find_damage};
 use std::alloc::Global;
 
 /// Returns where the log of a slot begins on the disk, in bytes.
-pub fn log_begins(slot: Slot) -> u64
+pub(crate) fn log_begins(slot: Slot) -> u64
     ensures { result ≡ log_begins slot }
 {
     slot.start() + slot.layout().log()
@@ -39,7 +39,7 @@ fn tell_damage(bytes: &[u8], slot: Slot) -> SurveyFault
 /// # Errors
 ///
 /// `Damaged` with `LongRecord` if a record doesn't fit, and `NoMemory` if memory ran out.
-pub fn open_log(
+pub(crate) fn open_log(
     alloc: Global,
     bytes: &[u8],
     images: Images<MemDisk>,

@@ -43,7 +43,7 @@ fn apply_text(
 ///
 /// - `Damaged` with `NoGroup`, `EmptyGroup` or `NotApplicable`, and the place, for the first record that breaks a rule.
 /// - `NoMemory` if memory ran out.
-pub fn apply_texts(
+pub(crate) fn apply_texts(
     alloc: Global,
     directory: &mut Directory,
     texts: &[Vec<u8>],

@@ -3,9 +3,9 @@ ghost use Rattle.std.specs.Prelude.{IfOk, IfErr};
 ghost use Rattle.pos_survey.specs.Damages.{Breaks};
 ghost use Rattle.pos_survey.specs.Tellings.{Tells};
 
+use crate::current_image::{open_images, read_files};
 use crate::fault::SurveyFault;
 use crate::log::{log_begins, open_log};
-use crate::opening::{open_images, read_files};
 use crate::records::apply_texts;
 use pos_dir::Directory;
 use pos_image::Slot;

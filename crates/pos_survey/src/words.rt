@@ -1,4 +1,4 @@
-// The rules of a disk, in words.
+//! The rules of a disk, in words.
 ghost use Rattle.std.specs.Prelude.{◌≡◌};
 ghost use Rattle.pos_survey.specs.Words.{words_of, words_of_flaw};
 

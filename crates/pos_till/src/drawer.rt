@@ -1,3 +1,4 @@
+//! The cash drawer of this till.
 ghost use Rattle.std.specs.Prelude.{◌≡◌, false};
 ghost use Rattle.pos_service.specs.declared.kind.Kind.TheVariants as kind;
 ghost use Rattle.pos_service.specs.declared.plant.Form.TheVariants as form;

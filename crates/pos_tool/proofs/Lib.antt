@@ -1,2 +1,2 @@
-mod Parsed
-mod Readings
+mod ParseLemmas
+mod CopyLemmas

@@ -9,9 +9,9 @@ ghost use Rattle.pos_tool.specs.Telling.{EndsAtFile};
 ghost use Rattle.pos_program.specs.declared.file_fault.FileFault.TheVariants.{Unreadable};
 ghost use Rattle.pos_shell.specs.Outputs.{output_of};
 
+use crate::answers::print;
 use crate::fault::Fault;
 use crate::folder::Folder;
-use crate::telling::print;
 use crate::whole::{WholeFault, put_new, replace};
 use pos_file::BlockFile;
 use pos_program::{FileFault, FileSystem, open_file, open_totals, read_totals};

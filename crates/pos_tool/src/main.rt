@@ -5,6 +5,7 @@
 //! status that it ends with, is `perform`'s contract.
 #![tactic(auto)]
 
+mod answers;
 mod commands;
 mod copies;
 mod fault;
@@ -14,7 +15,6 @@ mod line;
 mod pages;
 mod program;
 mod scripts;
-mod telling;
 mod whole;
 
 use help::{HELP, VERSION, VERSION_LINE};

@@ -6,12 +6,12 @@ ghost use Rattle.pos_shell.specs.Outputs.{output_of};
 ghost use Rattle.pos_tool.specs.Program.{Completes, Does, DoesAsAsked, EndsAt, Explains, Performs};
 ghost use Rattle.pos_tool.specs.Program.{fault_of_unread};
 
+use crate::answers::{print, tell_difference, tell_file};
 use crate::commands::{Task, choice};
 use crate::copies::{back_up, load, restore, salvage};
 use crate::fault::{Fault, WordsFault, status_of};
 use crate::folder::Folder;
 use crate::scripts::{run_paths, try_paths};
-use crate::telling::{print, tell_difference, tell_file};
 use pos_disk::{Disk, MemDisk};
 use pos_file::BlockFile;
 use pos_program::{

@@ -3,7 +3,7 @@ pub use Rattle.pos_dir.specs.Changes.{outcome, outcome_of_all}
 pub use Rattle.pos_dir.specs.Files.{DirectoryView, IsDirectory, are_distinct, has_name, total_size}
 pub use Rattle.pos_dir.specs.declared.change.Change.{Change as FileChange}
 pub use Rattle.pos_dir.specs.declared.file.File.{File as PlainFile}
-pub use Rattle.pos_dir.specs.declared.limits.Limits.{Limits}
+pub use Rattle.pos_dir.specs.declared.file.Limits.{Limits}
 pub use Rattle.pos_disk.specs.Keeps.{KeepsDisk}
 pub use Rattle.pos_disk.specs.State.{DiskState, MayLeave}
 pub use Rattle.pos_disk.specs.declared.device.Disk.{Ghosts}
@@ -14,9 +14,9 @@ pub use Rattle.pos_service.specs.Numbers.{is_natural, is_up_to}
 pub use Rattle.pos_service.specs.Refusals.{Decided, first_refusal}
 pub use Rattle.pos_service.specs.declared.answer.Answer.{Answer}
 pub use Rattle.pos_service.specs.declared.answer.Value.{Value}
-pub use Rattle.pos_service.specs.declared.memory.NoMemory.{NoMemory}
-pub use Rattle.pos_store.proofs.Passing.{settles, stays, wider}
-pub use Rattle.pos_store.proofs.Recovered.{never_failed}
+pub use Rattle.pos_service.specs.declared.faults.NoMemory.{NoMemory}
+pub use Rattle.pos_store.proofs.CrashLemmas.{settles, stays, wider}
+pub use Rattle.pos_store.proofs.RecoveryLemmas.{never_failed}
 pub use Rattle.pos_store.specs.Commits.{Commits, IsApplicable, IsExhausted, PutsDown, fits_behind as store_fits_behind, sequence_after, tail_after}
 pub use Rattle.pos_store.specs.Layouts.{limits_of}
 pub use Rattle.pos_store.specs.Standing.{LeavesOneOf, Passes, Standing, Stands, StandsFor, StandsForOneOf}
@@ -32,7 +32,7 @@ pub use Rattle.pos_totals.specs.HardTotals.{Change, Create, Delete, Edit, File, 
 pub use Rattle.pos_totals.specs.HardTotals.{last_number, next_sequences, totals_limits, transaction_at, with_files, without_transactions}
 pub use Rattle.pos_totals.specs.Numbering.{HasPlace, Numbers, following, given_after, lacks, tags_from, value_after}
 pub use Rattle.pos_totals.specs.Recoveries.{FindsFiles, Recovers, numbered, told_as}
-pub use Rattle.pos_dir.proofs.Outlined.{list_any-map, sum_by-map}
+pub use Rattle.pos_dir.proofs.OutlineLemmas.{list_any-map, sum_by-map}
 pub use Rattle.pos_totals.specs.Tables.{HandleTable, is_meant, new_tag, reclaimed}
 pub use Rattle.pos_totals.specs.TotalsArrangements.{Arranges, after_arrangement, arrangement_by, claim_after, claimed}
 pub use Rattle.pos_totals.specs.TotalsChanges.{Changed, Done, RunsOut, after_changes, change_rows, files_after, files_after_all, fits_behind, fits_file, given_by}
@@ -48,7 +48,7 @@ pub use Rattle.pos_totals.specs.declared.files.Found.{Found}
 pub use Rattle.pos_totals.specs.declared.claims.Claiming.{Claiming}
 pub use Rattle.pos_totals.specs.declared.handles.Tag.{Tag}
 pub use Rattle.pos_totals.specs.declared.handles.Whose.{Whose}
-pub use Rattle.pos_totals.specs.declared.holdings.Holdings.{Holdings}
+pub use Rattle.pos_totals.specs.declared.totals.Holdings.{Holdings}
 pub use Rattle.pos_totals.specs.declared.request.Checked.{Checked}
 pub use Rattle.std.proofs.Common.{Bool, Err, IfSome, IsErrOf, List, None, Ok, Option, Result, SFits, Some, [], ap, arith, bytes_eq, cond, drop, eq-eqb, false}
 pub use Rattle.std.proofs.Common.{filter, find, get_or, inl, inr, is_none, is_some, leb-true, length, length-append, length-drop, length-take, lit<, map}

@@ -3,11 +3,11 @@ use Rattle.std.specs.Prelude.{◌≡◌, ◌<◌, ◌≤◌, ◌+◌, ℕ, ℤ, 
 use Rattle.std.specs.Prelude.{Result, Ok, Err, slice_set, ⊤}
 use Rattle.std.specs.List.{AllByRecursion}
 use Rattle.std.specs.Option.{option_map}
-use Rattle.pos_dir.specs.declared.limits.TheConstants.{LAYOUT_2}
+use Rattle.pos_dir.specs.declared.file.TheConstants.{LAYOUT_2}
 use Rattle.pos_service.specs.declared.answer.Answer.{Answer}
 use Rattle.pos_service.specs.declared.answer.Answer.TheVariants as answer
 use Rattle.pos_service.specs.declared.answer.Value.TheVariants as value
-use Rattle.pos_service.specs.declared.memory.NoMemory.{NoMemory}
+use Rattle.pos_service.specs.declared.faults.NoMemory.{NoMemory}
 use Rattle.pos_totals.specs.HardTotals.{File, Mode, Off, Ready, Change, Create, Delete, Rename, Edit, transaction_at, without_transactions}
 use Rattle.pos_totals.specs.Edits.{FileEdit, fits, edit_cost, edit_change, edit_in, edit_owned}
 use Rattle.pos_totals.specs.TotalsFiles.{is_called}

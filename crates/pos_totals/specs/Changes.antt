@@ -7,7 +7,7 @@ use Rattle.pos_dir.specs.Changes.{outcome_of_all}
 use Rattle.pos_image.specs.declared.layout.Layout.{Layout}
 use Rattle.pos_service.specs.declared.answer.Answer.{Answer}
 use Rattle.pos_service.specs.declared.answer.Answer.TheVariants as answer
-use Rattle.pos_service.specs.declared.memory.NoMemory.{NoMemory}
+use Rattle.pos_service.specs.declared.faults.NoMemory.{NoMemory}
 use Rattle.pos_totals.specs.HardTotals.{Mode, Off, Ready, Totals, Change, files_of, next_sequences}
 use Rattle.pos_totals.specs.TotalsChanges.{files_after_all, Changed, group_by_change}
 use Rattle.pos_totals.specs.TotalsCommits.{Committed, group_by_commit}

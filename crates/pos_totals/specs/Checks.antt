@@ -6,11 +6,11 @@ use Rattle.std.specs.Option.{option_map}
 use Rattle.pos_dir.specs.Changes.{flaw_of}
 use Rattle.pos_dir.specs.Files.{IsDirectory}
 use Rattle.pos_dir.specs.declared.change.Change.{Change as FileChange}
-use Rattle.pos_dir.specs.declared.limits.TheConstants.{LAYOUT_2}
+use Rattle.pos_dir.specs.declared.file.TheConstants.{LAYOUT_2}
 use Rattle.pos_service.specs.declared.answer.Answer.{Answer}
 use Rattle.pos_service.specs.declared.answer.Answer.TheVariants as answer
 use Rattle.pos_service.specs.declared.code.Code.TheVariants as code
-use Rattle.pos_service.specs.declared.memory.NoMemory.{NoMemory}
+use Rattle.pos_service.specs.declared.faults.NoMemory.{NoMemory}
 use Rattle.pos_service.specs.Claims.{is_foreign}
 use Rattle.pos_totals.specs.HardTotals.{File, Mode, Off, Ready, Totals, Change, Create, Delete, Rename, Edit, TotalsLimits, totals_limits}
 use Rattle.pos_totals.specs.HardTotals.{transaction_of, files_of}
@@ -29,10 +29,10 @@ use Rattle.pos_totals.specs.Buffers.{IsAsked}
 use Rattle.pos_totals.specs.Edits.{edit_of}
 use Rattle.pos_totals.specs.Groups.{index_of, file_change, group_of}
 use Rattle.pos_totals.specs.Views.{with_tags}
-use Rattle.pos_totals.specs.declared.committing.Commitment.{Commitment}
-use Rattle.pos_totals.specs.declared.committing.Commitment.TheVariants as commitment
-use Rattle.pos_totals.specs.declared.committing.Plan.{Plan}
-use Rattle.pos_totals.specs.declared.committing.Plan.TheVariants as plan
+use Rattle.pos_totals.specs.declared.commits.Commitment.{Commitment}
+use Rattle.pos_totals.specs.declared.commits.Commitment.TheVariants as commitment
+use Rattle.pos_totals.specs.declared.commits.Plan.{Plan}
+use Rattle.pos_totals.specs.declared.commits.Plan.TheVariants as plan
 use Rattle.pos_totals.specs.declared.files.Files.{Files}
 use Rattle.pos_totals.specs.declared.files.Found.{Found}
 use Rattle.pos_totals.specs.declared.request.Caller.{Caller}

@@ -7,7 +7,7 @@ use Rattle.pos_totals.specs.Tables.{new_tag}
 use Rattle.pos_totals.specs.declared.handles.Tag.{Tag}
 use Rattle.pos_dir.specs.declared.change.Change.{Change as FileChange}
 use Rattle.pos_dir.specs.declared.change.Change.TheVariants as file
-use Rattle.pos_dir.specs.declared.limits.TheConstants.{LAYOUT_2}
+use Rattle.pos_dir.specs.declared.file.TheConstants.{LAYOUT_2}
 
 -- the tags of so many files that have the handles from one on
 abbrev pub tags_from : ℕ → ℕ → List Tag

@@ -11,8 +11,8 @@ use Rattle.pos_service.specs.declared.code.Code.TheVariants as code
 use Rattle.pos_service.specs.Claims.{is_foreign, is_timeout}
 use Rattle.pos_service.specs.Refusals.{Row, when, Decided}
 use Rattle.pos_totals.specs.HardTotals.{File, Change, Totals, with_transaction, with_files}
-use Rattle.pos_totals.specs.declared.arranging.Arrangement.{Arrangement as Asked}
-use Rattle.pos_totals.specs.declared.arranging.Arrangement.TheVariants as asked
+use Rattle.pos_totals.specs.declared.arrangements.Arrangement.{Arrangement as Asked}
+use Rattle.pos_totals.specs.declared.arrangements.Arrangement.TheVariants as asked
 use Rattle.pos_totals.specs.declared.claims.Claiming.{Claiming}
 use Rattle.pos_totals.specs.declared.claims.Claiming.TheVariants as claiming
 use Rattle.pos_totals.specs.TotalsFiles.{is_called, has_file, is_own_file, is_foreign_file, with_each}

@@ -4,7 +4,7 @@ use Rattle.pos_disk.specs.declared.device.Disk.{Ghosts}
 use Rattle.pos_service.specs.declared.answer.Answer.{Answer}
 use Rattle.pos_service.specs.declared.call.Call.{Call}
 use Rattle.pos_service.specs.declared.call.Call.TheVariants as call
-use Rattle.pos_service.specs.declared.memory.NoMemory.{NoMemory}
+use Rattle.pos_service.specs.declared.faults.NoMemory.{NoMemory}
 use Rattle.pos_service.specs.Refusals.{Row}
 use Rattle.pos_totals.specs.HardTotals.{Change, Totals}
 use Rattle.pos_totals.specs.TotalsQuestions.{Question, MayTell, question_asked, refusals_of_question}

@@ -10,7 +10,7 @@ use Rattle.pos_service.specs.declared.answer.Value.TheVariants as value
 use Rattle.pos_service.specs.declared.call.Call.{Call}
 use Rattle.pos_service.specs.declared.call.Call.TheVariants as call
 use Rattle.pos_service.specs.declared.code.Code.TheVariants as code
-use Rattle.pos_service.specs.declared.memory.NoMemory.{NoMemory}
+use Rattle.pos_service.specs.declared.faults.NoMemory.{NoMemory}
 use Rattle.pos_service.specs.Numbers.{is_natural}
 use Rattle.pos_service.specs.Refusals.{Row, when, first_refusal, Decided}
 use Rattle.pos_totals.specs.HardTotals.{TotalsLimits, totals_limits, last_number, IsAmong, File, Mode, Off, Ready, Change, Create, Delete, Rename}

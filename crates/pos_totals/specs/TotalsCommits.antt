@@ -5,7 +5,7 @@ use Rattle.pos_service.specs.declared.answer.Answer.{Answer}
 use Rattle.pos_service.specs.declared.answer.Answer.TheVariants as answer
 use Rattle.pos_service.specs.declared.answer.Value.TheVariants as value
 use Rattle.pos_service.specs.declared.code.Code.TheVariants as code
-use Rattle.pos_service.specs.declared.memory.NoMemory.{NoMemory}
+use Rattle.pos_service.specs.declared.faults.NoMemory.{NoMemory}
 use Rattle.pos_service.specs.Refusals.{Row, when, first_refusal, Decided}
 use Rattle.pos_totals.specs.HardTotals.{File, Change, Totals, transaction_of, with_transaction, changes_in}
 use Rattle.pos_totals.specs.TotalsFiles.{is_foreign_file}

@@ -9,11 +9,11 @@ use Rattle.pos_service.specs.declared.answer.Value.TheVariants as value
 use Rattle.pos_service.specs.declared.call.Call.{Call}
 use Rattle.pos_service.specs.declared.call.Call.TheVariants as call
 use Rattle.pos_service.specs.declared.code.Code.TheVariants as code
-use Rattle.pos_service.specs.declared.memory.NoMemory.{NoMemory}
+use Rattle.pos_service.specs.declared.faults.NoMemory.{NoMemory}
 use Rattle.pos_service.specs.Refusals.{Row, when, first_refusal, Decided}
 use Rattle.pos_totals.specs.HardTotals.{File, Totals, files_of}
-use Rattle.pos_totals.specs.declared.asking.Question.{Question as Asked}
-use Rattle.pos_totals.specs.declared.asking.Question.TheVariants as asked
+use Rattle.pos_totals.specs.declared.questions.Question.{Question as Asked}
+use Rattle.pos_totals.specs.declared.questions.Question.TheVariants as asked
 use Rattle.pos_totals.specs.TotalsFiles.{is_named, is_called, file_at, has_file, is_foreign_file, is_range_of}
 use Rattle.pos_totals.specs.TotalsRows.{while_ready, when_foreign_area}
 

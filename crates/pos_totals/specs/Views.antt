@@ -13,7 +13,7 @@ use Rattle.pos_store.specs.StoreViews.{StoreState as State, LeavesItsFiles}
 use Rattle.pos_store.specs.StoreViews.{Off as StoreOff, Ready as StoreReady, StoreView}
 use Rattle.pos_totals.specs.Buffers.{HaveBuffers}
 use Rattle.pos_totals.specs.declared.handles.Tag.{Tag}
-use Rattle.pos_totals.specs.declared.holdings.Holdings.{Holdings}
+use Rattle.pos_totals.specs.declared.totals.Holdings.{Holdings}
 
 -- The disk, and what the totals have of it.
 pub record TotalsView (D : Type 0) : Type 0 where

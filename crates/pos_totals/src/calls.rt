@@ -4,9 +4,9 @@ ghost use Rattle.std.specs.Prelude.{Ok};
 ghost use Rattle.pos_service.specs.declared.call.Call.TheVariants as call;
 ghost use Rattle.pos_totals.specs.TotalsCalls.{Calls, file_call};
 
-use crate::arranging::Arrangement;
-use crate::asking::Question;
+use crate::arrangements::Arrangement;
 use crate::edits::Edit;
+use crate::questions::Question;
 use crate::request::Request;
 use crate::totals::Totals;
 use pos_disk::Disk;

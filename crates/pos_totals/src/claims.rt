@@ -10,7 +10,7 @@ ghost use Rattle.pos_totals.specs.Views.{IsSound, totals_of};
 
 use crate::files::{Files, find_handle, see_files};
 use crate::handles::{Tag, Whose};
-use crate::holdings::Holdings;
+use crate::totals::Holdings;
 use pos_disk::Disk;
 use pos_service::claims::{is_foreign, is_own, is_timeout};
 use pos_service::{Answer, Code, Value};
@@ -18,7 +18,7 @@ use pos_store::Store;
 
 /// What a control asks for about the claim of a file.
 #[derive(Clone, Copy)]
-pub enum Claiming {
+pub(crate) enum Claiming {
     /// To make it. The timeout is in milliseconds, -1 for no end, and nothing is waited for.
     Claim { timeout: i128 },
     /// To end it.
@@ -38,7 +38,7 @@ impl Claiming {
 }
 
 /// Makes or ends the claim of the file with a handle, if its table allows it, and returns the answer.
-pub fn claim_file<D: Disk>(
+pub(crate) fn claim_file<D: Disk>(
     store: &Store<D>,
     holdings: &mut Holdings,
     control: usize,
@@ -116,7 +116,7 @@ fn check_claim_in(
 /// # Errors
 ///
 /// E_TIMEOUT if another control has claimed the area, or a file. Nothing changes then.
-pub fn claim_area<D: Disk>(
+pub(crate) fn claim_area<D: Disk>(
     store: &Store<D>,
     holdings: &mut Holdings,
     control: usize,
@@ -159,7 +159,7 @@ fn has_foreign_claim(tags: &[Tag], control: usize) -> bool
 /// # Errors
 ///
 /// E_ILLEGAL if the control hasn't claimed the area. Nothing changes then.
-pub fn release_area<D: Disk>(
+pub(crate) fn release_area<D: Disk>(
     store: &Store<D>,
     holdings: &mut Holdings,
     control: usize,

@@ -1,7 +1,7 @@
 //! Edits: changes of the bytes of a file, whose size stays. The other files use an edit only by its functions here.
 ghost use Rattle.std.specs.Prelude.{◌≡◌, ◌≤◌, ◌+◌, true, false, pos, length, is_some, IfOk, IfSome, MatchOption, Some};
 ghost use Rattle.std.specs.Option.{option_map};
-ghost use Rattle.pos_dir.specs.declared.limits.TheConstants.{LAYOUT_2};
+ghost use Rattle.pos_dir.specs.declared.file.TheConstants.{LAYOUT_2};
 ghost use Rattle.pos_service.specs.Calls.{takes_memory};
 ghost use Rattle.pos_totals.specs.Edits.{edit_asked, edit_of, edit_owned, edit_in, edit_change, edit_cost, fits, IsPlaced};
 
@@ -88,7 +88,7 @@ impl<'a> Edit<'a> {
 
 /// An edit that fits, with bytes of its own.
 #[derive(Drop)]
-pub enum OwnedEdit {
+pub(crate) enum OwnedEdit {
     /// Puts bytes in the place of those of the file from an offset on, counted from 0.
     Write { offset: u32, bytes: Bytes },
     /// Makes each byte of the file the same.

@@ -1,7 +1,7 @@
 //! The files of the totals as calls see them, with their handles and claims.
 ghost use Rattle.std.specs.Prelude.{◌≡◌, ◌≤◌, pos, length, position, IfSome, slice_get, nat_eq};
 ghost use Rattle.std.specs.Option.{option_map};
-ghost use Rattle.pos_dir.specs.declared.limits.TheConstants.{LAYOUT_2};
+ghost use Rattle.pos_dir.specs.declared.file.TheConstants.{LAYOUT_2};
 ghost use Rattle.pos_totals.specs.TotalsFiles.{is_named, is_called, free_data, has_room};
 ghost use Rattle.pos_totals.specs.HardTotals.{totals_limits};
 ghost use Rattle.pos_totals.specs.Groups.{index_of};
@@ -9,7 +9,7 @@ ghost use Rattle.pos_totals.specs.Checks.{files_in, limits_in, file_of, AreFiles
 ghost use Rattle.pos_totals.specs.Views.{HasDirectory, IsSound, mode_of};
 
 use crate::handles::Tag;
-use crate::holdings::Holdings;
+use crate::totals::Holdings;
 use pos_dir::Directory;
 use pos_dir::laws::is_directory;
 use pos_disk::Disk;
@@ -19,7 +19,7 @@ use pos_store::{Store, limits_of};
 
 /// The files of the totals that are ready.
 #[derive(Clone, Copy)]
-pub struct Files<'a> {
+pub(crate) struct Files<'a> {
     /// The layout of their disk.
     pub layout: Layout,
     /// Their names and bytes.
@@ -30,7 +30,7 @@ pub struct Files<'a> {
 
 /// A file that was found.
 #[derive(Clone, Copy)]
-pub struct Found<'a> {
+pub(crate) struct Found<'a> {
     /// Its index, from 0.
     pub index: u16,
     /// Its handle.
@@ -44,7 +44,10 @@ pub struct Found<'a> {
 }
 
 /// Returns the files of a store that is ready, with their tags, or `None` while it is off.
-pub fn see_files<'a, D: Disk>(store: &'a Store<D>, holdings: &'a Holdings) -> Option<Files<'a>>
+pub(crate) fn see_files<'a, D: Disk>(
+    store: &'a Store<D>,
+    holdings: &'a Holdings,
+) -> Option<Files<'a>>
     requires { IsSound store.now.layout store.now.state holdings.now }
     ensures seen { IsSeen (mode_of holdings.now.handles.given store.now.state) (option_map files_in result) }
     ensures files { IfSome result AreFiles }
@@ -63,8 +66,8 @@ pub fn see_files<'a, D: Disk>(store: &'a Store<D>, holdings: &'a Holdings) -> Op
 }
 
 /// Returns the file at an index, if there is one.
-#[tactic(auto, using(crate::proofs::Pairs::placed))]
-pub fn get_file<'a>(files: Files<'a>, index: usize) -> Option<Found<'a>>
+#[tactic(auto, using(crate::proofs::PairLemmas::placed))]
+pub(crate) fn get_file<'a>(files: Files<'a>, index: usize) -> Option<Found<'a>>
     requires { AreFiles files }
     ensures file { option_map file_of result ≡ slice_get (files_in files.entry) index }
     ensures index { IfSome result (λ found. found.index ≡ index) }
@@ -90,8 +93,8 @@ pub fn get_file<'a>(files: Files<'a>, index: usize) -> Option<Found<'a>>
 }
 
 /// Returns the file with a name, if there is one.
-#[tactic(auto, using(crate::proofs::Found::searched))]
-pub fn find_name<'a>(files: Files<'a>, name: &[u8]) -> Option<Found<'a>>
+#[tactic(auto, using(crate::proofs::SearchLemmas::searched))]
+pub(crate) fn find_name<'a>(files: Files<'a>, name: &[u8]) -> Option<Found<'a>>
     requires { AreFiles files }
     ensures { FindsFile (is_named name.now) (files_in files.entry) result }
 {
@@ -102,7 +105,7 @@ pub fn find_name<'a>(files: Files<'a>, name: &[u8]) -> Option<Found<'a>>
 }
 
 /// Returns the file with a handle, if there is one.
-pub fn find_handle<'a>(files: Files<'a>, handle: i128) -> Option<Found<'a>>
+pub(crate) fn find_handle<'a>(files: Files<'a>, handle: i128) -> Option<Found<'a>>
     requires { AreFiles files }
     ensures finds { FindsFile (is_called handle) (files_in files.entry) result }
     ensures called { IfSome result (λ found. handle ≡ pos found.handle) }
@@ -114,7 +117,7 @@ pub fn find_handle<'a>(files: Files<'a>, handle: i128) -> Option<Found<'a>>
 }
 
 // Returns the file with a handle that isn't below 0.
-#[tactic(auto, using(crate::proofs::Found::searched))]
+#[tactic(auto, using(crate::proofs::SearchLemmas::searched))]
 fn find_number<'a>(files: Files<'a>, handle: u128) -> Option<Found<'a>>
     requires { AreFiles files }
     ensures { FindsFile (is_called (pos handle)) (files_in files.entry) result }
@@ -126,8 +129,8 @@ fn find_number<'a>(files: Files<'a>, handle: u128) -> Option<Found<'a>>
 }
 
 /// Returns the index of the file with a handle, or the number of files if there is none.
-#[tactic(auto, using(crate::proofs::Found::searched))]
-pub fn find_index(files: Files<'_>, handle: u64) -> u16
+#[tactic(auto, using(crate::proofs::SearchLemmas::searched))]
+pub(crate) fn find_index(files: Files<'_>, handle: u64) -> u16
     requires { AreFiles files }
     ensures { result ≡ index_of (is_called (pos handle)) (files_in files.entry) }
 {
@@ -145,8 +148,8 @@ fn search(tags: &[Tag], handle: u128) -> Option<usize>
 }
 
 /// Returns FreeData: how many bytes are left for new files.
-#[tactic(auto, using(crate::proofs::Grouped::paired_size))]
-pub fn measure_free(files: Files<'_>) -> usize
+#[tactic(auto, using(crate::proofs::GroupLemmas::paired_size))]
+pub(crate) fn measure_free(files: Files<'_>) -> usize
     requires { AreFiles files }
     ensures { result ≡ free_data (limits_in files.entry) (files_in files.entry) }
 {
@@ -154,8 +157,8 @@ pub fn measure_free(files: Files<'_>) -> usize
 }
 
 /// Returns NumberOfFiles.
-#[tactic(auto, using(crate::proofs::Pairs::paired))]
-pub fn count_files(files: Files<'_>) -> usize
+#[tactic(auto, using(crate::proofs::PairLemmas::paired))]
+pub(crate) fn count_files(files: Files<'_>) -> usize
     requires { AreFiles files }
     ensures { result ≡ length (files_in files.entry) }
 {
@@ -163,7 +166,7 @@ pub fn count_files(files: Files<'_>) -> usize
 }
 
 /// Returns whether there is room for one more file, of `size` bytes.
-pub fn has_room(files: Files<'_>, size: u128) -> bool
+pub(crate) fn has_room(files: Files<'_>, size: u128) -> bool
     requires { AreFiles files }
     ensures { result ≡ has_room (limits_in files.entry) (files_in files.entry) (pos size) }
 {
@@ -171,7 +174,7 @@ pub fn has_room(files: Files<'_>, size: u128) -> bool
 }
 
 /// Returns TotalsSize on a disk of a layout: the most bytes of all files in total. A transaction may cost as much.
-pub fn totals_size(layout: Layout) -> usize
+pub(crate) fn totals_size(layout: Layout) -> usize
     ensures { result ≡ (totals_limits layout).bytes }
 {
     limits_of(layout).bytes as usize

@@ -1,6 +1,6 @@
 //! The handles of files, and their claims.
 ghost use Rattle.std.specs.Prelude.{◌≡◌, ◌<◌, ◌≤◌, ◌+◌, ◌^◌, [], map};
-ghost use Rattle.pos_dir.specs.declared.limits.TheConstants.{LAYOUT_2};
+ghost use Rattle.pos_dir.specs.declared.file.TheConstants.{LAYOUT_2};
 ghost use Rattle.pos_totals.specs.HardTotals.{last_number};
 ghost use Rattle.pos_totals.specs.Tables.{is_meant, reclaimed};
 ghost use Rattle.pos_totals.specs.Numbering.{tags_from, lacks, given_after, following, value_after, HasPlace, Numbers};
@@ -12,11 +12,11 @@ use pos_service::claims::is_own;
 use std::marker::Model;
 
 /// The most files on a disk of any layout.
-pub const MOST_FILES: usize = LAYOUT_2.files as usize;
+pub(crate) const MOST_FILES: usize = LAYOUT_2.files as usize;
 
 /// What the totals keep for a file besides the directory.
 #[derive(Clone, Copy, Default)]
-pub struct Tag {
+pub(crate) struct Tag {
     /// Its handle.
     pub handle: u64,
     /// The control that has claimed it, if one has.
@@ -25,7 +25,7 @@ pub struct Tag {
 
 /// The claims that a change of claims applies to.
 #[derive(Clone, Copy)]
-pub enum Whose {
+pub(crate) enum Whose {
     /// That of the file with this handle.
     File(u64),
     /// Each that this control has made.
@@ -35,7 +35,7 @@ pub enum Whose {
 /// The tags of the files in index order, and the handle that the next new file gets. The handle
 /// 18,446,744,073,709,551,615 there means that none is left.
 #[derive(Drop)]
-pub struct Handles {
+pub(crate) struct Handles {
     given: ArrayVec<Tag, MOST_FILES>,
     next: u64,
 }

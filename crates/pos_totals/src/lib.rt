@@ -9,30 +9,29 @@
 //! fails, the totals are off until they are recovered.
 #![tactic(auto)]
 
-mod arranging;
-mod asking;
+mod arrangements;
 mod calls;
-mod changing;
-mod checking;
+mod changes;
+mod checks;
 mod claims;
-mod committing;
+mod commits;
 mod edits;
 mod fault;
 mod files;
 mod handles;
-mod holdings;
 pub mod laws;
 mod numbers;
-mod recovering;
+mod questions;
+mod recoveries;
 mod relay;
 mod request;
 mod totals;
-mod transacting;
+mod transaction_calls;
 mod transactions;
 
-pub use arranging::Arrangement;
-pub use asking::Question;
+pub use arrangements::Arrangement;
 pub use edits::Edit;
 pub use fault::RecoveryFault;
+pub use questions::Question;
 pub use request::Request;
 pub use totals::Totals;

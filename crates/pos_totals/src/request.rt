@@ -11,7 +11,7 @@ use pos_service::Call;
 
 /// The control that calls.
 #[derive(Clone, Copy)]
-pub struct Caller {
+pub(crate) struct Caller {
     /// Its number.
     pub control: usize,
     /// What its buffered changes cost in total, or `None` if it is in no transaction.
@@ -82,7 +82,7 @@ impl<'a> Request<'a> {
 
 /// A change that nothing refuses.
 #[derive(Drop)]
-pub struct Checked<'a> {
+pub(crate) struct Checked<'a> {
     /// The handle of its file, if the call named the file by it.
     pub handle: Option<u64>,
     /// The change of the directory, which names files by their index.

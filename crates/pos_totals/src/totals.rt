@@ -1,18 +1,17 @@
 //! The totals: files with their handles, claims and transactions, and their calls.
 ghost use Rattle.std.specs.Prelude.{◌≡◌, [], length, true, None, OnOk, OnErr};
 
-use crate::arranging::{Arrangement, arrange};
-use crate::asking::{Question, ask};
-use crate::changing::change;
+use crate::arrangements::{Arrangement, arrange};
+use crate::changes::change;
 use crate::claims::{claim_area, release_area};
-use crate::committing::commit_trans;
+use crate::commits::commit_trans;
 use crate::fault::RecoveryFault;
 use crate::files::{count_files, measure_free, see_files, totals_size};
 use crate::handles::Handles;
-use crate::holdings::Holdings;
-use crate::recovering::recover;
+use crate::questions::{Question, ask};
+use crate::recoveries::recover;
 use crate::request::Request;
-use crate::transacting::drop_control;
+use crate::transaction_calls::drop_control;
 use crate::transactions::Transactions;
 use pos_disk::Disk;
 use pos_image::Layout;
@@ -318,4 +317,17 @@ impl<D: Disk> Totals<D> {
     {
         self.store.into_disk()
     }
+}
+
+/// What the totals keep besides the files of the disk.
+#[derive(Drop)]
+pub(crate) struct Holdings {
+    /// The layout that the last recovery found that succeeded, or layout 1 before the first.
+    pub layout: Layout,
+    /// The tags of the files, and the next handle.
+    pub handles: Handles,
+    /// The control that has claimed the area, which is the whole device, if one has.
+    pub area: Option<usize>,
+    /// What each control has buffered.
+    pub transactions: Transactions,
 }

@@ -2,7 +2,7 @@
 ghost use Rattle.std.specs.Prelude.{◌≡◌, ◌≤◌, ◌+◌, ◌++◌, ◌∷◌, [], Some, None, OnOk, OnErr, is_some, slice_get};
 ghost use Rattle.std.specs.Prelude.{slice_set};
 ghost use Rattle.std.specs.Option.{option_copied, option_map};
-ghost use Rattle.pos_dir.specs.declared.limits.TheConstants.{LAYOUT_2};
+ghost use Rattle.pos_dir.specs.declared.file.TheConstants.{LAYOUT_2};
 ghost use Rattle.pos_totals.specs.TotalsChanges.{cost_of, cost_of_all};
 ghost use Rattle.pos_totals.specs.HardTotals.{transaction_at, without_transactions};
 ghost use Rattle.pos_totals.specs.TotalsArrangements.{may_begin};
@@ -16,7 +16,7 @@ use std::marker::Model;
 
 /// An edit that waits for the commit of its transaction. Contracts see the change.
 #[derive(Drop)]
-pub struct Buffered {
+pub(crate) struct Buffered {
     handle: u64,
     edit: OwnedEdit,
 }
@@ -63,7 +63,7 @@ impl Buffered {
 
 /// The changes that a control has buffered, in their order. Contracts see the list.
 #[derive(Drop)]
-pub struct Buffer {
+pub(crate) struct Buffer {
     changes: Vec<Buffered>,
     cost: usize,
 }
@@ -128,7 +128,7 @@ impl Buffer {
 
 /// What each control has buffered, by the controls' numbers, or `None` outside a transaction. Contracts see the list.
 #[derive(Drop)]
-pub struct Transactions {
+pub(crate) struct Transactions {
     places: Vec<Option<Buffer>>,
 }
 

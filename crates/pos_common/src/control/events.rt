@@ -9,11 +9,11 @@ use crate::status::{cover_status, drawer_status, paper_status, power_status};
 use pos_service::{ErrorReply, Event, NoMemory, Scan, Signs};
 
 /// The most StatusUpdateEvents that one change of a device's signs has: drawer, cover, paper, power.
-pub const SIGN_EVENTS: usize = 4;
+pub(crate) const SIGN_EVENTS: usize = 4;
 
 /// The most events that an input has: those of a change of signs. A scan has one, and a failed scan two (ErrorEvents
 /// with EL_INPUT_DATA and EL_INPUT).
-pub const INPUT_EVENTS: usize = 4;
+pub(crate) const INPUT_EVENTS: usize = 4;
 
 /// The most events that the work on a request of output has: those of a change of signs, and one of its success or
 /// failure.

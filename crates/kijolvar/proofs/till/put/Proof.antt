@@ -5,8 +5,8 @@ use Rattle.kijolvar.proofs.Common.{pass_all, plain, proved_at, qed, raw, refl, r
 use Rattle.kijolvar.proofs.Common.{types_at, use0, vptr, walk_of, whole, yes, ‵, ◌$◌, ◌++◌, ◌∵◌, ◌∷◌, ◌≡◌, ◌⊛◌}
 use Rattle.kijolvar.specs.contracts.till.put.{clauses, ended}
 use Rattle.kijolvar.specs.contracts.till.put.Key.{name as #self}
-use Rattle.kijolvar.proofs.Values.{both, loose_good, loose_in, loose_out}
-use Rattle.kijolvar.proofs.Tills.{R, Z, LZ, g, Till, as_loose}
+use Rattle.kijolvar.proofs.ValueLemmas.{both, loose_good, loose_in, loose_out}
+use Rattle.kijolvar.proofs.TillLemmas.{R, Z, LZ, g, Till, as_loose}
 use Rattle.std.specs.Prelude.{Some}
 use Rattle.kijolvar.proofs.till.put.Statement.{statement}
 use Rattle.kijolvar.proofs.till.put.Code as code

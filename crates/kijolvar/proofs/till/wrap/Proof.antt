@@ -5,8 +5,8 @@ use Rattle.kijolvar.proofs.Common.{pass_all, plain, proved_at, qed, raw, refl, r
 use Rattle.kijolvar.proofs.Common.{types_at, use0, vptr, walk_of, whole, yes, ‵, ◌$◌, ◌++◌, ◌∵◌, ◌∷◌, ◌≡◌, ◌⊛◌}
 use Rattle.kijolvar.specs.contracts.till.wrap.{clauses, ended}
 use Rattle.kijolvar.specs.contracts.till.wrap.Key.{name as #self}
-use Rattle.kijolvar.proofs.Values.{both, Loose, loose_good, loose_in, loose_out}
-use Rattle.kijolvar.proofs.Tills.{R, Z, LZ, g}
+use Rattle.kijolvar.proofs.ValueLemmas.{both, Loose, loose_good, loose_in, loose_out}
+use Rattle.kijolvar.proofs.TillLemmas.{R, Z, LZ, g}
 use Rattle.kijolvar.proofs.till.wrap.Statement.{statement}
 use Rattle.kijolvar.proofs.till.wrap.Code as code
 

@@ -2,7 +2,7 @@ use Rattle.std.proofs.Common.{length, refl}
 use Rattle.std.specs.Prelude.{None, ⊤}
 use Rattle.pos_disk.specs.Memory.{Memory, MemoryReads, MemorySyncs, MemoryWrites, state_of}
 use Rattle.pos_disk.specs.declared.device.Disk.{Ghosts}
-use Rattle.pos_console.proofs.Serving.{served_nothing, serves_built}
+use Rattle.pos_console.proofs.ServiceLemmas.{served_nothing, serves_built}
 use Rattle.pos_console.proofs.scripts.serve_built.Goals as goal
 
 -- what contracts see of a disk in memory

@@ -1,5 +1,5 @@
 use Rattle.pos_counter.proofs.Common.{rules}
-use Rattle.pos_counter.proofs.DeviceLists.{done_there}
+use Rattle.pos_counter.proofs.DeviceListLemmas.{done_there}
 use Rattle.pos_counter.proofs.calls.call_there.Goals as goal
 
 pub returns-clause-done : goal.returns-clause-done

@@ -1,8 +1,8 @@
 -- A crash of a counter's disk leaves a prefix of the history.
 use Rattle.pos_counter.proofs.Common.{rules}
-use Rattle.pos_counter.proofs.PrefixRuns.{has_begun, keeps_prefix, keeps_prefixes}
-use Rattle.pos_counter.proofs.Runs.{runs_from}
-use Rattle.pos_counter.proofs.Serving.{beside_is_step}
+use Rattle.pos_counter.proofs.PrefixRunLemmas.{has_begun, keeps_prefix, keeps_prefixes}
+use Rattle.pos_counter.proofs.RunLemmas.{runs_from}
+use Rattle.pos_counter.proofs.ServiceLemmas.{beside_is_step}
 use Rattle.pos_counter.proofs.laws.crash_leaves_a_prefix.Goals as goal
 
 pub returns-clause-begins : goal.returns-clause-begins

@@ -1,8 +1,8 @@
 -- A crash leaves a prefix of the history.
 use Rattle.pos_counter.proofs.Common.{rules}
-use Rattle.pos_counter.proofs.PrefixRuns.{bytes_along, fits_last, law_after, law_recovers}
-use Rattle.pos_counter.proofs.Prefixes.{fits_inside, fits_start, grows}
-use Rattle.pos_counter.proofs.Steps.{step_fits}
+use Rattle.pos_counter.proofs.PrefixRunLemmas.{bytes_along, fits_last, law_after, law_recovers}
+use Rattle.pos_counter.proofs.PrefixLemmas.{fits_inside, fits_start, grows}
+use Rattle.pos_counter.proofs.StepLemmas.{step_fits}
 use Rattle.pos_counter.proofs.laws.crash_prefix.Goals as goal
 
 pub returns-clause-after : goal.returns-clause-after

@@ -1,6 +1,6 @@
 use Rattle.pos_counter.proofs.Common.{moved_with, rules}
-use Rattle.pos_counter.proofs.PrefixRuns.{bytes_along, run_fits}
-use Rattle.pos_counter.proofs.Prefixes.{fits_leaves, fits_moved, held_along, moved_prefix}
+use Rattle.pos_counter.proofs.PrefixRunLemmas.{bytes_along, run_fits}
+use Rattle.pos_counter.proofs.PrefixLemmas.{fits_leaves, fits_moved, held_along, moved_prefix}
 use Rattle.pos_counter.proofs.laws.crash_prefix_across_a_move.Goals as goal
 
 pub returns-clause-moved : goal.returns-clause-moved

@@ -1,6 +1,6 @@
 -- What an enabling finds where a crash has left a disk that stands for some files.
 use Rattle.pos_counter.proofs.Common.{rules}
-use Rattle.pos_counter.proofs.Reopening.{disk_failed, few_applied, finds_them}
+use Rattle.pos_counter.proofs.ReopenLemmas.{disk_failed, few_applied, finds_them}
 use Rattle.pos_counter.proofs.laws.enabling_finds_the_files.Goals as goal
 
 pub returns-clause-finds : goal.returns-clause-finds

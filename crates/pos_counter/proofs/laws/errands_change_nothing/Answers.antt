@@ -1,5 +1,5 @@
 -- What is taken out of a counter's disk leaves it the same.
-use Rattle.pos_counter.proofs.Errands.{runs_on, same_after, same_before, same_leaves, same_run, same_sound}
+use Rattle.pos_counter.proofs.ErrandLemmas.{runs_on, same_after, same_before, same_leaves, same_run, same_sound}
 use Rattle.pos_counter.proofs.laws.errands_change_nothing.Goals as goal
 
 pub returns-clause-sound : goal.returns-clause-sound

@@ -1,7 +1,7 @@
 -- Which requests spare the disk.
 use Rattle.pos_counter.proofs.Common.{AsksNothing, Call, Category, Control, HardTotals, Nothing, Set, TotalsPart, [], ap, changes_asked, false, file_call}
 use Rattle.pos_counter.proofs.Common.{is_totals, refl, rules, ℕ, ◌∷◌, ◌≡◌}
-use Rattle.pos_counter.proofs.Steps.{none_of_totals, own_of}
+use Rattle.pos_counter.proofs.StepLemmas.{none_of_totals, own_of}
 use Rattle.pos_counter.proofs.laws.most_requests_spare_the_disk.Goals as goal
 
 -- another category is not Hard Totals'

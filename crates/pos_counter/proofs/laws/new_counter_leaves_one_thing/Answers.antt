@@ -1,6 +1,6 @@
 -- A new counter leaves one thing.
 use Rattle.pos_counter.proofs.Common.{Standing, TotalsView, ap, inl, refl, subst, sym, ◌∙◌}
-use Rattle.pos_disk.proofs.Moments.{rest_leaves}
+use Rattle.pos_disk.proofs.MomentLemmas.{rest_leaves}
 use Rattle.pos_store.specs.Standing.{StandsFor}
 use Rattle.pos_counter.proofs.laws.new_counter_leaves_one_thing.Goals as goal
 

@@ -1,5 +1,5 @@
 -- Runs go on.
-use Rattle.pos_counter.proofs.Runs.{runs_join, runs_more}
+use Rattle.pos_counter.proofs.RunLemmas.{runs_join, runs_more}
 use Rattle.pos_counter.proofs.laws.runs_go_on.Goals as goal
 
 pub returns-clause-step : goal.returns-clause-step

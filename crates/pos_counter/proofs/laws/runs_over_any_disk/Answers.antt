@@ -1,5 +1,5 @@
 -- A run over whatever disk.
-use Rattle.pos_counter.proofs.Sparing.{runs_anyhow}
+use Rattle.pos_counter.proofs.DiskUseLemmas.{runs_anyhow}
 use Rattle.pos_counter.proofs.laws.runs_over_any_disk.Goals as goal
 
 pub returns : goal.returns

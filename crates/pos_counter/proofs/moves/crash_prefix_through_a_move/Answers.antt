@@ -1,8 +1,8 @@
-use Rattle.pos_disk.proofs.Moments.{weaker}
+use Rattle.pos_disk.proofs.MomentLemmas.{weaker}
 use Rattle.pos_counter.specs.Moves.{resumed}
-use Rattle.pos_counter.proofs.MovesLemmas.{through}
-use Rattle.pos_counter.proofs.PrefixRuns.{bytes_along}
-use Rattle.pos_counter.proofs.Prefixes.{fits_start, held_along}
+use Rattle.pos_counter.proofs.MoveLemmas.{through}
+use Rattle.pos_counter.proofs.PrefixRunLemmas.{bytes_along}
+use Rattle.pos_counter.proofs.PrefixLemmas.{fits_start, held_along}
 use Rattle.pos_counter.proofs.moves.crash_prefix_through_a_move.Goals as goal
 
 pub returns-clause-any_moment : goal.returns-clause-any_moment

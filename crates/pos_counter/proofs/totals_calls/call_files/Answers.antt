@@ -1,5 +1,5 @@
 use Rattle.pos_counter.proofs.Common.{rules}
-use Rattle.pos_counter.proofs.FileCalls.{calls_files}
+use Rattle.pos_counter.proofs.FileCallLemmas.{calls_files}
 use Rattle.pos_counter.proofs.totals_calls.call_files.Goals as goal
 
 pub returns : goal.returns

@@ -1,5 +1,5 @@
 use Rattle.pos_dir.proofs.Common.{[], arith, change_at, group_at, items_at, nat_tests, nil_from_length, ◌≡◌}
-use Rattle.pos_dir.proofs.Items.{some_read}
+use Rattle.pos_dir.proofs.ItemLemmas.{some_read}
 use Rattle.pos_dir.proofs.changes.locate_changes.Goals as goal
 
 pub returns : goal.returns

@@ -1,5 +1,5 @@
 use Rattle.pos_dir.proofs.Common.{[], arith, directory_at, file_at, items_at, nat_tests, nil_from_length, ◌≡◌}
-use Rattle.pos_dir.proofs.Items.{length_items, some_read}
+use Rattle.pos_dir.proofs.ItemLemmas.{length_items, some_read}
 use Rattle.pos_dir.proofs.files.locate_files.Goals as goal
 
 pub returns : goal.returns

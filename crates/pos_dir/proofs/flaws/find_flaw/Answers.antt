@@ -1,8 +1,8 @@
 use Rattle.pos_dir.proofs.Common.{File, Limits, List, Some, [], ap, arith, directory_at, drop, eqb-false, file_at, file_spelling, flat_map, inr, items_at}
 use Rattle.pos_dir.proofs.Common.{length, length-append, length-drop, nat_tests, nil_from_length, subst, sym, ℕ, ◌+◌, ◌∙◌, ◌≡◌, ◌≤◌}
-use Rattle.pos_dir.proofs.Directories.{directory_takes, file_reads}
-use Rattle.pos_dir.proofs.Items.{items_take}
-use Rattle.pos_dir.proofs.Readers.{IsBytes, IsBytes-drop}
+use Rattle.pos_dir.proofs.DirectoryLemmas.{directory_takes, file_reads}
+use Rattle.pos_dir.proofs.ItemLemmas.{items_take}
+use Rattle.pos_dir.proofs.FieldLemmas.{IsBytes, IsBytes-drop}
 use Rattle.pos_dir.specs.Flaws.{HasFileFlaw, HasFlaw, end_of_files}
 use Rattle.pos_dir.specs.declared.flaw.Flaw.{Flaw}
 use Rattle.pos_dir.specs.declared.flaw.Flaw.TheVariants as flaw

@@ -1,7 +1,7 @@
 use Rattle.pos_dir.proofs.Common.{[], add-one, arith, file_at, items_at, length, length-append, nat_tests, refl, sum_by_push, sym, ◌++◌, ◌∷◌}
 use Rattle.pos_dir.specs.Texts.{file_of}
-use Rattle.pos_dir.proofs.Items.{items_push}
-use Rattle.pos_dir.proofs.Kept.{are_distinct-append}
+use Rattle.pos_dir.proofs.ItemLemmas.{items_push}
+use Rattle.pos_dir.proofs.ChangeLemmas.{are_distinct-append}
 use Rattle.pos_dir.proofs.flaws.pass_files.Goals as goal
 
 pub loop-i-init : goal.loop-i-init

@@ -1,4 +1,4 @@
-use Rattle.pos_dir.proofs.Directories.{length-spelling}
+use Rattle.pos_dir.proofs.DirectoryLemmas.{length-spelling}
 use Rattle.pos_dir.proofs.laws.is_directory.Goals as goal
 
 pub returns-clause-length : goal.returns-clause-length

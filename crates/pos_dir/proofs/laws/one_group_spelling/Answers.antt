@@ -1,4 +1,4 @@
-use Rattle.pos_dir.proofs.Groups.{one_group_spelling}
+use Rattle.pos_dir.proofs.GroupLemmas.{one_group_spelling}
 use Rattle.pos_dir.proofs.laws.one_group_spelling.Goals as goal
 
 pub returns : goal.returns

@@ -1,6 +1,6 @@
 use Rattle.pos_dir.proofs.Common.{arith, nat_tests}
-use Rattle.pos_dir.proofs.Outcomes.{answered}
-use Rattle.pos_dir.proofs.Outlined.{same_size}
+use Rattle.pos_dir.proofs.OutcomeLemmas.{answered}
+use Rattle.pos_dir.proofs.OutlineLemmas.{same_size}
 use Rattle.pos_dir.proofs.outlines.check.Goals as goal
 
 pub returns-in-Some : goal.returns-in-Some

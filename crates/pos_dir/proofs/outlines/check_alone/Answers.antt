@@ -1,5 +1,5 @@
 use Rattle.pos_dir.proofs.Common.{arith, nat_tests, sym, ◌∙◌}
-use Rattle.pos_dir.proofs.Outcomes.{answered}
+use Rattle.pos_dir.proofs.OutcomeLemmas.{answered}
 use Rattle.pos_dir.proofs.outlines.check_alone.Goals as goal
 
 pub returns : goal.returns

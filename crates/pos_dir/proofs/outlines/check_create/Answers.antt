@@ -1,5 +1,5 @@
 use Rattle.pos_dir.proofs.Common.{File, [], arith, length-replicate, map_push, replicate, ◌++◌, ◌∷◌}
-use Rattle.pos_dir.proofs.Outlined.{outlining}
+use Rattle.pos_dir.proofs.OutlineLemmas.{outlining}
 use Rattle.pos_dir.proofs.outlines.check_create.Goals as goal
 
 pub returns : goal.returns

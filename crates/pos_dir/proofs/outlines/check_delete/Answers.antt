@@ -1,5 +1,5 @@
 use Rattle.pos_dir.proofs.Common.{arith, drop-map, map-append, refl, remove, slice_get-get_or, take-map}
-use Rattle.pos_dir.proofs.Outlined.{file_at}
+use Rattle.pos_dir.proofs.OutlineLemmas.{file_at}
 use Rattle.pos_dir.proofs.outlines.check_delete.Goals as goal
 
 pub returns : goal.returns

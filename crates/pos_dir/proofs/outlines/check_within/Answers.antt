@@ -1,6 +1,6 @@
 use Rattle.pos_dir.proofs.Common.{AllByRecursion, IsChange, drop, err_from_is_err_and, outcome_of_all, rules}
 use Rattle.std.proofs.lemmas.List.Elements.{All-from_recursion}
-use Rattle.pos_dir.proofs.Outlined.{stage_on, stage_room, stage_stops}
+use Rattle.pos_dir.proofs.OutlineLemmas.{stage_on, stage_room, stage_stops}
 use Rattle.pos_dir.proofs.outlines.check_within.Goals as goal
 
 pub check-requires : goal.check-requires

@@ -1,5 +1,5 @@
 use Rattle.pos_dir.proofs.Common.{drop, outcome_of_all}
-use Rattle.pos_dir.proofs.Outlined.{IsStage}
+use Rattle.pos_dir.proofs.OutlineLemmas.{IsStage}
 use Rattle.pos_dir.proofs.outlines.check_within.Given as goal
 
 abbrev pub invariant-loop-change : goal.invariant-loop-change

@@ -1,5 +1,5 @@
 use Rattle.pos_disk.proofs.Common.{arith, length, rules, ◌+◌, ◌-◌, ◌∙◌, ◌≡◌, ◌≤◌}
-use Rattle.pos_disk.proofs.Spoils.{loosens_on}
+use Rattle.pos_disk.proofs.SpoilLemmas.{loosens_on}
 use Rattle.pos_disk.proofs.fuse.loosen.Goals as goal
 
 pub loop-place-preserved : goal.loop-place-preserved

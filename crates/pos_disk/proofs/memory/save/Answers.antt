@@ -1,5 +1,5 @@
 use Rattle.pos_disk.proofs.Common.{arith, sym, ◌+◌, ◌-◌, ◌∙◌, ◌≡◌}
-use Rattle.pos_disk.proofs.Written.{saved_at_once}
+use Rattle.pos_disk.proofs.WriteLemmas.{saved_at_once}
 use Rattle.pos_disk.proofs.memory.save.Goals as goal
 
 pub returns-else-is_any_loose : goal.returns-else-is_any_loose

@@ -1,6 +1,6 @@
 use Rattle.pos_image.proofs.Common.{CrashClosing, SameBut, arith, false, followed_by, is_open, rules, start, weaker, ℕ, ◌≡◌}
 use Rattle.std.proofs.lemmas.Grind.{common_steps}
-use Rattle.pos_image.proofs.Staged.{closing_stages, writing_stages}
+use Rattle.pos_image.proofs.StageLemmas.{closing_stages, writing_stages}
 use Rattle.pos_image.proofs.disk_calls.place_image.Goals as goal
 
 -- what is searched for holds also where the disk is looked at before the gate is closed: so must-fail edits have twins

@@ -1,6 +1,6 @@
 use Rattle.pos_image.proofs.Common.{DiskState, Slot, ap, arith, layout_of, length, log_place, rules, slot_size, start, ◌+◌, ◌-◌, ◌∙◌, ◌≡◌}
-use Rattle.pos_image.proofs.Places.{places}
-use Rattle.pos_image.proofs.Staged.{IsRun, fields_written, run_start, run_sync, run_write, where_ok}
+use Rattle.pos_image.proofs.PlaceLemmas.{places}
+use Rattle.pos_image.proofs.StageLemmas.{IsRun, fields_written, run_start, run_sync, run_write, where_ok}
 use Rattle.pos_image.proofs.disk_calls.write_image.Given.{Over}
 use Rattle.pos_image.proofs.disk_calls.write_image.Goals.{After-write, After-write-2, After-write-3}
 use Rattle.pos_image.proofs.disk_calls.write_image.Goals as goal

@@ -1,6 +1,6 @@
 use Rattle.std.proofs.Common.{map, subst, sym}
 use Rattle.clap.specs.Words.{app_of}
-use Rattle.pos_program.proofs.Parses.{accepted, chosen, command_known, met, refused, some_texts}
+use Rattle.pos_program.proofs.ParseLemmas.{accepted, chosen, command_known, met, refused, some_texts}
 use Rattle.pos_program.specs.Choices.{Asks, IsKnown}
 use Rattle.pos_program.proofs.words.choice.Goals as goal
 

@@ -1,5 +1,5 @@
 use Rattle.std.proofs.Common.{codes}
-use Rattle.pos_program.proofs.Parses.{bare, last_command, with_command}
+use Rattle.pos_program.proofs.ParseLemmas.{bare, last_command, with_command}
 use Rattle.pos_program.proofs.words.program_line.Goals as goal
 
 pub returns : goal.returns

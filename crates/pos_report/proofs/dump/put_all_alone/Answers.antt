@@ -1,7 +1,7 @@
 use Rattle.std.proofs.Common.{◌++◌, ◌∙◌, ap, append_assoc, refl, sym, take}
 use Rattle.std.specs.Prelude.{slice_get}
 use Rattle.pos_report.specs.Dump.{all_alone, alone}
-use Rattle.pos_report.proofs.Values.{one_name_more}
+use Rattle.pos_report.proofs.ValueLemmas.{one_name_more}
 use Rattle.pos_report.proofs.dump.put_all_alone.Goals as goal
 
 pub loop-index-preserved : goal.loop-index-preserved

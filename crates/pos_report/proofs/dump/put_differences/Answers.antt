@@ -1,7 +1,7 @@
 use Rattle.std.proofs.Common.{◌++◌, ◌∙◌, ap, append_assoc, refl, sym, take}
 use Rattle.std.specs.Prelude.{slice_get}
 use Rattle.pos_report.specs.Dump.{difference, differences}
-use Rattle.pos_report.proofs.Values.{one_text_more}
+use Rattle.pos_report.proofs.ValueLemmas.{one_text_more}
 use Rattle.pos_report.proofs.dump.put_differences.Goals as goal
 
 pub loop-index-preserved : goal.loop-index-preserved

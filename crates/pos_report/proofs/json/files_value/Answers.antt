@@ -5,7 +5,7 @@ use Rattle.serde_json.proofs.Views.{view-Array}
 use Rattle.serde_json.specs.Data.{array}
 use Rattle.serde_json.specs.View.{items_of, view}
 use Rattle.pos_report.specs.Json.{file_data}
-use Rattle.pos_report.proofs.Values.{one_value_more, value_of}
+use Rattle.pos_report.proofs.ValueLemmas.{one_value_more, value_of}
 use Rattle.pos_report.proofs.json.files_value.Goals as goal
 
 pub loop-index-preserved : goal.loop-index-preserved

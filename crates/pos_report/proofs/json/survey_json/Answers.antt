@@ -1,7 +1,7 @@
 use Rattle.std.proofs.Common.{◌≤◌, ◌∙◌, ap, refl, rules, string_bytes, subst, sym}
 use Rattle.std.specs.Prelude.{Some}
 use Rattle.serde_json.specs.Data.{depth}
-use Rattle.pos_report.proofs.Values.{shallow}
+use Rattle.pos_report.proofs.ValueLemmas.{shallow}
 use Rattle.pos_report.proofs.json.survey_json.Goals as goal
 
 pub returns : goal.returns

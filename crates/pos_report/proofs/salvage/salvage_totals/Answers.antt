@@ -2,7 +2,7 @@ use Rattle.std.proofs.Common.{Ok, [], refl, subst}
 use Rattle.pos_survey.specs.Damages.{Breaks}
 use Rattle.pos_survey.specs.declared.fault.SurveyFault.TheVariants.{Damaged, NoMemory}
 use Rattle.pos_report.specs.Salvage.{Finds, Steps, padded}
-use Rattle.pos_report.proofs.Closing.{begins, fails, goes_on}
+use Rattle.pos_report.proofs.GateLemmas.{begins, fails, goes_on}
 use Rattle.pos_report.proofs.salvage.salvage_totals.Goals as goal
 
 pub loop-turn-preserved : goal.loop-turn-preserved

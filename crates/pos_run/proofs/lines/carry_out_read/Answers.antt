@@ -1,4 +1,4 @@
-use Rattle.pos_run.proofs.Sessions.{asks_what_was_read}
+use Rattle.pos_run.proofs.SessionLemmas.{asks_what_was_read}
 use Rattle.pos_run.proofs.lines.carry_out_read.Goals as goal
 
 pub returns-in-Ok-clause-line : goal.returns-in-Ok-clause-line

@@ -1,7 +1,7 @@
 use Rattle.pos_run.proofs.Common.{Appends-nil, IsLine, None, Ok, Result, Some, [], codes, refl, subst}
 use Rattle.pos_streams.specs.declared.sink.WriteFault.{WriteFault}
 use Rattle.pos_run.specs.Sessions.{session_in}
-use Rattle.pos_run.proofs.Finishing.{one_line}
+use Rattle.pos_run.proofs.LineLemmas.{one_line}
 use Rattle.pos_run.proofs.scripts.carry_out_and_print.Goals as goal
 
 pub returns-in-Quiet-clause-line : goal.returns-in-Quiet-clause-line

@@ -1,5 +1,5 @@
 use Rattle.pos_run.proofs.Common.{EndsInput, [], append-nil, refl, subst, unfinished, ◌∷◌}
-use Rattle.pos_run.proofs.Finishing.{finishes_none}
+use Rattle.pos_run.proofs.LineLemmas.{finishes_none}
 use Rattle.pos_run.proofs.scripts.carry_out_last.Goals as goal
 
 pub returns-then-is_empty-clause-last : goal.returns-then-is_empty-clause-last

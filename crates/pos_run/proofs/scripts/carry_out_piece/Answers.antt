@@ -1,7 +1,7 @@
 use Rattle.pos_run.proofs.Common.{[], append-nil, append_assoc, complete_lines, refl, runs_join, unfinished, ◌++◌, ◌∙◌, ◌∷◌}
 use Rattle.pos_script.proofs.LineLemmas.{go_on_lines}
-use Rattle.pos_run.proofs.Finishing.{finishes_join, finishes_none, stops_join, stops_more}
-use Rattle.pos_run.proofs.Sessions.{keeps_here, keeps_on}
+use Rattle.pos_run.proofs.LineLemmas.{finishes_join, finishes_none, stops_join, stops_more}
+use Rattle.pos_run.proofs.SessionLemmas.{keeps_here, keeps_on}
 use Rattle.pos_run.proofs.scripts.carry_out_piece.Goals as goal
 
 pub loop-ended-init : goal.loop-ended-init

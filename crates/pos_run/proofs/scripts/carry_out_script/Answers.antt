@@ -1,7 +1,7 @@
 use Rattle.pos_run.proofs.Common.{[], answers_of, arith, inl, inr, reading_of, refl, runs_join, take, taken_none, ◌++◌}
-use Rattle.pos_run.proofs.Finishing.{fault_join, finishes_flushed, finishes_join, finishes_none, finishes_unflushed, stops_join}
+use Rattle.pos_run.proofs.LineLemmas.{fault_join, finishes_flushed, finishes_join, finishes_none, finishes_unflushed, stops_join}
 use Rattle.pos_run.proofs.ReadLemmas.{ends, fails, goes_on, same_lines}
-use Rattle.pos_run.proofs.Sessions.{keeps_here, keeps_on}
+use Rattle.pos_run.proofs.SessionLemmas.{keeps_here, keeps_on}
 use Rattle.pos_run.proofs.scripts.carry_out_script.Goals as goal
 
 pub loop-reader-init : goal.loop-reader-init

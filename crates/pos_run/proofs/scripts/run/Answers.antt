@@ -1,7 +1,7 @@
 use Rattle.pos_run.proofs.Common.{IsRun, RunsScript, [], begun_session, lines_read, names_of, refl, runs_join, script_steps, session_with}
 use Rattle.pos_run.proofs.Common.{spares_in, streams_of, subst}
-use Rattle.pos_run.proofs.Finishing.{carried_run}
-use Rattle.pos_run.proofs.Starting.{runs_through}
+use Rattle.pos_run.proofs.LineLemmas.{carried_run}
+use Rattle.pos_run.proofs.RunLemmas.{runs_through}
 use Rattle.pos_run.proofs.scripts.run.Goals as goal
 
 pub returns-in_default-clause-script : goal.returns-in_default-clause-script

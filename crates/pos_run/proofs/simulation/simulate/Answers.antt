@@ -1,6 +1,6 @@
 -- What is simulated for an entry, in its wrappers, begins as what is simulated without them.
 use Rattle.pos_run.proofs.Common.{IsDeviceFor, Some, subst}
-use Rattle.pos_run.proofs.Profiling.{simulated_begins}
+use Rattle.pos_run.proofs.ProfileLemmas.{simulated_begins}
 use Rattle.pos_run.proofs.simulation.simulate.Goals as goal
 
 pub returns-clause-state : goal.returns-clause-state

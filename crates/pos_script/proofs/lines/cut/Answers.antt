@@ -2,7 +2,7 @@ use Rattle.std.proofs.Common.{◌∷◌, ◌∙◌, ◌+◌, ap, take, arith, sy
 use Rattle.std.proofs.lemmas.List.{take_rest}
 use Rattle.std.proofs.lemmas.Bool.Decides.{nat_tests}
 use Rattle.pos_script.specs.Lines.{pieces}
-use Rattle.pos_script.proofs.Pieces.{front_more, front_cut, front_end}
+use Rattle.pos_script.proofs.PieceLemmas.{front_more, front_cut, front_end}
 use Rattle.pos_script.proofs.lines.cut.Goals as goal
 
 pub returns-then-b-at-clause-pieces : goal.returns-then-b-at-clause-pieces

@@ -1,6 +1,6 @@
 use Rattle.std.proofs.Common.{◌≡◌, take, drop}
 use Rattle.pos_script.specs.Lines.{pieces}
-use Rattle.pos_script.proofs.Pieces.{front_onto}
+use Rattle.pos_script.proofs.PieceLemmas.{front_onto}
 use Rattle.pos_script.proofs.lines.cut.Given as goal
 
 abbrev pub invariant-loop-end : goal.invariant-loop-end

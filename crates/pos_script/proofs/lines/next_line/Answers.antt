@@ -1,5 +1,5 @@
 use Rattle.std.proofs.Common.{ap, ◌∙◌, ◌≡◌, ◌∷◌}
-use Rattle.pos_script.proofs.Pieces.{some_piece}
+use Rattle.pos_script.proofs.PieceLemmas.{some_piece}
 use Rattle.pos_script.specs.Lines.{lines_in, pieces}
 use Rattle.pos_script.proofs.LineLemmas.{ended_line}
 use Rattle.pos_script.proofs.lines.next_line.Goals as goal

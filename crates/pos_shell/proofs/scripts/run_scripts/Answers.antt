@@ -1,5 +1,5 @@
 use Rattle.std.proofs.Common.{inr}
-use Rattle.pos_run.proofs.Starting.{runs_through}
+use Rattle.pos_run.proofs.RunLemmas.{runs_through}
 use Rattle.pos_run.specs.Simulating.{wrapped_devices}
 use Rattle.pos_shell.proofs.scripts.run_scripts.Goals as goal
 

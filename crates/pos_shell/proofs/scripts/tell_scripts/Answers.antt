@@ -1,5 +1,5 @@
 use Rattle.std.proofs.Common.{[], Err, List, ap, drop, inr, refl, subst, sym, take, ◌++◌, ◌+◌, ◌∷◌, ℕ}
-use Rattle.pos_counter.proofs.Runs.{runs_join}
+use Rattle.pos_counter.proofs.RunLemmas.{runs_join}
 use Rattle.pos_run.proofs.Common.{Appends-nil}
 use Rattle.pos_run.specs.Carried.{session_of}
 use Rattle.pos_shell.specs.Outputs.{output_of}

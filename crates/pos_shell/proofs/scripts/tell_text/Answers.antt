@@ -1,5 +1,5 @@
 use Rattle.std.proofs.Common.{refl, ◌++◌}
-use Rattle.pos_counter.proofs.Runs.{runs_join}
+use Rattle.pos_counter.proofs.RunLemmas.{runs_join}
 use Rattle.pos_shell.proofs.scripts.tell_text.Goals as goal
 
 pub returns-in_default-clause-told : goal.returns-in_default-clause-told

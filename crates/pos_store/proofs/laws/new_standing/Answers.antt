@@ -1,4 +1,4 @@
-use Rattle.pos_store.proofs.FilesOnDisk.{new_standing}
+use Rattle.pos_store.proofs.DiskFileLemmas.{new_standing}
 use Rattle.pos_store.proofs.laws.new_standing.Goals as goal
 
 pub returns : goal.returns

@@ -1,7 +1,7 @@
 use Rattle.std.proofs.Common.{◌+◌, ℕ, sym, ◌∙◌, ap}
 use Rattle.pos_image.specs.Layout.{start}
-use Rattle.pos_store.proofs.Recovered.{damaged_stands}
-use Rattle.pos_survey.proofs.Heads.{long_body}
+use Rattle.pos_store.proofs.RecoveryLemmas.{damaged_stands}
+use Rattle.pos_survey.proofs.HeadLemmas.{long_body}
 use Rattle.pos_survey.proofs.image.tell_damage.Goals as goal
 
 pub returns : goal.returns

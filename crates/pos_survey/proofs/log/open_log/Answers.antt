@@ -1,9 +1,9 @@
 use Rattle.std.proofs.Common.{◌≡◌, ℕ, map, Vec, Global, ap, sym, ◌∙◌, subst}
-use Rattle.pos_image.proofs.Logs.{log_here}
+use Rattle.pos_image.proofs.LogLemmas.{log_here}
 use Rattle.pos_image.specs.Layout.{layout_of}
 use Rattle.pos_image.specs.Standing.{log_in, log_of}
 use Rattle.pos_log.specs.Records.{HoldsSome}
-use Rattle.pos_survey.proofs.Behind.{one_tail}
+use Rattle.pos_survey.proofs.RecordLemmas.{one_tail}
 use Rattle.pos_survey.proofs.log.open_log.Goals as goal
 
 pub returns-in-Ok-clause-tail : goal.returns-in-Ok-clause-tail

@@ -1,9 +1,9 @@
 use Rattle.std.proofs.Common.{◌≡◌, ◌+◌, ℕ, List, [], ◌∷◌, ◌++◌, map, take, drop, get_or, length, Vec, Global, sym, ap, ◌∙◌, arith}
 use Rattle.std.proofs.lemmas.List.{map_more}
-use Rattle.pos_log.proofs.Holding.{spelling_length}
+use Rattle.pos_log.proofs.RecordLemmas.{spelling_length}
 use Rattle.pos_log.specs.Records.{spelling}
-use Rattle.pos_store.proofs.FilesOnDisk.{applies_more}
-use Rattle.pos_survey.proofs.Applied.{in_three, ends_within, stops}
+use Rattle.pos_store.proofs.DiskFileLemmas.{applies_more}
+use Rattle.pos_survey.proofs.GroupLemmas.{in_three, ends_within, stops}
 use Rattle.pos_survey.proofs.records.apply_texts.Goals as goal
 
 pub returns-in-Err-clause-broken : goal.returns-in-Err-clause-broken

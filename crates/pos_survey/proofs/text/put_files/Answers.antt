@@ -1,7 +1,7 @@
 use Rattle.std.proofs.Common.{◌++◌, take, refl, sym, ap, ◌∙◌, append_assoc}
 use Rattle.std.specs.Prelude.{slice_get}
 use Rattle.pos_survey.specs.Texts.{file_text, files_text}
-use Rattle.pos_survey.proofs.Told.{one_file_more}
+use Rattle.pos_survey.proofs.LineLemmas.{one_file_more}
 use Rattle.pos_survey.proofs.text.put_files.Goals as goal
 
 pub loop-index-preserved : goal.loop-index-preserved

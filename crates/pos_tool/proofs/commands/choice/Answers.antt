@@ -1,6 +1,6 @@
 use Rattle.std.proofs.Common.{inl, map, subst}
 use Rattle.clap.specs.Words.{app_of}
-use Rattle.pos_tool.proofs.Parsed.{accepted, met, told}
+use Rattle.pos_tool.proofs.ParseLemmas.{accepted, met, told}
 use Rattle.pos_tool.specs.Commands.{Asks}
 use Rattle.pos_tool.proofs.commands.choice.Goals as goal
 

@@ -1,5 +1,5 @@
 use Rattle.clap.specs.Words.{found_of}
-use Rattle.pos_program.proofs.Parses.{no_path, path_there}
+use Rattle.pos_program.proofs.ParseLemmas.{no_path, path_there}
 use Rattle.pos_tool.proofs.commands.word_in.Goals as goal
 
 pub returns-in-Some : goal.returns-in-Some

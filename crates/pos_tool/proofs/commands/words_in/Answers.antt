@@ -1,7 +1,7 @@
 use Rattle.std.proofs.Common.{ap, map, ◌∙◌}
 use Rattle.std.specs.Borrow.{Bor}
 use Rattle.clap.specs.Words.{Text, found_of}
-use Rattle.pos_tool.proofs.Parsed.{no_words, ok_map, words_there}
+use Rattle.pos_tool.proofs.ParseLemmas.{no_words, ok_map, words_there}
 use Rattle.pos_tool.proofs.commands.words_in.Goals as goal
 
 pub returns-in-Some : goal.returns-in-Some

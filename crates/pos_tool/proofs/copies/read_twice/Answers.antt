@@ -1,6 +1,6 @@
 use Rattle.std.proofs.Common.{◌≡◌, rules}
 use Rattle.std.specs.Prelude.{◌≢◌}
-use Rattle.pos_tool.proofs.Readings.{steady, unsteady}
+use Rattle.pos_tool.proofs.CopyLemmas.{steady, unsteady}
 use Rattle.pos_tool.proofs.copies.read_twice.Goals as goal
 
 pub returns-then-eq-clause-ok : goal.returns-then-eq-clause-ok

@@ -1,4 +1,4 @@
-use Rattle.pos_program.proofs.Parses.{last_command, with_command}
+use Rattle.pos_program.proofs.ParseLemmas.{last_command, with_command}
 use Rattle.pos_tool.proofs.line.making_line.Goals as goal
 
 pub returns : goal.returns

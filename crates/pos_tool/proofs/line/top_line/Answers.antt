@@ -1,6 +1,6 @@
 use Rattle.std.proofs.Common.{codes}
-use Rattle.pos_program.proofs.Parses.{last_command, with_command}
-use Rattle.pos_tool.proofs.Parsed.{begun, versioned}
+use Rattle.pos_program.proofs.ParseLemmas.{last_command, with_command}
+use Rattle.pos_tool.proofs.ParseLemmas.{begun, versioned}
 use Rattle.pos_tool.proofs.line.top_line.Goals as goal
 
 pub returns : goal.returns

@@ -1,5 +1,5 @@
 use Rattle.pos_totals.proofs.Common.{sym, ◌∙◌}
-use Rattle.pos_totals.proofs.Apart.{sound_claimed}
+use Rattle.pos_totals.proofs.AreaLemmas.{sound_claimed}
 use Rattle.pos_totals.proofs.claims.claim_area.Goals as goal
 
 pub returns-clause-sound : goal.returns-clause-sound

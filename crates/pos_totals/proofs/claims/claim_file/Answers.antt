@@ -1,5 +1,5 @@
 use Rattle.pos_totals.proofs.Common.{SFits, rules, to_z-of_z, w128}
-use Rattle.pos_totals.proofs.Claimed.{claim_changes}
+use Rattle.pos_totals.proofs.ClaimLemmas.{claim_changes}
 use Rattle.pos_totals.proofs.claims.claim_file.Goals as goal
 
 pub returns-in-Ok : goal.returns-in-Ok

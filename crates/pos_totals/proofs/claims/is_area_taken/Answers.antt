@@ -1,6 +1,6 @@
 use Rattle.pos_totals.proofs.Common.{Bool, Files, IsSeen, Mode, Off, Ready, Some, ap, files_in, files_of, is_foreign, is_foreign_claim, length, list_any}
 use Rattle.pos_totals.proofs.Common.{mode_of, sym, ℕ, ◌||◌, ◌∙◌, ◌≡◌}
-use Rattle.pos_totals.proofs.Apart.{foreign_tags}
+use Rattle.pos_totals.proofs.AreaLemmas.{foreign_tags}
 use Rattle.pos_totals.proofs.claims.is_area_taken.Goals as goal
 
 -- another control has claimed a file of those that are seen

@@ -1,5 +1,5 @@
 use Rattle.pos_totals.proofs.Common.{FindsFile, is_called, sym, to_z-of_z, w128, with_tags}
-use Rattle.pos_totals.proofs.Found.{called_found, none_below}
+use Rattle.pos_totals.proofs.SearchLemmas.{called_found, none_below}
 use Rattle.pos_totals.proofs.files.find_handle.Goals as goal
 
 pub returns-in_default-clause-finds : goal.returns-in_default-clause-finds

@@ -1,5 +1,5 @@
 use Rattle.pos_totals.proofs.Common.{arith}
-use Rattle.pos_totals.proofs.Pairs.{one_of_sum}
+use Rattle.pos_totals.proofs.PairLemmas.{one_of_sum}
 use Rattle.pos_totals.proofs.files.get_file.Goals as goal
 
 pub returns-clause-small : goal.returns-clause-small

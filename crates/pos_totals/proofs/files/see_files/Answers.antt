@@ -1,5 +1,5 @@
 use Rattle.pos_totals.proofs.Common.{ap, arith, length, refl, ◌∙◌}
-use Rattle.pos_totals.proofs.Found.{shows}
+use Rattle.pos_totals.proofs.SearchLemmas.{shows}
 use Rattle.pos_totals.proofs.files.see_files.Goals as goal
 
 pub returns : goal.returns

@@ -1,5 +1,5 @@
 use Rattle.pos_totals.proofs.Common.{arith, length, lit<, ◌<◌}
-use Rattle.pos_totals.proofs.Numbered.{length-tags, tags_more}
+use Rattle.pos_totals.proofs.NumberLemmas.{length-tags, tags_more}
 use Rattle.pos_totals.proofs.handles.count_from.Goals as goal
 
 pub push-requires : goal.push-requires

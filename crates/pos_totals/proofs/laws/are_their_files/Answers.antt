@@ -1,4 +1,4 @@
-use Rattle.pos_totals.proofs.Changed.{theirs}
+use Rattle.pos_totals.proofs.ChangeLemmas.{theirs}
 use Rattle.pos_totals.proofs.laws.are_their_files.Goals as goal
 
 pub returns : goal.returns

@@ -1,4 +1,4 @@
-use Rattle.pos_totals.proofs.Putting.{their_end}
+use Rattle.pos_totals.proofs.PutGroupLemmas.{their_end}
 use Rattle.pos_totals.proofs.laws.ends_behind_their_records.Goals as goal
 
 pub returns : goal.returns

@@ -1,4 +1,4 @@
-use Rattle.pos_totals.proofs.Putting.{their_files}
+use Rattle.pos_totals.proofs.PutGroupLemmas.{their_files}
 use Rattle.pos_totals.proofs.laws.leaves_their_files.Goals as goal
 
 pub returns : goal.returns

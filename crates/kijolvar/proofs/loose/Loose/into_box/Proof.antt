@@ -13,7 +13,7 @@ use contract.BorrowLft.{◌⊑◌}
 use denote.Triple.Call.{calls_at_last}
 use denote.Triple.Clauses.{Lasts, lasts}
 use Rattle.std_alloc.proofs.BoxSteps.Form as box
-use Rattle.kijolvar.proofs.Values.{both, Loose, loose_good, loose_out}
+use Rattle.kijolvar.proofs.ValueLemmas.{both, Loose, loose_good, loose_out}
 use Rattle.std_alloc.specs.contracts.boxed.Box.from_raw as callee
 use Rattle.kijolvar.proofs.loose.Loose.into_box.Statement.{statement}
 use Rattle.kijolvar.proofs.loose.Loose.into_box.Code as code

@@ -12,7 +12,7 @@ use Rattle.std_alloc.proofs.boxed.Box.into_raw_with_allocator.Met.{met}
 use denote.Struct.Tuple.{Tuple}
 use denote.Triple.Call.{calls_at}
 use Rattle.std_alloc.proofs.BoxSteps.Form as box
-use Rattle.kijolvar.proofs.Values.{both, loose_good, loose_in}
+use Rattle.kijolvar.proofs.ValueLemmas.{both, loose_good, loose_in}
 use Rattle.std_alloc.specs.contracts.boxed.Box.into_raw_with_allocator as callee
 use Rattle.kijolvar.proofs.loose.Loose.of.Statement.{statement}
 use Rattle.kijolvar.proofs.loose.Loose.of.Code as code

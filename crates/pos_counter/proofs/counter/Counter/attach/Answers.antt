@@ -1,6 +1,6 @@
 use Rattle.pos_counter.proofs.Common.{refl, registered}
-use Rattle.pos_counter.proofs.DeviceLists.{attach_step}
-use Rattle.pos_counter.proofs.Serving.{steps_beside}
+use Rattle.pos_counter.proofs.DeviceListLemmas.{attach_step}
+use Rattle.pos_counter.proofs.ServiceLemmas.{steps_beside}
 use Rattle.pos_counter.proofs.counter.Counter.attach.Goals as goal
 
 pub returns : goal.returns

@@ -1,5 +1,5 @@
 use Rattle.pos_counter.proofs.Common.{SFits, rules, to_z-of_z, w128}
-use Rattle.pos_counter.proofs.Serving.{quiet_step}
+use Rattle.pos_counter.proofs.ServiceLemmas.{quiet_step}
 use Rattle.pos_counter.proofs.counter.Counter.call.Goals as goal
 
 pub returns-in-Open-clause-step : goal.returns-in-Open-clause-step

@@ -1,7 +1,7 @@
 use Rattle.pos_counter.proofs.Common.{[], machine, part_with, refl, sym, ◌∙◌}
-use Rattle.pos_counter.proofs.Hardware.{closed_refuses, device_step, kept_in_place, of_devices, served_there}
-use Rattle.pos_counter.proofs.Lifts.{decided_some, kept_at}
-use Rattle.pos_counter.proofs.Serving.{quiet_serves}
+use Rattle.pos_counter.proofs.HardwareLemmas.{closed_refuses, device_step, kept_in_place, of_devices, served_there}
+use Rattle.pos_counter.proofs.LiftLemmas.{decided_some, kept_at}
+use Rattle.pos_counter.proofs.ServiceLemmas.{quiet_serves}
 use Rattle.pos_counter.proofs.counter.Counter.call_category.Goals as goal
 
 pub call_totals-requires-clause-totals : goal.call_totals-requires-clause-totals

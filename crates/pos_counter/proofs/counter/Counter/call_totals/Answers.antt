@@ -1,8 +1,8 @@
 use Rattle.pos_counter.proofs.Common.{HardTotals, [], controls_of, is_totals, machine, needs_of, part_with, refl, true, ◌≡◌}
-use Rattle.pos_counter.proofs.Hardware.{are_totals, at_number, own_call, totals_let, totals_refuse}
-use Rattle.pos_counter.proofs.Lifts.{decided_some, kept_at}
-use Rattle.pos_counter.proofs.Serving.{quiet_serves}
-use Rattle.pos_counter.proofs.TotalsSteps.{files_serve}
+use Rattle.pos_counter.proofs.HardwareLemmas.{are_totals, at_number, own_call, totals_let, totals_refuse}
+use Rattle.pos_counter.proofs.LiftLemmas.{decided_some, kept_at}
+use Rattle.pos_counter.proofs.ServiceLemmas.{quiet_serves}
+use Rattle.pos_counter.proofs.TotalsStepLemmas.{files_serve}
 use Rattle.pos_common.proofs.CheckLemmas.{lets_own}
 use Rattle.pos_counter.proofs.counter.Counter.call_totals.Goals as goal
 

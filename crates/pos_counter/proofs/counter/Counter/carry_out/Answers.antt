@@ -1,6 +1,6 @@
 use Rattle.pos_counter.proofs.Common.{rules}
 use Rattle.pos_counter.proofs.ResponseLemmas.{plain_call, plain_control, plain_input, plain_snapshot, plain_work}
-use Rattle.pos_counter.proofs.Serving.{beside_is_step}
+use Rattle.pos_counter.proofs.ServiceLemmas.{beside_is_step}
 use Rattle.pos_counter.proofs.counter.Counter.carry_out.Goals as goal
 
 pub returns-in-NewControl-clause-step : goal.returns-in-NewControl-clause-step

@@ -1,7 +1,7 @@
 use Rattle.pos_counter.proofs.Common.{List, Machine, Option, SFits, Totals, [], ap, machine, part_with, refl, settled, sym, to_z-of_z, w128, ℕ, ◌∙◌}
-use Rattle.pos_counter.proofs.Hardware.{are_totals, covered, of_devices}
-use Rattle.pos_counter.proofs.Lifts.{decided_weaker, kept_at}
-use Rattle.pos_counter.proofs.Serving.{quiet_serves, stays_serves}
+use Rattle.pos_counter.proofs.HardwareLemmas.{are_totals, covered, of_devices}
+use Rattle.pos_counter.proofs.LiftLemmas.{decided_weaker, kept_at}
+use Rattle.pos_counter.proofs.ServiceLemmas.{quiet_serves, stays_serves}
 use Rattle.pos_counter.proofs.counter.Counter.claim.Goals as goal
 
 pub claim-requires : goal.claim-requires

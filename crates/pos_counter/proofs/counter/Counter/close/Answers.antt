@@ -1,8 +1,8 @@
 use Rattle.pos_counter.proofs.Common.{[], devices_in, part_with, refl, sym, without_control, ◌∙◌}
-use Rattle.pos_counter.proofs.Hardware.{are_totals, of_devices}
-use Rattle.pos_counter.proofs.Lifts.{decided_none, decided_some, kept_at, kept_machine, set_machine}
-use Rattle.pos_counter.proofs.Serving.{quiet_serves, stays_serves}
-use Rattle.pos_counter.proofs.Leaving.{rest_settled, without_rest}
+use Rattle.pos_counter.proofs.HardwareLemmas.{are_totals, of_devices}
+use Rattle.pos_counter.proofs.LiftLemmas.{decided_none, decided_some, kept_at, kept_machine, set_machine}
+use Rattle.pos_counter.proofs.ServiceLemmas.{quiet_serves, stays_serves}
+use Rattle.pos_counter.proofs.CrashLemmas.{rest_settled, without_rest}
 use Rattle.pos_counter.proofs.counter.Counter.close.Goals as goal
 
 pub returns-in_default : goal.returns-in_default

@@ -1,6 +1,6 @@
 use Rattle.pos_counter.proofs.Common.{◌++◌, ◌<◌, Control, KeptControl, List, Machine, [], ap, arith, controls_of, devices_in, length, length-map, machine}
 use Rattle.pos_counter.proofs.Common.{machine_with, map_push, most_controls, part_with, refl, subst, sym, with_place, ◌∙◌, ◌∷◌, ◌≡◌}
-use Rattle.pos_counter.proofs.Serving.{quiet_serves, same_sound}
+use Rattle.pos_counter.proofs.ServiceLemmas.{quiet_serves, same_sound}
 use Rattle.pos_counter.proofs.counter.Counter.control.Goals as goal
 
 pub returns-then-is_err-clause-sound : goal.returns-then-is_err-clause-sound

@@ -1,6 +1,6 @@
 use Rattle.pos_counter.proofs.Common.{◌<◌, arith, devices_in, length, refl}
-use Rattle.pos_counter.proofs.Lifts.{kept_at, set_machine}
-use Rattle.pos_counter.proofs.Serving.{steps_beside}
+use Rattle.pos_counter.proofs.LiftLemmas.{kept_at, set_machine}
+use Rattle.pos_counter.proofs.ServiceLemmas.{steps_beside}
 use Rattle.pos_counter.proofs.counter.Counter.deliver.Goals as goal
 
 pub returns : goal.returns

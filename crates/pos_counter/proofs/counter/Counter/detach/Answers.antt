@@ -1,8 +1,8 @@
 use Rattle.pos_counter.proofs.Common.{KeptControl, arith, has_open, refl, registered, rules, sym, ◌∙◌}
 use Rattle.pos_profile.proofs.ListLemmas.{any_mapped}
 use Rattle.std.proofs.lemmas.Grind.{common_steps}
-use Rattle.pos_counter.proofs.DeviceLists.{detach_step}
-use Rattle.pos_counter.proofs.Serving.{steps_beside}
+use Rattle.pos_counter.proofs.DeviceListLemmas.{detach_step}
+use Rattle.pos_counter.proofs.ServiceLemmas.{steps_beside}
 use Rattle.pos_counter.proofs.counter.Counter.detach.Goals as goal
 
 pub returns : goal.returns

@@ -1,5 +1,5 @@
 use Rattle.pos_counter.proofs.Common.{machine, part_with}
-use Rattle.pos_counter.proofs.Lifts.{get_step, kept_at}
+use Rattle.pos_counter.proofs.LiftLemmas.{get_step, kept_at}
 use Rattle.pos_counter.proofs.counter.Counter.get.Goals as goal
 
 pub returns : goal.returns

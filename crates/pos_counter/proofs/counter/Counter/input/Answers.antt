@@ -1,6 +1,6 @@
 use Rattle.pos_counter.proofs.Common.{Ok, TakenAt, hardware_of, refl, rules, sym, ◌∙◌}
-use Rattle.pos_counter.proofs.Hardware.{kept_in_place, on_hardware, unchanged}
-use Rattle.pos_counter.proofs.Serving.{steps_beside}
+use Rattle.pos_counter.proofs.HardwareLemmas.{kept_in_place, on_hardware, unchanged}
+use Rattle.pos_counter.proofs.ServiceLemmas.{steps_beside}
 use Rattle.pos_counter.proofs.counter.Counter.input.Goals as goal
 
 pub returns-then-not-fits-clause-step : goal.returns-then-not-fits-clause-step

@@ -1,6 +1,6 @@
 use Rattle.pos_counter.proofs.Common.{All-nil, Device, HasItsDevice, IsSound, KeptControl, List, None, Option, [], ap, devices_in, length, length-replicate}
 use Rattle.pos_counter.proofs.Common.{machine_with, profile_devices, refl, registered, replicate, subst, sym, ℕ, ◌∙◌, ◌≡◌}
-use Rattle.pos_counter.proofs.DeviceLists.{count_devices, kinds_hold}
+use Rattle.pos_counter.proofs.DeviceListLemmas.{count_devices, kinds_hold}
 use Rattle.pos_counter.proofs.counter.Counter.new.Goals as goal
 
 pub returns-in-Ok-new-clause-begins : goal.returns-in-Ok-new-clause-begins

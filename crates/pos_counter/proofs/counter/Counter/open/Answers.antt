@@ -1,6 +1,6 @@
 use Rattle.pos_counter.proofs.Common.{refl}
-use Rattle.pos_counter.proofs.Lifts.{decided_weaker, kept_at, kept_machine, set_machine}
-use Rattle.pos_counter.proofs.Serving.{stays_serves}
+use Rattle.pos_counter.proofs.LiftLemmas.{decided_weaker, kept_at, kept_machine, set_machine}
+use Rattle.pos_counter.proofs.ServiceLemmas.{stays_serves}
 use Rattle.pos_counter.proofs.counter.Counter.open.Goals as goal
 
 pub returns : goal.returns

@@ -1,7 +1,7 @@
 use Rattle.pos_counter.proofs.Common.{◌++◌, All, All-nil, All-push, HandsOut, IsRun, List, OffersInService, [], ap, append-nil, append_assoc, arith, length}
 use Rattle.pos_counter.proofs.Common.{length_push, nil_from_length, refl, request_of, response_of, reverse, reverse-append, reverse-reverse, rules, steps_of}
 use Rattle.pos_counter.proofs.Common.{subst, suc, sym, ◌∙◌, ◌∷◌, ◌≡◌}
-use Rattle.pos_counter.proofs.Runs.{runs_more, steps_push}
+use Rattle.pos_counter.proofs.RunLemmas.{runs_more, steps_push}
 use Rattle.pos_counter.proofs.counter.Counter.perform.Goals as goal
 
 pub loop-request-init : goal.loop-request-init

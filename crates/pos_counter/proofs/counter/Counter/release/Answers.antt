@@ -1,7 +1,7 @@
 use Rattle.pos_counter.proofs.Common.{None, Totals, ap, devices_in, part_with, refl, settled, sym, ◌∙◌}
-use Rattle.pos_counter.proofs.Hardware.{are_totals, of_devices}
-use Rattle.pos_counter.proofs.Lifts.{decided_weaker, kept_at, kept_machine, set_machine}
-use Rattle.pos_counter.proofs.Serving.{quiet_serves, stays_serves}
+use Rattle.pos_counter.proofs.HardwareLemmas.{are_totals, of_devices}
+use Rattle.pos_counter.proofs.LiftLemmas.{decided_weaker, kept_at, kept_machine, set_machine}
+use Rattle.pos_counter.proofs.ServiceLemmas.{quiet_serves, stays_serves}
 use Rattle.pos_counter.proofs.counter.Counter.release.Goals as goal
 
 pub returns-then-is_totals : goal.returns-then-is_totals

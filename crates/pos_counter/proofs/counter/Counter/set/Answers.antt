@@ -1,7 +1,7 @@
 use Rattle.pos_counter.proofs.Common.{part_with, refl, rules, sym, ◌∙◌}
-use Rattle.pos_counter.proofs.Lifts.{kept_at, kept_same}
-use Rattle.pos_counter.proofs.Recovering.{plain_set}
-use Rattle.pos_counter.proofs.Serving.{quiet_serves}
+use Rattle.pos_counter.proofs.LiftLemmas.{kept_at, kept_same}
+use Rattle.pos_counter.proofs.RecoveryLemmas.{plain_set}
+use Rattle.pos_counter.proofs.ServiceLemmas.{quiet_serves}
 use Rattle.pos_counter.proofs.counter.Counter.set.Goals as goal
 
 pub set_recovered-requires-clause-recovers : goal.set_recovered-requires-clause-recovers

@@ -1,6 +1,6 @@
 use Rattle.pos_counter.proofs.Common.{[], kind_of, machine, part_with, refl, same_Some, signs_at, sym, ◌∙◌}
-use Rattle.pos_counter.proofs.Lifts.{kept_at, set_machine}
-use Rattle.pos_counter.proofs.Recovering.{asks_there, done_set, failed_serves, recovered_serves, starved_serves}
+use Rattle.pos_counter.proofs.LiftLemmas.{kept_at, set_machine}
+use Rattle.pos_counter.proofs.RecoveryLemmas.{asks_there, done_set, failed_serves, recovered_serves, starved_serves}
 use Rattle.pos_counter.proofs.counter.Counter.set_recovered.Goals as goal
 
 pub returns-in-Ok : goal.returns-in-Ok

@@ -1,5 +1,5 @@
 use Rattle.pos_counter.proofs.Common.{rules}
-use Rattle.pos_counter.proofs.DeviceLists.{devices_stay}
+use Rattle.pos_counter.proofs.DeviceListLemmas.{devices_stay}
 use Rattle.pos_counter.proofs.counter.Counter.shutdown.Goals as goal
 
 pub returns-clause-entries : goal.returns-clause-entries

@@ -1,6 +1,6 @@
 use Rattle.pos_counter.proofs.Common.{Ok, Some, WorksAt, holder_at, refl, sym}
-use Rattle.pos_counter.proofs.Hardware.{kept_in_place, on_hardware, want_finds_work}
-use Rattle.pos_counter.proofs.Serving.{steps_beside}
+use Rattle.pos_counter.proofs.HardwareLemmas.{kept_in_place, on_hardware, want_finds_work}
+use Rattle.pos_counter.proofs.ServiceLemmas.{steps_beside}
 use Rattle.pos_counter.proofs.counter.Counter.work.Goals as goal
 
 pub returns-in-Ok : goal.returns-in-Ok

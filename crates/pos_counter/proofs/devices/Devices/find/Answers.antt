@@ -1,5 +1,5 @@
 use Rattle.pos_counter.proofs.Common.{rules}
-use Rattle.pos_counter.proofs.DeviceLists.{found_first, found_last}
+use Rattle.pos_counter.proofs.DeviceListLemmas.{found_first, found_last}
 use Rattle.pos_counter.proofs.devices.Devices.find.Goals as goal
 
 pub returns-in-Some : goal.returns-in-Some

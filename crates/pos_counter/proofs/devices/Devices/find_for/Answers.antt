@@ -1,5 +1,5 @@
 use Rattle.pos_counter.proofs.Common.{devices_in, sym}
-use Rattle.pos_counter.proofs.DeviceLists.{found_there}
+use Rattle.pos_counter.proofs.DeviceListLemmas.{found_there}
 use Rattle.pos_counter.proofs.devices.Devices.find_for.Goals as goal
 
 pub find_at-requires : goal.find_at-requires

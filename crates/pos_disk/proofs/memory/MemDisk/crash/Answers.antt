@@ -1,7 +1,7 @@
 use Rattle.pos_disk.proofs.Common.{LeftAt, List, Memory, choose, filled, length, length-map, length-replicate, loose_by, memory_of, replicate, ℕ, ◌==◌, ◌∙◌}
 use Rattle.pos_disk.proofs.Common.{◌≡◌}
-use Rattle.pos_disk.specs.declared.fill.Fill.{Fill}
-use Rattle.pos_disk.proofs.Stamps.{choose_left, choose_same, saved_all}
+use Rattle.pos_disk.specs.declared.memory.Fill.{Fill}
+use Rattle.pos_disk.proofs.StampLemmas.{choose_left, choose_same, saved_all}
 use Rattle.pos_disk.proofs.memory.MemDisk.crash.Goals.{After-new, in-Byte+in_ok-bytes-in-Byte, in-New+in_ok-bytes-in-New, in-Old+in_ok-bytes-in-Old}
 use Rattle.pos_disk.proofs.memory.MemDisk.crash.Goals as goal
 use Rattle.std.proofs.Common.{arith}

@@ -1,5 +1,5 @@
 use Rattle.pos_disk.proofs.Common.{List, Moment, ap, fresh, length, length-replicate, replicate, rules, ◌∙◌, ◌≡◌}
-use Rattle.pos_disk.proofs.Stamps.{memory_fresh, zeros}
+use Rattle.pos_disk.proofs.StampLemmas.{memory_fresh, zeros}
 use Rattle.pos_disk.proofs.memory.MemDisk.new.Goals as goal
 
 pub returns : goal.returns

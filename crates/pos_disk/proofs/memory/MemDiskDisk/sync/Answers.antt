@@ -1,6 +1,6 @@
 use Rattle.pos_disk.proofs.Common.{Memory, arith, memory_of, state_of, synced, ◌∙◌, ◌≡◌}
-use Rattle.pos_disk.proofs.Calls.{syncs}
-use Rattle.pos_disk.proofs.Stamps.{memory_fresh}
+use Rattle.pos_disk.proofs.CallLemmas.{syncs}
+use Rattle.pos_disk.proofs.StampLemmas.{memory_fresh}
 use Rattle.pos_disk.proofs.memory.MemDiskDisk.sync.Goals.{After-next_stamp-self-inside}
 use Rattle.pos_disk.proofs.memory.MemDiskDisk.sync.Goals as goal
 

@@ -1,6 +1,6 @@
 use Rattle.pos_disk.proofs.Common.{IsSaved, Memory, arith, length, length-map, memory_of, rules, state_of, written, ◌+◌, ◌≡◌, ◌≤◌}
-use Rattle.pos_disk.proofs.Calls.{writes}
-use Rattle.pos_disk.proofs.Written.{is_written, still_kept}
+use Rattle.pos_disk.proofs.CallLemmas.{writes}
+use Rattle.pos_disk.proofs.WriteLemmas.{is_written, still_kept}
 use Rattle.pos_disk.proofs.memory.MemDiskDisk.write.Goals.{After-overwrite}
 use Rattle.pos_disk.proofs.memory.MemDiskDisk.write.Goals as goal
 

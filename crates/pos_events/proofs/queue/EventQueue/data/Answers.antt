@@ -1,4 +1,4 @@
-use Rattle.pos_events.proofs.EnqueuingLemmas.{one_more_scan}
+use Rattle.pos_events.proofs.EnqueueLemmas.{one_more_scan}
 use Rattle.pos_events.proofs.queue.EventQueue.data.Goals as goal
 
 pub returns-then-not-self-clause-enqueued : goal.returns-then-not-self-clause-enqueued

@@ -1,4 +1,4 @@
-use Rattle.pos_events.proofs.EnqueuingLemmas.{fits_push}
+use Rattle.pos_events.proofs.EnqueueLemmas.{fits_push}
 use Rattle.pos_events.proofs.queue.EventQueue.enqueue.Goals as goal
 
 pub invariant_of-self : goal.invariant_of-self

@@ -1,4 +1,4 @@
-use Rattle.pos_events.proofs.EnqueuingLemmas.{one_more_error}
+use Rattle.pos_events.proofs.EnqueueLemmas.{one_more_error}
 use Rattle.pos_events.proofs.queue.EventQueue.input_error.Goals as goal
 
 pub returns-clause-enqueued : goal.returns-clause-enqueued

@@ -1,5 +1,5 @@
 use Rattle.pos_events.proofs.Common.{arith, nat_tests}
-use Rattle.pos_events.proofs.DeliveringLemmas.{first_is_data, popped_scan}
+use Rattle.pos_events.proofs.DeliveryLemmas.{first_is_data, popped_scan}
 use Rattle.pos_events.proofs.queue.EventQueue.take_first.Goals as goal
 
 pub returns-clause-event : goal.returns-clause-event

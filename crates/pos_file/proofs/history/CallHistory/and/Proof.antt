@@ -16,7 +16,7 @@ use denote.Slice.{shr_slice_Tells, shr_slice_vals, slice_val}
 use mir.Syntax.{named}
 use prog.Memory.{Memory}
 use Rattle.pos_file.specs.contracts.history.CallHistory as kept
-use Rattle.pos_file.specs.contracts.call_kind.CallKind as kinds
+use Rattle.pos_file.specs.contracts.history.CallKind as kinds
 use Rattle.pos_file.specs.contracts.history.CallHistory.and as f
 use Rattle.pos_file.proofs.history.CallHistory.and.Statement as stated
 use Rattle.pos_file.proofs.history.CallHistory.and.Code as code

@@ -1,5 +1,5 @@
 use Rattle.pos_image.proofs.Common.{Watches, ap, arith, length, part, watches_read, ℕ, ◌+◌, ◌∙◌}
-use Rattle.pos_image.proofs.Spanned.{looked_held, span_part, writable}
+use Rattle.pos_image.proofs.SpanLemmas.{looked_held, span_part, writable}
 use Rattle.pos_image.proofs.images.Images.log_read.Given.{Over}
 use Rattle.pos_image.proofs.images.Images.log_read.Goals.{After-read}
 use Rattle.pos_image.proofs.images.Images.log_read.Goals as goal

@@ -1,5 +1,5 @@
 use Rattle.pos_image.proofs.Common.{KeepsImage, LeavesOnly, rules, span_of, watches_sync}
-use Rattle.pos_image.proofs.Spanned.{synced, watched_image}
+use Rattle.pos_image.proofs.SpanLemmas.{synced, watched_image}
 use Rattle.pos_image.proofs.images.Images.log_sync.Given.{Over}
 use Rattle.pos_image.proofs.images.Images.log_sync.Goals.{After-sync}
 use Rattle.pos_image.proofs.images.Images.log_sync.Goals as goal

@@ -1,5 +1,5 @@
 use Rattle.pos_image.proofs.Common.{IsWritable, KeepsImage, LeavesOnly, View, WritesOnly, arith, images_of, length, prepared_image, rules, span_of, start, ◌+◌}
-use Rattle.pos_image.proofs.Spanned.{WritesLog, writable, write_held, write_moments, writes_only, writes_span}
+use Rattle.pos_image.proofs.SpanLemmas.{WritesLog, writable, write_held, write_moments, writes_only, writes_span}
 use Rattle.pos_image.proofs.images.Images.log_write.Given.{Over}
 use Rattle.pos_image.proofs.images.Images.log_write.Goals.{After-write}
 use Rattle.pos_image.proofs.images.Images.log_write.Goals as goal

@@ -1,5 +1,5 @@
 use Rattle.pos_disk.specs.Keeps.{KeepsState}
-use Rattle.pos_image.proofs.Spanned.{same_ready, same_writable}
+use Rattle.pos_image.proofs.SpanLemmas.{same_ready, same_writable}
 use Rattle.pos_image.proofs.images.Images.next.Given.{Over}
 use Rattle.pos_image.proofs.images.Images.next.Goals.{After-next}
 use Rattle.pos_image.proofs.images.Images.next.Goals as goal

@@ -1,7 +1,7 @@
 use Rattle.pos_image.proofs.Common.{arith, refl}
-use Rattle.pos_image.proofs.Changes.{ready}
-use Rattle.pos_image.proofs.Current.{current_stands}
-use Rattle.pos_image.proofs.Refused.{short_stands}
+use Rattle.pos_image.proofs.ChangeLemmas.{ready}
+use Rattle.pos_image.proofs.CurrentImageLemmas.{current_stands}
+use Rattle.pos_image.proofs.RefusalLemmas.{short_stands}
 use Rattle.pos_image.proofs.images.Images.open.Goals as goal
 
 pub returns-in-Ok-clause-found : goal.returns-in-Ok-clause-found

@@ -1,8 +1,8 @@
 use Rattle.pos_image.proofs.Common.{HasEither, IsWritable, LeavesOnly, Prepared, SameBut, Some, [], ap, arith, image_of, images_of, is_open, next_of}
 use Rattle.pos_image.proofs.Common.{prepared_image, span_of, splice, start, sym, true, ◌∙◌, ◌∷◌, ◌≡◌}
-use Rattle.pos_image.proofs.Aside.{publish_leaves}
-use Rattle.pos_image.proofs.Changes.{opened_current, opened_gate, opened_new, ready}
-use Rattle.pos_image.proofs.Places.{places}
+use Rattle.pos_image.proofs.LooseLogLemmas.{publish_leaves}
+use Rattle.pos_image.proofs.ChangeLemmas.{opened_current, opened_gate, opened_new, ready}
+use Rattle.pos_image.proofs.PlaceLemmas.{places}
 use Rattle.pos_image.proofs.images.Images.publish.Given.{Over}
 use Rattle.pos_image.proofs.images.Images.publish.Goals.{After-write_through}
 use Rattle.pos_image.proofs.images.Images.publish.Goals as goal

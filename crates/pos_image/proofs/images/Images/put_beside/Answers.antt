@@ -1,10 +1,10 @@
 use Rattle.pos_image.proofs.Common.{IsBeside, IsWritable, KeepsImage, LeavesOnly, Prepared, Some, arith, image_of, images_of, log_of, prepared_image}
 use Rattle.pos_image.proofs.Common.{rules, span_of, ◌≡◌}
-use Rattle.pos_image.proofs.Aside.{beside_leaves}
-use Rattle.pos_image.proofs.Changes.{placed, ready}
-use Rattle.pos_image.proofs.Current.{stage_current}
-use Rattle.pos_image.proofs.Logs.{kept_image}
-use Rattle.pos_image.proofs.Places.{beside_apart, places}
+use Rattle.pos_image.proofs.LooseLogLemmas.{beside_leaves}
+use Rattle.pos_image.proofs.ChangeLemmas.{placed, ready}
+use Rattle.pos_image.proofs.CurrentImageLemmas.{stage_current}
+use Rattle.pos_image.proofs.LogLemmas.{kept_image}
+use Rattle.pos_image.proofs.PlaceLemmas.{beside_apart, places}
 use Rattle.pos_image.proofs.images.Images.put_beside.Given.{Over}
 use Rattle.pos_image.proofs.images.Images.put_beside.Goals.{After-place_image}
 use Rattle.pos_image.proofs.images.Images.put_beside.Goals as goal

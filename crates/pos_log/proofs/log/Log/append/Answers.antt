@@ -1,6 +1,6 @@
 use Rattle.pos_log.proofs.Common.{IsLogReady, View, [], ap, arith, end_of, layout_of, leb-true, length, log_over, log_place, rules, slot_size, take}
 use Rattle.pos_log.proofs.Common.{text_behind_gate, ◌+◌, ◌-◌, ◌∙◌, ◌∷◌, ◌≡◌, ◌≤◌}
-use Rattle.pos_log.proofs.Appending.{WritesThrough, appended, failed_open, failed_put, never_failed}
+use Rattle.pos_log.proofs.AppendLemmas.{WritesThrough, appended, failed_open, failed_put, never_failed}
 use Rattle.pos_log.proofs.log.Log.append.Given.{Over}
 use Rattle.pos_log.proofs.log.Log.append.Goals.{After-write_through, After-write_through-2}
 use Rattle.pos_log.proofs.log.Log.append.Goals as goal

@@ -1,5 +1,5 @@
 use Rattle.pos_log.proofs.Common.{IsLogReady, ap, log_over, migrated_image}
-use Rattle.pos_log.proofs.Emptied.{not_renewed, renewed}
+use Rattle.pos_log.proofs.RenewalLemmas.{not_renewed, renewed}
 use Rattle.pos_log.proofs.log.Log.migrate.Goals as goal
 
 pub returns-in-Err-clause-migrates : goal.returns-in-Err-clause-migrates

@@ -1,5 +1,5 @@
 use Rattle.pos_log.proofs.Common.{ap, arith, layout_of, log_of, log_place, log_size, places, span_length, ◌-◌, ◌≡◌}
-use Rattle.pos_log.proofs.Parsing.{whole_read}
+use Rattle.pos_log.proofs.ReadLemmas.{whole_read}
 use Rattle.pos_log.proofs.log.Log.open.Given.{Over}
 use Rattle.pos_log.proofs.log.Log.open.Goals.{After-read_records}
 use Rattle.pos_log.proofs.log.Log.open.Goals as goal

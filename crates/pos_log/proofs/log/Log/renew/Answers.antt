@@ -1,5 +1,5 @@
 use Rattle.pos_log.proofs.Common.{IsLogReady, ap, log_over, next_image, same_layout}
-use Rattle.pos_log.proofs.Emptied.{not_renewed, renewed}
+use Rattle.pos_log.proofs.RenewalLemmas.{not_renewed, renewed}
 use Rattle.pos_log.proofs.log.Log.renew.Goals as goal
 
 pub returns-in-Err-clause-renews : goal.returns-in-Err-clause-renews

@@ -1,6 +1,6 @@
 use Rattle.pos_disk.proofs.Common.{arith, ◌≤◌}
 use Rattle.pos_disk.proofs.Common.{length}
-use Rattle.pos_mirror.proofs.CallsLemmas.{calls_follow}
+use Rattle.pos_mirror.proofs.CallLemmas.{calls_follow}
 use Rattle.pos_mirror.proofs.MirrorLemmas.{begins}
 use Rattle.pos_mirror.specs.Mirror.{IsMirror, counts_mirrored, mirror_state}
 use Rattle.pos_mirror.proofs.mirror.MirrorDisk.is_followed.Goals as goal

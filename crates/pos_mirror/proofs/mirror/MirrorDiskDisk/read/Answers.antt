@@ -1,5 +1,5 @@
 use Rattle.pos_disk.proofs.Common.{Ok, refl}
-use Rattle.pos_mirror.proofs.CallsLemmas.{reads_under}
+use Rattle.pos_mirror.proofs.CallLemmas.{reads_under}
 use Rattle.pos_mirror.proofs.mirror.MirrorDiskDisk.read.Goals as goal
 
 pub returns-clause-reads : goal.returns-clause-reads

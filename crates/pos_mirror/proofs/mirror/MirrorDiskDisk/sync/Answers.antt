@@ -1,5 +1,5 @@
 use Rattle.pos_disk.proofs.Common.{Err, Ok, ap, false, refl, rules, ◌≡◌}
-use Rattle.pos_mirror.proofs.CallsLemmas.{syncs_under}
+use Rattle.pos_mirror.proofs.CallLemmas.{syncs_under}
 use Rattle.pos_mirror.proofs.StepLemmas.{settled_on, unsettled_on}
 use Rattle.pos_mirror.specs.Mirror.{IsMirror, mirror_of}
 use Rattle.pos_mirror.proofs.mirror.MirrorDiskDisk.sync.Goals as goal

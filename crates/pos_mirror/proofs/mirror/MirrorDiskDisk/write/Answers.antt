@@ -1,6 +1,6 @@
 use Rattle.pos_disk.proofs.Common.{Err, Ok, ap, false, length, refl, rules, true, ◌+◌, ◌≡◌, ◌≤◌}
 use Rattle.pos_disk.specs.Fuse.{counted}
-use Rattle.pos_mirror.proofs.CallsLemmas.{fails_under, fault_is, spoils_of, writes_under}
+use Rattle.pos_mirror.proofs.CallLemmas.{fails_under, fault_is, spoils_of, writes_under}
 use Rattle.pos_mirror.proofs.StepLemmas.{lost_write, reread_on, written_on}
 use Rattle.pos_mirror.specs.Mirror.{IsMirror, mirror_of}
 use Rattle.pos_mirror.proofs.mirror.MirrorDiskDisk.write.Goals as goal

@@ -1,6 +1,6 @@
 use Rattle.std.proofs.Common.{subst}
 use Rattle.pos_disk.proofs.Common.{List, Spoils, arith, common_steps, drop, length, state_of, take, written, ℕ, ◌+◌, ◌-◌, ◌≡◌, ◌≤◌}
-use Rattle.pos_mirror.proofs.CallsLemmas.{spoils_of}
+use Rattle.pos_mirror.proofs.CallLemmas.{spoils_of}
 use Rattle.pos_mirror.proofs.ShownLemmas.{writes}
 use Rattle.pos_mirror.proofs.shown.Shown.reread.Goals as goal
 

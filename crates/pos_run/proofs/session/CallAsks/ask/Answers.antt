@@ -1,6 +1,6 @@
 use Rattle.pos_run.proofs.Common.{refl}
 use Rattle.pos_run.proofs.ResponseLemmas.{call_text}
-use Rattle.pos_run.proofs.Sessions.{asks_step}
+use Rattle.pos_run.proofs.SessionLemmas.{asks_step}
 use Rattle.pos_run.proofs.session.CallAsks.ask.Goals as goal
 
 pub returns-clause-asks : goal.returns-clause-asks

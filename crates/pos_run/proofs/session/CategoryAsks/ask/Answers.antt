@@ -1,6 +1,6 @@
 use Rattle.pos_run.proofs.Common.{Err, ap, is_some, refl, sym, ◌∙◌}
 use Rattle.pos_run.proofs.ResponseLemmas.{control_text, unmade}
-use Rattle.pos_run.proofs.Sessions.{asks_step}
+use Rattle.pos_run.proofs.SessionLemmas.{asks_step}
 use Rattle.pos_run.proofs.session.CategoryAsks.ask.Goals as goal
 
 pub returns-in-Ok-control-clause-asks : goal.returns-in-Ok-control-clause-asks

@@ -1,6 +1,6 @@
 use Rattle.pos_run.proofs.Common.{refl}
 use Rattle.pos_run.proofs.ResponseLemmas.{snapshot_text, work_text}
-use Rattle.pos_run.proofs.Sessions.{asks_beside}
+use Rattle.pos_run.proofs.SessionLemmas.{asks_beside}
 use Rattle.pos_run.proofs.session.DeviceVerbAsks.ask.Goals as goal
 
 pub returns-in-Show-clause-asks : goal.returns-in-Show-clause-asks

@@ -1,5 +1,5 @@
 use Rattle.pos_run.proofs.Common.{refl}
-use Rattle.pos_run.proofs.Sessions.{asks_beside}
+use Rattle.pos_run.proofs.SessionLemmas.{asks_beside}
 use Rattle.pos_run.proofs.session.ErrorReplyAsks.ask.Goals as goal
 
 pub returns-in-Some-clause-asks : goal.returns-in-Some-clause-asks

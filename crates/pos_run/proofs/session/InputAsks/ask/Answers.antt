@@ -1,6 +1,6 @@
 use Rattle.pos_run.proofs.Common.{refl}
 use Rattle.pos_run.proofs.ResponseLemmas.{input_text}
-use Rattle.pos_run.proofs.Sessions.{asks_beside}
+use Rattle.pos_run.proofs.SessionLemmas.{asks_beside}
 use Rattle.pos_run.proofs.session.InputAsks.ask.Goals as goal
 
 pub returns-clause-asks : goal.returns-clause-asks

@@ -1,5 +1,5 @@
 use Rattle.pos_run.proofs.Common.{None, ap, option_map, refl, spare_at, spares_in, sym, ◌∙◌, ◌≡◌}
-use Rattle.pos_run.proofs.Sessions.{asks_beside, asks_none}
+use Rattle.pos_run.proofs.SessionLemmas.{asks_beside, asks_none}
 use Rattle.pos_run.proofs.SpareLemmas.{empty_taken, none_taken, put_back}
 use Rattle.pos_run.proofs.session.U32Asks.ask.Goals as goal
 

@@ -1,6 +1,6 @@
 use Rattle.std.proofs.Common.{◌∙◌, ◌==◌, ◌||◌, nat_le, arith}
 use Rattle.std.proofs.lemmas.Bool.Decides.{nat_tests}
-use Rattle.pos_service.proofs.NamingLemmas.{as_long}
+use Rattle.pos_service.proofs.NameLemmas.{as_long}
 use Rattle.pos_service.proofs.property.Property.named.Goals as goal
 
 pub returns-in-9 : goal.returns-in-9

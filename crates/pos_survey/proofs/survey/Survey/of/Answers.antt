@@ -4,10 +4,10 @@ use Rattle.std.proofs.lemmas.Result.{err_from_is_err_and}
 use Rattle.pos_image.specs.Layout.{layout_of}
 use Rattle.pos_image.specs.Standing.{OneImage}
 use Rattle.pos_image.specs.declared.slot.Slot.{Slot}
-use Rattle.pos_image.proofs.Logs.{image_here}
+use Rattle.pos_image.proofs.LogLemmas.{image_here}
 use Rattle.pos_log.specs.Logs.{room_of}
 use Rattle.pos_survey.specs.Damages.{log_begins}
-use Rattle.pos_survey.proofs.Broken.{no_files, long_record, bad_record}
+use Rattle.pos_survey.proofs.DamageLemmas.{no_files, long_record, bad_record}
 use Rattle.pos_survey.proofs.survey.Survey.of.Goals as goal
 
 pub returns-in_err-directory-clause-broken : goal.returns-in_err-directory-clause-broken

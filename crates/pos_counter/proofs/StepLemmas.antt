@@ -1,0 +1,280 @@
+-- What each step of the machine leaves: a sound machine, and the files of the totals as its event says.
+use Rattle.pos_counter.proofs.Common.{◌+◌, ◌++◌, All-push, Answer, Answered, Arranges, Asks, Bool, Call, CallOf, Category, CategoryDoes, Claim, Close, Control}
+use Rattle.pos_counter.proofs.Common.{Delivered, Does, DoesTogether, Done, Effect, Failure, File, FileCall, Get, HardTotals, Hardware, HasItsDevice, History}
+use Rattle.pos_counter.proofs.Common.{IsAttached, IsDetached, IsOneGroup, IsOneOf, IsSettled, IsSound, IsUndone, Layout, List, Machine, MatchBool, Mode, None}
+use Rattle.pos_counter.proofs.Common.{Nothing, Off, Ok, OnHardware, Open, Option, OutOfMemory, PlainFile, Property, Ready, Recovered, Recovers, Refused}
+use Rattle.pos_counter.proofs.Common.{Release, Request, Response, Set, Sets, SetsByRecovery, Some, Standing, Stands, Step, Totals, TotalsChange, TotalsDo}
+use Rattle.pos_counter.proofs.Common.{TotalsPart, Value, WorkOn, Worked, [], after_disk_fault, after_release, after_set, and_parts, ap, arith, asks_recovery}
+use Rattle.pos_counter.proofs.Common.{category_rows, changes_asked, changes_of, closed, delivered, dropped, event_between, false, file_call, files_after_all}
+use Rattle.pos_counter.proofs.Common.{first_refusal, has_call, history_with, inl, inr, is_common, is_ready, is_totals, kind_of, left_after, length, length-set}
+use Rattle.pos_counter.proofs.Common.{limits_of, map, new_control, next_sequences, not, numbered, outcome_of_all, place_of, plain, recovers, refl, refusals}
+use Rattle.pos_counter.proofs.Common.{released, rules, serves, signs_at, slice_get, subst, sym, takes, true, with_control, with_place, with_totals, ℕ, ◌∷◌, ◌≡◌}
+use Rattle.pos_totals.specs.Groups.{group_of}
+use Rattle.pos_counter.proofs.CursorLemmas.{NoneApplies, none_applies, unless_not}
+use Rattle.pos_counter.proofs.FileCallLemmas.{Comes, Groups, Stays, puts_comes}
+use Rattle.pos_counter.proofs.HardwareLemmas.{own_call}
+use Rattle.pos_counter.proofs.CrashLemmas.{Rest, arranged_rest, kept_left, rest_settled, same_rest, settles, without_rest}
+use Rattle.pos_counter.proofs.LiftLemmas.{decided_cases, match_cases, matched}
+use Rattle.pos_counter.proofs.PrefixLemmas.{AreAround, Fits, Happens, fits_next}
+use Rattle.pos_counter.proofs.SoundnessLemmas.{Keeps, StandsAt, attached_sound, detached_sound, device_keeps, found_seat, on_hardware_sound, released_seat, seated}
+use Rattle.pos_counter.proofs.SoundnessLemmas.{served_by, set_seat, takes_keeps, with_control_sound, works_keep}
+use Rattle.pos_counter.specs.Steps.{Deliver}
+
+-- ---- what happens to the files
+
+-- what changes, a response and the modes say is what happens, and what is left is settled
+abbrev Told : List TotalsChange → TotalsPart → Response → TotalsPart → Type 0
+Told changes old response new =
+    Happens old (event_between changes old.totals.mode response new.totals.mode) new × IsSettled new.totals new.left
+
+rests : (changes : List TotalsChange) (old new : TotalsPart) (response : Response) → ((changes ≡ [] → ⊥) → IsUndone response)
+    → IsSettled old.totals old.left → Rest old new → Told changes old response new
+rests changes old new response undone is h = grind (arith, rest_settled)
+
+-- files with one of the sequences
+with_some : (layout : Layout) (files : List PlainFile) (sequences : List ℕ) (left : Standing)
+    → IsOneOf (map (λ n. Stands layout files n) sequences) left → (n : ℕ) × (left ≡ Stands layout files n)
+with_some layout files [] left is = absurd is
+with_some layout files (n ∷ sequences) left (inl is) = (n, is)
+with_some layout files (n ∷ sequences) left (inr is) = with_some layout files sequences left is
+
+-- changes that are put on the disk as one group, in which it may fail
+module _ (old new : TotalsPart) (is : IsSettled old.totals old.left) where
+  module _ (change : TotalsChange) (others : List TotalsChange) (transactions : List (Option (List TotalsChange)))
+      (group : IsOneGroup old.totals (change ∷ others)) (left : new.left ≡ left_after old (change ∷ others) new.totals.mode) where
+    abbrev all : List TotalsChange
+    all = change ∷ others
+
+    -- what the group makes of the files
+    made_at : (files : List File) (sequence : ℕ) → old.totals.mode ≡ Ready files sequence
+        → outcome_of_all (limits_of old.totals.layout) (plain files) (group_of files all) ≡ Ok (plain (files_after_all old.totals.next files all))
+    made_at files sequence ready = search rules
+
+    done_told : (given : Value) → DoesTogether (record old.totals { transactions = transactions }) all new.totals
+        → Told all old (Answered (Done given)) new
+    done_told given h = by old.totals.mode refl
+      where
+        by : (m : Mode) → old.totals.mode ≡ m → Told all old (Answered (Done given)) new
+        by Off off = absurd (rw off at h.follows)
+        by (Ready files sequence) ready =
+            let now = files_after_all old.totals.next files all in
+            let still : new.totals.mode ≡ Ready now h.sequence = rw ready at (ap (λ (t : Totals). t.mode) h.totals) in
+            let layout : new.totals.layout ≡ old.totals.layout = ap (λ (t : Totals). t.layout) h.totals in
+            let made = made_at files sequence ready in
+            (rw (ready, still) (record { was = tt; is = tt; layout = layout; made = made }), search (rules, settles))
+
+    failed_told : (result : Answer) → result ≡ Refused Failure 0
+        → new.totals ≡ after_disk_fault (record old.totals { transactions = transactions }) → Told all old (Answered result) new
+    failed_told result failed same = by old.totals.mode refl
+      where
+        off : new.totals.mode ≡ Off
+        off = ap (λ (t : Totals). t.mode) same
+
+        layout : new.totals.layout ≡ old.totals.layout
+        layout = ap (λ (t : Totals). t.layout) same
+
+        by : (m : Mode) → old.totals.mode ≡ m → Told all old (Answered result) new
+        by Off was = (rw (was, off) (record { layout = layout; mode = refl; left = rw (off, was) at left }), search (rules, settles))
+        by (Ready files sequence) ready =
+            let around : AreAround old.totals.layout (plain files) (Some (group_of files all)) new.left = λ standing one.
+            elim (rw (rw (off, ready) at left) at one) [
+              | inl e ↦ inl (sequence, e)
+              | inr e ↦
+                  let found = with_some old.totals.layout (plain (files_after_all old.totals.next files all)) (next_sequences sequence) standing e in
+                  inr (record {
+                    group = group_of files all;
+                    files = plain (files_after_all old.totals.next files all);
+                    sequence = found.0;
+                    doubted = refl;
+                    made = made_at files sequence ready;
+                    stands = found.1;
+                  })
+            ] in
+            (rw (ready, off, failed) (record { was = tt; off = refl; around = around }), search (rules, settles))
+
+  comes_told : (P : Type 0) (changes : List TotalsChange) (result : Answer) → IsOneGroup old.totals changes
+      → new.left ≡ left_after old changes new.totals.mode → Comes P old.totals result new.totals changes → Told changes old (Answered result) new
+  comes_told P changes result group left (Stays transactions undone same) = search (rules, rests, kept_left)
+  comes_told P changes result group left (Groups change others transactions given (inl done)) =
+      rw done.0 (done_told change others transactions group left given done.1)
+  comes_told P changes result group left (Groups change others transactions given (inr failed)) = search (rules, failed_told)
+
+files_told : (asked : FileCall) (old new : TotalsPart) (n : ℕ) (result : Answer) → IsSettled old.totals old.left
+    → TotalsDo asked old n result new → Told (changes_asked old.totals n asked) old (Answered result) new
+files_told (Asks question) old new n result is h = rests [] old new (Answered result) (λ some. absurd (some refl)) is (rw h.1 (same_rest old))
+files_told (Arranges arrangement) old new n result is h = search (rules, rests, arranged_rest)
+files_told Nothing old new n result is h = absurd h
+files_told asked old new n result is h =
+    comes_told old new is _ _ result h.group h.left (puts_comes asked _ old.totals n result new.totals h.does)
+
+-- numbered files are what they were
+pub plain_numbered : (next : ℕ) (files : List PlainFile) → plain (numbered next files) ≡ files
+plain_numbered next [] = refl
+plain_numbered next (file ∷ files) = ap (λ fs. file ∷ fs) (plain_numbered (next + 1) files)
+
+found_told : (old new : TotalsPart) (response : Response) → old.totals.mode ≡ Off → Recovered old new → Told [] old response new
+found_told old new response off h = search (rules, plain_numbered, settles)
+
+-- a recovery that recovers nothing leaves them
+unrecovered : (old new : TotalsPart) (result : Answer) → Recovers old result new → Rest old new
+unrecovered old new result h = grind (arith, same_rest)
+
+-- totals that are recovered are off
+pub recovers_off : (mode : Mode) → not (is_ready mode) ≡ true → mode ≡ Off
+recovers_off mode e = grind arith
+
+-- ---- what leaves the files alone
+
+-- What leaves the files of the totals alone, and the machine sound.
+pub record Beside (old new : Machine) : Type 0 where
+  pub sound : IsSound old → IsSound new
+  pub rest : Rest old.totals new.totals
+
+-- What a step leaves.
+record StepLeaves (changes : List TotalsChange) (old : Machine) (response : Response) (new : Machine) : Type 0 where
+  pub sound : IsSound old → IsSound new
+  pub told : IsSettled old.totals.totals old.totals.left → Told changes old.totals response new.totals
+
+beside_leaves : (changes : List TotalsChange) (old new : Machine) (response : Response) → ((changes ≡ [] → ⊥) → IsUndone response) → Beside old new
+    → StepLeaves changes old response new
+beside_leaves changes old new response undone b = search (rules, rests)
+
+same_beside : (old new : Machine) → new ≡ old → Beside old new
+same_beside old new same = rw same (record { sound = λ s. s; rest = same_rest old.totals })
+
+-- one thing after another
+beside_then : (old mid new : Machine) → Beside old mid → Beside mid new → Beside old new
+beside_then old mid new a b = search rules
+
+other_totals : (m : Machine) (part : TotalsPart) → IsSound m → IsSound (record m { totals = part })
+other_totals m part s = record { kinds = s.kinds; places = s.places; covers = s.covers }
+
+totals_beside : (m : Machine) (part : TotalsPart) → Rest m.totals part → Beside m (record m { totals = part })
+totals_beside m part rest = record { sound = other_totals m part; rest = rest }
+
+control_beside : (m : Machine) (n : ℕ) (c : Control) → (IsSound m → HasItsDevice m.devices c) → Beside m (with_control m n c)
+control_beside m n c seat = record { sound = λ s. with_control_sound m n c (seat s) s; rest = same_rest m.totals }
+
+claims_beside : (m : Machine) (claims : List (Option ℕ)) → length claims ≡ length m.claims → Beside m (record m { claims = claims })
+claims_beside m claims same = search (rules, same_rest)
+
+hardware_beside : (old new : Machine) (at : Option ℕ) (Does : ℕ → Effect) → OnHardware old at Does new
+    → ((place : ℕ) (before : Hardware) (cs : List Control) (after : Hardware) → StandsAt old.devices at before → Does place old.controls before cs after
+    → Keeps old.devices before old.controls after cs) → Beside old new
+hardware_beside old new at Does o keeps = search (rules, on_hardware_sound, same_rest)
+
+-- ---- requests that are no calls
+
+made_beside : (old new : Machine) (category : Category)
+    → new ≡ record (with_totals old (with_place old.totals.totals)) { controls = old.controls ++ new_control category ∷ [] } → Beside old new
+made_beside old new category h = rw h (record {
+  sound = λ s. record { kinds = s.kinds; places = All-push (HasItsDevice old.devices) old.controls (new_control category) s.places tt; covers = s.covers };
+  rest = record { layout = refl; mode = refl; left = refl };
+})
+
+attached_beside : (old new : Machine) (name : List ℕ) (hardware : Hardware) → IsAttached old name hardware new → Beside old new
+attached_beside old new name hardware h = record { sound = attached_sound old new name hardware h; rest = rw h.machine (same_rest old.totals) }
+
+detached_beside : (old new : Machine) (name : List ℕ) (hardware : Hardware) → IsDetached old name hardware new → Beside old new
+detached_beside old new name hardware h = record { sound = detached_sound old new name hardware h; rest = rw h.machine (same_rest old.totals) }
+
+-- ---- calls
+
+released_beside : (k : Category) (m : Machine) (n : ℕ) (c : Control) → Beside m (released k m n c)
+released_beside k m n c = grind (arith, totals_beside, claims_beside, length-set)
+
+dropped_beside : (k : Category) (m : Machine) (n : ℕ) (c : Control) → Beside m (dropped k m n c)
+dropped_beside k m n c = grind (arith, totals_beside, without_rest, claims_beside, length-set)
+
+-- nor does a call of another category, or one that all have
+pub none_of_totals : (k : Category) (asked : Call) → is_totals k ≡ false → (is_common asked ≡ false → has_call k asked ≡ true) → file_call asked ≡ Nothing
+none_of_totals k asked other has = grind arith
+
+-- a call of a category's own that nothing refuses is one of its control's category
+pub own_of : (m : Machine) (n : ℕ) (c : Control) (asked : Call) → is_common asked ≡ false → first_refusal (refusals m n c asked) ≡ None
+    → has_call c.category asked ≡ true
+own_of m n c asked own none = search (rules, unless_not, none_applies, own_call)
+
+module _ (m m' : Machine) (n : ℕ) (c : Control) (r : Answer) (at : slice_get m.controls n ≡ Some c) where
+  -- what leaves the files alone
+  unasked : Beside m m' → StepLeaves [] m (Answered r) m'
+  unasked b = beside_leaves [] m m' (Answered r) (λ some. absurd (some refl)) b
+
+  set_leaves : (p : Property) (v : Value) → takes (kind_of m c) p v ≡ true → Does m n c (Set p v) r m' → StepLeaves [] m (Answered r) m'
+  set_leaves p v may = by (recovers m.totals c p v) refl
+    where
+      now : Control
+      now = after_set (signs_at m c) c p v
+
+      there : Beside m (with_control m n now)
+      there = control_beside m n now (λ s. set_seat m.devices (signs_at m c) c p v may (seated m n c s at))
+
+      by : (b : Bool) → recovers m.totals c p v ≡ b → MatchBool b (SetsByRecovery m n c p v r m') (Sets m n c p v r m') → StepLeaves [] m (Answered r) m'
+      by false plain h = unasked (rw h.1 there)
+      by true off (inl h) = record {
+        sound = λ s. subst IsSound (sym h.2) (other_totals (with_control m n now) m'.totals (there.sound s));
+        told = λ is. found_told m.totals m'.totals (Answered r)
+            (recovers_off m.totals.totals.mode (and_parts (asks_recovery c p v) (not (is_ready m.totals.totals.mode)) off).1) h.1;
+      }
+      by true off (inr h) = unasked (subst (Beside m) (sym h.1) (totals_beside m m'.totals (unrecovered m.totals m'.totals r h.0)))
+
+  own_leaves : (k : Category) (own : Call) → (IsSound m → (before : Hardware) → StandsAt m.devices c.device before → serves k (kind_of m c) ≡ true)
+      → NoneApplies (category_rows k m n c own) → has_call k own ≡ true → CategoryDoes k m n c own r m'
+      → StepLeaves (changes_asked m.totals.totals n (file_call own)) m (Answered r) m'
+  own_leaves HardTotals own served allowed has h = record {
+    sound = λ s. subst IsSound (sym h.1) (other_totals m m'.totals s);
+    told = λ is. files_told (file_call own) m.totals m'.totals n r is h.0;
+  }
+  own_leaves k own served allowed has h =
+      beside_leaves _ m m' (Answered r)
+      (λ some. absurd (some (ap (changes_asked m.totals.totals n) (none_of_totals k own refl (λ common. has)))))
+      (record {
+        sound = λ s. on_hardware_sound m m' c.device _
+            (λ place before new after stands. device_keeps k m own r n place c before new after at (served s before stands) allowed stands) h s;
+        rest = rw h.machine (same_rest m.totals);
+      })
+
+  -- what a call leaves that nothing refuses
+  does_leaves : (q : Call) → NoneApplies (refusals m n c q) → (is_common q ≡ false → has_call c.category q ≡ true) → Does m n c q r m'
+      → StepLeaves (changes_asked m.totals.totals n (file_call q)) m (Answered r) m'
+  does_leaves (Open name) none has h =
+      unasked (rw h.1 (control_beside m n _ (λ s. found_seat m.devices c.category (place_of m.devices name) s.kinds)))
+  does_leaves Close none has h =
+      unasked (rw h.1 (beside_then m _ _ (control_beside m n (closed c) (λ s. tt)) (dropped_beside c.category (with_control m n (closed c)) n c)))
+  does_leaves (Claim timeout) none has h = search (rules, unasked, totals_beside, claims_beside, length-set)
+  does_leaves Release none has h =
+      let after = after_release c.category c in
+      unasked (rw h.1 (beside_then m _ _ (control_beside m n after (λ s. released_seat m.devices c.category c (seated m n c s at)))
+      (released_beside c.category (with_control m n after) n c)))
+  does_leaves (Set p v) none has h = search (rules, set_leaves, unless_not)
+  does_leaves (Get p) none has h = unasked (same_beside m m' h.1)
+  does_leaves own none has h =
+      let served = λ (s : IsSound m) (before : Hardware) (stands : StandsAt m.devices c.device before).
+      served_by m.devices c.category c.cursor.place c.device before stands.kind (seated m n c s at) in
+      own_leaves c.category own served none.1.1.1.1.1 (has refl) h
+
+-- ---- steps
+
+-- each step leaves a sound machine, and the files as its event says
+step_leaves : (old new : Machine) (r : Response) (q : Request) → Step old q r new → StepLeaves (changes_of old q) old r new
+step_leaves old new (Answered result) (CallOf n asked) h =
+    search (rules, match_cases, beside_leaves, same_beside, decided_cases, does_leaves, none_applies, own_of)
+step_leaves old new OutOfMemory (CallOf n asked) h = search (rules, matched, beside_leaves, same_beside)
+step_leaves old new r (CallOf n asked) h = absurd h
+step_leaves old new (Worked result) (WorkOn name) h = beside_leaves [] old new (Worked result) (λ some. absurd (some refl))
+    (hardware_beside old new _ _ h (λ place before cs after stands does. works_keep old.devices _ place (Ok result) old.controls before cs after does))
+step_leaves old new (Delivered event) (Deliver n reply) h = beside_leaves [] old new (Delivered event) (λ some. absurd (some refl))
+    (elim (match_cases (slice_get old.controls n) _ _ h) [
+      | inl x ↦ same_beside old new x.1.1
+      | inr x ↦ rw x.2.1 (control_beside old n (delivered reply x.0) (λ s. seated old n x.0 s x.1))
+    ])
+step_leaves old new r q h =
+    search (rules, beside_leaves, same_beside, made_beside, attached_beside, detached_beside, hardware_beside, takes_keeps)
+
+pub step_sound : (old new : Machine) (q : Request) (r : Response) → Step old q r new → IsSound old → IsSound new
+step_sound old new q r step = (step_leaves old new r q step).sound
+
+-- where a history fits, it goes on fitting
+pub step_fits : (history : History) (old : Machine) (q : Request) (r : Response) (new : Machine) → Fits history old.totals → Step old q r new
+    → Fits (history_with history old q r new) new.totals
+step_fits history old q r new fits step = search (rules, step_leaves, fits_next)

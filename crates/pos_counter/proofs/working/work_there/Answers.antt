@@ -1,6 +1,0 @@
-use Rattle.pos_counter.proofs.Common.{rules}
-use Rattle.pos_counter.proofs.DeviceLists.{done_there}
-use Rattle.pos_counter.proofs.working.work_there.Goals as goal
-
-pub returns-clause-done : goal.returns-clause-done
-returns-clause-done g c = search (rules, done_there, c.serving-peripheral.ensures.devices)

@@ -1,7 +1,0 @@
-use Rattle.pos_image.proofs.memory.new_disk.Goals as goal
-
-pub returns-in-Ok : goal.returns-in-Ok
-returns-in-Ok c = record {
-  at_rest = c.in-Ok.ensures.at_rest tt;
-  image = c.in-Ok.ensures.image tt;
-}

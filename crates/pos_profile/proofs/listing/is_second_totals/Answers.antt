@@ -1,6 +1,0 @@
-use Rattle.pos_profile.proofs.Common.{arith}
-use Rattle.pos_profile.proofs.ListLemmas.{any_mapped}
-use Rattle.pos_profile.proofs.listing.is_second_totals.Goals as goal
-
-pub returns-then-is_totals : goal.returns-then-is_totals
-returns-then-is_totals c = grind (arith, any_mapped)

@@ -1,6 +1,0 @@
-use Rattle.pos_script.specs.Lines.{pieces}
-use Rattle.pos_script.proofs.LineLemmas.{two_parts}
-use Rattle.pos_script.proofs.laws.lines_fall_in_two.Goals as goal
-
-pub returns : goal.returns
-returns c bytes = two_parts (pieces 10 bytes)

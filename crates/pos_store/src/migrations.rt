@@ -1,0 +1,55 @@
+//! The move of the files to layout 2, from one whole store to the next.
+ghost use Rattle.pos_store.specs.Migrations.{Migrates};
+ghost use Rattle.pos_store.specs.StoreViews.{HasItsFiles, view_of};
+
+use crate::disk_or_log::{DiskOrLog, turn_off};
+use crate::fault::StoreFault;
+use crate::recoveries::limits_of;
+use pos_dir::encode;
+use pos_dir::laws::wider_directory;
+use pos_disk::Disk;
+use pos_image::{ImageFault, Layout};
+use std::alloc::Global;
+
+/// Moves the files of a disk of layout 1 to layout 2: the first image of layout 2 has them.
+///
+/// # Errors
+///
+/// - `Off` if the store is off.
+/// - `AlreadyLayout2` if the disk has layout 2.
+/// - `NoMemory` if memory ran out.
+/// - `Device` if the disk failed. The store is off then.
+pub(crate) fn migrate_files<D: Disk>(
+    disk_or_log: DiskOrLog<D>,
+    alloc: Global,
+) -> (DiskOrLog<D>, Result<(), StoreFault>)
+    requires sound { HasItsFiles D.Disk disk_or_log }
+    ensures sound { HasItsFiles D.Disk result.0 }
+    ensures migrates { Migrates D.Disk (view_of disk_or_log) result.1 (view_of result.0) }
+{
+    let (mut log, mut directory) = match disk_or_log {
+        DiskOrLog::Off(disk, layout) => return (DiskOrLog::Off(disk, layout), Err(StoreFault::Off)),
+        DiskOrLog::Ready(log, directory) => (log, directory),
+    };
+    if log.layout() == Layout::Layout2 {
+        return (
+            DiskOrLog::Ready(log, directory),
+            Err(StoreFault::AlreadyLayout2),
+        );
+    }
+    let Ok(body) = encode(alloc, &directory) else {
+        return (DiskOrLog::Ready(log, directory), Err(StoreFault::NoMemory));
+    };
+    wider_directory();
+    match log.migrate(body) {
+        Ok(()) => {
+            directory.widen(limits_of(Layout::Layout2));
+            (DiskOrLog::Ready(log, directory), Ok(()))
+        }
+        Err(fault) => match fault {
+            ImageFault::Device => (turn_off(log), Err(StoreFault::Device)),
+            ImageFault::NoMemory => (DiskOrLog::Ready(log, directory), Err(StoreFault::NoMemory)),
+            _ => unreachable!(),
+        },
+    }
+}

@@ -1,6 +1,0 @@
-use Rattle.pos_totals.proofs.Common.{files_in, group_of, take, ◌≡◌}
-use Rattle.pos_totals.proofs.committing.group_changes.Given as goal
-
--- the changes so far
-abbrev pub invariant-loop-change : goal.invariant-loop-change
-invariant-loop-change l = l.group ≡ group_of (files_in l.files) (take l.change-index l.changes)
