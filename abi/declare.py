@@ -100,7 +100,7 @@ def numbers(path, name):
 
 def extended():
     source = (TOP / "crates/pos_service/src/code.rt").read_text()
-    found = re.findall(r"pub const (E[A-Z]+_[A-Z_]+): u32 = (\d+);", source)
+    found = re.findall(r"pub(?:\(crate\))? const (E[A-Z]+_[A-Z_]+): u32 = (\d+);", source)
     return {word: int(number) for word, number in found}
 
 
@@ -142,13 +142,13 @@ def version(source):
 
 def disk_length():
     source = (LIBRARY / "disk.rt").read_text()
-    return int(re.search(r"pub const SIZE: usize = ([0-9_]+);", source)[1])
+    return int(re.search(r"pub(?:\(crate\))? const SIZE: usize = ([0-9_]+);", source)[1])
 
 
 def codes():
     """The library's codes, each with what it means."""
     source = (LIBRARY / "codes.rt").read_text()
-    for found in re.finditer(r"^pub const ([A-Z_]+): u32 = (\d+);", source, re.M):
+    for found in re.finditer(r"^pub(?:\(crate\))? const ([A-Z_]+): u32 = (\d+);", source, re.M):
         yield f"KIJOLVAR_{found[1]}", int(found[2]), doc_before(source, found.start())
 
 
