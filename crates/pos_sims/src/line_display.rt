@@ -11,8 +11,8 @@ use crate::window::Window;
 use pos_drive::Preview;
 use pos_service::display_text::Place;
 use pos_service::{
-    DisplayCells, Form, Input, Kind, NoMemory, Order, PaperLevel, Peripheral, Plant, Reply, Signs, Snapshot,
-    Taken,
+    DisplayCells, Form, Input, Kind, NoMemory, Order, PaperLevel, Peripheral, Plant, Reply, Signs,
+    Snapshot, Taken,
 };
 use std::alloc::Global;
 
