@@ -9,7 +9,7 @@ use Rattle.pos_drive.specs.declared.courses.Course.{Course}
 use Rattle.pos_escpos.specs.declared.printer_commands.NowStatus.TheVariants as now_status
 use Rattle.pos_escpos.specs.declared.printer_commands.OrderStatus.TheVariants as order_status
 use Rattle.pos_escpos.specs.declared.statuses.PrinterReply.{PrinterReply}
-use Rattle.pos_wire.specs.Orders.{SendsOrder}
+use Rattle.pos_wire.specs.Orders.{HasNoBytes, SendsOrder}
 use Rattle.pos_wire.specs.ReplyReads.{Reads, reader_of}
 use Rattle.pos_wire.specs.ReplyText.{has_replies, reply_lines}
 use Rattle.pos_wire.specs.Settings.{settings_fit}
@@ -69,15 +69,15 @@ pub record TellsBytes (settings : WireSettings) (is_new : Bool) (behind : JobEnd
   pub tells : TellsWhole bytes before after needed code
 
 -- why the bytes of an order aren't told: there was no memory, the settings are out of range, or it has none
-abbrev pub IsNoBytesCode : WireSettings → PeripheralState → Order → (code : ℕ) → Type 0
-IsNoBytesCode settings state given code = (code ≡ no_memory)
+abbrev pub IsNoBytesCode : WireSettings → Bool → PeripheralState → Order → (code : ℕ) → Type 0
+IsNoBytesCode settings is_new state given code = (code ≡ no_memory)
     ⊎ ((code ≡ bad_settings) × (settings_fit state.kind settings ≡ false))
-    ⊎ (code ≡ no_order)
+    ⊎ ((code ≡ no_order) × (order_fits state.kind given ≡ true → HasNoBytes is_new state given))
 
 -- Nothing is written, for this cause.
-pub record TellsNoBytes (settings : WireSettings) (state : PeripheralState) (given : Order) (before after : List ℕ)
-    (needed_before needed code : ℕ) : Type 0 where
-  pub why : IsNoBytesCode settings state given code
+pub record TellsNoBytes (settings : WireSettings) (is_new : Bool) (state : PeripheralState) (given : Order)
+    (before after : List ℕ) (needed_before needed code : ℕ) : Type 0 where
+  pub why : IsNoBytesCode settings is_new state given code
   pub tells : TellsNothing before after needed_before needed code code
 
 -- what is told of an order of a simulated peripheral, if there is one
@@ -87,7 +87,7 @@ AnswersBytesOf None settings is_new behind before after needed_before needed cod
     TellsNothing before after needed_before needed code no_order
 AnswersBytesOf (Some (twin, given)) settings is_new behind before after needed_before needed code =
     TellsBytes settings (not (is_new == 0)) (end_numbered behind) (wrapped_state twin) given before after needed code
-    ⊎ TellsNoBytes settings (wrapped_state twin) given before after needed_before needed code
+    ⊎ TellsNoBytes settings (not (is_new == 0)) (wrapped_state twin) given before after needed_before needed code
 
 -- what is told of the bytes of the order that is pending
 abbrev pub AnswersOrderBytes : (Device → Course) → Kept → WireSettings → (is_new behind : ℕ) (before after : List ℕ)
