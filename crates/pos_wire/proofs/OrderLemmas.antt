@@ -1,5 +1,5 @@
 -- What devices do with the bytes of an order, by the machine's form.
-use Rattle.std.proofs.Common.{◌≡◌, ℕ, List, [], ◌∷◌, ◌++◌, Bool, true, false, append-nil, refl, ap, sym, ◌∙◌, subst, arith}
+use Rattle.std.proofs.Common.{◌≡◌, ℕ, List, [], ◌∷◌, ◌++◌, Bool, true, false, append-nil, refl, ap, sym, ◌∙◌, subst, arith, inl, inr}
 use Rattle.pos_service.specs.declared.kind.Kind.TheVariants as kind
 use Rattle.pos_service.specs.declared.order.Order.{Order}
 use Rattle.pos_service.specs.declared.order.Order.TheVariants as order
@@ -10,15 +10,16 @@ use Rattle.pos_service.specs.declared.plant.Plant.{Plant}
 use Rattle.pos_service.specs.Displays.{Display}
 use Rattle.pos_service.specs.Peripherals.{IsFormOf, IsPlantOf, Obeys, PeripheralState, Performs, order_fits}
 use Rattle.pos_service.specs.Receipts.{Item, Printer, printed_by}
-use Rattle.pos_sims.specs.Additions.{Adds, pieces_ordered}
+use Rattle.pos_sims.specs.Additions.{Adds, PrintsNothing, pieces_ordered}
 use Rattle.pos_escpos.specs.declared.settings.DrawerKick.{DrawerKick}
-use Rattle.pos_escpos.specs.PrinterBytes.{all_on_paper}
+use Rattle.pos_escpos.specs.DisplayBytes.{can_become}
+use Rattle.pos_escpos.specs.PrinterBytes.{all_fit, all_on_paper}
 use Rattle.pos_escpos.specs.PrinterCommands.{kick_pulse}
 use Rattle.pos_escpos.specs.Printers.{IsReady, OnPaper, Press, PrintsOnly, Pulse, press_after}
 use Rattle.pos_wire.specs.declared.frames.JobEnd.{JobEnd}
 use Rattle.pos_wire.specs.declared.settings.WireSettings.{WireSettings}
 use Rattle.pos_wire.specs.Frames.{AllDo, Does, asked_first, asked_last}
-use Rattle.pos_wire.specs.Orders.{AllShow, Sends, SendsOrder, lit}
+use Rattle.pos_wire.specs.Orders.{AllShow, HasNoBytes, Sends, SendsOrder, has_bytes, known_before, lit}
 use Rattle.pos_wire.specs.Settings.{cut_of, kick_of}
 
 -- a drawer that takes an order opens by it
@@ -106,3 +107,47 @@ display_sends settings is_new end state asked old new bytes powered is done show
   done = subst (λ (plant : Plant). Performs asked plant reply.Done (lit new)) (sym (lit_is state.plant old powered is)) done;
   sends = subst (λ (was : Form). Sends settings is_new end asked was (form.Display new) bytes) (sym is) shows;
 }
+
+-- Orders that have no bytes.
+
+-- a printer that adds nothing carries nothing out
+printer_stays : (chars near : ℕ) (plant : Plant) (asked : Order) (old : Form) → plant.form ≡ old → IsFormOf (kind.Printer chars near) old
+    → PrintsNothing plant asked → (new : Plant) → Performs asked plant reply.Done new → ⊥
+printer_stays chars near plant asked (form.Printer printed) is kind_is nothing = nothing printed is
+printer_stays chars near plant asked (form.Drawer was) is kind_is nothing = absurd kind_is
+printer_stays chars near plant asked form.Scanner is kind_is nothing = absurd kind_is
+printer_stays chars near plant asked (form.Display shown) is kind_is nothing = absurd kind_is
+
+pub adds_nothing : (chars near : ℕ) (is_new : Bool) (state : PeripheralState) (asked : Order)
+    → IsPlantOf (kind.Printer chars near) state.plant → PrintsNothing state.plant asked → HasNoBytes is_new state asked
+adds_nothing chars near is_new state asked is nothing = inl (printer_stays chars near state.plant asked state.plant.form refl is nothing)
+
+-- a printer's characters a line
+chars_are : (chars near : ℕ) (old : Form) (printer : Printer) → old ≡ form.Printer printer → IsFormOf (kind.Printer chars near) old → printer.chars ≡ chars
+chars_are chars near old printer is kind_is =
+    let there : IsFormOf (kind.Printer chars near) (form.Printer printer) = subst (λ (f : Form). IsFormOf (kind.Printer chars near) f) is kind_is in
+    there
+
+-- what a printer adds doesn't fit it
+pub adds_misfit : (chars near : ℕ) (is_new : Bool) (state : PeripheralState) (asked : Order) (roll : Printer)
+    → IsPlantOf (kind.Printer chars near) state.plant → Adds state.plant asked roll → all_fit chars roll.items ≡ false
+    → HasNoBytes is_new state asked
+adds_misfit chars near is_new state asked roll is adds misfit =
+    let printer = adds.printer in
+    let left = form.Printer (record roll { items = printer.items ++ roll.items }) in
+    let same : printer.chars ≡ chars = chars_are chars near state.plant.form printer adds.stands is in
+    let by_items : all_fit chars (printed_by printer.chars printer.buffer (pieces_ordered asked)).items ≡ false =
+    subst (λ (items : List Item). all_fit chars items ≡ false) adds.items misfit in
+    let by_chars : all_fit printer.chars (printed_by printer.chars printer.buffer (pieces_ordered asked)).items ≡ false =
+    subst (λ (k : ℕ). all_fit k (printed_by printer.chars printer.buffer (pieces_ordered asked)).items ≡ false) (sym same) by_items in
+    inr (record state.plant { form = left }, adds.done, subst (λ (old : Form). has_bytes is_new asked old left ≡ false) (sym adds.stands) by_chars)
+
+-- the cells that a display shows have no bytes
+pub display_misfit : (is_new : Bool) (state : PeripheralState) (asked : Order) (old new : Display)
+    → state.plant.powered ≡ true → state.plant.form ≡ form.Display old → Performs asked (lit old) reply.Done (lit new)
+    → can_become (known_before is_new old new) new ≡ false → HasNoBytes is_new state asked
+display_misfit is_new state asked old new powered is done misfit = inr (
+  lit new,
+  subst (λ (plant : Plant). Performs asked plant reply.Done (lit new)) (sym (lit_is state.plant old powered is)) done,
+  subst (λ (was : Form). has_bytes is_new asked was (form.Display new) ≡ false) (sym is) misfit,
+)

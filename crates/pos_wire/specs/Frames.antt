@@ -1,18 +1,9 @@
 -- What printers do with the bytes around an order, and with bytes of one.
 use Rattle.std.specs.Prelude.{◌≡◌, ℕ, Bool, true, false, List, [], ◌∷◌, ◌++◌}
-use Rattle.pos_escpos.specs.declared.bytes_fault.BytesFault.{BytesFault}
-use Rattle.pos_escpos.specs.declared.bytes_fault.BytesFault.TheVariants as bytes_fault
 use Rattle.pos_escpos.specs.PrinterCommands.{automatic_command, job_command, order_command}
 use Rattle.pos_escpos.specs.Printers.{IsReady, OnPaper, Press, Pulse, press_after}
 use Rattle.pos_wire.specs.declared.frames.JobEnd.{JobEnd}
 use Rattle.pos_wire.specs.declared.frames.JobEnd.TheVariants as job_end
-use Rattle.pos_wire.specs.declared.wire_fault.WireFault.{WireFault}
-use Rattle.pos_wire.specs.declared.wire_fault.WireFault.TheVariants as fault
-
--- what fits no device has no bytes
-abbrev pub fault_of : BytesFault → WireFault
-fault_of bytes_fault.NoMemory = fault.NoMemory
-fault_of bytes_fault.Misfit = fault.NoBytes
 
 -- the commands for a status at the start of a connection, and at the end of a job
 abbrev pub asked_first : Bool → List (List ℕ)

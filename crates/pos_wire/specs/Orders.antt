@@ -1,16 +1,16 @@
 -- What devices do with the bytes of an order.
-use Rattle.std.specs.Prelude.{◌≡◌, ℕ, Bool, true, false, List, [], ◌∷◌, ◌++◌}
+use Rattle.std.specs.Prelude.{◌≡◌, ℕ, Bool, true, false, List, [], ◌∷◌, ◌++◌, ◌⊎◌}
 use Rattle.pos_service.specs.declared.order.Order.{Order}
 use Rattle.pos_service.specs.declared.order.Reply.TheVariants as reply
 use Rattle.pos_service.specs.declared.plant.Form.{Form}
 use Rattle.pos_service.specs.declared.plant.Form.TheVariants as form
 use Rattle.pos_service.specs.declared.plant.Plant.{Plant}
-use Rattle.pos_service.specs.Displays.{Display}
+use Rattle.pos_service.specs.Displays.{Display, blank_display}
 use Rattle.pos_service.specs.Peripherals.{PeripheralState, Performs}
 use Rattle.pos_service.specs.Receipts.{printed_by}
 use Rattle.pos_sims.specs.Additions.{pieces_ordered}
-use Rattle.pos_escpos.specs.DisplayBytes.{characters_of, make_of}
-use Rattle.pos_escpos.specs.PrinterBytes.{all_on_paper}
+use Rattle.pos_escpos.specs.DisplayBytes.{can_become, characters_of, make_of}
+use Rattle.pos_escpos.specs.PrinterBytes.{all_fit, all_on_paper}
 use Rattle.pos_escpos.specs.PrinterCommands.{kick_pulse}
 use Rattle.pos_escpos.specs.Screens.{IsShowing, Screen, screen_after}
 use Rattle.pos_wire.specs.declared.frames.JobEnd.{JobEnd}
@@ -50,3 +50,22 @@ pub record SendsOrder (settings : WireSettings) (is_new : Bool) (end : JobEnd) (
   pub new : Plant
   pub done : Performs asked state.plant reply.Done new
   pub sends : Sends settings is_new end asked state.plant.form new.form bytes
+
+-- what a display is known to show before the bytes: blanks where the connection is new
+abbrev pub known_before : Bool → Display → Display → Display
+known_before true old new = blank_display new.rows new.columns
+known_before false old new = old
+
+-- what an order leaves has bytes: a printer's new lines fit it, and a display's cells are characters
+abbrev pub has_bytes : Bool → Order → Form → Form → Bool
+has_bytes is_new asked (form.Printer old) (form.Printer new) =
+    all_fit old.chars (printed_by old.chars old.buffer (pieces_ordered asked)).items
+has_bytes is_new asked (form.Display old) (form.Display new) = can_become (known_before is_new old new) new
+has_bytes is_new asked old new = true
+
+-- The machine doesn't carry the order out, or what it leaves has no bytes.
+abbrev pub HasNoBytes : Bool → PeripheralState → Order → Type 0
+HasNoBytes is_new state asked =
+    ((new : Plant) → Performs asked state.plant reply.Done new → ⊥)
+    ⊎ ((new : Plant) × Performs asked state.plant reply.Done new
+    × (has_bytes is_new asked state.plant.form new.form ≡ false))

@@ -1,20 +1,22 @@
 //! The bytes of an order for the device that carries it out.
-ghost use Rattle.std.specs.Prelude.{◌≡◌, ◌≤◌, true, false, IfOk, OnOk, IsErrOf};
+ghost use Rattle.std.specs.Prelude.{◌≡◌, ◌≤◌, ℕ, [], true, false, IfOk, OnOk, IsErrOf};
 ghost use Rattle.pos_service.specs.declared.kind.Kind.TheVariants as kind;
 ghost use Rattle.pos_service.specs.Kinds.{is_display};
 ghost use Rattle.pos_service.specs.Peripherals.{IsPlantOf, order_fits};
+ghost use Rattle.pos_escpos.specs.PrinterBytes.{all_fit, all_on_paper};
 ghost use Rattle.pos_wire.specs.declared.frames.JobEnd.{JobEnd};
 ghost use Rattle.pos_wire.specs.declared.wire_fault.WireFault.TheVariants as fault;
-ghost use Rattle.pos_wire.specs.Orders.{SendsOrder};
-ghost use Rattle.pos_wire.specs.Settings.{drawer_fits, settings_fit};
+ghost use Rattle.pos_wire.specs.Frames.{AllDo};
+ghost use Rattle.pos_wire.specs.Orders.{HasNoBytes, SendsOrder};
+ghost use Rattle.pos_wire.specs.Settings.{cut_of, drawer_fits, settings_fit};
 
 use crate::frames::{JobEnd, framed};
 use crate::rows::{row_bytes, shown_after};
 use crate::settings::WireSettings;
 use crate::wire_fault::WireFault;
-use pos_escpos::receipt_bytes;
+use pos_escpos::{BytesFault, receipt_bytes};
 use pos_service::{Form, Kind, Order, Snapshot};
-use pos_sims::PrintPreview;
+use pos_sims::{PrintPreview, Roll};
 use std::alloc::Global;
 
 /// Returns the bytes that open a drawer.
@@ -31,6 +33,7 @@ fn drawer_bytes<P: PrintPreview>(
     requires settings { drawer_fits settings.now ≡ true }
     ensures sends { let state = P.Peripheral.state twin.now in
         IfOk result (λ bytes. SendsOrder settings.now is_new end state order.now bytes.items) }
+    ensures no_bytes { IsErrOf result fault.NoBytes → HasNoBytes is_new (P.Peripheral.state twin.now) order.now }
     ensures settings { IsErrOf result fault.BadSettings → ⊥ }
 {
     let Snapshot(plant) = twin.snapshot()?;
@@ -39,6 +42,29 @@ fn drawer_bytes<P: PrintPreview>(
     }
     let pulse = settings.kick().bytes();
     Ok(framed(alloc, is_new, &pulse, end)?)
+}
+
+/// Returns the bytes of what is printed on a roll, for a device of so many characters a line.
+fn roll_bytes(
+    alloc: Global,
+    settings: &WireSettings,
+    chars: u32,
+    roll: &Roll,
+) -> Result<Vec<u8>, WireFault>
+    requires width { chars ≤ settings.now.width }
+    requires feed { settings.now.feed ≤ 255 }
+    ensures prints { let settings = settings.now in IfOk result (λ bytes.
+        AllDo false settings.width (all_on_paper (cut_of settings) roll.now.items) [] [] bytes.items) }
+    ensures no_bytes { IsErrOf result fault.NoBytes → all_fit chars roll.now.items ≡ false }
+    ensures settings { IsErrOf result fault.BadSettings → ⊥ }
+{
+    let (line, cut) = (settings.line(chars), settings.cut());
+    let (marks, characters) = roll.printed();
+    match receipt_bytes(alloc, line, cut, marks, characters) {
+        Ok(sent) => Ok(sent),
+        Err(BytesFault::Misfit) => Err(WireFault::NoBytes),
+        Err(BytesFault::NoMemory) => Err(WireFault::NoMemory),
+    }
 }
 
 /// Returns the bytes of what an order adds to a printer's receipt.
@@ -51,19 +77,23 @@ fn printer_bytes<P: PrintPreview>(
     twin: &P,
     order: &Order,
 ) -> Result<Vec<u8>, WireFault>
+    requires plant { (near : ℕ) → IsPlantOf (kind.Printer chars near) (P.Peripheral.state twin.now).plant }
+    requires fits { order_fits (P.Peripheral.state twin.now).kind order.now ≡ true }
     requires width { chars ≤ settings.now.width }
     requires feed { settings.now.feed ≤ 255 }
     ensures sends { let state = P.Peripheral.state twin.now in
         IfOk result (λ bytes. SendsOrder settings.now is_new end state order.now bytes.items) }
+    ensures no_bytes { IsErrOf result fault.NoBytes → HasNoBytes is_new (P.Peripheral.state twin.now) order.now }
     ensures settings { IsErrOf result fault.BadSettings → ⊥ }
 {
-    let Some(added) = twin.would_add(alloc, order)? else {
-        return Err(WireFault::NoBytes);
-    };
-    let (line, cut) = (settings.line(chars), settings.cut());
-    let (marks, characters) = added.printed();
-    let sent = receipt_bytes(alloc, line, cut, marks, characters)?;
-    Ok(framed(alloc, is_new, sent.as_slice(), end)?)
+    let added = twin.would_add(alloc, order)?;
+    match added {
+        None => Err(WireFault::NoBytes),
+        Some(roll) => match roll_bytes(alloc, settings, chars, &roll) {
+            Ok(sent) => Ok(framed(alloc, is_new, sent.as_slice(), end)?),
+            Err(fault) => Err(fault),
+        },
+    }
 }
 
 /// Returns the bytes of the rows that an order changes on a display.
@@ -78,6 +108,7 @@ fn display_bytes<P: PrintPreview>(
     requires fits { order_fits (P.Peripheral.state twin.now).kind order.now ≡ true }
     ensures sends { let state = P.Peripheral.state twin.now in
         IfOk result (λ bytes. (end : JobEnd) → SendsOrder settings.now is_new end state order.now bytes.items) }
+    ensures no_bytes { IsErrOf result fault.NoBytes → HasNoBytes is_new (P.Peripheral.state twin.now) order.now }
     ensures settings { IsErrOf result fault.BadSettings → ⊥ }
 {
     let _kind = twin.kind();
@@ -111,6 +142,8 @@ pub fn order_bytes<P: PrintPreview>(
     // The machine carries the order out, and the device does the same with the bytes.
     ensures sends { let state = P.Peripheral.state twin.now in
         IfOk result (λ bytes. SendsOrder settings.now is_new end state order.now bytes.items) }
+    ensures no_bytes { let state = P.Peripheral.state twin.now in
+        IsErrOf result fault.NoBytes → order_fits state.kind order.now ≡ true → HasNoBytes is_new state order.now }
     ensures bad_settings { IsErrOf result fault.BadSettings →
         settings_fit (P.Peripheral.state twin.now).kind settings.now ≡ false }
     ensures good_settings { OnOk result (settings_fit (P.Peripheral.state twin.now).kind settings.now ≡ true) }

@@ -1,7 +1,6 @@
 //! Why there are no bytes or no text for a device.
 ghost use Rattle.std.specs.Prelude.{◌≡◌};
 
-use pos_escpos::BytesFault;
 use pos_service::NoMemory;
 use std::alloc::AllocError;
 use thiserror::Error;
@@ -37,18 +36,5 @@ impl From<NoMemory> for WireFault {
 
     fn from(_: NoMemory) -> Self {
         WireFault::NoMemory
-    }
-}
-
-impl From<BytesFault> for WireFault {
-    ghost use Rattle.pos_wire.specs.Frames.{fault_of};
-
-    ghost from_gives = { λ given fault. fault ≡ fault_of given };
-
-    fn from(given: BytesFault) -> Self {
-        match given {
-            BytesFault::NoMemory => WireFault::NoMemory,
-            BytesFault::Misfit => WireFault::NoBytes,
-        }
     }
 }

@@ -1,29 +1,32 @@
-use Rattle.std.proofs.Common.{◌≡◌, ℕ, List, [], false, rules, arith, ap, subst, sym, ◌∙◌}
-use Rattle.pos_escpos.specs.declared.settings.CutSettings.{CutSettings}
+use Rattle.std.proofs.Common.{◌≡◌, ℕ, List, [], false, rules, arith, subst, sym, None, Ok}
 use Rattle.pos_escpos.specs.PrinterBytes.{all_on_paper}
-use Rattle.pos_service.specs.Receipts.{Item, items_from}
+use Rattle.pos_sims.specs.Additions.{Adds}
 use Rattle.pos_wire.specs.Frames.{AllDo}
 use Rattle.pos_wire.specs.Settings.{cut_of}
-use Rattle.pos_wire.proofs.OrderLemmas.{printer_sends, prints_alone}
+use Rattle.pos_wire.proofs.OrderLemmas.{adds_misfit, adds_nothing, printer_sends}
 use Rattle.pos_wire.proofs.orders.printer_bytes.Goals as goal
 
-pub returns-clause-sends : goal.returns-clause-sends
-returns-clause-sends g c =
+pub returns-in-None-clause-no_bytes : goal.returns-in-None-clause-no_bytes
+returns-in-None-clause-no_bytes g c = λ is.
+    let state = g.P.Peripheral.state c.args.twin.now in
+    let none : c.would_add.result ≡ Ok None = search rules in
+    adds_nothing c.args.chars 0 c.args.is_new state c.args.order.now (c.requires.plant 0) (c.would_add.ensures.nothing c.requires.fits none)
+
+pub returns-in-Ok-clause-sends : goal.returns-in-Ok-clause-sends
+returns-in-Ok-clause-sends g c =
     let state = g.P.Peripheral.state c.args.twin.now in
     let settings = c.args.settings.now in
-    let roll = c.in-Some.added in
+    let roll = c.in-Some.roll in
     let cut = cut_of settings in
-    let made = items_from c.printed.result.0.now c.printed.result.1.now in
-    let sent = c.in_ok-sent.sent.items in
-    let raw : AllDo false c.line-line.result.width (all_on_paper c.cut-cut.result made) [] [] sent =
-    prints_alone c.line-line.result.width (all_on_paper c.cut-cut.result made) sent c.in_ok-sent.ensures.prints in
-    let by_cut : AllDo false c.line-line.result.width (all_on_paper cut made) [] [] sent =
-    subst (λ (is : CutSettings). AllDo false c.line-line.result.width (all_on_paper is made) [] [] sent) c.cut-cut.ensures raw in
-    let by_width : AllDo false settings.width (all_on_paper cut made) [] [] sent =
-    subst (λ (width : ℕ). AllDo false width (all_on_paper cut made) [] [] sent) c.line-line.ensures.0 by_cut in
-    let alone : AllDo false settings.width (all_on_paper cut roll.items) [] [] sent =
-    subst (λ (items : List Item). AllDo false settings.width (all_on_paper cut items) [] [] sent) c.printed.ensures.items by_width in
+    let adds : Adds state.plant c.args.order.now roll = search rules in
     let given : AllDo false settings.width (all_on_paper cut roll.items) [] [] c.as_slice.result.now =
-    subst (λ (bytes : List ℕ). AllDo false settings.width (all_on_paper cut roll.items) [] [] bytes) (sym c.as_slice.ensures.value) alone in
-    printer_sends settings c.args.is_new c.args.end state c.args.order.now roll _ (search rules)
-    (c.in_ok-framed.ensures settings.width (all_on_paper cut roll.items) [] given)
+    subst (λ (bytes : List ℕ). AllDo false settings.width (all_on_paper cut roll.items) [] [] bytes) (sym c.as_slice.ensures.value)
+    c.in-Ok.ensures.prints in
+    printer_sends settings c.args.is_new c.args.end state c.args.order.now roll _ adds
+    (c.in_ok-framed-in-Ok.ensures settings.width (all_on_paper cut roll.items) [] given)
+
+pub returns-clause-no_bytes : goal.returns-clause-no_bytes
+returns-clause-no_bytes g c = λ is.
+    let state = g.P.Peripheral.state c.args.twin.now in
+    let adds : Adds state.plant c.args.order.now c.in-Some.roll = search rules in
+    adds_misfit c.args.chars 0 c.args.is_new state c.args.order.now c.in-Some.roll (c.requires.plant 0) adds (c.in-Err.ensures.no_bytes is)
