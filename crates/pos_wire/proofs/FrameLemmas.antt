@@ -1,10 +1,10 @@
 -- How bytes around an order add up.
-use Rattle.std.proofs.Common.{◌≡◌, ℕ, List, [], ◌++◌, Bool, true, false, append_assoc, refl, ap, sym, ◌∙◌, subst}
+use Rattle.std.proofs.Common.{◌≡◌, ℕ, List, [], ◌++◌, Bool, false, append_assoc, refl, ap, sym, ◌∙◌, subst}
 use Rattle.std.proofs.lemmas.List.{append-nil}
 use Rattle.std.proofs.lemmas.List.Sums.{fold-append}
 use Rattle.std.specs.Prelude.{◌∷◌}
 use Rattle.pos_escpos.specs.Printers.{IsReady, OnPaper, Press, Pulse, press_after, questioned, takes}
-use Rattle.pos_wire.specs.Frames.{AllDo, Does, IsOpen, asked_first, asked_last}
+use Rattle.pos_wire.specs.Frames.{AllDo, Does}
 
 -- a printer to which nothing is sent
 pub idles : (press : Press) → IsReady press → Does [] [] [] press press

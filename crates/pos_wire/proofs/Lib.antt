@@ -1,2 +1,3 @@
 mod FrameLemmas
 mod OrderLemmas
+mod ReplyLemmas

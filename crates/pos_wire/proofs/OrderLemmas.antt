@@ -1,5 +1,5 @@
 -- What devices do with the bytes of an order, by the machine's form.
-use Rattle.std.proofs.Common.{◌≡◌, ℕ, List, [], ◌∷◌, ◌++◌, Bool, true, false, append-nil, refl, ap, sym, ◌∙◌, subst, arith, inl, inr}
+use Rattle.std.proofs.Common.{◌≡◌, ℕ, List, [], ◌∷◌, ◌++◌, Bool, true, false, append-nil, refl, sym, ◌∙◌, subst, arith, inl, inr}
 use Rattle.pos_service.specs.declared.kind.Kind.TheVariants as kind
 use Rattle.pos_service.specs.declared.order.Order.{Order}
 use Rattle.pos_service.specs.declared.order.Order.TheVariants as order
@@ -15,7 +15,7 @@ use Rattle.pos_escpos.specs.declared.settings.DrawerKick.{DrawerKick}
 use Rattle.pos_escpos.specs.DisplayBytes.{can_become}
 use Rattle.pos_escpos.specs.PrinterBytes.{all_fit, all_on_paper}
 use Rattle.pos_escpos.specs.PrinterCommands.{kick_pulse}
-use Rattle.pos_escpos.specs.Printers.{IsReady, OnPaper, Press, PrintsOnly, Pulse, press_after}
+use Rattle.pos_escpos.specs.Printers.{IsReady, OnPaper, Press, PrintsOnly, press_after}
 use Rattle.pos_wire.specs.declared.frames.JobEnd.{JobEnd}
 use Rattle.pos_wire.specs.declared.settings.WireSettings.{WireSettings}
 use Rattle.pos_wire.specs.Frames.{AllDo, Does, asked_first, asked_last}

@@ -1,8 +1,10 @@
 //! What a host has to say of a device's hardware.
-ghost use Rattle.std.specs.Prelude.{◌≡◌, ◌≤◌, true};
+ghost use Rattle.std.specs.Prelude.{◌≡◌, ◌≤◌, ◌<◌, ◌==◌, true};
 ghost use Rattle.pos_wire.specs.Settings.{cut_of, drawer_fits, kick_of, printer_fits, protocol_of, settings_fit};
 
-use pos_escpos::{CutSettings, Cutter, DisplayProtocol, DrawerKick, DrawerPin, LineSettings};
+use pos_escpos::{
+    CutSettings, Cutter, DisplayProtocol, DrawerKick, DrawerPin, LineSettings, SensorSettings,
+};
 use pos_service::Kind;
 
 /// What a host has to say of a device's hardware, as numbers. Only those of the device's kind count.
@@ -110,6 +112,20 @@ impl WireSettings {
             pin,
             on: self.on as u8,
             off: self.off as u8,
+        }
+    }
+
+    /// Returns what a device's sensors mean, if its paper is near its end at so many lines, and a good roll has so many.
+    pub(crate) fn sensors(&self, near: u32, lines: u32) -> SensorSettings
+        requires more { near < lines }
+        requires most { lines ≤ 100000 }
+        ensures pin { result.is_open_high ≡ (self.now.open_is_high == 1) }
+        ensures near { result.near ≡ near }
+        ensures lines { result.lines ≡ lines }
+    {
+        match SensorSettings::new(self.open_is_high == 1, near, lines) {
+            Some(sensors) => sensors,
+            None => unreachable!(),
         }
     }
 

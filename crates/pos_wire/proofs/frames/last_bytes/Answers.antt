@@ -1,6 +1,5 @@
-use Rattle.std.proofs.Common.{◌≡◌, ℕ, List, [], ◌∷◌, false, ap, subst, sym, ◌∙◌, rules}
+use Rattle.std.proofs.Common.{◌≡◌, ℕ, List, [], ◌∷◌, false, ap, subst, sym, ◌∙◌}
 use Rattle.std.proofs.lemmas.Result.{IfOk-weaker}
-use Rattle.pos_escpos.specs.PrinterCommands.{job_command}
 use Rattle.pos_wire.specs.Frames.{AllDo, asked_last}
 use Rattle.pos_wire.proofs.FrameLemmas.{asks}
 use Rattle.pos_wire.proofs.frames.last_bytes.Goals as goal

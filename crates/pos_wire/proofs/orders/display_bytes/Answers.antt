@@ -1,9 +1,9 @@
-use Rattle.std.proofs.Common.{◌≡◌, true, rules, arith}
+use Rattle.std.proofs.Common.{◌≡◌, true, rules}
 use Rattle.std.proofs.lemmas.Result.{IfOk-weaker}
 use Rattle.pos_service.specs.declared.order.Reply.TheVariants as reply
 use Rattle.pos_service.specs.declared.plant.Form.TheVariants as form
 use Rattle.pos_service.specs.Peripherals.{Performs}
-use Rattle.pos_wire.specs.Orders.{AllShow, lit}
+use Rattle.pos_wire.specs.Orders.{lit}
 use Rattle.pos_wire.proofs.OrderLemmas.{display_misfit, display_sends}
 use Rattle.pos_wire.proofs.orders.display_bytes.Goals as goal
 

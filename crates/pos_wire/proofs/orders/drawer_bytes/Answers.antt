@@ -1,7 +1,7 @@
-use Rattle.std.proofs.Common.{◌≡◌, ◌∷◌, ◌++◌, ℕ, List, [], false, true, rules, arith, ap, subst}
+use Rattle.std.proofs.Common.{◌≡◌, ◌∷◌, ℕ, [], false, true, rules, subst}
 use Rattle.pos_escpos.specs.declared.settings.DrawerKick.{DrawerKick}
 use Rattle.pos_escpos.specs.PrinterCommands.{kick_pulse}
-use Rattle.pos_wire.specs.Frames.{AllDo, asked_first, asked_last}
+use Rattle.pos_wire.specs.Frames.{AllDo}
 use Rattle.pos_wire.specs.Settings.{kick_of}
 use Rattle.pos_wire.proofs.OrderLemmas.{drawer_sends, kicks_alone}
 use Rattle.pos_wire.proofs.orders.drawer_bytes.Goals as goal

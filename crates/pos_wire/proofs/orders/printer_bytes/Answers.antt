@@ -1,4 +1,4 @@
-use Rattle.std.proofs.Common.{◌≡◌, ℕ, List, [], false, rules, arith, subst, sym, None, Ok}
+use Rattle.std.proofs.Common.{◌≡◌, ℕ, List, [], false, rules, subst, sym, None, Ok}
 use Rattle.pos_escpos.specs.PrinterBytes.{all_on_paper}
 use Rattle.pos_sims.specs.Additions.{Adds}
 use Rattle.pos_wire.specs.Frames.{AllDo}

@@ -1,4 +1,4 @@
-use Rattle.std.proofs.Common.{◌≡◌, ℕ, List, [], false, rules, arith, subst}
+use Rattle.std.proofs.Common.{ℕ, List, [], false, subst}
 use Rattle.pos_escpos.specs.declared.settings.CutSettings.{CutSettings}
 use Rattle.pos_escpos.specs.PrinterBytes.{all_on_paper}
 use Rattle.pos_service.specs.Receipts.{Item, items_from}
