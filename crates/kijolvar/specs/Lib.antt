@@ -17,3 +17,4 @@ pub mod Questions
 pub mod Mistakes
 pub mod Surveys
 pub mod DeviceTexts
+pub mod WireCalls
