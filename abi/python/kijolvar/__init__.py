@@ -25,7 +25,7 @@ from ._devices import (Device, DisplayView, DrawerView, Order, PrintedCut, Print
 from ._events import DataEvent, ErrorEvent, Event, OutputCompleteEvent, StatusUpdateEvent
 from ._files import open_totals
 from ._library import find as load
-from .drivers import Driver, Scan, WedgeScanner
+from .drivers import Driver, EscPosDrawer, EscPosPrinter, Scan, SerialDisplay, WedgeScanner
 from ._questions import ProfileDevice, TotalsContents, check, devices, files, migrate
 from .errors import *
 from .ports import FilePort, Port, PortError, SerialPort, TcpPort, port_of
@@ -36,9 +36,9 @@ __version__ = "0.1.0"
 
 __all__ = [
     "CashDrawer", "Claim", "Control", "DataEvent", "Device", "DisplayView", "DrawerView", "Driver", "ErrorEvent",
-    "Event", "FileClaim", "FilePort", "HardTotals", "LineDisplay", "Order",
+    "EscPosDrawer", "EscPosPrinter", "Event", "FileClaim", "FilePort", "HardTotals", "LineDisplay", "Order",
     "OutputCompleteEvent", "POSPrinter", "Port", "PortError", "PrintedCut", "PrintedLine", "Printer", "PrinterView",
-    "ProfileDevice", "Scan", "Scanner", "ScannerView", "SerialPort", "StandardControl",
+    "ProfileDevice", "Scan", "Scanner", "ScannerView", "SerialDisplay", "SerialPort", "StandardControl",
     "StatusUpdateEvent", "TcpPort", "Till", "Totals", "TotalsContents", "TotalsFile", "WedgeScanner", "WorkDone",
     "WorkFailed", "check", "create_totals", "devices", "files", "load", "migrate", "open", "open_totals", "port_of",
 ]

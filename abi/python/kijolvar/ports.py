@@ -271,15 +271,17 @@ def _raw(file: int) -> list[Any]:
 
 
 def port_of(name: Union[Port, Path]) -> Port:
-    """Returns the port of a name: `tcp://HOST` or `tcp://HOST:PORT`, or the path of a device file.
+    """Returns the port of a name: `tcp:HOST` or `tcp:HOST:PORT`, also with `//` before HOST, or the path of a device
+    file.
 
-    A path of /dev/tty.. or /dev/serial/.. is a serial line of 9,600 bits per second with RTS/CTS. For other settings
-    use SerialPort.
+    A path of /dev/tty.. or /dev/serial/.., or a link to one, is a serial line of 9,600 bits per second with RTS/CTS.
+    For other settings use SerialPort.
     """
     if isinstance(name, Port):
         return name
     text = os.fspath(name)
-    if text.startswith("tcp://"):
-        host, colon, port = text[len("tcp://"):].rpartition(":")
+    if text.startswith("tcp:"):
+        host, colon, port = text[len("tcp:"):].removeprefix("//").rpartition(":")
         return TcpPort(host, int(port)) if colon else TcpPort(port)
-    return SerialPort(text) if text.startswith(("/dev/tty", "/dev/serial/")) else FilePort(text)
+    is_serial = os.path.realpath(text).startswith("/dev/tty") or text.startswith("/dev/serial/")
+    return SerialPort(text) if is_serial else FilePort(text)
