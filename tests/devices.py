@@ -806,23 +806,27 @@ def try_random_display():
             for number in range(rounds):
                 device.after(chance.randrange(1, 50), chance.choice([device.pull_plug, device.hang, lambda: None]))
                 order = random_order(display, chance)
-                answer, left = raised(order), chance.randrange(2)
-                end = time.monotonic() + PATIENCE
-                while answer is not None or not device.is_on or device.is_hung:
-                    if left == 0:
-                        device.clear_triggers()
-                        device.plug_in()
-                        device.hang(False)
-                    left -= 1
-                    till.run_devices(0.01)
-                    answer = raised(order)
-                    if time.monotonic() > end:
-                        break
+                raised(order)
+                device.wait(lambda: device.is_idle or device.is_hung)
                 device.clear_triggers()
+                if chance.random() < 0.5:
+                    till.run_devices(0.01)
+                device.plug_in()
+                device.hang(False)
+                if not until(lambda: is_done_or_waits(till, order)):
+                    wrong.append((number, "it isn't done"))
                 wanted = till.device("p1").show().characters
                 if not device.wait(lambda: device.shows() == wanted, 1):
                     wrong.append((number, wanted, device.shows()))
         told(f"{rounds} random faults of a display over {kind}", [], wrong[:1])
+
+
+def is_done_or_waits(till, order):
+    """Whether an order is done. If not, the devices get some time."""
+    is_done = raised(order) is None
+    if not is_done:
+        till.run_devices(0.01)
+    return is_done
 
 
 def random_order(display, chance):
