@@ -1,7 +1,7 @@
 #!/usr/bin/env python3
-"""Writes what the library declares, out of the exports and codes of crates/kijolvar/src and the numbers of
-crates/pos_service: for C kijolvar.h, for Python the constants alone. typed_c.py and typed_rust.py write what is typed for
-C and Rust.
+"""Writes what the library declares, out of the exports and codes of crates/kijolvar/src, the settings of crates/pos_wire
+and the numbers of crates/pos_service: for C kijolvar.h, for Python the constants alone. typed_c.py and typed_rust.py write
+what is typed for C and Rust.
 
 Usage: abi/declare.py c > abi/kijolvar.h
        abi/declare.py python > abi/python/standard.py
@@ -13,6 +13,7 @@ import textwrap
 
 TOP = pathlib.Path(__file__).resolve().parent.parent
 LIBRARY = TOP / "crates/kijolvar/src"
+WIRE = TOP / "crates/pos_wire/src"
 TYPES = {
     "u32": "uint32_t {}",
     "Till": "kijolvar_till {}",
@@ -22,6 +23,7 @@ TYPES = {
     "usize": "size_t {}",
     "&mut usize": "size_t *{}",
     "&mut Slot": "void **{}",
+    "&WireSettings": "const kijolvar_wire_settings *{}",
 }
 RESULTS = {"u32": "uint32_t", None: "void"}
 
@@ -81,7 +83,7 @@ def defined(file, name, form):
 
 
 def doc_before(source, at):
-    lines = source[:at].rstrip("\n").split("\n")
+    lines = [line.strip() for line in source[:at].rstrip().split("\n")]
     doc = []
     while lines and (lines[-1].startswith("///") or lines[-1].startswith("#[")):
         line = lines.pop()
@@ -152,6 +154,14 @@ def codes():
         yield f"KIJOLVAR_{found[1]}", int(found[2]), doc_before(source, found.start())
 
 
+def settings():
+    """What a host says of the hardware: what the record is, and its fields, each with what it is."""
+    (source,) = [text for path in sorted(WIRE.glob("*.rt")) if "pub struct WireSettings {" in (text := path.read_text())]
+    start = source.index("pub struct WireSettings {")
+    fields = re.finditer(r"^    pub (\w+): u32,$", source[start:source.index("\n}", start)], re.M)
+    return doc_before(source, start), [(found[1], doc_before(source, start + found.start())) for found in fields]
+
+
 def constants(source):
     """All numbers, each group with what it is."""
     named = {"KIJOLVAR_VERSION": version(source), "KIJOLVAR_DISK_LENGTH": disk_length()}
@@ -161,6 +171,7 @@ def constants(source):
 
 
 def c(source):
+    about, fields = settings()
     print(f"""/* A till's devices for C: lines in, the text of their answers out. Written by abi/declare.py: don't change it by hand.
    abi/README.md says how it is used, docs/reference/console.md what the lines are. */
 #ifndef KIJOLVAR_H
@@ -185,8 +196,13 @@ typedef struct {{
     void *at;
 }} kijolvar_till;
 
+{comment(about)}
+typedef struct {{""")
+    print("\n".join(f"    {comment([' '.join(doc)])}\n    uint32_t {name};" for name, doc in fields))
+    print("""} kijolvar_wire_settings;
+
 /* What a call answers. */
-enum {{""")
+enum {""")
     print("\n".join(f"    {comment(doc)}\n    {word} = {number}," for word, number, doc in codes()))
     print("};\n")
     for what, named in groups():

@@ -22,6 +22,28 @@ typedef struct {
     void *at;
 } kijolvar_till;
 
+/* What a host has to say of a device's hardware, as numbers. Only those of the device's kind count. */
+typedef struct {
+    /* A printer: how many characters it prints on a line, at least the device's RecLineChars. */
+    uint32_t width;
+    /* A printer: its cutter cuts both ways if this is 0, full only if 1, partial only if 2; there is none if 3. */
+    uint32_t cutter;
+    /* A printer: how far it feeds the paper before a cut, 0 to 255 dots; without a cutter, lines. */
+    uint32_t feed;
+    /* A printer: how many lines a good roll has, more than the device's paper is near its end at, at most 100,000. */
+    uint32_t lines;
+    /* A drawer: the pin of the connector that opens it, 2 or 5. */
+    uint32_t pin;
+    /* A drawer: how long the pulse lasts, 0 to 255, in 2 ms. */
+    uint32_t on;
+    /* A drawer: how long the pin is off then at least, 0 to 255, in 2 ms. */
+    uint32_t off;
+    /* A drawer: 1 if pin 3 of the connector is high while it is open, 0 if low. */
+    uint32_t open_is_high;
+    /* A display: its protocol is CD5220 if this is 0, ESC/POS if 1. */
+    uint32_t protocol;
+} kijolvar_wire_settings;
+
 /* What a call answers. */
 enum {
     /* The call did what it says. */
@@ -50,7 +72,7 @@ enum {
     KIJOLVAR_SYNC = 11,
     /* An order was written. */
     KIJOLVAR_ORDER = 12,
-    /* No device of the name has orders. */
+    /* No device of the name has orders, or replies. */
     KIJOLVAR_NO_DEVICE = 13,
     /* The profile isn't UTF-8, or is no TOML document. */
     KIJOLVAR_BAD_TEXT = 14,
@@ -66,8 +88,10 @@ enum {
     KIJOLVAR_NO_CONTROL = 19,
     /* A line waits until the host has reported what became of an order. */
     KIJOLVAR_WAITS = 20,
-    /* The host has no order that it may report. */
+    /* There is no order to report, or none that has bytes. */
     KIJOLVAR_NO_ORDER = 21,
+    /* The settings of the hardware are out of their ranges. */
+    KIJOLVAR_BAD_SETTINGS = 22,
 };
 
 /* The result codes of the standard, which stand in answers. */
@@ -375,6 +399,50 @@ uint32_t kijolvar_next_order(kijolvar_till till, void **out, uint8_t *text, size
    - NO_ORDER if the host has no order of a driven device. Nothing was carried out or written. */
 uint32_t kijolvar_order_done(kijolvar_till till, void **out, uint32_t outcome, const uint8_t *inputs, size_t inputs_len,
     uint8_t *text, size_t text_len, size_t *needed);
+
+/* Writes the bytes of the pending order of a driven device to bytes, and to needed how many they are, and returns
+   OK. It is the order that waits, or that the host has. Send them to the hardware as they are (abi/README.md, "Bytes of
+   orders"). This changes nothing of the till. The till is what is written to out from then on.
+
+   - settings say what the hardware is. Only those of the device's kind count.
+   - is_new is 1 if these are the first bytes of a connection, or if a line failed before: the hardware is started
+     then, and a display gets all its rows. Otherwise it is 0.
+   - end is what is asked of a printer behind the bytes: 0 to 65,535 the acknowledgement of a job of this number, 65,536
+     its paper (GS r 1), 65,537 its drawer (GS r 2), and 65,538 or more nothing.
+
+   Errors:
+
+   - SHORT if bytes has less room. Then only needed is written.
+   - NO_ORDER if no order is pending, or the order has no bytes for hardware of its kind.
+   - BAD_SETTINGS if a setting of the device's kind is out of its range.
+   - NO_MEMORY if memory ran out.
+
+   But for SHORT nothing is written then. */
+uint32_t kijolvar_order_bytes(kijolvar_till till, void **out, const kijolvar_wire_settings *settings, uint32_t is_new,
+    uint32_t end, uint8_t *bytes, size_t bytes_len, size_t *needed);
+
+/* Reads bytes that a printer sent, up to the end of the first reply. Writes the reply's lines to text, and to needed
+   how many bytes they have, 0 if no reply ends in these bytes. Returns OK. name is the printer's device, or that of
+   the drawer on its connector. This changes nothing of the till. The till is what is written to out from then on.
+
+   - asked is what the printer was asked before: 1 to 4 DLE EOT of this number, 5 GS r 1, 6 GS r 2, and 0 nothing.
+   - used says how many bytes were read, with the reply. Pass the others again, with what comes behind them.
+   - skipped says how many of those are no reply.
+
+   The lines are input lines by which the device becomes what the printer says, and then status with what it says;
+   or job and a number, if all of that job is printed (abi/README.md, "Bytes of orders").
+
+   Errors:
+
+   - SHORT if text has less room. Then only needed is written, and no byte is used.
+   - NO_DEVICE if the profile has no printer or drawer of the name, or it is detached.
+   - BAD_SETTINGS if a setting of the device's kind is out of its range.
+   - NO_MEMORY if memory ran out.
+
+   But for SHORT nothing is written then. */
+uint32_t kijolvar_replies(kijolvar_till till, void **out, const uint8_t *name, size_t name_len, const
+    kijolvar_wire_settings *settings, uint32_t asked, const uint8_t *bytes, size_t bytes_len, size_t *used, size_t
+    *skipped, uint8_t *text, size_t text_len, size_t *needed);
 
 /* Writes the number of the control of this name to control, and returns OK. The controls of a till are numbered from
    0, in the order of their new lines that were answered ok. The till is what is written to out from then on.

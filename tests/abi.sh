@@ -109,6 +109,8 @@ tries() {
   told "$who: devices of the host's" "as they should be" "$("$work/program" 2>&1 | tail -n 1)"
   links "$who: driven devices" "$abi/c/driven.c" "" "$@"
   told "$who: driven devices" "as they should be" "$("$work/program" 2>&1 | tail -n 1)"
+  links "$who: bytes of orders, and replies" "$abi/c/wire.c" "" "$@"
+  told "$who: bytes of orders, and replies" "as they should be" "$("$work/program" 2>&1 | tail -n 1)"
   links "$who: the next event" "$abi/c/events.c" "$abi/heap.c" "$@"
   told "$who: the next event" "as they should be" "$("$work/program" 2>&1 | tail -n 1)"
   links "$who: two threads" "$abi/c/threads.c" "$abi/heap.c" "$@"

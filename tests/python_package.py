@@ -151,6 +151,10 @@ def try_scripts():
 
 # ---- threads, and tills that are closed
 
+# What is said of the hardware behind the built profile.
+HARDWARE = kijolvar.WireSettings(width=48, feed=3, lines=500)
+
+
 def in_thread(call, *words):
     """What a call raises in another thread."""
     found = []
@@ -167,7 +171,8 @@ def try_threads():
                  "a line": lambda: till.carry_out("show d1"), "a device": device.show,
                  "events": lambda: list(till.events()), "listeners": till.deliver,
                  "a control": lambda: till.drawer("d1"), "hosting": lambda: till.host("d1"),
-                 "orders": lambda: list(till.orders()), "closing": till.close}
+                 "orders": lambda: list(till.orders()), "an order's bytes": lambda: till.order_bytes(HARDWARE),
+                 "a reply": lambda: till.replies("r1", HARDWARE, b""), "closing": till.close}
         for name, call in calls.items():
             fault = in_thread(call)
             told(f"{name} in a second thread", "ThreadError", type(fault).__name__)
@@ -235,6 +240,8 @@ def try_closed():
               "a control's events": lambda: list(controls[0].events()),
               "listeners": till.deliver, "a control": lambda: till.drawer("d1"), "hosting": lambda: till.host("d1"),
               "orders": lambda: list(till.orders()), "a transaction": lambda: totals.transaction().__enter__(),
+              "an order's bytes": lambda: till.order_bytes(HARDWARE),
+              "a reply": lambda: till.replies("r1", HARDWARE, b""),
               "a file by name": lambda: totals["A"], "files": lambda: list(totals),
               "use": lambda: controls[1].in_use().__enter__()}
     for name, use in others.items():
@@ -861,11 +868,99 @@ def try_devices():
         told("a bold line", kijolvar.PrintedLine("left", b"Bold", (True,) * 4), line)
 
 
+class Sender(kijolvar.Driver):
+    """Keeps the bytes of its orders."""
+
+    def __init__(self, till, sent):
+        self.till, self.sent, self.settings, self.is_new, self.job = till, sent, HARDWARE, False, None
+
+    def carry_out(self, order):
+        self.sent.append(self.till.order_bytes(self.settings, self.is_new, self.job).hex())
+        return True
+
+
+def try_order_bytes():
+    sent = []
+    with opened() as till:
+        told("no order has bytes", "NoOrderError", name_of(till.order_bytes, HARDWARE))
+        sender, screen, drawer = (Sender(till, sent) for _ in range(3))
+        for device, driver in (("r1", sender), ("p1", screen), ("d1", drawer)):
+            till.drive(device, driver)
+        till.device("r1").paper(5000)
+        with till.printer("r1").in_use() as printer, till.display("p1").in_use() as display:
+            printer.print(b"A\x1b|bCB\n")
+            printer.cut_paper()
+            till.drawer("d1").open_drawer()
+            display.display_text("Hi")
+            told("bytes of orders", ["1b6100411b4501421b45000a", "1d564103", "1b700019fa", "1b6c010148692020"], sent)
+            sent.clear()
+            for driver in (sender, screen, drawer):
+                driver.is_new, driver.job = True, 5
+            printer.cut_paper(50)
+            till.drawer("d1").open_drawer()
+            display.display_text_at(1, 0, "Ho")
+            ends = "1d28480600303040404045"
+            told("bytes of a new connection, with a job", ["1b401d61ff1d564203" + ends, "1b401d61ff1b700019fa" + ends,
+                                                           "1b400c1b6c0101486920201b6c0102486f2020"], sent)
+            sent.clear()
+            sender.is_new = False
+            for sender.job in (kijolvar.JOB_PAPER, kijolvar.JOB_DRAWER, 0, 65535):
+                printer.cut_paper()
+            told("what is asked behind an order", ["1d5641031d7201", "1d5641031d7202", "1d5641031d28480600303040404040",
+                                                   "1d5641031d2848060030304f4f4f4f"], sent)
+            sent.clear()
+            sender.job, sender.settings = None, kijolvar.WireSettings(width=8, cutter=3, feed=9)
+            printer.cut_paper()
+            printer.print(b"AB\n" * 1000)
+            told("another printer, and many bytes", ["1b6409", "1b610041420a" * 1000], sent)
+            sender.settings = kijolvar.WireSettings(width=7)
+            told("settings that are out of range", "SettingsError", name_of(printer.cut_paper))
+            sender.settings, sender.job = HARDWARE, 65538
+            told("a job's number that is too large", "ValueError", name_of(printer.cut_paper))
+    told("settings that no call takes", "ValueError", name_of(kijolvar.WireSettings, width=-1))
+    told("settings that are the same", True, HARDWARE == kijolvar.WireSettings(width=48, feed=3, lines=500))
+    told("a setting in their repr", True, "feed=3" in repr(HARDWARE) and "raw" not in repr(HARDWARE))
+
+
+def try_reply_lines():
+    with opened() as till:
+        till.device("r1").paper(100)
+
+        def reads(device, text, asked=None, settings=HARDWARE):
+            return till.replies(device, settings, bytes.fromhex(text), asked)
+        found = reads("r1", "4142 38000000 10000000")
+        status = "status pin low offline yes cover open paper good fault no"
+        told("a status", kijolvar.Reply(6, 2, ("input r1 cover open", status)), found)
+        told("its inputs", (("input r1 cover open",), None), (found.inputs, found.job))
+        told("what it tells", {"pin": "low", "offline": "yes", "cover": "open", "paper": "good", "fault": "no"},
+             found.status)
+        told("a reply that has begun", kijolvar.Reply(0, 0, ()), reads("r1", "380000"))
+        told("it tells nothing", (None, None, ()), (reads("r1", "380000").status, reads("r1", "").job,
+                                                    reads("r1", "").inputs))
+        told("a job", (kijolvar.Reply(7, 0, ("job 5",)), 5), (reads("r1", "37224040404500"),
+                                                             reads("d1", "37224040404500").job))
+        told("what was asked", kijolvar.Reply(1, 0, ("input r1 paper 2", "status paper near")),
+             reads("r1", "1e", kijolvar.Asked.PAPER))
+        told("what wasn't asked", kijolvar.Reply(1, 1, ()), reads("r1", "1e"))
+        told("the drawer's pin", kijolvar.Reply(1, 0, ("input d1 open", "status pin high")),
+             reads("d1", "01", kijolvar.Asked.DRAWER_IN_ORDER))
+        told("a drawer that is open at the low level", kijolvar.Reply(1, 0, ("status pin high",)),
+             reads("d1", "01", 6, kijolvar.WireSettings(open_is_high=False)))
+        for device in ("p1", "s1", "t1", "zz"):
+            told(f"replies for {device}", "NoDeviceError", name_of(reads, device, "38000000"))
+        told("replies by settings that are out of range", "SettingsError",
+             name_of(reads, "d1", "38", settings=kijolvar.WireSettings(pin=3)))
+        told("a question that there isn't", "ValueError", name_of(reads, "r1", "00", 7))
+        told("nothing has changed", False, till.device("r1").show().is_cover_open)
+        till.carry_out(found.inputs[0])
+        told("an input is a line", True, till.device("r1").show().is_cover_open)
+
+
 def main():
     try:
         for try_it in (try_scripts, try_threads, try_closed, try_replies, try_events, try_listeners, try_claims,
                        try_misuse, try_many_controls, try_totals, try_files, try_any_event, try_profiles, try_library,
-                       try_help, try_devices):
+                       try_help, try_devices, try_order_bytes, try_reply_lines):
             try_it()
     finally:
         shutil.rmtree(WORK)

@@ -25,8 +25,8 @@ DEFAULTS = {
 }
 # The classes of kijolvar/_faults.py.
 FAULTS = ["DamagedError", "DiskError", "DriverError", "Error", "ExchangeError", "FormattedError", "InputError", "LibraryError",
-          "LibraryFault", "LineError", "MovedError", "NoDeviceError", "NoMemoryError", "ProfileError", "ThreadError",
-          "TillClosedError", "TooManyControlsError", "TooSmallError", "UnformattedError", "UposError"]
+          "LibraryFault", "LineError", "MovedError", "NoDeviceError", "NoMemoryError", "NoOrderError", "ProfileError",
+          "SettingsError", "ThreadError", "TillClosedError", "TooManyControlsError", "TooSmallError", "UnformattedError", "UposError"]
 # Classes of errors that are a kind of an error of Python's too.
 BASES = {"E_NOEXIST": ", LookupError"}
 

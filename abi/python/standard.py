@@ -25,6 +25,7 @@ KIJOLVAR_EVENT = 18
 KIJOLVAR_NO_CONTROL = 19
 KIJOLVAR_WAITS = 20
 KIJOLVAR_NO_ORDER = 21
+KIJOLVAR_BAD_SETTINGS = 22
 
 # The result codes of the standard, which stand in answers.
 E_SUCCESS = 0

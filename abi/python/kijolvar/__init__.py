@@ -27,6 +27,7 @@ from ._files import open_totals
 from ._library import find as load
 from .drivers import Driver, EscPosDrawer, EscPosPrinter, Scan, SerialDisplay, WedgeScanner
 from ._questions import ProfileDevice, TotalsContents, check, devices, files, migrate
+from ._wire import JOB_DRAWER, JOB_PAPER, Asked, Reply, WireSettings
 from .errors import *
 from .ports import FilePort, Port, PortError, SerialPort, TcpPort, port_of
 from .till import Printer, Till, create_totals, open
@@ -35,11 +36,12 @@ from .totals import FileClaim, Totals, TotalsFile
 __version__ = "0.1.0"
 
 __all__ = [
-    "CashDrawer", "Claim", "Control", "DataEvent", "Device", "DisplayView", "DrawerView", "Driver", "ErrorEvent",
-    "EscPosDrawer", "EscPosPrinter", "Event", "FileClaim", "FilePort", "HardTotals", "LineDisplay", "Order",
-    "OutputCompleteEvent", "POSPrinter", "Port", "PortError", "PrintedCut", "PrintedLine", "Printer", "PrinterView",
-    "ProfileDevice", "Scan", "Scanner", "ScannerView", "SerialDisplay", "SerialPort", "StandardControl",
-    "StatusUpdateEvent", "TcpPort", "Till", "Totals", "TotalsContents", "TotalsFile", "WedgeScanner", "WorkDone",
+    "Asked", "CashDrawer", "Claim", "Control", "DataEvent", "Device", "DisplayView", "DrawerView", "Driver",
+    "ErrorEvent", "EscPosDrawer", "EscPosPrinter", "Event", "FileClaim", "FilePort", "HardTotals", "JOB_DRAWER",
+    "JOB_PAPER", "LineDisplay", "Order", "OutputCompleteEvent", "POSPrinter", "Port", "PortError", "PrintedCut",
+    "PrintedLine", "Printer", "PrinterView", "ProfileDevice", "Reply", "Scan", "Scanner", "ScannerView",
+    "SerialDisplay", "SerialPort", "StandardControl", "StatusUpdateEvent", "TcpPort", "Till", "Totals",
+    "TotalsContents", "TotalsFile", "WedgeScanner", "WireSettings", "WorkDone",
     "WorkFailed", "check", "create_totals", "devices", "files", "load", "migrate", "open", "open_totals", "port_of",
 ]
 __all__ += _constants.__all__

@@ -3,9 +3,9 @@ from __future__ import annotations
 
 from typing import ClassVar
 
-from ._constants import (KIJOLVAR_BAD_PROFILE, KIJOLVAR_CUT, KIJOLVAR_DAMAGED, KIJOLVAR_DISK_FAILED,
-                         KIJOLVAR_FORMATTED, KIJOLVAR_MOVED, KIJOLVAR_NO_DEVICE, KIJOLVAR_NO_MEMORY,
-                         KIJOLVAR_TOO_SMALL, KIJOLVAR_UNFORMATTED)
+from ._constants import (KIJOLVAR_BAD_PROFILE, KIJOLVAR_BAD_SETTINGS, KIJOLVAR_CUT, KIJOLVAR_DAMAGED,
+                         KIJOLVAR_DISK_FAILED, KIJOLVAR_FORMATTED, KIJOLVAR_MOVED, KIJOLVAR_NO_DEVICE,
+                         KIJOLVAR_NO_MEMORY, KIJOLVAR_NO_ORDER, KIJOLVAR_TOO_SMALL, KIJOLVAR_UNFORMATTED)
 
 
 class Error(Exception):
@@ -115,6 +115,14 @@ class NoDeviceError(LibraryFault):
     """The profile has no such device, or no peripheral is attached to it."""
 
 
+class NoOrderError(LibraryFault):
+    """There is no order, or the order has no bytes for hardware of its kind."""
+
+
+class SettingsError(LibraryFault, ValueError):
+    """A setting of the hardware is out of its range."""
+
+
 class TillClosedError(Error):
     """The till is closed."""
 
@@ -181,7 +189,9 @@ _FAULTS: dict[int, tuple[type[LibraryFault], str]] = {
     KIJOLVAR_TOO_SMALL: (TooSmallError, "the file is too short for totals"),
     KIJOLVAR_UNFORMATTED: (UnformattedError, "the file isn't formatted: it has no totals"),
     KIJOLVAR_MOVED: (MovedError, "the totals have layout 2 already: there is nothing to do"),
-    KIJOLVAR_NO_DEVICE: (NoDeviceError, "the profile has no device of the name that has orders"),
+    KIJOLVAR_NO_DEVICE: (NoDeviceError, "the profile has no device of the name that has orders, or replies"),
+    KIJOLVAR_NO_ORDER: (NoOrderError, "there is no order, or it has no bytes"),
+    KIJOLVAR_BAD_SETTINGS: (SettingsError, "a setting of the hardware is out of its range"),
 }
 
 

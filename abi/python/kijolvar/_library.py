@@ -7,6 +7,7 @@ import pathlib
 from typing import Any, Union
 
 from ._constants import KIJOLVAR_VERSION
+from ._wire import RawSettings
 from .errors import LibraryError
 
 Path = Union[str, "os.PathLike[str]"]
@@ -25,7 +26,7 @@ def declare(library: ctypes.CDLL) -> ctypes.CDLL:
     """Declares the exports of the library to ctypes."""
     pointer, size, number = ctypes.c_void_p, ctypes.c_size_t, ctypes.c_uint32
     out, text, needed = ctypes.POINTER(pointer), ctypes.c_char_p, ctypes.POINTER(size)
-    place = ctypes.POINTER(ctypes.c_uint64)
+    place, settings = ctypes.POINTER(ctypes.c_uint64), ctypes.POINTER(RawSettings)
     exports: dict[str, tuple[list[Any], Any]] = {
         "kijolvar_version": ([], number),
         "kijolvar_open": ([text, size, out], number),
@@ -43,6 +44,9 @@ def declare(library: ctypes.CDLL) -> ctypes.CDLL:
         "kijolvar_drive": ([Raw, out, text, size], number),
         "kijolvar_next_order": ([Raw, out, text, size, needed], number),
         "kijolvar_order_done": ([Raw, out, number, text, size, text, size, needed], number),
+        "kijolvar_order_bytes": ([Raw, out, settings, number, number, text, size, needed], number),
+        "kijolvar_replies": ([Raw, out, text, size, settings, number, text, size, needed, needed, text, size, needed],
+                             number),
         "kijolvar_control": ([Raw, out, text, size, needed], number),
         "kijolvar_next_event": ([Raw, out, size, needed], number),
         "kijolvar_close": ([Raw], None),

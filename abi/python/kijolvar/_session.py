@@ -12,6 +12,7 @@ from ._constants import (KIJOLVAR_DISK_FAILED, KIJOLVAR_DISK_LENGTH, KIJOLVAR_ER
                          KIJOLVAR_NO_MEMORY, KIJOLVAR_NO_ORDER, KIJOLVAR_OK, KIJOLVAR_ORDER, KIJOLVAR_SHORT,
                          KIJOLVAR_SYNC, KIJOLVAR_UNDONE, KIJOLVAR_WAITS, KIJOLVAR_WRITE)
 from ._library import Raw, carrier, check
+from ._wire import RawSettings, Reply
 from .errors import ThreadError, TillClosedError, library_fault
 
 _identity = threading.get_ident
@@ -43,6 +44,10 @@ class Session:
         self._needed_at = ctypes.pointer(self._needed)
         self._number = ctypes.c_size_t()
         self._number_at = ctypes.pointer(self._number)
+        # The bytes of an order, or the lines of a reply: how many they are, and of a reply's bytes how many were read.
+        self._bytes: Any = ctypes.create_string_buffer(_ROOM)
+        self._count, self._used, self._skipped = ctypes.c_size_t(), ctypes.c_size_t(), ctypes.c_size_t()
+        self._count_at, self._used_at, self._skipped_at = map(ctypes.byref, (self._count, self._used, self._skipped))
         self._later: deque[Callable[[], None]] = deque()
         self._is_settling = self._has_served = False
         # The devices that are driven, and the orders of hosted devices that came before one of these.
@@ -301,6 +306,35 @@ class Session:
         if not self._driven:
             self._mark_calls()
         self._driven.add(device)
+
+    def order_bytes(self, settings: RawSettings, is_new: bool, behind: int) -> bytes:
+        """The bytes of the order that waits or that the host has. Nothing changes."""
+        self.check()
+        while True:
+            code = self._library.kijolvar_order_bytes(self._raw, self._out, ctypes.byref(settings), is_new, behind,
+                                                      self._bytes, len(self._bytes), self._count_at)
+            if code == KIJOLVAR_OK:
+                told: bytes = self._bytes[:self._count.value]
+                return told
+            self._lengthen(code)
+
+    def reply(self, device: bytes, settings: RawSettings, asked: int, data: bytes) -> Reply:
+        """Reads the first reply of what a printer sent, for its device or that of its drawer. Nothing changes."""
+        self.check()
+        while True:
+            code = self._library.kijolvar_replies(self._raw, self._out, device, len(device), ctypes.byref(settings),
+                                                  asked, data, len(data), self._used_at, self._skipped_at,
+                                                  self._bytes, len(self._bytes), self._count_at)
+            if code == KIJOLVAR_OK:
+                lines = self._bytes[:self._count.value].decode().splitlines()
+                return Reply(self._used.value, self._skipped.value, tuple(lines))
+            self._lengthen(code)
+
+    def _lengthen(self, code: int) -> None:
+        """Makes room for the bytes of an order or the lines of a reply. Another cause of the code is raised."""
+        if code != KIJOLVAR_SHORT:
+            raise library_fault(code)
+        self._bytes = ctypes.create_string_buffer(self._count.value)
 
     def orders(self) -> Iterator[bytes]:
         """The orders of the devices that the host has, oldest first. Each is taken out as it is given."""

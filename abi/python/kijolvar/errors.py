@@ -5,9 +5,9 @@ Written by abi/python/generate.py: don't change it by hand.
 from __future__ import annotations
 
 from ._faults import (DamagedError, DiskError, DriverError, Error, ExchangeError, FormattedError, InputError,
-                      LibraryError, LibraryFault, LineError, MovedError, NoDeviceError, NoMemoryError, ProfileError,
-                      ThreadError, TillClosedError, TooManyControlsError, TooSmallError, UnformattedError, UposError,
-                      library_fault)
+                      LibraryError, LibraryFault, LineError, MovedError, NoDeviceError, NoMemoryError, NoOrderError,
+                      ProfileError, SettingsError, ThreadError, TillClosedError, TooManyControlsError, TooSmallError,
+                      UnformattedError, UposError, library_fault)
 
 
 class ClosedError(UposError):
@@ -206,7 +206,7 @@ __all__ = [
     "BusyError", "ClaimedError", "ClosedError", "CoverOpenError", "DamagedError", "DisabledError", "DiskError",
     "DriverError", "Error", "ExchangeError", "ExistsError", "ExtendedError", "FailureError", "FormattedError",
     "IllegalError", "InputError", "LibraryError", "LibraryFault", "LineError", "MovedError", "NoDeviceError",
-    "NoExistError", "NoHardwareError", "NoMemoryError", "NoRoomError", "NoServiceError", "NotClaimedError",
-    "OfflineError", "ProfileError", "ReceiptEmptyError", "ThreadError", "TillClosedError", "TimeoutError",
-    "TooManyControlsError", "TooSmallError", "UnformattedError", "UposError",
+    "NoExistError", "NoHardwareError", "NoMemoryError", "NoOrderError", "NoRoomError", "NoServiceError",
+    "NotClaimedError", "OfflineError", "ProfileError", "ReceiptEmptyError", "SettingsError", "ThreadError",
+    "TillClosedError", "TimeoutError", "TooManyControlsError", "TooSmallError", "UnformattedError", "UposError",
 ]

@@ -23,6 +23,7 @@ from ._faults import Error, LineError, NoDeviceError, NoMemoryError, ProfileErro
 from ._library import Path
 from ._questions import Profile, ProfileDevice, devices, explain, library_of, text_of
 from ._session import Session
+from ._wire import Reply, WireSettings, behind, expected
 from .drivers import Driver
 from .totals import Totals
 
@@ -276,6 +277,40 @@ class Till:
                 raise NoDeviceError(KIJOLVAR_NO_DEVICE, f"the profile has no device {name!r}")
         for name, one in drivers.items():
             self._drives.add(known[name], one)
+
+    def order_bytes(self, settings: WireSettings, is_new: bool = False, job: int | None = None) -> bytes:
+        """The bytes by which hardware does the order that its driver is carrying out: those of an ESC/POS printer, a
+        drawer on such a printer, or a display. Send them as they are. This changes nothing of the till.
+
+        Args:
+            settings: What the hardware is.
+            is_new: Whether these are the first bytes of a connection, or a line failed before. They start the hardware
+                then, and a display gets all its rows.
+            job: What a printer is asked after the order: with a number of 0 to 65,535 to acknowledge it as that job,
+                with JOB_PAPER or JOB_DRAWER for a status. None asks nothing.
+
+        Raises:
+            NoOrderError: No driver is carrying out an order, or the order has no bytes.
+            SettingsError: A setting of the device's kind is out of its range.
+        """
+        return self._session.order_bytes(settings.raw, is_new, behind(job))
+
+    def replies(self, device: str, settings: WireSettings, data: bytes, asked: int | None = None) -> Reply:
+        """Reads bytes that a printer sent, up to the end of its first reply, for its device or the drawer on it. Call
+        it again with the bytes that are left, until the reply has no lines. This changes nothing of the till.
+
+        Args:
+            device: The name of the printer, or of the drawer on its connector. What a printer sends is for both.
+            settings: What the hardware is.
+            data: The bytes.
+            asked: What the printer was asked before (`Asked`), by bytes of the driver's own. Without it only what a
+                printer says unasked is read, and that jobs are printed.
+
+        Raises:
+            NoDeviceError: The profile has no printer and no drawer of the name, or it is detached.
+            SettingsError: A setting of the device's kind is out of its range.
+        """
+        return self._session.reply(device_word(device), settings.raw, expected(asked), bytes(data))
 
     def run_devices(self, timeout: float = 0.0) -> bool:
         """Does what the driven devices need: tells the till what they say of themselves and what was scanned, opens

@@ -60,8 +60,10 @@ pub enum Cause {
     WrongKind,
     /// There is no spare of the number, or it serves a device.
     BadSpare,
-    /// The profile has no device of the name that has orders.
+    /// The profile has no device of the name that has orders, or replies.
     NoDevice,
+    /// A setting of the hardware is out of its range.
+    BadSettings,
     /// The profile has no device of the name that may have a peripheral.
     Unknown,
     /// The device has its peripheral, or a control has the device open.
@@ -135,7 +137,8 @@ impl fmt::Display for Cause {
             Cause::BadInput => "the device has no such input",
             Cause::WrongKind => "the device is of another kind",
             Cause::BadSpare => "there is no spare of the number, or it serves a device",
-            Cause::NoDevice => "there is no device of the name that has orders",
+            Cause::NoDevice => "there is no device of the name that has orders, or replies",
+            Cause::BadSettings => "a setting of the hardware is out of its range",
             Cause::Unknown => "there is no device of the name that may have a peripheral",
             Cause::InUse => "the device has its peripheral, or a control has it open",
             Cause::KindDiffers => "the spare is of another kind than the device",

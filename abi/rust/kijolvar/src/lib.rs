@@ -64,6 +64,7 @@ pub mod standard;
 mod till;
 mod totals_file;
 mod views;
+mod wire;
 
 pub use actor::Actor;
 pub use control::{Control, Key};
@@ -76,3 +77,4 @@ pub use questions::{check, devices, files, migrate, ProfileDevice, ProfileMistak
 pub use till::{Till, BUILT_PROFILE};
 pub use totals_file::Totals;
 pub use views::{Alignment, DisplayView, Printed, PrintedText, PrinterView};
+pub use wire::{Asked, PrinterReply, WireSettings};

@@ -1,4 +1,5 @@
 //! The library's exports, as kijolvar.h declares them, and the numbers of their answers.
+use crate::wire::WireSettings;
 use std::ffi::{c_char, c_int, c_void};
 
 /// What a till is from the call that wrote it to the next one.
@@ -85,6 +86,33 @@ extern "C" {
     pub(crate) fn kijolvar_next_order(
         till: Raw,
         out: *mut *mut c_void,
+        text: *mut u8,
+        text_len: usize,
+        needed: *mut usize,
+    ) -> u32;
+    // No device is driven by this crate yet, so nothing asks for the bytes of an order.
+    #[allow(dead_code)]
+    pub(crate) fn kijolvar_order_bytes(
+        till: Raw,
+        out: *mut *mut c_void,
+        settings: *const WireSettings,
+        is_new: u32,
+        end: u32,
+        bytes: *mut u8,
+        bytes_len: usize,
+        needed: *mut usize,
+    ) -> u32;
+    pub(crate) fn kijolvar_replies(
+        till: Raw,
+        out: *mut *mut c_void,
+        name: *const u8,
+        name_len: usize,
+        settings: *const WireSettings,
+        asked: u32,
+        bytes: *const u8,
+        bytes_len: usize,
+        used: *mut usize,
+        skipped: *mut usize,
         text: *mut u8,
         text_len: usize,
         needed: *mut usize,

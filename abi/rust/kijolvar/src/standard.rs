@@ -34,7 +34,7 @@ pub(crate) mod library {
     pub(crate) const SYNC: u32 = 11;
     /// An order was written.
     pub(crate) const ORDER: u32 = 12;
-    /// No device of the name has orders.
+    /// No device of the name has orders, or replies.
     pub(crate) const NO_DEVICE: u32 = 13;
     /// The profile isn't UTF-8, or is no TOML document.
     pub(crate) const BAD_TEXT: u32 = 14;
@@ -50,8 +50,10 @@ pub(crate) mod library {
     pub(crate) const NO_CONTROL: u32 = 19;
     /// A line waits until the host has reported what became of an order.
     pub(crate) const WAITS: u32 = 20;
-    /// The host has no order that it may report.
+    /// There is no order to report, or none that has bytes.
     pub(crate) const NO_ORDER: u32 = 21;
+    /// The settings of the hardware are out of their ranges.
+    pub(crate) const BAD_SETTINGS: u32 = 22;
 }
 
 /// A result code of the standard (ErrorCode) by which a control refuses a call.

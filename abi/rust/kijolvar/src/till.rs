@@ -8,6 +8,7 @@ use crate::raw::*;
 use crate::standard::{library, Category};
 use crate::totals_file::Totals;
 use crate::views::{self, DisplayView, PrinterView};
+use crate::wire::{Asked, PrinterReply, WireSettings};
 use std::cell::RefCell;
 use std::ffi::c_void;
 use std::fmt;
@@ -228,6 +229,50 @@ impl Inner {
                 library::ORDER => return Ok(Some(String::from_utf8_lossy(&self.text[..needed]).into_owned())),
                 library::OK => return Ok(None),
                 _ => return Err(Cause::DiskFailed),
+            }
+        }
+    }
+
+    /// Reads the first reply of what a printer sent.
+    fn reply(
+        &mut self,
+        device: &[u8],
+        settings: &WireSettings,
+        asked: Asked,
+        bytes: &[u8],
+    ) -> Result<PrinterReply, Cause> {
+        let (mut used, mut skipped, mut needed) = (0, 0, 0);
+        loop {
+            let (till, out) = (self.at, &mut self.at.0);
+            // SAFETY: the pointer is the one that was written last, what is given is lent, and the buffers are apart.
+            let code = unsafe {
+                let (text, room) = (self.text.as_mut_ptr(), self.text.len());
+                let (name, bytes, count) = (device.as_ptr(), bytes.as_ptr(), bytes.len());
+                kijolvar_replies(
+                    till,
+                    out,
+                    name,
+                    device.len(),
+                    settings,
+                    asked as u32,
+                    bytes,
+                    count,
+                    &mut used,
+                    &mut skipped,
+                    text,
+                    room,
+                    &mut needed,
+                )
+            };
+            match code {
+                library::SHORT => self.text.resize(needed, 0),
+                library::OK => {
+                    let lines = String::from_utf8_lossy(&self.text[..needed]).lines().map(str::to_string).collect();
+                    return Ok(PrinterReply { used, skipped, lines });
+                }
+                library::NO_DEVICE => return Err(Cause::NoDevice),
+                library::BAD_SETTINGS => return Err(Cause::BadSettings),
+                _ => return Err(Cause::NoMemory),
             }
         }
     }
@@ -579,6 +624,31 @@ impl Till {
         let failed = |cause| Error::new("next_order", cause);
         let Some(line) = self.inner.borrow_mut().next_order().map_err(failed)? else { return Ok(None) };
         Order::read(&line).map(Some).ok_or_else(|| failed(Cause::BadAnswer(line)))
+    }
+
+    /// Reads bytes that a printer sent, up to the end of its first reply, for its device or the drawer on its connector.
+    /// Call it again with the bytes that are left, until the reply has no lines. This changes nothing of the till.
+    ///
+    /// # Errors
+    ///
+    /// [`Cause::NoDevice`], [`Cause::BadSettings`], [`Cause::NoMemory`].
+    ///
+    /// ```
+    /// # use kijolvar::{Asked, Till, Totals, WireSettings, BUILT_PROFILE};
+    /// # let till = Till::open(BUILT_PROFILE, Totals::Memory)?;
+    /// let reply = till.reply("d1", &WireSettings::default(), Asked::DrawerInOrder, &[1])?;
+    /// assert_eq!(reply.lines, ["input d1 open", "status pin high"]);
+    /// # Ok::<(), kijolvar::Error>(())
+    /// ```
+    pub fn reply(
+        &self,
+        device: &str,
+        settings: &WireSettings,
+        asked: Asked,
+        bytes: &[u8],
+    ) -> Result<PrinterReply, Error> {
+        let found = self.inner.borrow_mut().reply(device.as_bytes(), settings, asked, bytes);
+        found.map_err(|cause| Error::new("reply", cause))
     }
 }
 

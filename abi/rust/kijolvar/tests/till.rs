@@ -2,7 +2,8 @@
 use kijolvar::standard::{DisplayAttribute, ErrorLocus, ErrorReply, ExtendedCode, PrinterStation, ResultCode};
 use kijolvar::standard::{ScrollDirection, State, PTR_CP_FULLCUT};
 use kijolvar::{check, files, migrate, StatusUpdate, Till, Totals, Value, Work, BUILT_PROFILE};
-use kijolvar::{Actor, CashDrawer, Cause, Error, Event, HardTotals, Order, PosPrinter, Property, Scanner};
+use kijolvar::{Actor, Asked, CashDrawer, Cause, Error, Event, HardTotals, Order, PosPrinter, PrinterReply, Property};
+use kijolvar::{Scanner, WireSettings};
 use std::io::ErrorKind;
 use std::path::PathBuf;
 
@@ -246,6 +247,29 @@ fn orders_come_once_and_in_order() {
         assert_eq!(till.next_order().unwrap(), Some(order));
     }
     assert_eq!(till.next_order().unwrap(), None);
+}
+
+#[test]
+fn replies_are_lines() {
+    let (till, settings) = (till(), WireSettings::default());
+    let open = [0x41, 0x38, 0, 0, 0, 0x10, 0];
+    let reply = till.reply("r1", &settings, Asked::Nothing, &open).unwrap();
+    assert_eq!((reply.used, reply.skipped), (5, 1));
+    assert_eq!(reply.lines[0], "input r1 cover open");
+    let begun = till.reply("r1", &settings, Asked::Nothing, &open[5..]).unwrap();
+    assert_eq!(begun, PrinterReply { used: 0, skipped: 0, lines: Vec::new() });
+    let job = till.reply("d1", &settings, Asked::Nothing, b"7\"@@@E\0").unwrap();
+    assert_eq!(job.lines, ["job 5"]);
+    let pin = till.reply("d1", &settings, Asked::DrawerInOrder, &[1]).unwrap();
+    assert_eq!(pin.lines, ["input d1 open", "status pin high"]);
+    let cause = |device: &str, settings: WireSettings| match till.reply(device, &settings, Asked::Nothing, &open) {
+        Err(error) => error.to_string(),
+        Ok(reply) => panic!("{reply:?}"),
+    };
+    assert_eq!(cause("p1", settings), "reply: there is no device of the name that has orders, or replies");
+    let narrow = WireSettings { width: 7, ..settings };
+    assert_eq!(cause("r1", narrow), "reply: a setting of the hardware is out of its range");
+    assert_eq!(till.carry_out("show r1").unwrap(), "ok closed 5 -:-\n");
 }
 
 #[test]
