@@ -8,10 +8,10 @@ from collections.abc import Callable
 from dataclasses import dataclass, field
 from typing import TYPE_CHECKING
 
+from ._wire import JOB_PAPER, Asked, Reply, WireSettings
 from .ports import Port, PortError
 
 if TYPE_CHECKING:
-    from ._wire import Reply, WireSettings
     from .till import Till
 
 # What is sent while no order is out; the bytes of orders are the library's. Zero bytes do nothing, and end a command
@@ -19,12 +19,10 @@ if TYPE_CHECKING:
 _ZEROS = b"\0" * 12
 _INITIALIZE, _STATUS_ON, _STATUS_OFF = b"\x1b@", b"\x1da\xff", b"\x1da\0"
 _STATUS_NOW = b"\x10\x04"
-# How many numbers of jobs there are, and what takes the place of a number to ask for the paper in order (GS r 1).
-_NUMBERS, _PAPER = 65_536, 65_536
+# How many numbers of jobs there are.
+_NUMBERS = 65_536
 # How many bytes ask for an acknowledgement: GS ( H, or GS r.
 _JOB_SIZE, _QUESTION_SIZE = 11, 3
-# What the library has to know was asked: DLE EOT 1, and GS r 1.
-_ASKED_NOW, _ASKED_PAPER = 1, 5
 # How long a lost port may take to open while other devices wait, and how often a printer is asked, in seconds.
 _QUICKLY, _OFTEN = 0.25, 0.1
 # What ends a piece: a line feed, a pulse, a feed, or a cut.
@@ -184,10 +182,15 @@ class PrinterLink:
         """The job of an order: the one that failed if the order is the same, and how far that one has come."""
         if not is_once:
             return Job(data, is_once)
-        job = self._job
-        if job is None or job.data != data:
-            self._job = job = Job(data, is_once)
-            return job
+        failed = self._job
+        if failed is None or failed.data != data:
+            self._job = Job(data, is_once)
+            return self._job
+        self._catches_up(wire, failed, end)
+        return failed
+
+    def _catches_up(self, wire: Wire, job: Job, end: float) -> None:
+        """Finds out how far a job has come that failed."""
         if self._is_due(job):
             # What was sent before is printed or lost once this is acknowledged.
             number = self._next_number()
@@ -195,7 +198,6 @@ class PrinterLink:
             self._pump(lambda: job.is_done or not self._is_due(job) or self.is_stopped, end)
         if not self._is_due(job):
             job.sent, job.is_torn = job.done, False
-        return job
 
     def _is_due(self, job: Job) -> bool:
         """Whether something of a job may still be acknowledged."""
@@ -256,7 +258,7 @@ class PrinterLink:
 
     def _asked(self) -> int | None:
         """What was asked, and isn't answered yet."""
-        return None if self._asked_at is None else _ASKED_NOW
+        return None if self._asked_at is None else Asked.PRINTER
 
     def _answers(self) -> None:
         """The printer has answered something."""
@@ -264,7 +266,7 @@ class PrinterLink:
         if self._was_silent or not self._is_there:
             self._comes_back()
 
-    def _hears(self, lines: list[str], told: Told) -> None:
+    def _hears(self, lines: tuple[str, ...], told: Told) -> None:
         """What a reply says. Only an automatic status tells of the cover."""
         kind, *words = lines[-1].split()
         if kind == "job":
@@ -428,7 +430,7 @@ class AskedLink(PrinterLink):
         self._rounds = 0
 
     def _job_of(self, number: int) -> int:
-        return _PAPER
+        return JOB_PAPER
 
     def _asks_on(self) -> None:
         """Asks the questions of DLE EOT, one after the other: the printer, why it is offline, the paper."""
@@ -455,15 +457,15 @@ class AskedLink(PrinterLink):
         assert self.wire is not None
         for byte in data:
             one = bytes([byte])
-            for asked in [self._question] * self._is_asking + [_ASKED_PAPER] * bool(self._due):
+            for asked in [self._question] * self._is_asking + [int(Asked.PAPER_IN_ORDER)] * bool(self._due):
                 reply = self.wire.reply(one, asked)
                 if reply.lines:
                     self._answers()
                     self._hears(reply.lines, Told(one, asked))
                     break
 
-    def _hears(self, lines: list[str], told: Told) -> None:
-        if told.asked == _ASKED_PAPER:
+    def _hears(self, lines: tuple[str, ...], told: Told) -> None:
+        if told.asked == Asked.PAPER_IN_ORDER:
             number = self._due[0].number
             assert number is not None
             self._acknowledged(number)

@@ -163,7 +163,7 @@ class EscPosPrinter(Driver):
         on, off = self._pulse
         return Wire(till, device.name, WireSettings(
             width=self._width or 0, cutter=self._cutter, feed=self._feed, lines=self._lines, pin=self._pin, on=on,
-            off=off, open_is_high=int(self._is_open_high), protocol=0))
+            off=off, open_is_high=self._is_open_high))
 
     def open(self) -> None:
         """Opens the port, unless that was tried already."""
@@ -289,8 +289,7 @@ class SerialDisplay(Driver):
         if protocol not in _PROTOCOLS:
             raise ValueError(f"no such protocol: {protocol!r}")
         self.port, self._timeout, self._pause = port_of(port), timeout, pause
-        self._settings = WireSettings(width=0, cutter=0, feed=0, lines=0, pin=0, on=0, off=0, open_is_high=0,
-                                      protocol=_PROTOCOLS.index(protocol))
+        self._settings = WireSettings(protocol=_PROTOCOLS.index(protocol))
         self._till: Till | None = None
         self._tried_at, self._is_new = -1e9, True
 
