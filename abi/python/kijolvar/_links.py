@@ -165,6 +165,7 @@ class PrinterLink:
             job = self._taken_up(wire, data[:size], is_once, end)
             if not (job.is_done or self.is_stopped or self._is_due(job)):
                 self._post(wire, job, data[size:], number)
+                self._writes()
                 self._pump(lambda: job.is_done or job.is_torn or self.is_stopped, end)
         except PortError:
             self._lose()
