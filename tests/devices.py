@@ -487,6 +487,10 @@ def try_silence():
         told("it answers again", True, shop.settle())
         told("it prints again", None, raised(shop.control.print, TEXT))
         shop.same_paper("silence: the paper")
+        shop.device.hang()
+        told("it counts as off without an order too", True,
+             until(lambda: shop.till.run_devices(0.05) and not shop.driver.is_online))
+        told("off", (108, 0), raised(shop.control.print, TEXT))
     with contextlib.ExitStack() as stack:
         device = stack.enter_context(Printer(cable()))
         device.hang()

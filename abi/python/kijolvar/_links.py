@@ -126,7 +126,7 @@ class PrinterLink:
         self._due: deque[_Parcel] = deque()
         self._got = bytearray()
         self._is_there = self._has_answered = self._was_silent = self._is_refreshing = False
-        self._tried_at = self._refreshed_at = -1e9
+        self._tried_at = self._refreshed_at = self._heard_at = -1e9
         self._asked_at: float | None = None
 
     @property
@@ -263,7 +263,7 @@ class PrinterLink:
 
     def _answers(self) -> None:
         """The printer has answered something."""
-        self._asked_at = None
+        self._asked_at, self._heard_at = None, time.monotonic()
         if self._was_silent or not self._is_there:
             self._comes_back()
 
@@ -373,11 +373,12 @@ class PrinterLink:
             self._lose()
 
     def _look_after(self, now: float) -> None:
-        """Asks a printer that is silent, and one that has said that it can't print, whether that is still so."""
+        """Asks a printer that has said nothing for a time, and one that said that it can't print, whether that is so."""
         if self._asked_at is not None and now - self._asked_at > self.timeout:
             self._is_there, self.told, self.signs = False, [], {}
         is_asking = self._asked_at is not None and now - self._asked_at <= self.timeout
-        if not (self._is_there or is_asking or self._outbox):
+        is_heard = self._is_there and now - self._heard_at <= self.timeout
+        if not (is_heard or is_asking or self._outbox):
             self._ask()
         if self.is_stopped and not self._is_refreshing and now - self._refreshed_at > self._pause and not self._outbox:
             self._is_refreshing, self._refreshed_at = True, now
@@ -414,6 +415,7 @@ class PrinterLink:
     def close(self) -> None:
         """Closes the port."""
         self._lose()
+        self.is_begun = False
 
 
 class AskedLink(PrinterLink):

@@ -194,6 +194,7 @@ class EscPosPrinter(Driver):
 
     def close(self) -> None:
         self.link.close()
+        self._is_known = False
 
 
 class EscPosDrawer(Driver):
