@@ -1,13 +1,16 @@
 """Runs an emulated device by itself, until its standard input ends. Each line there is something that happens to it.
 
-Usage: python3 tests/emulator printer [--path PATH | --tcp PORT] [--columns N] [--lines N] [--near N]
+Usage: python3 tests/emulator printer [--path PATH | --tcp PORT] [--columns N] [--lines N] [--near N] [--simple]
        python3 tests/emulator display [--path PATH | --tcp PORT] [--rows N] [--columns N] [--protocol cd5220|escpos]
        python3 tests/emulator scanner [--path PATH | --tcp PORT]
 
+A simple printer has neither automatic status nor acknowledgements of jobs. With --tcp 0 any port is taken.
+
 It prints the port first. Then it takes: `cover open`, `cover closed`, `paper LINES`, `drawer open`, `drawer closed`,
-`plug out`, `plug in`, `hang on`, `hang off`, `slow SECONDS`, `garbage HEX`, `scan TEXT`, `after BYTES WORDS ..` (the
-same once so many more bytes are worked off), `wait` (until all is worked off), and `show`, which prints what is on
-the paper or the display.
+`jam on`, `jam off`, `plug out`, `plug in`, `hang on`, `hang off`, `mute on`, `mute off` (its answers are lost),
+`slow SECONDS`, `garbage HEX`, `scan TEXT`, `after BYTES WORDS ..` (the same once so many more bytes are worked off),
+`wait` (until all is worked off), `show`, which prints what is on the paper or the display, and `pulses`, which prints
+the pulses of the drawer's connector: pin, on and off.
 """
 import argparse
 import os
@@ -54,6 +57,12 @@ def happens(device, words):
         device.load(int(rest[0]))
     elif verb == "drawer":
         device.drawer(rest[0] == "open")
+    elif verb == "jam":
+        device.breaks(rest[0] == "on")
+    elif verb == "mute":
+        device.mute(rest[0] == "on")
+    elif verb == "pulses":
+        print(*[" ".join(map(str, pulse)) for pulse in device.pulses], sep="\n")
     elif verb == "plug":
         device.plug_in() if rest[0] == "in" else device.pull_plug()
     elif verb == "hang":
@@ -81,11 +90,12 @@ def main():
     reader.add_argument("--rows", type=int, default=2)
     reader.add_argument("--lines", type=int, default=1000)
     reader.add_argument("--near", type=int, default=20)
+    reader.add_argument("--simple", action="store_true")
     reader.add_argument("--protocol", default="cd5220", choices=["cd5220", "escpos"])
     words = reader.parse_args()
     cable = TcpCable(words.tcp) if words.tcp is not None else PtyCable(words.path or f"/tmp/{words.kind}-{os.getpid()}")
     if words.kind == "printer":
-        device = Printer(cable, words.columns or 42, words.lines, words.near)
+        device = Printer(cable, words.columns or 42, words.lines, words.near, words.simple)
     elif words.kind == "display":
         device = Display(cable, words.rows, words.columns or 20, words.protocol)
     else:
