@@ -888,8 +888,15 @@ def try_killed():
             counted = max([int(count) for what, count in said if what == "counted"], default=0)
             printed = max([int(count) for what, count in said if what == "printed"], default=0)
             kept = int.from_bytes(kijolvar.files(path, library=LIBRARY).files[b"COUNT"], "big")
+            device.wait(lambda: device.is_idle)
             told(f"killed {number}: the totals", True, counted <= kept <= counted + 1)
             told(f"killed {number}: the paper", True, printed <= len(characters_of(device)) <= printed + 1)
+            with opened(PROFILE, path) as till:
+                till.drive("r1", EscPosPrinter(device.path))
+                with till.printer("r1").in_use() as printer:
+                    told(f"killed {number}: the next host prints", None, raised(printer.print, b"Next\n"))
+            told(f"killed {number}: what it prints", [b"Next"], characters_of(device)[printed + 1:] or
+                 characters_of(device)[printed:])
 
 
 # ---- the guide

@@ -62,7 +62,8 @@ def happens(device, words):
     elif verb == "mute":
         device.mute(rest[0] == "on")
     elif verb == "pulses":
-        print(*[" ".join(map(str, pulse)) for pulse in device.pulses], sep="\n")
+        for pulse in device.pulses:
+            print(*pulse)
     elif verb == "plug":
         device.plug_in() if rest[0] == "in" else device.pull_plug()
     elif verb == "hang":

@@ -1,6 +1,7 @@
 """The line to a receipt printer: what is sent, what has been acknowledged, and what the printer says of itself."""
 from __future__ import annotations
 
+import random
 import re
 import time
 from collections import deque
@@ -121,7 +122,8 @@ class PrinterLink:
         self.statuses = self.late = 0
         self.signs: dict[str, str] = {}
         self._job: Job | None = None
-        self._number = 0
+        # A printer may still acknowledge jobs of a host that has ended. Those shouldn't have the numbers of these.
+        self._number = random.randrange(_NUMBERS)
         self._outbox: deque[_Parcel] = deque()
         self._due: deque[_Parcel] = deque()
         self._got = bytearray()
