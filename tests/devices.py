@@ -15,18 +15,18 @@ import operator
 import pathlib
 import random
 import re
+import shutil
 import signal
 import subprocess
 import sys
 import tempfile
 import time
-import tomllib
 
 TOP = pathlib.Path(__file__).resolve().parent.parent
 sys.path[:0] = [str(TOP / "abi/python"), str(TOP / "tests")]
 
 import kijolvar
-from emulator import Cut, Display, Feed, Line, Printer, PtyCable, Scanner, TcpCable
+from emulator import Cut, Display, Line, Printer, PtyCable, Scanner, TcpCable
 from kijolvar import (Driver, EscPosDrawer, EscPosPrinter, OutputCompleteEvent, PrintedCut, SerialDisplay, SerialPort,
                       StatusUpdateEvent, WedgeScanner, WireSettings)
 from kijolvar._links import PrinterLink, pieces_of
@@ -129,8 +129,8 @@ def item_of(item, feed=3):
 
 
 def same_paper(name, printer, items):
-    """Whether the paper has these items of `show`, each once. Only one that was printed when the plug was pulled, before
-    it could be acknowledged, is there once more, right behind."""
+    """Whether the paper has these items of `show`, each once. Only one that was printed when the plug was pulled,
+    before it could be acknowledged, is there once more, right behind."""
     printer.wait(lambda: printer.is_idle)
     receipt = printer.receipt()
     paper = [item for place, item in enumerate(receipt) if place not in printer.doubts]
@@ -907,7 +907,7 @@ GUIDE = TOP / "docs/guide/attach-your-printer.md"
 def try_guide():
     """The guide's programs and commands, with emulated devices at its ports."""
     blocks = re.findall(r"```(python|sh|text)\n(.*?)```", GUIDE.read_text(), re.S)
-    programs, commands, texts = ([text for kind, text in blocks if kind == wanted] for wanted in ("python", "sh", "text"))
+    programs, commands, texts = ([text for kind, text in blocks if kind == word] for word in ("python", "sh", "text"))
     told("the guide's programs, commands and texts", (4, 2, 1), (len(programs), len(commands), len(texts)))
     with contextlib.ExitStack() as stack:
         printer = stack.enter_context(Printer(cable(), 8, 5, 2))
@@ -1002,9 +1002,7 @@ def try_hardware(port, columns):
         till.drive("r1", driver)
         told("the printer answers", True, driver.is_online)
         print("status:", *[f"{name} {sign}" for name, sign in driver.link.signs.items()] or ["none"])
-        printer = till.printer("r1")
-        stack = printer.in_use()
-        with stack:
+        with till.printer("r1").in_use() as printer:
             began = time.monotonic()
             told("a page", None, raised(printer.print, TEXT + b"\x1b|N" + b"0123456789" * (columns // 10) + b"\n"))
             print(f"acknowledged after {time.monotonic() - began:.2f} s")
@@ -1017,14 +1015,17 @@ def try_hardware(port, columns):
 
 def main():
     tries = [value for name, value in globals().items() if name.startswith("try_") and name != "try_hardware"]
-    if WORDS.port is not None:
-        try_hardware(WORDS.port, WORDS.columns)
-    else:
+    try:
+        if WORDS.port is not None:
+            try_hardware(WORDS.port, WORDS.columns)
+            tries = []
         for one in tries:
             if WORDS.only in one.__name__:
                 began = time.monotonic()
                 one()
                 print(f"{one.__name__}: {time.monotonic() - began:.1f} s", flush=True)
+    finally:
+        shutil.rmtree(WORK)
     print(f"{passed} passed, {failed} failed")
     sys.exit(failed != 0)
 

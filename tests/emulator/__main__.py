@@ -19,7 +19,7 @@ import sys
 
 sys.path.insert(0, str(pathlib.Path(__file__).resolve().parent.parent))
 
-from emulator import Cut, Display, Feed, Line, Printer, PtyCable, Scanner, TcpCable
+from emulator import Cut, Display, Feed, Printer, PtyCable, Scanner, TcpCable
 
 
 def text_of(item, columns):

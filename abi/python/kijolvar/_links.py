@@ -375,7 +375,7 @@ class PrinterLink:
             self._lose()
 
     def _look_after(self, now: float) -> None:
-        """Asks a printer that has said nothing for a time, and one that said that it can't print, whether that is so."""
+        """Asks a printer that has said nothing for a time, and one that says that it can't print, for more."""
         if self._asked_at is not None and now - self._asked_at > self.timeout:
             self._is_there, self.told, self.signs = False, [], {}
         is_asking = self._asked_at is not None and now - self._asked_at <= self.timeout
