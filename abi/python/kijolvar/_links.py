@@ -200,6 +200,9 @@ class PrinterLink:
             self._send(self._end(wire, number), number, None, 0)
             self._pump(lambda: job.is_done or not self._is_due(job) or self.is_stopped, end)
         if not self._is_due(job):
+            if job.sent > job.done:
+                # Some of it was lost, and the printer may have begun a line.
+                self._puts(self._start)
             job.sent, job.is_torn = job.done, False
 
     def _is_due(self, job: Job) -> bool:
