@@ -155,17 +155,17 @@ class EscPosPrinter(Driver):
         if near >= _MOST_LINES:
             raise ValueError(f"{device.name} is near its end with {near} lines, and a roll has {_MOST_LINES} at most")
         self._width, self._lines = self._width or chars, max(self._lines, near + 1)
-        self._wire = self.link.wire = self.wire_of(till, device)
-        self.open()
+        self._wire = self.link.wire = self._wire_of(till, device)
+        self._open()
 
-    def wire_of(self, till: Till, device: ProfileDevice) -> Wire:
+    def _wire_of(self, till: Till, device: ProfileDevice) -> Wire:
         """The library's calls for the printer or for its drawer."""
         on, off = self._pulse
         return Wire(till, device.name, WireSettings(
             width=self._width or 0, cutter=self._cutter, feed=self._feed, lines=self._lines, pin=self._pin, on=on,
             off=off, open_is_high=self._is_open_high))
 
-    def open(self) -> None:
+    def _open(self) -> None:
         """Opens the port, unless that was tried already."""
         if not self.link.is_begun:
             self.link.start()
@@ -221,10 +221,10 @@ class EscPosDrawer(Driver):
         return self._printer.is_online
 
     def begin(self, till: Till, device: ProfileDevice) -> None:
-        self._wire = self._printer.wire_of(till, device)
+        self._wire = self._printer._wire_of(till, device)
         if self._printer.link.wire is None:
             self._printer.link.wire = self._wire
-        self._printer.open()
+        self._printer._open()
 
     def carry_out(self, order: Order) -> bool:
         assert self._wire is not None
