@@ -580,8 +580,8 @@ pub extern "C" fn kijolvar_order_done(
     code
 }
 
-/// Takes the printed paper of the device of this name away, and returns OK. A printer keeps no line and no cut then, only
-/// the line that has begun, and a `show` line shows it so; another device stays as it is. A till keeps all that a
+/// Takes the printed paper of the device of this name away, and returns OK. A printer keeps no line and no cut then,
+/// only the line that has begun, and a `show` line shows it so; another device stays as it is. A till keeps all that a
 /// printer prints until the host does this, which it may do after each receipt. The till is what is written to `out`
 /// from then on.
 ///

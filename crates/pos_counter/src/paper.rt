@@ -48,9 +48,9 @@ impl<P: Hosted> Devices<P> {
     fn tear_off(&mut self, place: usize) -> Result<(), NoMemory>
         requires sound { AreDevicesSound P.Peripheral self.old }
         requires attached { IsAttachedAt (devices_in P.Peripheral self.old) place }
-        ensures done { (helds : List KeptControl) → MatchResult result
-            (λ done. IsDoneAt (devices_in P.Peripheral self.old) place IsTorn helds helds (devices_in P.Peripheral self.new))
-            (λ want. devices_in P.Peripheral self.new ≡ devices_in P.Peripheral self.old) }
+        ensures done { let seen = devices_in P.Peripheral in (helds : List KeptControl) → MatchResult result
+            (λ done. IsDoneAt (seen self.old) place IsTorn helds helds (seen self.new))
+            (λ want. seen self.new ≡ seen self.old) }
         ensures hosts { hosts_of P.Hosted.course (slots_in self.new) ≡ hosts_of P.Hosted.course (slots_in self.old) }
         ensures sound { AreDevicesSound P.Peripheral self.new }
     {
