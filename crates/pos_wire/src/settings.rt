@@ -55,7 +55,7 @@ impl WireSettings {
     }
 
     /// Returns whether the numbers of a kind are in their ranges.
-    pub(crate) fn fit(&self, kind: Kind) -> bool
+    pub fn fit(&self, kind: Kind) -> bool
         ensures { result ≡ settings_fit kind self.now }
     {
         match kind {
