@@ -1,7 +1,7 @@
 -- How the first reply is read.
-use Rattle.std.proofs.Common.{◌≡◌, ℕ, ◌+◌, ◌<◌, ◌≤◌, true, false, List, [], ◌∷◌, ◌++◌, length, take, drop, get_or, refl, ap, sym, ◌∙◌, length-append, arith, subst, Option, Some, None, ◌||◌, ◌==◌, inl, inr, ⊎_elim, ◌⊎◌}
+use Rattle.std.proofs.Common.{◌≡◌, ℕ, ◌+◌, ◌<◌, true, false, List, [], ◌∷◌, ◌++◌, length, take, drop, get_or, refl, ap, sym, ◌∙◌, length-append, arith, subst, Option, Some, None, ◌||◌, ◌==◌, inl, inr, ⊎_elim, ◌⊎◌}
 use Rattle.std.proofs.lemmas.Bool.{cases_Bool}
-use Rattle.std.proofs.lemmas.List.{drop-append-le, drop-drop, drop_all, length-take-le, take_all, take_more}
+use Rattle.std.proofs.lemmas.List.{drop-append-le, drop-drop, drop_all, length-take-le, take_more}
 use Rattle.std.proofs.Math.Seq.{drop-append_seam}
 use Rattle.pos_escpos.specs.declared.printer_commands.NowStatus.{NowStatus}
 use Rattle.pos_escpos.specs.declared.printer_commands.OrderStatus.{OrderStatus}
@@ -12,7 +12,7 @@ use Rattle.pos_escpos.specs.Replies.{Reader, Reading, Step, after_step, answers_
 use Rattle.pos_wire.specs.declared.replies.Asked.{Asked}
 use Rattle.pos_wire.specs.declared.replies.Asked.TheVariants as asked
 use Rattle.pos_wire.specs.declared.replies.ReplyRead.{ReplyRead}
-use Rattle.pos_wire.specs.Replies.{EndsWith, HasNone, reader_of}
+use Rattle.pos_wire.specs.Replies.{EndsWith, reader_of}
 
 -- a reading with no reply
 abbrev pub quiet : ℕ → Reader → Reading
@@ -228,19 +228,4 @@ one_ends pieces start reader next bytes place none b received told read at withi
           ∙ ap (λ (r : Option PrinterReply). record { replies = replies_before r []; skipped = none + received.skipped; reader = next }) ends
           ∙ ap (λ (k : ℕ). record { replies = told ∷ []; skipped = k; reader = next }) (sym skipped);
       whole = none_begun reader.begun reader b (step_of received next) told ends comes;
-    }
-
-pub none_ends : (start reader : Reader) (bytes : List ℕ) (place none : ℕ) (read : ReplyRead) → At start reader bytes place none
-    → length bytes ≤ place → read.used ≡ none → read.skipped ≡ none → HasNone start bytes read
-none_ends start reader bytes place none read at end used skipped =
-    let all : take place bytes ≡ bytes = take_all place bytes end in
-    record {
-      left = reader;
-      none = ap (reading_of start) (sym all) ∙ at.read ∙ ap (λ (k : ℕ). quiet k reader) (sym skipped);
-      used = used ∙ sym skipped;
-      again = ap (λ (k : ℕ). reading_of start (drop k bytes)) used
-          ∙ ap (λ (xs : List ℕ). reading_of start (drop none xs)) (sym all)
-          ∙ ap (reading_of start) at.rest
-          ∙ ap (λ (r : Reader). reading_of r reader.begun) at.same
-          ∙ at.again;
     }

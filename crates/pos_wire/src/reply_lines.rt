@@ -196,9 +196,10 @@ fn printer_text(
     Ok(text)
 }
 
-/// Returns a printer's reply as lines, each of which ends with a line feed: `job` and its number for the acknowledgement
-/// of a job. For a status they are the inputs by which the device of this name, which shows these signs, comes to show
-/// it, as in a script, and then `status` with what it tells.
+/// Returns a printer's reply as lines, each of which ends with a line feed.
+///
+/// An acknowledgement is `job` and its number. A status is the inputs by which the device of this name, which shows
+/// these signs, comes to show it, as lines of a script, and then `status` with what it tells.
 ///
 /// # Errors
 ///

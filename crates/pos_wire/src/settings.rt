@@ -115,7 +115,7 @@ impl WireSettings {
         }
     }
 
-    /// Returns what a device's sensors mean, if its paper is near its end at so many lines, and a good roll has so many.
+    /// Returns what a device's sensors mean: its paper is near its end at `near` lines, and a good roll has `lines`.
     pub(crate) fn sensors(&self, near: u32, lines: u32) -> SensorSettings
         requires more { near < lines }
         requires most { lines ≤ 100000 }
