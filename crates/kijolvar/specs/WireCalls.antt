@@ -10,14 +10,14 @@ use Rattle.pos_escpos.specs.declared.printer_commands.NowStatus.TheVariants as n
 use Rattle.pos_escpos.specs.declared.printer_commands.OrderStatus.TheVariants as order_status
 use Rattle.pos_escpos.specs.declared.statuses.PrinterReply.{PrinterReply}
 use Rattle.pos_wire.specs.Orders.{HasNoBytes, SendsOrder}
-use Rattle.pos_wire.specs.ReplyReads.{Reads, reader_of}
-use Rattle.pos_wire.specs.ReplyText.{has_replies, reply_lines}
+use Rattle.pos_wire.specs.Replies.{Reads, reader_of}
+use Rattle.pos_wire.specs.ReplyLines.{TellsReply, has_replies}
 use Rattle.pos_wire.specs.Settings.{settings_fit}
 use Rattle.pos_wire.specs.declared.frames.JobEnd.{JobEnd}
 use Rattle.pos_wire.specs.declared.frames.JobEnd.TheVariants as job_end
-use Rattle.pos_wire.specs.declared.reply_reads.Asked.{Asked}
-use Rattle.pos_wire.specs.declared.reply_reads.Asked.TheVariants as asked
-use Rattle.pos_wire.specs.declared.reply_reads.ReplyRead.{ReplyRead}
+use Rattle.pos_wire.specs.declared.replies.Asked.{Asked}
+use Rattle.pos_wire.specs.declared.replies.Asked.TheVariants as asked
+use Rattle.pos_wire.specs.declared.replies.ReplyRead.{ReplyRead}
 use Rattle.pos_wire.specs.declared.settings.WireSettings.{WireSettings}
 use Rattle.pos_run.specs.declared.wrapped.Wrapped.{Wrapped}
 use Rattle.pos_run.specs.Simulating.{wrapped_state}
@@ -98,24 +98,24 @@ AnswersOrderBytes hosts till = AnswersBytesOf (pending_order hosts till)
 abbrev pub count_told : (code : ℕ) (before count : ℕ) → ℕ
 count_told code before count = if code == ok then count else before
 
--- the text of a reply; none if there is no reply
-abbrev pub text_read : Option PrinterReply → (PrinterReply → List ℕ) → List ℕ
-text_read None text_of = []
-text_read (Some reply) text_of = text_of reply
+-- a text is that of the reply; it is empty if there is no reply
+abbrev pub IsText : Option PrinterReply → (PrinterReply → List ℕ → Type 0) → List ℕ → Type 0
+IsText None is_of text = text ≡ []
+IsText (Some reply) is_of text = is_of reply text
 
 -- Bytes are read up to the end of the first reply, and its text is told. Without room for it none counts as read. If
--- no reply ends in them, there is no text.
-pub record TellsReply (settings : WireSettings) (name : List ℕ) (state : PeripheralState) (expected : Asked)
+-- no reply ends in them, the text is empty.
+pub record TellsFirst (settings : WireSettings) (name : List ℕ) (state : PeripheralState) (expected : Asked)
     (bytes : List ℕ) (used_before used skipped_before skipped : ℕ) (before after : List ℕ) (needed code : ℕ) : Type 0
   where
     pub read : ReplyRead
-    pub reads : Reads (reader_of expected) bytes read
+    pub reads : Reads (reader_of expected) bytes read read.reply
     pub used_told : used ≡ count_told code used_before read.used
     pub skipped_told : skipped ≡ count_told code skipped_before read.skipped
     pub fit : settings_fit state.kind settings ≡ true
-    pub tells : TellsWhole
-        (text_read read.reply (reply_lines settings name state.kind (signs_of state.kind state.plant)))
-        before after needed code
+    pub text : List ℕ
+    pub is : IsText read.reply (TellsReply settings name state.kind (signs_of state.kind state.plant)) text
+    pub tells : TellsWhole text before after needed code
 
 -- nothing is written, and the code is this one
 pub record TellsNoReply (used_before used skipped_before skipped : ℕ) (before after : List ℕ)
@@ -134,7 +134,7 @@ abbrev pub AnswersReplyOf : PeripheralState → WireSettings → (name : List �
     (used_before used skipped_before skipped : ℕ) (before after : List ℕ) (needed_before needed code : ℕ) → Type 0
 AnswersReplyOf state settings name expected bytes used_before used skipped_before skipped before after needed_before
     needed code =
-    TellsReply settings name state expected bytes used_before used skipped_before skipped before after needed code
+    TellsFirst settings name state expected bytes used_before used skipped_before skipped before after needed code
     ⊎ (IsNoReplyCode settings state code
     × TellsNoReply used_before used skipped_before skipped before after needed_before needed code code)
 
