@@ -18,6 +18,7 @@ NOUNS = {"ring", "string", "rounding", "spelling"}
 SHORT = {
     "crates/pos_profile/src/laws.rt": "its path is public",
     "crates/pos_drive/src/preview.rt": "a trait that whoever is driven has, as hosted.rt is one",
+    "crates/pos_drive/src/paper.rt": "a trait that whoever prints has, as preview.rt is one",
     "crates/pos_sims/src/print_preview.rt": "a trait of printers and of their wrappers, in files of their own",
     "crates/pos_sims/src/power.rt": "four devices use it, and it belongs to none more than to another",
 }
