@@ -726,24 +726,29 @@ def try_refusals():
 def try_random():
     """Random trouble: each order that was answered ok is on the paper once, in order, and nothing else is."""
     for kind in ("usb", "tcp", "asked"):
-        chance = random.Random(WORDS.seed)
-        rounds = WORDS.faults // 3
-        counts = {}
-        with contextlib.ExitStack() as stack:
-            shop = Shop(stack, kind, lines=100_000)
-            shop.device.load(100_000)
-            for number in range(rounds):
-                trouble = random_round(shop, chance, number, SIMPLE if kind == "asked" else ())
-                counts[trouble] = counts.get(trouble, 0) + 1
-            shop.device.clear_triggers()
-            shop.same_paper(f"{rounds} random faults over {kind}: the paper")
-            told(f"{rounds} random faults over {kind}: each order is printed", rounds,
-                 len({item.characters.split()[0] for item in shop.till.device("r1").show().items
-                      if not isinstance(item, PrintedCut)}))
-            told(f"{rounds} random faults over {kind}: no late order", 0, shop.driver.late_orders)
-            told(f"{rounds} random faults over {kind}: no more doubts than pulled plugs", True,
-                 len(shop.device.doubts) <= counts.get("plug", 0))
-            print(f"{rounds} random faults over {kind}: {counts}, in doubt: {len(shop.device.doubts)}", flush=True)
+        chance, left = random.Random(WORDS.seed), WORDS.faults // 3
+        while left > 0:
+            # A till keeps the paper of 500 orders of a driven printer.
+            random_rounds(kind, chance, min(left, 400))
+            left -= 400
+
+
+def random_rounds(kind, chance, rounds):
+    name, counts = f"{rounds} random faults over {kind}", {}
+    with contextlib.ExitStack() as stack:
+        shop = Shop(stack, kind, lines=100_000)
+        shop.device.load(100_000)
+        for number in range(rounds):
+            trouble = random_round(shop, chance, number, SIMPLE if kind == "asked" else ())
+            counts[trouble] = counts.get(trouble, 0) + 1
+        shop.device.clear_triggers()
+        shop.same_paper(f"{name}: the paper")
+        told(f"{name}: each order is printed", rounds,
+             len({item.characters.split()[0] for item in shop.till.device("r1").show().items
+                  if not isinstance(item, PrintedCut)}))
+        told(f"{name}: no late order", 0, shop.driver.late_orders)
+        told(f"{name}: no more doubts than pulled plugs", True, len(shop.device.doubts) <= counts.get("plug", 0))
+        print(f"{name}: {counts}, in doubt: {len(shop.device.doubts)}", flush=True)
 
 
 # What a printer that is asked must not meet: its answers have no number.
