@@ -1,5 +1,5 @@
 /* The devices' side of a till: inputs, work, the exchange of peripherals, and orders for devices of the host's. */
-#include "kij_internal.h"
+#include "kij_hardware.h"
 #include <string.h>
 
 static kij_result plain(int code) { return kij_internal_result(code, 0, KIJ_NO_CATEGORY); }
@@ -162,6 +162,7 @@ static bool is_order(char *text, kij_order *order) {
 /* Takes an order's line out, into the till's answer: the library's code. */
 static uint32_t take_order(kij_till *till) {
     size_t needed = 0;
+    if (kij_internal_kept_order(till)) return KIJOLVAR_ORDER;
     uint32_t code =
         kijolvar_next_order(till->inner, &till->inner.at, (uint8_t *)till->text, till->text_room - 1, &needed);
     if (code == KIJOLVAR_SHORT) {
