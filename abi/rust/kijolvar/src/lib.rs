@@ -52,9 +52,13 @@ mod control;
 #[rustfmt::skip]
 mod controls;
 mod devices;
+mod drivers;
+mod drives;
 mod error;
 mod event;
 mod line;
+mod links;
+mod ports;
 #[rustfmt::skip]
 mod property;
 mod questions;
@@ -70,8 +74,14 @@ pub use actor::Actor;
 pub use control::{Control, Key};
 pub use controls::{CashDrawer, HardTotals, LineDisplay, PosPrinter, Scanner};
 pub use devices::{Order, Work};
+pub use drivers::{
+    Cutter, DisplaySettings, Driver, DriverTill, EscPosDrawer, EscPosPrinter, EscPosSettings, OrderEnd, Protocol, Scan,
+    SerialDisplay, WedgeScanner,
+};
+pub use drives::DriverState;
 pub use error::{Cause, Error};
 pub use event::{ErrorEvent, Event, Events, StatusUpdate};
+pub use ports::{Flow, Parity, Port, SerialSettings};
 pub use property::{Property, PropertyType, Value};
 pub use questions::{check, devices, files, migrate, ProfileDevice, ProfileMistake, TotalsContents};
 pub use till::{Till, BUILT_PROFILE};
