@@ -1,5 +1,5 @@
-/* The drivers of a till: receipt printers with their drawers, customer displays and scanners. Orders are answered once the
-   devices have done them, or haven't. */
+/* The drivers of a till: receipt printers with their drawers, customer displays and scanners. Orders are answered
+   once the devices have done them, or haven't. */
 #include "kij_hardware.h"
 #include <poll.h>
 #include <stddef.h>
@@ -295,13 +295,15 @@ static bool keep(kij_till *till, const report *made, size_t needed) {
     const kij_buffer *inputs = &till->drives->inputs;
     size_t from = 0;
     for (size_t at = 0; made->has_inputs && at < inputs->size; at++) {
-        const char *end = inputs->bytes[at] != '\n' ? NULL : (const char *)memchr(till->text + from, '\n', needed - from);
+        if (inputs->bytes[at] != '\n') continue;
+        const char *end = (const char *)memchr(till->text + from, '\n', needed - from);
         if (end != NULL) from = (size_t)(end - till->text) + 1;
     }
     return kij_internal_buffer_add(&till->drives->answer, till->text + from, needed - from);
 }
 
-/* Has the orders carried out for which lines wait, until none is left: the library's code. The answer is in the drives. */
+/* Has the orders carried out for which lines wait, until none is left: the library's code. The answer is in the
+   drives. */
 static uint32_t finish(kij_till *till, uint32_t code, size_t *needed, bool is_wanted, bool *is_lost) {
     report made;
     int tries = 0;
@@ -428,11 +430,13 @@ static void add_byte(kij_drive *drive, uint8_t byte) {
     if (drive->begun_size <= LONGEST_CODE) drive->begun_size++;
 }
 
-/* The characters of the keys of the layout US from number 2 on, without and with shift; a 0 byte is no character. */
-static const char plain_keys[] = "1234567890-=\0\0qwertyuiop[]\0\0asdfghjkl;'`\0\\zxcvbnm,./\0\0\0 ";
-static const char shift_keys[] = "!@#$%^&*()_+\0\0QWERTYUIOP{}\0\0ASDFGHJKL:\"~\0|ZXCVBNM<>?\0\0\0 ";
+enum { FIRST_KEY = 2, KEY_COUNT = 56, EVENT_SIZE = 24 };
 
-enum { FIRST_KEY = 2, KEY_COUNT = sizeof plain_keys - 1, EVENT_SIZE = 24 };
+/* The characters of the keys of the layout US from number 2 on, without and with shift; a 0 byte is no character. */
+static const char key_characters[2][KEY_COUNT + 1] = {
+    "1234567890-=\0\0qwertyuiop[]\0\0asdfghjkl;'`\0\\zxcvbnm,./\0\0\0 ",
+    "!@#$%^&*()_+\0\0QWERTYUIOP{}\0\0ASDFGHJKL:\"~\0|ZXCVBNM<>?\0\0\0 ",
+};
 
 /* A key event of Linux: the time, a type, the key and whether it is down. Whether a code has ended. */
 static bool take_key(kij_drive *drive, const uint8_t *event) {
@@ -445,7 +449,7 @@ static bool take_key(kij_drive *drive, const uint8_t *event) {
     if (key == 42 || key == 54) drive->is_shifted = value != 0;
     else if ((key == 28 || key == 96) && value != 0) return true;
     else if (key >= FIRST_KEY && key < FIRST_KEY + KEY_COUNT && value != 0) {
-        char found = (drive->is_shifted ? shift_keys : plain_keys)[key - FIRST_KEY];
+        char found = key_characters[drive->is_shifted][key - FIRST_KEY];
         if (found != 0) add_byte(drive, (uint8_t)found);
     }
     return false;
@@ -457,11 +461,9 @@ static int scans(kij_till *till, kij_drive *drive, bool *is_any) {
     bool can_read, can_write;
     int code = KIJ_OK;
     while (code == KIJ_OK && kij_internal_port_is_open(port)) {
-        size_t count = 0, at = 0;
+        size_t room = sizeof drive->got - drive->got_size, count = 0, at = 0;
         kij_internal_port_wait(port, false, 0, &can_read, &can_write);
-        if (!can_read) break;
-        if (!kij_internal_port_read(port, drive->got + drive->got_size, sizeof drive->got - drive->got_size, &count)) break;
-        if (count == 0) break;
+        if (!can_read || !kij_internal_port_read(port, drive->got + drive->got_size, room, &count) || count == 0) break;
         drive->got_size += count;
         if (port->kind == KIJ_PORT_KEYS) {
             for (; code == KIJ_OK && at + EVENT_SIZE <= drive->got_size; at += EVENT_SIZE)
@@ -767,7 +769,8 @@ kij_result kij_escpos_printer_open(kij_till *till, const char *device, const cha
 }
 
 /* Opens a display or a scanner, whose drive is made with its port's name behind it. */
-static int open_port(kij_till *till, kij_drive *drive, const char *port, const kij_serial_settings *serial, bool has_keys) {
+static int open_port(kij_till *till, kij_drive *drive, const char *port, const kij_serial_settings *serial,
+                     bool has_keys) {
     bool is_any = false;
     const char *name = NULL;
     /* The name is kept with the room for codes. */

@@ -170,8 +170,8 @@ typedef struct kij_drive {
 /* The driven devices of a till. */
 typedef struct kij_drives {
     kij_drive *first;
-    /* The inputs of a report, the answer to lines so far, a spare room for answers, the bytes of an order, and orders of
-       hosted devices that came before one of a driven device. */
+    /* The inputs of a report, the answer to lines so far, a spare room for answers, the bytes of an order, and orders
+       of hosted devices that came before one of a driven device. */
     kij_buffer inputs;
     kij_buffer answer;
     kij_buffer spare;

@@ -1,5 +1,5 @@
-/* The line to a receipt printer: what is sent, what has been acknowledged, and what the printer says of itself. The bytes
-   of orders and the meaning of replies are the library's. */
+/* The line to a receipt printer: what is sent, what has been acknowledged, and what the printer says of itself. The
+   bytes of orders and the meaning of replies are the library's. */
 #include "kij_hardware.h"
 #include <stdio.h>
 #include <stdlib.h>
@@ -26,8 +26,8 @@ enum {
     ENOUGH = 2048
 };
 
-/* How long a lost port may take to open while other devices wait, how often a printer is asked, in milliseconds, and a time
-   before all others. */
+/* How long a lost port may take to open while other devices wait, how often a printer is asked, in milliseconds, and
+   a time before all others. */
 static const int64_t quickly = 250, often = 100, never = -1000000000;
 
 static inline int64_t least(int64_t one, int64_t other) { return one < other ? one : other; }
@@ -65,7 +65,8 @@ static void put_question(kij_link *link, uint32_t question) {
     put(link, bytes, sizeof bytes);
 }
 
-/* Asks a printer that says nothing by itself how it is: the printer, why it is offline, the paper, one after another. */
+/* Asks a printer that says nothing by itself how it is: the printer, why it is offline, the paper, one after another.
+   */
 static void ask_on(kij_link *link) {
     int64_t now = kij_internal_now();
     if (!link->is_asked || !is_idle(link)) return;
@@ -104,8 +105,8 @@ static void remove_due(kij_link *link, size_t place) {
     memmove(link->due + place, link->due + place + 1, (link->due_count - place) * sizeof link->due[0]);
 }
 
-/* Forgets what is due of orders that nobody asks for any more, where there is no room. What an acknowledgement says of the
-   others stays the same. */
+/* Forgets what is due of orders that nobody asks for any more, where there is no room. What an acknowledgement says
+   of the others stays the same. */
 static void make_room(kij_link *link) {
     for (size_t place = 0; link->due_count == KIJ_DUE_ROOM && place < KIJ_DUE_ROOM;) {
         if (job_of(link, link->due[place].job) != &link->paper) remove_due(link, place);
@@ -246,10 +247,10 @@ static void acknowledge_number(kij_link *link, uint32_t number) {
 
 bool kij_internal_reply(kij_till *till, const kij_word *name, const kijolvar_wire_settings *wire, const kij_told *told,
                         char *text, size_t room) {
+    const uint8_t *device = (const uint8_t *)name->text + 1;
     size_t used = 0, skipped = 0, needed = 0;
-    uint32_t code = kijolvar_replies(till->inner, &till->inner.at, (const uint8_t *)name->text + 1, name->size - 1, wire,
-                                     told->asked, told->bytes, told->size, &used, &skipped, (uint8_t *)text, room - 1,
-                                     &needed);
+    uint32_t code = kijolvar_replies(till->inner, &till->inner.at, device, name->size - 1, wire, told->asked,
+                                     told->bytes, told->size, &used, &skipped, (uint8_t *)text, room - 1, &needed);
     text[code == KIJOLVAR_OK ? needed : 0] = 0;
     return code == KIJOLVAR_OK;
 }
@@ -379,10 +380,11 @@ static bool take_first(kij_link *link) {
     char text[256];
     kij_till *till = link->till;
     size_t used = 0, skipped = 0, needed = 0;
+    const uint8_t *device = (const uint8_t *)link->name->text + 1;
     uint32_t asked = link->was_asked ? ASKED_NOW : 0;
-    uint32_t code = kijolvar_replies(till->inner, &till->inner.at, (const uint8_t *)link->name->text + 1,
-                                     link->name->size - 1, link->wire, asked, link->got, link->got_size, &used, &skipped,
-                                     (uint8_t *)text, sizeof text - 1, &needed);
+    uint32_t code =
+        kijolvar_replies(till->inner, &till->inner.at, device, link->name->size - 1, link->wire, asked, link->got,
+                         link->got_size, &used, &skipped, (uint8_t *)text, sizeof text - 1, &needed);
     if (code != KIJOLVAR_OK || used == 0) return false;
     text[needed] = 0;
     if (needed > 0) {
@@ -433,8 +435,8 @@ static bool receive(kij_link *link) {
 /* Sends what there is room for: false if the port was lost. */
 static bool write_some(kij_link *link) {
     size_t count = 0;
-    bool is_kept = kij_internal_port_write(&link->port, link->out.bytes + link->out_sent, link->out.size - link->out_sent,
-                                           &count);
+    const char *bytes = link->out.bytes + link->out_sent;
+    bool is_kept = kij_internal_port_write(&link->port, bytes, link->out.size - link->out_sent, &count);
     link->out_sent += count;
     return is_kept;
 }
@@ -592,8 +594,8 @@ static void put_marker(kij_link *link) {
     send_parcel(link, NULL, 0, NULL);
 }
 
-/* The job of the order that is out: the one that failed if it is the same, and how far that one has come. Null if the port
-   was lost. */
+/* The job of the order that is out: the one that failed if it is the same, and how far that one has come. Null if the
+   port was lost. */
 static kij_job *take_up(kij_link *link, bool is_once, int64_t end) {
     kij_job *job = is_once ? &link->paper : &link->pulse;
     if (!give_up(link, end)) return NULL;

@@ -1,5 +1,5 @@
-/* The ports of devices: a file such as /dev/usb/lp0, a serial line such as /dev/ttyUSB0, a TCP port, or the key events of
-   a keyboard. No call waits longer than it is told. */
+/* The ports of devices: a file such as /dev/usb/lp0, a serial line such as /dev/ttyUSB0, a TCP port, or the key
+   events of a keyboard. No call waits longer than it is told. */
 #ifndef _GNU_SOURCE
 #define _GNU_SOURCE
 #endif

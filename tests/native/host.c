@@ -1,5 +1,5 @@
-/* A host in C for tests/native.py: a till whose devices have drivers. It reads commands, a line each, and answers each by
-   a line:
+/* A host in C for tests/native.py: a till whose devices have drivers. It reads commands, a line each, and answers each
+   by a line:
 
    printer DEVICE PORT [drawer NAME] [timeout N] [pause N] [lines N] [width N] [asked] [serial SPEED]
    display DEVICE PORT [escpos] [timeout N] [pause N]

@@ -30,7 +30,8 @@ pub enum OrderEnd {
     Drawer,
 }
 
-/// What a driver may ask of its till while it carries out an order or looks at its device. Neither call changes anything.
+/// What a driver may ask of its till while it carries out an order or looks at its device. Neither call changes
+/// anything.
 pub struct DriverTill<'t> {
     pub(crate) inner: &'t mut Inner,
 }
@@ -185,11 +186,11 @@ pub struct EscPosSettings {
     pub pulse: (u8, u8),
     /// Whether the drawer is open when pin 3 of its connector is high.
     pub is_open_high: bool,
-    /// How many lines the till counts with when the sensors see enough paper: more than where its device is near the end,
-    /// at most 100,000.
+    /// How many lines the till counts with when the sensors see enough paper: more than where its device is near the
+    /// end, at most 100,000.
     pub lines: u32,
-    /// Whether the printer says nothing by itself, and doesn't know GS ( H. Then it is asked for its status (DLE EOT), and
-    /// whether an order is printed (GS r).
+    /// Whether the printer says nothing by itself, and doesn't know GS ( H. Then it is asked for its status (DLE
+    /// EOT), and whether an order is printed (GS r).
     pub is_asked: bool,
     /// How long an order may take.
     pub timeout: Duration,
@@ -263,8 +264,8 @@ fn check(till: &mut DriverTill<'_>, device: &str, settings: &WireSettings, port:
 
 /// A receipt printer with ESC/POS.
 ///
-/// An order counts as done once the printer has acknowledged it (GS ( H). If an order failed and the next one is the same,
-/// as a retry is, only the lines and cuts that the printer hasn't acknowledged are sent again.
+/// An order counts as done once the printer has acknowledged it (GS ( H). If an order failed and the next one is the
+/// same, as a retry is, only the lines and cuts that the printer hasn't acknowledged are sent again.
 ///
 /// ```no_run
 /// use kijolvar::{EscPosPrinter, EscPosSettings, Till, Totals, BUILT_PROFILE};
@@ -573,8 +574,8 @@ pub struct WedgeScanner {
 }
 
 impl WedgeScanner {
-    /// Returns a driver for the scanner at a port, /dev/input/.. for a keyboard wedge. It opens it once it drives a device,
-    /// and looks for it each second after it was lost.
+    /// Returns a driver for the scanner at a port, /dev/input/.. for a keyboard wedge. It opens it once it drives a
+    /// device, and looks for it each second after it was lost.
     pub fn open(device: impl Into<Port>) -> WedgeScanner {
         let port = Reopened::new(device.into(), Duration::from_secs(1));
         WedgeScanner { port, kind: 0, begun: Vec::new(), events: Vec::new(), is_shifted: false, found: Vec::new() }

@@ -16,8 +16,8 @@ use std::time::{Duration, Instant};
 pub struct DriverState {
     /// Whether its port is open, and a printer answers.
     pub is_online: bool,
-    /// How many orders a printer has printed after they had failed, and weren't asked for again. It had got them before it
-    /// stopped, and there is no command that takes them back.
+    /// How many orders a printer has printed after they had failed, and weren't asked for again. It had got them
+    /// before it stopped, and there is no command that takes them back.
     pub late_orders: u64,
 }
 
@@ -137,8 +137,8 @@ impl Inner {
         Ok(code)
     }
 
-    /// The whole answer to lines, by the code of the call that began with them. The orders for which lines wait are carried
-    /// out meanwhile, or reported as failed if nobody wants the answer.
+    /// The whole answer to lines, by the code of the call that began with them. The orders for which lines wait are
+    /// carried out meanwhile, or reported as failed if nobody wants the answer.
     fn finish(&mut self, mut code: u32, mut needed: usize, is_wanted: bool) -> Result<Vec<u8>, Cause> {
         let (mut parts, mut tries) = (Vec::new(), 0);
         let mut report: Option<Report> = None;

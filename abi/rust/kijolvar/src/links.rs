@@ -1,5 +1,5 @@
-//! The line to a receipt printer: what is sent, what has been acknowledged, and what the printer says of itself. The bytes
-//! of orders and the meaning of replies are the library's.
+//! The line to a receipt printer: what is sent, what has been acknowledged, and what the printer says of itself. The
+//! bytes of orders and the meaning of replies are the library's.
 use crate::drivers::{DriverTill, OrderEnd};
 use crate::ports::{Cable, Lost, Port};
 use crate::wire::{Asked, WireSettings};
@@ -69,8 +69,8 @@ impl Signs {
     }
 }
 
-/// An order on its way to the paper, piece by piece: a line, a cut or a pulse. One without any is one empty piece, so that
-/// the printer is asked. Places are in its bytes.
+/// An order on its way to the paper, piece by piece: a line, a cut or a pulse. One without any is one empty piece, so
+/// that the printer is asked. Places are in its bytes.
 #[derive(Debug, Default)]
 struct Job {
     number: u64,
@@ -301,8 +301,8 @@ impl Link {
         self.due.push_back(parcel);
     }
 
-    /// Puts out what comes next, once nothing is left of what went out before: what nothing acknowledges, and then pieces
-    /// of the order that is posted.
+    /// Puts out what comes next, once nothing is left of what went out before: what nothing acknowledges, and then
+    /// pieces of the order that is posted.
     fn fill(&mut self, posting: Option<bool>) {
         if self.out_sent < self.out.len() {
             return;
@@ -722,8 +722,8 @@ impl Link {
         self.pump(till, Until::Printed, Some(is_once), end)
     }
 
-    /// Sends the order that is out, and returns whether the printer acknowledged it within the timeout. If an order failed
-    /// and the next one is the same, only what wasn't printed is sent again, unless it isn't `is_once`.
+    /// Sends the order that is out, and returns whether the printer acknowledged it within the timeout. If an order
+    /// failed and the next one is the same, only what wasn't printed is sent again, unless it isn't `is_once`.
     pub(crate) fn carry_out(&mut self, till: &mut DriverTill<'_>, settings: &WireSettings, is_once: bool) -> bool {
         let end = Instant::now() + self.timeout;
         let size = if self.is_asked { QUESTION_SIZE } else { JOB_SIZE };

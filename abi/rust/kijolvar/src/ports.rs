@@ -1,5 +1,5 @@
-//! The ports of devices: a file such as /dev/usb/lp0, a serial line such as /dev/ttyUSB0, a TCP port, or the key events of
-//! a keyboard. No call waits longer than it is told.
+//! The ports of devices: a file such as /dev/usb/lp0, a serial line such as /dev/ttyUSB0, a TCP port, or the key
+//! events of a keyboard. No call waits longer than it is told.
 use std::ffi::{c_int, c_short, c_ulong, c_void};
 use std::fs::{File, OpenOptions};
 use std::io::{self, ErrorKind, Read, Write};
@@ -69,8 +69,8 @@ pub enum Port {
 impl Port {
     /// Returns the port of a name: `tcp:HOST` or `tcp:HOST:PORT` (9100 if there is none), or the path of a device file.
     ///
-    /// A path of /dev/tty.. or /dev/serial/.. is a serial line by [`SerialSettings::default`], and one of /dev/input/.. a
-    /// keyboard.
+    /// A path of /dev/tty.. or /dev/serial/.. is a serial line by [`SerialSettings::default`], and one of
+    /// /dev/input/.. a keyboard.
     ///
     /// ```
     /// use kijolvar::Port;

@@ -647,24 +647,24 @@ impl Till {
         Order::read(&line).map(Some).ok_or_else(|| failed(Cause::BadAnswer(line)))
     }
 
-    /// Has a driver carry out the orders of a device from now on. A call that orders something returns once the device has
-    /// done it. If it hasn't, the call is refused with E_EXTENDED (the cover is open, the paper is at its end), E_OFFLINE,
-    /// or E_FAILURE if the device gives no reason.
+    /// Has a driver carry out the orders of a device from now on. A call that orders something returns once the
+    /// device has done it. If it hasn't, the call is refused with E_EXTENDED (the cover is open, the paper is at its
+    /// end), E_OFFLINE, or E_FAILURE if the device gives no reason.
     ///
     /// Hardware that isn't there is no error: the device is off until [`Till::run_devices`] finds it.
     ///
     /// # Errors
     ///
-    /// [`Cause::BadDevice`], [`Cause::KindDiffers`], [`Cause::Driven`], [`Cause::BadSettings`]; [`Cause::NoDevice`] if it
-    /// can't be driven, as one with `flaky`; [`Cause::NoMemory`].
+    /// [`Cause::BadDevice`], [`Cause::KindDiffers`], [`Cause::Driven`], [`Cause::BadSettings`]; [`Cause::NoDevice`]
+    /// if it can't be driven, as one with `flaky`; [`Cause::NoMemory`].
     pub fn drive(&self, device: &str, driver: impl Driver + 'static) -> Result<(), Error> {
         let done = self.inner.borrow_mut().drive(device, Box::new(driver));
         done.map_err(|cause| Error::new("drive", cause))
     }
 
-    /// Does what the driven devices need: tells the till what they say of themselves and what was scanned, opens lost ports
-    /// again, and prints output that waits (AsyncMode). Call it regularly, and then deliver events. It waits as long as
-    /// this until there is something to do; printing may take longer. Returns whether anything was done.
+    /// Does what the driven devices need: tells the till what they say of themselves and what was scanned, opens lost
+    /// ports again, and prints output that waits (AsyncMode). Call it regularly, and then deliver events. It waits as
+    /// long as this until there is something to do; printing may take longer. Returns whether anything was done.
     ///
     /// # Errors
     ///
@@ -683,8 +683,9 @@ impl Till {
         self.inner.borrow().driver_state(device).map_err(|cause| Error::new("driver_state", cause))
     }
 
-    /// Reads bytes that a printer sent, up to the end of its first reply, for its device or the drawer on its connector.
-    /// Call it again with the bytes that are left, until the reply has no lines. This changes nothing of the till.
+    /// Reads bytes that a printer sent, up to the end of its first reply, for its device or the drawer on its
+    /// connector. Call it again with the bytes that are left, until the reply has no lines. This changes nothing of
+    /// the till.
     ///
     /// # Errors
     ///

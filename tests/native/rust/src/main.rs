@@ -1,9 +1,9 @@
-//! A host in Rust for tests/native.py: a till whose devices have drivers. tests/native/host.c says which commands it reads,
-//! and how it answers them.
+//! A host in Rust for tests/native.py: a till whose devices have drivers. tests/native/host.c says which commands it
+//! reads, and how it answers them.
 use kijolvar::standard::{Category, PrinterStation};
 use kijolvar::{
-    Cause, DisplaySettings, Driver, DriverTill, Error, EscPosPrinter, EscPosSettings, Flow, Order, Port, PosPrinter, Protocol,
-    SerialDisplay, SerialSettings, Till, Totals, WedgeScanner,
+    Cause, DisplaySettings, Driver, DriverTill, Error, EscPosPrinter, EscPosSettings, Flow, Order, Port, PosPrinter,
+    Protocol, SerialDisplay, SerialSettings, Till, Totals, WedgeScanner,
 };
 use std::io::{BufRead, Write};
 use std::time::Duration;
@@ -47,11 +47,10 @@ fn open_printer(till: &Till, words: &Words) -> Result<String, Error> {
         None => Port::of(words.0[1]),
     };
     let printer = EscPosPrinter::open(port, settings);
-    let drawer = words.value("drawer").map(|name| (name, printer.drawer()));
-    till.drive(words.0[0], printer)?;
-    if let Some((name, drawer)) = drawer {
-        till.drive(name, drawer)?;
+    if let Some(name) = words.value("drawer") {
+        till.drive(name, printer.drawer())?;
     }
+    till.drive(words.0[0], printer)?;
     Ok("ok".to_string())
 }
 
@@ -105,9 +104,9 @@ fn obey<'t>(till: &'t Till, printer: &mut Option<PosPrinter<'t>>, line: &str) ->
         "scanner" => open_scanner(till, &words),
         "own" => till.drive(words.0[0], Own(words.0[1].parse().unwrap())).map(|()| "ok".to_string()),
         "run" => till.run_devices(Duration::from_millis(words.0[0].parse().unwrap())).map(|is_any| is_any.to_string()),
-        "state" => till.driver_state(words.0[0]).map(|state| {
-            format!("{} {}", if state.is_online { "online" } else { "offline" }, state.late_orders)
-        }),
+        "state" => till
+            .driver_state(words.0[0])
+            .map(|state| format!("{} {}", if state.is_online { "online" } else { "offline" }, state.late_orders)),
         "lines" => till.carry_out(rest.replace(';', "\n")).map(|answers| answers.replace('\n', ";")),
         "print" => print(till, printer, rest),
         "host" => till.host(rest).map(|()| "ok".to_string()),
