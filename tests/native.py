@@ -434,6 +434,36 @@ def try_errands():
         told("the totals stay", "ok 06", host.line("call t read 1 0 1"))
 
 
+def try_memory():
+    """Want of memory at each allocation of an order in turn: what is answered ok is printed, and nothing is twice."""
+    with contextlib.ExitStack() as stack:
+        host = Host(stack)
+        if host.ask("memory 0") != "ok":
+            return
+        device = stack.enter_context(Printer(cable(), lines=100_000))
+        host.ask(f"printer r1 {device.path} timeout 100 pause 10")
+        host.lines("new r POSPrinter", "open r r1", "claim r 0", "set r DeviceEnabled true")
+        wanted, count, refused = [], 0, 0
+        while count - refused < 20 and count < 500:
+            count += 1
+            line = b"Line %d " % count + b"x" * min(count, 25)
+            host.ask(f"memory {count}")
+            answer = host.ask(f"lines call r printNormal 2 {line.hex()}0a")
+            host.ask("memory 0")
+            refused = count if answer != "ok;" else refused
+            # What has no answer was carried out.
+            end = time.monotonic() + PATIENCE
+            while answer not in ("ok;", "KIJ_NO_ANSWER") and time.monotonic() < end:
+                host.ask("run 0")
+                answer = host.ask(f"lines call r printNormal 2 {line.hex()}0a")
+            wanted.append(line)
+        told("want of memory ends", True, 0 < refused < 480)
+        told("want of memory: the paper", wanted, [item.characters for item in device.receipt()])
+        told("want of memory: the till's paper", str(100_000 - len(wanted)), host.line("show r1").split()[2])
+        told("want of memory: nothing is held", "ok", host.line("call r printNormal 2 410a"))
+        print(f"{WORDS.name}: memory was refused at up to {refused} allocations", flush=True)
+
+
 # ---- random faults
 
 # What a printer that is asked must not meet: its answers have no number.

@@ -82,6 +82,8 @@ bare=("$work/heap.o" "${KIJOLVAR_ARCHIVE:-$top/crates/kijolvar/out/libkijolvar.a
 runs "the host in C is built" gcc -std=c99 "${strict[@]}" -O1 -g -o "$work/host" "$here/host.c" "$work/libkijolvar.a"
 runs "the host in C is built with sanitizers" gcc -std=c99 "${strict[@]}" -O1 -g -fsanitize=address,undefined \
   -fno-sanitize-recover -o "$work/checked" "$here/host.c" "$abi"/c/kij_*.c "${bare[@]}"
+runs "the host in C is built with a heap" gcc -std=c99 "${strict[@]}" -O1 -g -DHOST_HAS_HEAP -o "$work/heap" \
+  "$here/host.c" "$work/libkijolvar.a" -Wl,--wrap=malloc,--wrap=calloc,--wrap=realloc
 runs "the host in C++17 is built" g++ -std=c++17 "${strict[@]}" -O1 -x c++ "$here/host.c" "$abi"/c/kij_*.c -x none \
   -o "$work/plus" "${bare[@]}"
 cat > "$work/watched" <<END
@@ -97,6 +99,7 @@ runs "the host in Rust is built" cargo build -q --offline --release --manifest-p
 tries "C" "$work/host" "$@"
 tries "C with sanitizers" "$work/checked" "$@"
 tries "C, watched" "$work/watched" --only plain --slack 6 "$@"
+tries "C, want of memory" "$work/heap" --only memory "$@"
 tries "C++" "$work/plus" --only plain "$@"
 tries "Rust" "$work/target/release/host" "$@"
 

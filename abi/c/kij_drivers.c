@@ -241,14 +241,6 @@ bool kij_internal_kept_order(kij_till *till) {
 
 /* ---- Lines that wait ---- */
 
-/* A report of an order. */
-typedef struct report {
-    bool is_made;
-    bool is_done;
-    /* Its inputs are in the till's drives, unless there are none. */
-    bool has_inputs;
-} report;
-
 /* Does the errands, and makes a longer room, until the answer is in the till. Without memory for it, it is lost. */
 static uint32_t settled(kij_till *till, uint32_t code, size_t *needed, bool *is_lost) {
     while (code == KIJOLVAR_ERRANDS || code == KIJOLVAR_SHORT) {
@@ -268,7 +260,7 @@ static uint32_t settled(kij_till *till, uint32_t code, size_t *needed, bool *is_
 }
 
 /* Has the order that waits carried out. A code of the library: KIJOLVAR_ORDER if it is reported. */
-static uint32_t serve(kij_till *till, bool is_wanted, report *made) {
+static uint32_t serve(kij_till *till, bool is_wanted, kij_report *made) {
     kij_drive *drive = NULL;
     uint32_t code = take_order(till, &drive);
     /* An order that was taken out before, and wasn't reported, is no more. */
@@ -284,14 +276,14 @@ static uint32_t serve(kij_till *till, bool is_wanted, report *made) {
     return KIJOLVAR_ORDER;
 }
 
-static uint32_t tell(kij_till *till, const report *made, size_t *needed) {
+static uint32_t tell(kij_till *till, const kij_report *made, size_t *needed) {
     const kij_buffer *inputs = &till->drives->inputs;
     return kijolvar_order_done(till->inner, &till->inner.at, made->is_done ? 0 : 1, (const uint8_t *)inputs->bytes,
                                made->has_inputs ? inputs->size : 0, (uint8_t *)till->text, till->text_room - 1, needed);
 }
 
 /* Keeps a part of the answer, without the answers to the inputs of a report, which are first. */
-static bool keep(kij_till *till, const report *made, size_t needed) {
+static bool keep(kij_till *till, const kij_report *made, size_t needed) {
     const kij_buffer *inputs = &till->drives->inputs;
     size_t from = 0;
     for (size_t at = 0; made->has_inputs && at < inputs->size; at++) {
@@ -302,12 +294,21 @@ static bool keep(kij_till *till, const report *made, size_t needed) {
     return kij_internal_buffer_add(&till->drives->answer, till->text + from, needed - from);
 }
 
+/* Ends without memory: some lines are held, or none is. What was printed is reported the next time, and the call has no
+   answer; if nothing was, nothing was done. */
+static uint32_t run_out(kij_till *till, bool is_holding, const kij_report *made, bool is_any_done) {
+    till->is_holding = is_holding;
+    if (is_holding && made->is_made && made->is_done) till->drives->unreported = *made;
+    return is_any_done ? KIJOLVAR_CUT : KIJOLVAR_NO_MEMORY;
+}
+
 /* Has the orders carried out for which lines wait, until none is left: the library's code. The answer is in the
    drives. */
 static uint32_t finish(kij_till *till, uint32_t code, size_t *needed, bool is_wanted, bool *is_lost) {
-    report made;
+    kij_report made = till->drives->unreported;
     int tries = 0;
-    memset(&made, 0, sizeof made);
+    bool is_any_done = made.is_done, is_told = false;
+    memset(&till->drives->unreported, 0, sizeof made);
     for (;;) {
         bool is_taken = true;
         code = settled(till, code, needed, is_lost);
@@ -315,11 +316,9 @@ static uint32_t finish(kij_till *till, uint32_t code, size_t *needed, bool is_wa
             /* Lines are held. If they wait, the report wasn't taken. If this is said again, it was, and they go on. */
             code = kijolvar_answer(till->inner, &till->inner.at, (uint8_t *)till->text, till->text_room - 1, needed);
             code = settled(till, code, needed, is_lost);
-            if (code == KIJOLVAR_OK || ++tries == 3) {
-                till->is_holding = code != KIJOLVAR_OK;
-                return KIJOLVAR_NO_MEMORY;
-            }
             is_taken = code == KIJOLVAR_NO_MEMORY;
+            if (is_taken) memset(&made, 0, sizeof made);
+            if (code == KIJOLVAR_OK || ++tries == 3) return run_out(till, code != KIJOLVAR_OK, &made, is_any_done);
         }
         if (code != KIJOLVAR_OK && code != KIJOLVAR_WAITS && code != KIJOLVAR_NO_MEMORY) {
             if (code == KIJOLVAR_CUT && !keep(till, &made, *needed)) *is_lost = true;
@@ -327,17 +326,17 @@ static uint32_t finish(kij_till *till, uint32_t code, size_t *needed, bool is_wa
         }
         if (is_taken) {
             if (!keep(till, &made, *needed)) *is_lost = true;
-            memset(&made, 0, sizeof made);
+            if (is_told) memset(&made, 0, sizeof made);
         }
         if (code == KIJOLVAR_OK) return code;
         if (code == KIJOLVAR_WAITS && !made.is_made) {
             uint32_t served = serve(till, is_wanted, &made);
-            if (served != KIJOLVAR_ORDER) {
-                till->is_holding = true;
-                return served;
-            }
+            if (served == KIJOLVAR_NO_MEMORY) return run_out(till, true, &made, is_any_done);
+            if (served != KIJOLVAR_ORDER) return served;
+            is_any_done |= made.is_done;
         }
         code = tell(till, &made, needed);
+        is_told = true;
     }
 }
 

@@ -167,9 +167,19 @@ typedef struct kij_drive {
     size_t got_size;
 } kij_drive;
 
+/* A report of an order. */
+typedef struct kij_report {
+    bool is_made;
+    bool is_done;
+    /* Its inputs are in the till's drives, unless there are none. */
+    bool has_inputs;
+} kij_report;
+
 /* The driven devices of a till. */
 typedef struct kij_drives {
     kij_drive *first;
+    /* What was printed, and couldn't be reported for want of memory. */
+    kij_report unreported;
     /* The inputs of a report, the answer to lines so far, a spare room for answers, the bytes of an order, and orders
        of hosted devices that came before one of a driven device. */
     kij_buffer inputs;

@@ -10,6 +10,7 @@
    print HEX         a typed call
    host DEVICE       kij_host
    order             kij_next_order: its device, or `none`
+   memory N          refuses all allocations from now on but N, and gives all again if N is 0 or less
 
    What is refused is answered by the name of its code, and the extended code if it has one. */
 #include "kij.h"
@@ -19,6 +20,28 @@
 
 static kij_till *till;
 static kij_control *printer;
+
+#ifdef HOST_HAS_HEAP
+static long left = -1;
+
+void *__real_malloc(size_t size);
+void *__real_calloc(size_t count, size_t size);
+void *__real_realloc(void *at, size_t size);
+void *__wrap_malloc(size_t size);
+void *__wrap_calloc(size_t count, size_t size);
+void *__wrap_realloc(void *at, size_t size);
+
+static bool comes(void) {
+    if (left > 0) left--;
+    return left != 0;
+}
+
+void *__wrap_malloc(size_t size) { return comes() ? __real_malloc(size) : NULL; }
+
+void *__wrap_calloc(size_t count, size_t size) { return comes() ? __real_calloc(count, size) : NULL; }
+
+void *__wrap_realloc(void *at, size_t size) { return comes() ? __real_realloc(at, size) : NULL; }
+#endif
 
 static void answer(kij_result result, const char *text) {
     if (result.code == KIJ_OK) printf("%s\n", text);
@@ -142,6 +165,14 @@ static void obey(char *line) {
     else if (strcmp(verb, "print") == 0) print();
     else if (strcmp(verb, "host") == 0) answer(kij_host(till, word()), "ok");
     else if (strcmp(verb, "order") == 0) order();
+#ifdef HOST_HAS_HEAP
+    else if (strcmp(verb, "memory") == 0) {
+        long count = number();
+        /* This is the answer, for which there is memory. */
+        puts("ok");
+        left = count > 0 ? count : -1;
+    }
+#endif
     else printf("not understood\n");
 }
 

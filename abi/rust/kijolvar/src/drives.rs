@@ -57,6 +57,8 @@ pub(crate) struct Drives {
     hosted: VecDeque<String>,
     /// Whether lines of an earlier call are held, since there was no memory to go on with them.
     pub(crate) is_holding: bool,
+    /// What was printed, and couldn't be reported for want of memory.
+    unreported: Option<Report>,
     has_served: bool,
     is_handing_in: bool,
 }
@@ -140,8 +142,9 @@ impl Inner {
     /// The whole answer to lines, by the code of the call that began with them. The orders for which lines wait are
     /// carried out meanwhile, or reported as failed if nobody wants the answer.
     fn finish(&mut self, mut code: u32, mut needed: usize, is_wanted: bool) -> Result<Vec<u8>, Cause> {
-        let (mut parts, mut tries) = (Vec::new(), 0);
-        let mut report: Option<Report> = None;
+        let (mut parts, mut tries, mut is_told) = (Vec::new(), 0, false);
+        let mut report = self.drives.unreported.take();
+        let mut is_any_done = report.is_some();
         loop {
             code = self.settled(code, &mut needed)?;
             let mut is_taken = true;
@@ -150,11 +153,16 @@ impl Inner {
                 code = self.answer(&mut needed);
                 code = self.settled(code, &mut needed)?;
                 tries += 1;
+                is_taken = code == library::NO_MEMORY;
+                if is_taken {
+                    report = None;
+                }
                 if code == library::OK || tries == TRIES {
                     self.drives.is_holding = code != library::OK;
-                    return Err(Cause::NoMemory);
+                    // What was printed is reported the next time, and the call has no answer.
+                    self.drives.unreported = report.filter(|report| report.is_done);
+                    return Err(if is_any_done { Cause::NoAnswer } else { Cause::NoMemory });
                 }
-                is_taken = code == library::NO_MEMORY;
             }
             match code {
                 library::OK | library::WAITS | library::NO_MEMORY => {}
@@ -162,7 +170,10 @@ impl Inner {
                 _ => return Err(Cause::DiskFailed),
             }
             if is_taken {
-                let count = report.take().map_or(0, |report| report.inputs.len());
+                let count = report.as_ref().map_or(0, |report| report.inputs.len());
+                if is_told {
+                    report = None;
+                }
                 // The answers of the inputs are first.
                 let text = self.text[..needed].split_inclusive(|byte| *byte == b'\n').skip(count);
                 parts.extend(text.flatten());
@@ -177,7 +188,9 @@ impl Inner {
                 Some(report) => report,
                 None => self.serve(is_wanted)?,
             };
+            is_any_done |= made.is_done;
             code = self.tell(&made, &mut needed);
+            is_told = true;
             report = Some(made);
         }
     }
