@@ -173,6 +173,12 @@ def try_plain():
         told("the cover is open", "E_EXTENDED 201", shop.host.ask(f"print {TEXT.hex()}"))
     with contextlib.ExitStack() as stack:
         shop = Shop(stack)
+        shop.device.load(21)
+        told("the paper is good", "ok false", shop.host.line("get r RecNearEnd"))
+        told("the paper is near its end", ["ok", "ok true"],
+             [shop.print(b"Line\n"), shop.host.line("get r RecNearEnd")])
+    with contextlib.ExitStack() as stack:
+        shop = Shop(stack)
         lines = ("get r State", "call r printNormal 2 410a", "get r State", "call r printNormal 2 420a",
                  "call r cutPaper 100", "get r CoverOpen")
         told("lines around orders", ["ok 2", "ok", "ok 2", "ok", "ok", "ok false"], shop.host.lines(*lines))
@@ -291,10 +297,20 @@ def try_late():
         shop.device.hang()
         told("an order of a silent printer", "err 111", shop.print(b"Late\n"))
         shop.device.hang(False)
+        told("it is printed", True, until(lambda: len(shop.device.receipt()) == 1))
+        time.sleep(0.05)
         told("it answers again", True, shop.settle())
         told("another order", "ok", shop.print(b"Other\n"))
         told("both are printed", [("left", b"Late"), ("left", b"Other")], shop.paper())
         told("one was late", "1", shop.late())
+        shop.device.hang()
+        told("a second order of a silent printer", "err 111", shop.print(b"Later\n"))
+        told("and a third", "err", shop.print(b"Third\n")[:3])
+        shop.device.hang(False)
+        told("it answers at last", True, shop.settle())
+        told("the third again", "ok", shop.print(b"Third\n"))
+        told("all are printed", [b"Late", b"Other", b"Later", b"Third"], [item[1] for item in shop.paper()])
+        told("two were late", "2", shop.late())
 
 
 def try_drawer():
@@ -335,6 +351,7 @@ def try_display():
             def shows(text, name):
                 told(f"{protocol}: {name}", "ok", host.line(f"call p displayTextAt 0 0 {text.hex()} 0"))
                 told(f"{protocol}: {name} is shown", True, until(lambda: device.shows().startswith(text), 2))
+            told(f"{protocol}: a text below", "ok", host.line("call p displayTextAt 1 0 5468616e6b73 0"))
             shows(b"Total 4.50", "a text")
             device.pull_plug()
             told(f"{protocol}: it is lost", True,
@@ -344,7 +361,7 @@ def try_display():
             told(f"{protocol}: it is found", True,
                  until(lambda: host.ask("run 10") and host.ask("state p1").startswith("online")))
             shows(b"Total 9.00", "a text again")
-            told(f"{protocol}: all of it", b"Total 9.00" + b" " * 30, device.shows())
+            told(f"{protocol}: all of it", b"Total 9.00".ljust(20) + b"Thanks".ljust(20), device.shows())
 
 
 def try_scanner():
@@ -413,6 +430,19 @@ def try_hosted():
         told("orders of both", ["ok"] * 3,
              shop.host.lines("call d openDrawer", "call r printNormal 2 410a", "call r printNormal 2 420a"))
         told("the hosted one", ["d2", "none"], [shop.host.ask("order"), shop.host.ask("order")])
+
+
+def try_own():
+    """A driver of the host's own, where the layer takes one."""
+    with contextlib.ExitStack() as stack:
+        host = Host(stack)
+        if host.ask("own d2 1") != "ok":
+            return
+        host.lines("new d CashDrawer", "open d d2", "set d DeviceEnabled true")
+        told("an order of the host's own driver", "ok", host.line("call d openDrawer"))
+        told("one that it can't do", "err 111", host.line("call d openDrawer"))
+        told("it is there", "online 0", host.ask("state d2"))
+        told("another kind", "KIJ_KIND_DIFFERS", host.ask("own p1 1"))
 
 
 def try_errands():
