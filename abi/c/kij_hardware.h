@@ -125,6 +125,7 @@ typedef struct kij_link {
     bool is_refreshing;
     bool was_asked;
     int64_t asked_at;
+    int64_t heard_at;
     int64_t tried_at;
     int64_t refreshed_at;
     /* Of one that is asked: the question that is out, when it was put, and what was heard of 1, 2 and 4. */

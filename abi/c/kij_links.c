@@ -4,6 +4,7 @@
 #include <stdio.h>
 #include <stdlib.h>
 #include <string.h>
+#include <unistd.h>
 
 /* What is sent while no order is out. Zero bytes do nothing, and end a command that an earlier connection has begun. */
 static const char started[] = "\0\0\0\0\0\0\0\0\0\0\0\0\x1b@\x1d"
@@ -303,6 +304,7 @@ static void come_back(kij_link *link) {
 /* The printer has answered something. */
 static void answered(kij_link *link) {
     link->was_asked = false;
+    link->heard_at = kij_internal_now();
     if (link->was_silent || !link->is_there) come_back(link);
 }
 
@@ -522,12 +524,14 @@ static void connect_port(kij_link *link, int64_t time) {
 void kij_internal_link_start(kij_link *link) {
     int64_t end = kij_internal_now() + link->timeout;
     link->end_size = link->is_asked ? QUESTION_SIZE : JOB_SIZE;
-    link->tried_at = link->refreshed_at = link->questioned_at = never;
+    link->tried_at = link->refreshed_at = link->questioned_at = link->heard_at = never;
+    /* A printer may still acknowledge jobs of a host that has ended. Those shouldn't have the numbers of these. */
+    link->number = ((uint32_t)kij_internal_now() ^ (uint32_t)getpid() * 2654435761u >> 8) % NUMBERS;
     connect_port(link, link->timeout);
     if (kij_internal_port_is_open(&link->port) && !pump(link, is_known, NULL, end)) lose(link);
 }
 
-/* Asks a printer that is silent, and one that has said that it can't print, whether that is still so. */
+/* Asks a printer that has said nothing for a time, and one that says that it can't print, for more. */
 static void look_after(kij_link *link) {
     int64_t now = kij_internal_now();
     bool is_late = link->was_asked && now - link->asked_at > link->timeout;
@@ -536,7 +540,8 @@ static void look_after(kij_link *link) {
         link->told_count = 0;
         memset(&link->signs, 0, sizeof link->signs);
     }
-    if (!link->is_there && (!link->was_asked || is_late) && is_idle(link)) ask(link);
+    bool is_heard = link->is_there && now - link->heard_at <= link->timeout;
+    if (!is_heard && (!link->was_asked || is_late) && is_idle(link)) ask(link);
     if (is_stopped(link) && !link->is_refreshing && now - link->refreshed_at > link->pause && is_idle(link)) {
         link->is_refreshing = true;
         link->refreshed_at = now;
@@ -614,6 +619,8 @@ static kij_job *take_up(kij_link *link, bool is_once, int64_t end) {
         if (!pump(link, is_settled, job, end)) return NULL;
     }
     if (!is_due(link, job)) {
+        /* Some of it was lost, and the printer may have begun a line. */
+        if (job->sent > job->done) put_start(link);
         job->sent = job->done;
         job->is_all_sent = job->is_done;
         job->is_torn = false;
@@ -625,7 +632,9 @@ static kij_job *take_up(kij_link *link, bool is_once, int64_t end) {
 static bool post(kij_link *link, kij_job *job, int64_t end) {
     if (job->is_done || is_stopped(link) || is_due(link, job)) return true;
     link->posting = job;
-    bool is_kept = pump(link, is_printed, job, end);
+    fill(link);
+    bool is_kept = link->out_sent == link->out.size || write_some(link);
+    is_kept = is_kept && pump(link, is_printed, job, end);
     link->posting = NULL;
     return is_kept;
 }

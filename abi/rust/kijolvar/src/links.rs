@@ -4,7 +4,7 @@ use crate::drivers::{DriverTill, OrderEnd};
 use crate::ports::{Cable, Lost, Port};
 use crate::wire::{Asked, WireSettings};
 use std::collections::VecDeque;
-use std::time::{Duration, Instant};
+use std::time::{Duration, Instant, SystemTime, UNIX_EPOCH};
 
 /// What is sent while no order is out. Zero bytes do nothing, and end a command that an earlier connection has begun.
 const START: &[u8] = b"\0\0\0\0\0\0\0\0\0\0\0\0\x1b@\x1da\xff";
@@ -152,6 +152,7 @@ pub(crate) struct Link {
     was_silent: bool,
     is_refreshing: bool,
     asked_at: Option<Instant>,
+    heard_at: Option<Instant>,
     tried_at: Option<Instant>,
     refreshed_at: Option<Instant>,
     /// Of one that is asked: the question that is out, when it was put, and what was heard.
@@ -168,6 +169,13 @@ pub(crate) fn is_over(since: Option<Instant>, time: Duration) -> bool {
     since.is_none_or(|since| since.elapsed() >= time)
 }
 
+/// A number of a job. A printer may still acknowledge jobs of a host that has ended, which shouldn't have the numbers of
+/// these.
+fn first_number() -> u16 {
+    let now = SystemTime::now().duration_since(UNIX_EPOCH).unwrap_or_default();
+    (now.subsec_nanos() >> 8) as u16
+}
+
 impl Link {
     pub(crate) fn new(port: Port, timeout: Duration, pause: Duration, is_asked: bool) -> Link {
         Link {
@@ -182,7 +190,7 @@ impl Link {
             pulse: None,
             jobs: 0,
             end: Vec::new(),
-            number: 0,
+            number: first_number(),
             due: VecDeque::new(),
             out: Vec::new(),
             out_sent: 0,
@@ -198,6 +206,7 @@ impl Link {
             was_silent: false,
             is_refreshing: false,
             asked_at: None,
+            heard_at: None,
             tried_at: None,
             refreshed_at: None,
             question: 0,
@@ -398,6 +407,7 @@ impl Link {
     /// The printer has answered something.
     fn answered(&mut self) {
         self.asked_at = None;
+        self.heard_at = Some(Instant::now());
         if self.was_silent || !self.is_there {
             self.come_back();
         }
@@ -604,7 +614,7 @@ impl Link {
         }
     }
 
-    /// Asks a printer that is silent, and one that has said that it can't print, whether that is still so.
+    /// Asks a printer that has said nothing for a time, and one that says that it can't print, for more.
     fn look_after(&mut self) {
         let is_late = self.asked_at.is_some_and(|asked_at| asked_at.elapsed() > self.timeout);
         if is_late {
@@ -612,7 +622,8 @@ impl Link {
             self.told.clear();
             self.signs = Signs::default();
         }
-        if !self.is_there && (self.asked_at.is_none() || is_late) && self.is_idle() {
+        let is_heard = self.is_there && !is_over(self.heard_at, self.timeout);
+        if !is_heard && (self.asked_at.is_none() || is_late) && self.is_idle() {
             self.ask();
         }
         if self.is_stopped() && !self.is_refreshing && is_over(self.refreshed_at, self.pause) && self.is_idle() {
@@ -707,6 +718,10 @@ impl Link {
             self.pump(till, Until::Settled, None, end)?;
         }
         if self.due_of(number) == 0 {
+            if self.current(true).sent > self.current(true).done {
+                // Some of it was lost, and the printer may have begun a line.
+                self.put_start();
+            }
             let job = self.current(true);
             (job.sent, job.is_all_sent, job.is_torn) = (job.done, job.is_done, false);
         }
@@ -718,6 +733,10 @@ impl Link {
         let (number, is_done) = (self.current(is_once).number, self.current(is_once).is_done);
         if is_done || self.is_stopped() || self.due_of(number) > 0 {
             return Ok(());
+        }
+        self.fill(Some(is_once));
+        if self.out_sent < self.out.len() {
+            self.write_some()?;
         }
         self.pump(till, Until::Printed, Some(is_once), end)
     }
