@@ -401,14 +401,14 @@ uint32_t kijolvar_order_done(kijolvar_till till, void **out, uint32_t outcome, c
     uint8_t *text, size_t text_len, size_t *needed);
 
 /* Writes the bytes of the pending order of a driven device to bytes, and to needed how many they are, and returns
-   OK. It is the order that waits, or that the host has. Send them to the hardware as they are (abi/README.md, "Bytes of
-   orders"). This changes nothing of the till. The till is what is written to out from then on.
+   OK. It is the order that waits, or that the host has. Send them to the hardware as they are (abi/README.md, "Bytes
+   of orders"). This changes nothing of the till. The till is what is written to out from then on.
 
    - settings say what the hardware is. Only those of the device's kind count.
    - is_new is 1 if these are the first bytes of a connection, or if a line failed before: the hardware is started
      then, and a display gets all its rows. Otherwise it is 0.
-   - end is what is asked of a printer behind the bytes: 0 to 65,535 the acknowledgement of a job of this number, 65,536
-     its paper (GS r 1), 65,537 its drawer (GS r 2), and 65,538 or more nothing.
+   - end is what is asked of a printer behind the bytes: 0 to 65,535 the acknowledgement of a job of this number,
+     65,536 its paper (GS r 1), 65,537 its drawer (GS r 2), and 65,538 or more nothing.
 
    Errors:
 
@@ -421,9 +421,10 @@ uint32_t kijolvar_order_done(kijolvar_till till, void **out, uint32_t outcome, c
 uint32_t kijolvar_order_bytes(kijolvar_till till, void **out, const kijolvar_wire_settings *settings, uint32_t is_new,
     uint32_t end, uint8_t *bytes, size_t bytes_len, size_t *needed);
 
-/* Reads bytes that a printer sent, up to the end of the first reply. Writes the reply's lines to text, and to needed
-   how many bytes they have, 0 if no reply ends in these bytes. Returns OK. name is the printer's device, or that of
-   the drawer on its connector. This changes nothing of the till. The till is what is written to out from then on.
+/* Reads bytes that a printer sent, up to the end of the first reply. Writes the reply's lines to text, and to
+   needed how many bytes they have, 0 if no reply ends in these bytes. Returns OK. name is the printer's device, or
+   that of the drawer on its connector. This changes nothing of the till. The till is what is written to out from
+   then on.
 
    - asked is what the printer was asked before: 1 to 4 DLE EOT of this number, 5 GS r 1, 6 GS r 2, and 0 nothing.
    - used says how many bytes were read, with the reply. Pass the others again, with what comes behind them.

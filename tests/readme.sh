@@ -48,6 +48,8 @@ TOP = os.environ["TOP"]
 # docs/guide/getting-started.md leaves.
 FIRST = ["abi/README.md", "README.md", "docs/guide/getting-started.md", "docs/reference/trouble.md"]
 GUIDE = sorted(os.path.relpath(path, TOP) for path in glob.glob(os.path.join(TOP, "docs/guide/*.md")))
+# Its commands need devices: tests/devices.sh runs them over emulated ones.
+GUIDE.remove("docs/guide/attach-your-printer.md")
 OTHERS = ["CONTRIBUTING.md", "docs/reference/console.md", "docs/reference/profile.md"]
 DOCUMENTS = [*FIRST, *(path for path in GUIDE if path not in FIRST), *OTHERS]
 BLOCK = re.compile(r"^```(\w*)\n(.*?)^```$|((?:^    [^\n]*\n|^\n(?=    ))+)", re.M | re.S)

@@ -25,7 +25,7 @@ from ._devices import (Device, DisplayView, DrawerView, Order, PrintedCut, Print
 from ._events import DataEvent, ErrorEvent, Event, OutputCompleteEvent, StatusUpdateEvent
 from ._files import open_totals
 from ._library import find as load
-from .drivers import Driver, Scan, WedgeScanner
+from .drivers import Driver, EscPosDrawer, EscPosPrinter, Scan, SerialDisplay, WedgeScanner
 from ._questions import ProfileDevice, TotalsContents, check, devices, files, migrate
 from ._wire import JOB_DRAWER, JOB_PAPER, Asked, Reply, WireSettings
 from .errors import *
@@ -37,10 +37,11 @@ __version__ = "0.1.0"
 
 __all__ = [
     "Asked", "CashDrawer", "Claim", "Control", "DataEvent", "Device", "DisplayView", "DrawerView", "Driver",
-    "ErrorEvent", "Event", "FileClaim", "FilePort", "HardTotals", "JOB_DRAWER", "JOB_PAPER", "LineDisplay", "Order",
-    "OutputCompleteEvent", "POSPrinter", "Port", "PortError", "PrintedCut", "PrintedLine", "Printer", "PrinterView",
-    "ProfileDevice", "Reply", "Scan", "Scanner", "ScannerView", "SerialPort", "StandardControl", "StatusUpdateEvent",
-    "TcpPort", "Till", "Totals", "TotalsContents", "TotalsFile", "WedgeScanner", "WireSettings", "WorkDone",
+    "ErrorEvent", "EscPosDrawer", "EscPosPrinter", "Event", "FileClaim", "FilePort", "HardTotals", "JOB_DRAWER",
+    "JOB_PAPER", "LineDisplay", "Order", "OutputCompleteEvent", "POSPrinter", "Port", "PortError", "PrintedCut",
+    "PrintedLine", "Printer", "PrinterView", "ProfileDevice", "Reply", "Scan", "Scanner", "ScannerView",
+    "SerialDisplay", "SerialPort", "StandardControl", "StatusUpdateEvent", "TcpPort", "Till", "Totals",
+    "TotalsContents", "TotalsFile", "WedgeScanner", "WireSettings", "WorkDone",
     "WorkFailed", "check", "create_totals", "devices", "files", "load", "migrate", "open", "open_totals", "port_of",
 ]
 __all__ += _constants.__all__

@@ -36,9 +36,11 @@ class Drive:
         """What has happened at the device, as lines of inputs. One that is back is on first."""
         if not self.driver.is_online:
             return self.power_off()
-        lines = b"" if self.is_on else b"input %b power on\n" % self.word
+        happened = self.driver.happened()
+        if not (self.is_on or "power on" in happened):
+            happened = ["power on", *happened]
         self.is_on = True
-        return lines + b"".join(b"input %b %b\n" % (self.word, words.encode()) for words in self.driver.happened())
+        return b"".join([b"input %b %b\n" % (self.word, words.encode()) for words in happened])
 
 
 class Drives:
@@ -57,13 +59,13 @@ class Drives:
             raise DriverError(f"{device.name!r} is a {device.category}, and the driver is for a {driver.category}")
         if device.name in self._drives:
             raise DriverError(f"{device.name!r} has a driver already")
-        driver.start(device)
-        if device.category != "Scanner":
-            try:
+        try:
+            driver.begin(self._till, device)
+            if device.category != "Scanner":
                 self._session.drive(device_word(device.name))
-            except BaseException:
-                driver.close()
-                raise
+        except BaseException:
+            driver.close()
+            raise
         self._drives[device.name] = Drive(device, driver)
         self.hand_in()
 

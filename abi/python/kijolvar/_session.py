@@ -345,16 +345,13 @@ class Session:
 
     def _taken_out(self) -> Iterator[bytes]:
         """The orders that the library has."""
-        room: Any = ctypes.create_string_buffer(_ROOM)
-        needed = ctypes.c_size_t()
         while True:
             self.check()
-            code = self._library.kijolvar_next_order(self._raw, self._out, room, len(room), ctypes.byref(needed))
+            code = self._library.kijolvar_next_order(self._raw, self._out, self._bytes, len(self._bytes),
+                                                     self._count_at)
             if code == KIJOLVAR_OK:
                 return
-            if code == KIJOLVAR_SHORT:
-                room = ctypes.create_string_buffer(needed.value)
-            elif code == KIJOLVAR_ORDER:
-                yield room[:needed.value]
+            if code == KIJOLVAR_ORDER:
+                yield self._bytes[:self._count.value]
             else:
-                raise library_fault(code)
+                self._lengthen(code)

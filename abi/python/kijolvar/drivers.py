@@ -1,9 +1,12 @@
-"""Drivers: they move orders from a till to its devices, and what happens at the devices to the till.
+"""Drivers: they move bytes between a till and the devices on its ports.
 
-    till.drive("r1", MyPrinter())
+    till.drive("r1", EscPosPrinter("/dev/usb/lp0", drawer="d1"))
+    till.drive("p1", SerialDisplay(SerialPort("/dev/ttyUSB0", 9600)))
     till.drive("s1", WedgeScanner("/dev/input/by-id/usb-scanner-event-kbd"))
 
-A class made from `Driver` knows the hardware. It is used in the till's thread alone.
+What the bytes of orders and replies are says the library. A driver waits for the device's acknowledgement, with a
+timeout, and opens a port that was lost again. It is used in the till's thread alone. For other hardware make a class of
+your own from `Driver`.
 """
 from __future__ import annotations
 
@@ -16,13 +19,23 @@ import struct
 import time
 from collections import deque
 from dataclasses import dataclass
-from typing import Union
+from typing import TYPE_CHECKING, Literal, Union
 
 from ._devices import Order
 from ._library import Path
+from ._links import AskedLink, PrinterLink, Wire
 from ._questions import ProfileDevice
+from ._wire import WireSettings
 from .ports import FilePort, Port, PortError, port_of
 
+if TYPE_CHECKING:
+    from .till import Till
+
+Cutter = Literal["both", "full", "partial", "absent"]
+Protocol = Literal["cd5220", "escpos"]
+_CUTTERS, _PROTOCOLS = ("both", "full", "partial", "absent"), ("cd5220", "escpos")
+# The most lines that a printer's device counts.
+_MOST_LINES = 100_000
 # How long a lost port may take to open, in seconds, while other devices wait.
 _QUICKLY = 0.25
 
@@ -40,6 +53,10 @@ class Driver:
     def is_online(self) -> bool:
         """Whether the device is there. If not, the till takes it as switched off."""
         return True
+
+    def begin(self, till: Till, device: ProfileDevice) -> None:
+        """Begins, as `start` does, for a driver that needs the till: its `order_bytes` and `replies`."""
+        self.start(device)
 
     def start(self, device: ProfileDevice) -> None:
         """Begins. The device is that of the profile. Hardware that isn't there is no error: `poll` looks for it."""
@@ -60,12 +77,275 @@ class Driver:
         """The codes that were read since the last call."""
         return []
 
+    def others(self) -> dict[str, Driver]:
+        """Other devices of the till on the same port, by their names, and their drivers."""
+        return {}
+
     def files(self) -> list[int]:
         """The file descriptors at which something may come."""
         return []
 
     def close(self) -> None:
         """Ends, and closes the port."""
+
+
+class EscPosPrinter(Driver):
+    """A receipt printer with ESC/POS, and the drawer on its connector.
+
+    An order counts as done once the printer has acknowledged it (GS ( H). If an order failed and the next one is the
+    same, as a retry is, only the lines and cuts that the printer hasn't acknowledged are sent again.
+
+    Args:
+        port: The port, or its name as `port_of` takes it: /dev/usb/lp0, /dev/ttyUSB0, tcp:192.168.1.9:9100.
+        drawer: The name of the till's drawer that is on the printer's connector. It is driven too (EscPosDrawer).
+        width: How many characters the printer prints on a line; as many as the device's lines have if it is None.
+        cutter: What the cutter does: "both" (full cuts and partial ones), "full", "partial" or "absent".
+        feed: How far paper is fed before a cut, in dots; in lines if there is no cutter.
+        pin: The pin of the drawer connector, 2 or 5.
+        pulse: How long the pulse for the drawer lasts, and the pause after it, in 2 ms.
+        is_open_high: Whether the drawer is open when pin 3 of its connector is high.
+        lines: How many lines the till counts with when the sensors see enough paper, at most 100,000. If it has counted
+            down to the near end and they still see enough, it begins again.
+        is_asked: Whether the printer says nothing by itself, and doesn't know GS ( H, as simpler ones. Then it is asked
+            for its status (DLE EOT), and whether an order is printed (GS r).
+        timeout: How long an order may take, in seconds.
+        pause: How long to wait before a lost port is tried again, in seconds.
+
+    Raises:
+        ValueError: No printer has such a setting.
+    """
+
+    category = "POSPrinter"
+
+    def __init__(self, port: Union[Port, Path], *, drawer: str | None = None, width: int | None = None,
+                 cutter: Cutter = "both", feed: int = 3, pin: int = 2, pulse: tuple[int, int] = (25, 250),
+                 is_open_high: bool = True, lines: int = _MOST_LINES, is_asked: bool = False, timeout: float = 5.0,
+                 pause: float = 1.0) -> None:
+        if cutter not in _CUTTERS:
+            raise ValueError(f"no such cutter: {cutter!r}")
+        if not (0 <= feed <= 255 and pin in (2, 5) and all(0 <= time <= 255 for time in pulse)):
+            raise ValueError("feed and the times of the pulse are 0 to 255, and the pin is 2 or 5")
+        if not 1 <= lines <= _MOST_LINES:
+            raise ValueError(f"a roll has 1 to {_MOST_LINES} lines")
+        self._width, self._lines = width, lines
+        self._cutter, self._feed, self._pin, self._pulse = _CUTTERS.index(cutter), feed, pin, pulse
+        self._is_open_high = is_open_high
+        self.link = (AskedLink if is_asked else PrinterLink)(port_of(port), timeout, pause)
+        self._wire: Wire | None = None
+        self._is_known = False
+        self._others: dict[str, Driver] = {} if drawer is None else {drawer: EscPosDrawer(self)}
+
+    def __repr__(self) -> str:
+        return f"<kijolvar.EscPosPrinter {self.link.port.name!r}, {'online' if self.is_online else 'offline'}>"
+
+    @property
+    def late_orders(self) -> int:
+        """How many orders were printed after they had failed, and weren't asked for again. The printer had got them
+        before it stopped, and there is no command that takes them back."""
+        return self.link.late
+
+    @property
+    def is_online(self) -> bool:
+        return self.link.is_online
+
+    def begin(self, till: Till, device: ProfileDevice) -> None:
+        chars, near = device.chars or 0, device.near or 0
+        if self._width is not None and self._width < chars:
+            raise ValueError(f"{device.name} has lines of {chars}, and the printer prints {self._width}")
+        if near >= _MOST_LINES:
+            raise ValueError(f"{device.name} is near its end with {near} lines, and a roll has {_MOST_LINES} at most")
+        self._width, self._lines = self._width or chars, max(self._lines, near + 1)
+        self._wire = self.link.wire = self._wire_of(till, device)
+        self._open()
+
+    def _wire_of(self, till: Till, device: ProfileDevice) -> Wire:
+        """The library's calls for the printer or for its drawer."""
+        on, off = self._pulse
+        return Wire(till, device.name, WireSettings(
+            width=self._width or 0, cutter=self._cutter, feed=self._feed, lines=self._lines, pin=self._pin, on=on,
+            off=off, open_is_high=self._is_open_high))
+
+    def _open(self) -> None:
+        """Opens the port, unless that was tried already."""
+        if not self.link.is_begun:
+            self.link.start()
+
+    def carry_out(self, order: Order) -> bool:
+        assert self._wire is not None
+        return self.link.carry_out(self._wire)
+
+    def happened(self) -> list[str]:
+        assert self._wire is not None
+        words = _told(self.link, self._wire)
+        if not self._is_known and self.link.told:
+            self._is_known = True
+            if self.link.has_paper:
+                words.append(f"paper {self._lines}")
+        return words
+
+    def poll(self) -> None:
+        self.link.poll()
+
+    def others(self) -> dict[str, Driver]:
+        return self._others
+
+    def files(self) -> list[int]:
+        return [self.link.port.fileno()] if self.link.port.is_open else []
+
+    def close(self) -> None:
+        self.link.close()
+        self._is_known = False
+
+
+class EscPosDrawer(Driver):
+    """The drawer on a receipt printer's connector.
+
+    Args:
+        printer: The driver of the printer, whether or not the till drives that too.
+        settle: How long the drawer may take to open, in seconds. If its sensor still says closed then, it is.
+    """
+
+    category = "CashDrawer"
+
+    def __init__(self, printer: EscPosPrinter, settle: float = 1.0) -> None:
+        self._printer, self._settle = printer, settle
+        self._wire: Wire | None = None
+        self._kicked_at: float | None = None
+        self._statuses = 0
+
+    def __repr__(self) -> str:
+        return f"<kijolvar.EscPosDrawer on {self._printer!r}>"
+
+    @property
+    def is_online(self) -> bool:
+        return self._printer.is_online
+
+    def begin(self, till: Till, device: ProfileDevice) -> None:
+        self._wire = self._printer._wire_of(till, device)
+        if self._printer.link.wire is None:
+            self._printer.link.wire = self._wire
+        self._printer._open()
+
+    def carry_out(self, order: Order) -> bool:
+        assert self._wire is not None
+        statuses = self._printer.link.statuses
+        is_done = self._printer.link.carry_out(self._wire, is_once=False)
+        if is_done:
+            self._kicked_at, self._statuses = time.monotonic(), statuses
+        return is_done
+
+    def happened(self) -> list[str]:
+        assert self._wire is not None
+        words = _told(self._printer.link, self._wire)
+        if self._kicked_at is not None:
+            # The drawer may be on its way: a status that says closed is from before.
+            is_open = "closed" not in words and self._printer.link.statuses > self._statuses
+            if is_open or time.monotonic() - self._kicked_at >= self._settle:
+                self._kicked_at = None
+            else:
+                words = [word for word in words if word != "closed"]
+        return words
+
+    def poll(self) -> None:
+        self._printer.poll()
+
+    def files(self) -> list[int]:
+        return self._printer.files()
+
+    def close(self) -> None:
+        self._printer.close()
+
+
+def _told(link: PrinterLink, wire: Wire) -> list[str]:
+    """What the printer has told last, as the words of inputs, so far as the device shows something else."""
+    words: list[str] = []
+    for told in link.told:
+        for line in wire.reply(told.data, told.asked).lines:
+            kind, *rest = line.split(" ", 2)
+            if kind == "input" and rest[1] not in words:
+                words.append(rest[1])
+    return words
+
+
+class SerialDisplay(Driver):
+    """A customer display with CD5220 or ESC/POS. It shows characters: blinking and reverse ones as normal ones.
+
+    A display answers nothing, so an order counts as done once its bytes have left this machine. A display that was
+    lost shows all its rows again with the next order.
+
+    Args:
+        port: The port, or its name as `port_of` takes it.
+        protocol: "cd5220" or "escpos".
+        timeout: How long an order may take, in seconds.
+        pause: How long to wait before a lost port is tried again, in seconds.
+
+    Raises:
+        ValueError: There is no such protocol.
+    """
+
+    category = "LineDisplay"
+
+    def __init__(self, port: Union[Port, Path], protocol: Protocol = "cd5220", *, timeout: float = 2.0,
+                 pause: float = 1.0) -> None:
+        if protocol not in _PROTOCOLS:
+            raise ValueError(f"no such protocol: {protocol!r}")
+        self.port, self._timeout, self._pause = port_of(port), timeout, pause
+        self._settings = WireSettings(protocol=_PROTOCOLS.index(protocol))
+        self._till: Till | None = None
+        self._tried_at, self._is_new = -1e9, True
+
+    def __repr__(self) -> str:
+        return f"<kijolvar.SerialDisplay {self.port.name!r}, {'online' if self.is_online else 'offline'}>"
+
+    @property
+    def is_online(self) -> bool:
+        return self.port.is_open
+
+    def begin(self, till: Till, device: ProfileDevice) -> None:
+        self._till = till
+        self._connect(self._timeout)
+
+    def carry_out(self, order: Order) -> bool:
+        assert self._till is not None
+        self._listen()
+        if not self.port.is_open:
+            return False
+        data = self._till.order_bytes(self._settings, self._is_new)
+        try:
+            is_done = self.port.write(data, self._timeout)
+        except PortError:
+            return False
+        if is_done:
+            self._is_new = False
+        else:
+            # The display has a part of it.
+            self.port.close()
+        return is_done
+
+    def poll(self) -> None:
+        if not self.port.is_open:
+            if time.monotonic() - self._tried_at >= self._pause:
+                self._connect(_QUICKLY)
+            return
+        self._listen()
+
+    def _listen(self) -> None:
+        """Finds out whether the port was lost. What a display says means nothing."""
+        with contextlib.suppress(PortError):
+            while self.port.ready(False, 0)[0]:
+                self.port.read_some()
+
+    def _connect(self, seconds: float) -> None:
+        self._is_new = True
+        with contextlib.suppress(PortError):
+            self.port.open(seconds)
+        self._tried_at = time.monotonic()
+
+    def files(self) -> list[int]:
+        return [self.port.fileno()] if self.port.is_open else []
+
+    def close(self) -> None:
+        self.port.close()
 
 
 @dataclass(frozen=True)

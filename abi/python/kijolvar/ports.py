@@ -4,7 +4,6 @@ A driver opens its port when it needs it, and opens it again after it was lost. 
 """
 from __future__ import annotations
 
-import contextlib
 import errno
 import fcntl
 import os
@@ -13,7 +12,6 @@ import socket
 import stat
 import termios
 import time
-from collections.abc import Iterator
 from typing import Any, Literal, Union
 
 from ._library import Path
@@ -21,6 +19,7 @@ from ._library import Path
 Parity = Literal["none", "even", "odd"]
 Flow = Literal["none", "rts-cts", "xon-xoff"]
 _AT_ONCE = 65_536
+_READABLE = select.POLLIN | select.POLLHUP | select.POLLERR | select.POLLNVAL
 
 
 class PortError(OSError):
@@ -42,6 +41,8 @@ class Port:
     def __init__(self, name: str) -> None:
         self.name, self.turns = name, 0
         self._file: int | None = None
+        # What waits until bytes can be read, and until they can be read or written.
+        self._waits = select.poll(), select.poll()
         # Whether reading no bytes means that the port is lost.
         self._ends_empty = True
 
@@ -81,6 +82,9 @@ class Port:
         except (OSError, termios.error) as fault:
             code = fault.args[0] if fault.args else errno.EIO
             raise PortError(code, f"{self.name} can't be opened: {fault}") from fault
+        self._waits = select.poll(), select.poll()
+        self._waits[False].register(self._file, select.POLLIN)
+        self._waits[True].register(self._file, select.POLLIN | select.POLLOUT)
         self.turns += 1
 
     def close(self) -> None:
@@ -95,12 +99,13 @@ class Port:
         Raises:
             PortError: The port isn't open.
         """
-        waiting = select.poll()
-        waiting.register(self.fileno(), select.POLLIN | (select.POLLOUT if is_writing else 0))
-        found = waiting.poll(max(0.0, seconds) * 1000)
-        flags = found[0][1] if found else 0
-        can_read = bool(flags & (select.POLLIN | select.POLLHUP | select.POLLERR | select.POLLNVAL))
-        return can_read, bool(flags & select.POLLOUT)
+        if self._file is None:
+            self.fileno()
+        found = self._waits[is_writing].poll(seconds * 1000 if seconds > 0 else 0)
+        if not found:
+            return False, False
+        flags = found[0][1]
+        return flags & _READABLE != 0, flags & select.POLLOUT != 0
 
     def read_some(self) -> bytes:
         """Returns what has come, if `ready` said that something has. That may be nothing.
@@ -108,12 +113,14 @@ class Port:
         Raises:
             PortError: The port was lost. It is closed then.
         """
-        with self._losing():
+        try:
             found = os.read(self.fileno(), _AT_ONCE)
-            if not found and self._ends_empty:
-                raise PortError(errno.EPIPE, f"{self.name} was closed by the device")
-            return found
-        return b""
+        except OSError as fault:
+            self._loses(fault)
+            return b""
+        if not found and self._ends_empty:
+            self._loses(PortError(errno.EPIPE, f"{self.name} was closed by the device"))
+        return found
 
     def write_some(self, data: bytes) -> int:
         """Writes what there is room for, and returns how many bytes that was.
@@ -121,9 +128,11 @@ class Port:
         Raises:
             PortError: The port was lost. It is closed then.
         """
-        with self._losing():
+        try:
             return os.write(self.fileno(), data[:_AT_ONCE])
-        return 0
+        except OSError as fault:
+            self._loses(fault)
+            return 0
 
     def write(self, data: bytes, seconds: float) -> bool:
         """Writes bytes, and returns whether all are out in that time. If not, some of them may be.
@@ -148,19 +157,14 @@ class Port:
         """
         return self.read_some() if self.ready(False, seconds)[0] else b""
 
-    @contextlib.contextmanager
-    def _losing(self) -> Iterator[None]:
-        """Closes the port if it was lost."""
-        try:
-            yield
-        except (BlockingIOError, InterruptedError):
-            pass
-        except PortError:
-            self.close()
-            raise
-        except OSError as fault:
-            self.close()
-            raise PortError(errno.EIO, f"{self.name} was lost: {fault}") from fault
+    def _loses(self, fault: Exception) -> None:
+        """Closes the port and says so, unless the fault means only that there is nothing to do now."""
+        if isinstance(fault, (BlockingIOError, InterruptedError)):
+            return
+        self.close()
+        if isinstance(fault, PortError):
+            raise fault
+        raise PortError(errno.EIO, f"{self.name} was lost: {fault}") from fault
 
     def _opened(self, seconds: float) -> int:
         raise NotImplementedError
@@ -238,11 +242,13 @@ class SerialPort(FilePort):
 
     def _drained(self, end: float) -> bool:
         """Looks how much waits in the line's driver, in place of waiting for it without an end."""
-        with self._losing():
+        try:
             while int.from_bytes(fcntl.ioctl(self.fileno(), termios.TIOCOUTQ, bytes(4)), "little"):
                 if time.monotonic() >= end:
                     return False
                 time.sleep(0.001)
+        except OSError as fault:
+            self._loses(fault)
         return True
 
 
@@ -271,15 +277,17 @@ def _raw(file: int) -> list[Any]:
 
 
 def port_of(name: Union[Port, Path]) -> Port:
-    """Returns the port of a name: `tcp://HOST` or `tcp://HOST:PORT`, or the path of a device file.
+    """Returns the port of a name: `tcp:HOST` or `tcp:HOST:PORT`, also with `//` before HOST, or the path of a device
+    file.
 
-    A path of /dev/tty.. or /dev/serial/.. is a serial line of 9,600 bits per second with RTS/CTS. For other settings
-    use SerialPort.
+    A path of /dev/tty.. or /dev/serial/.., or a link to one, is a serial line of 9,600 bits per second with RTS/CTS.
+    For other settings use SerialPort.
     """
     if isinstance(name, Port):
         return name
     text = os.fspath(name)
-    if text.startswith("tcp://"):
-        host, colon, port = text[len("tcp://"):].rpartition(":")
+    if text.startswith("tcp:"):
+        host, colon, port = text[len("tcp:"):].removeprefix("//").rpartition(":")
         return TcpPort(host, int(port)) if colon else TcpPort(port)
-    return SerialPort(text) if text.startswith(("/dev/tty", "/dev/serial/")) else FilePort(text)
+    is_serial = os.path.realpath(text).startswith("/dev/tty") or text.startswith("/dev/serial/")
+    return SerialPort(text) if is_serial else FilePort(text)

@@ -270,10 +270,13 @@ class Till:
             NoDeviceError: The profile has no device of the name, or it can't be driven, as one with `flaky`.
             DriverError: The driver is for another category, or the device has one already.
         """
-        found = next((one for one in self._devices() if one.name == device), None)
-        if found is None:
-            raise NoDeviceError(KIJOLVAR_NO_DEVICE, f"the profile has no device {device!r}")
-        self._drives.add(found, driver)
+        known = {one.name: one for one in self._devices()}
+        drivers = {device: driver, **driver.others()}
+        for name in drivers:
+            if name not in known:
+                raise NoDeviceError(KIJOLVAR_NO_DEVICE, f"the profile has no device {name!r}")
+        for name, one in drivers.items():
+            self._drives.add(known[name], one)
 
     def order_bytes(self, settings: WireSettings, is_new: bool = False, job: int | None = None) -> bytes:
         """The bytes by which hardware does the order that its driver is carrying out: those of an ESC/POS printer, a

@@ -55,7 +55,7 @@ sync = 11
 abbrev pub order_told : ℕ
 order_told = 12
 
--- no device of the name has orders
+-- no device of the name has orders, or replies
 abbrev pub no_device : ℕ
 no_device = 13
 
@@ -87,9 +87,13 @@ no_control = 19
 abbrev pub waits : ℕ
 waits = 20
 
--- the host has no order
+-- the host has no order, or it has no bytes
 abbrev pub no_order : ℕ
 no_order = 21
+
+-- the settings of the hardware are out of their ranges
+abbrev pub bad_settings : ℕ
+bad_settings = 22
 
 -- the code of a text that is told, by whether the room holds it: this one, or that it doesn't
 abbrev pub told_as : ℕ → Bool → ℕ

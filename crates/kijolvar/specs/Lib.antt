@@ -16,3 +16,4 @@ pub mod Questions
 pub mod Mistakes
 pub mod Surveys
 pub mod DeviceTexts
+pub mod WireCalls

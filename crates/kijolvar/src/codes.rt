@@ -44,7 +44,7 @@ pub(crate) const SYNC: u32 = 11;
 /// An order was written.
 pub(crate) const ORDER: u32 = 12;
 
-/// No device of the name has orders.
+/// No device of the name has orders, or replies.
 pub(crate) const NO_DEVICE: u32 = 13;
 
 /// The profile isn't UTF-8, or is no TOML document.
@@ -68,8 +68,11 @@ pub(crate) const NO_CONTROL: u32 = 19;
 /// A line waits until the host has reported what became of an order.
 pub(crate) const WAITS: u32 = 20;
 
-/// The host has no order that it may report.
+/// There is no order to report, or none that has bytes.
 pub(crate) const NO_ORDER: u32 = 21;
+
+/// The settings of the hardware are out of their ranges.
+pub(crate) const BAD_SETTINGS: u32 = 22;
 
 /// Returns the code of lines that were carried out, all of them or as far as none waited: OK; SHORT if the room doesn't
 /// hold their answer; CUT if memory ran out for it; WAITS if the next one waits, and NO_MEMORY if it found no memory.

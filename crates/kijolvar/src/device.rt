@@ -1,4 +1,5 @@
 //! The devices of a till.
+ghost use Rattle.std.specs.Prelude.{◌≡◌};
 ghost use Rattle.kijolvar.specs.Orders.{device_state, mounts_device};
 
 use crate::tray::{Post, Tray};
@@ -20,6 +21,15 @@ pub struct Device {
     driven: Driven<Wrapped>,
     asks: u64,
     post: Option<Post>,
+}
+
+impl Device {
+    /// Returns the simulated peripheral in it.
+    pub(crate) fn twin(&self) -> &Wrapped
+        ensures { result.now ≡ self.now.driven.twin }
+    {
+        self.driven.twin()
+    }
 }
 
 impl Peripheral for Device {

@@ -31,6 +31,7 @@ ghost use Rattle.kijolvar.specs.Reports.{AnswersReport};
 ghost use Rattle.kijolvar.specs.Surveys.{AnswersSurvey};
 ghost use Rattle.kijolvar.specs.Tills.{Begins, Fails, HandsOver, AnswersNextErrand};
 ghost use Rattle.kijolvar.specs.TillDisks.{hosted};
+ghost use Rattle.kijolvar.specs.WireCalls.{AnswersOrderBytes, AnswersReplies};
 
 mod answers;
 mod codes;
@@ -53,6 +54,7 @@ mod surveys;
 mod till;
 mod till_disk;
 mod tray;
+mod wire_calls;
 
 use answers::tell_text;
 use codes::{BAD_PROFILE, DISK_FAILED, NO_MEMORY, OK, TOO_SMALL, UNDONE};
@@ -65,6 +67,7 @@ use pos_drive::Hosted;
 use pos_image::new_disk;
 use pos_profile::{Profile, ProfileFault};
 use pos_service::{NoMemory, Peripheral};
+use pos_wire::WireSettings;
 use reports::report;
 use session::Session;
 use std::alloc::Global;
@@ -571,6 +574,87 @@ pub extern "C" fn kijolvar_order_done(
 {
     let mut session = take(till);
     let code = report(&mut session, outcome, inputs, text, needed);
+    leave(session, out);
+    code
+}
+
+/// Writes the bytes of the pending order of a driven device to `bytes`, and to `needed` how many they are, and returns
+/// OK. It is the order that waits, or that the host has. Send them to the hardware as they are (abi/README.md, "Bytes
+/// of orders"). This changes nothing of the till. The till is what is written to `out` from then on.
+///
+/// - `settings` say what the hardware is. Only those of the device's kind count.
+/// - `is_new` is 1 if these are the first bytes of a connection, or if a line failed before: the hardware is started
+///   then, and a display gets all its rows. Otherwise it is 0.
+/// - `end` is what is asked of a printer behind the bytes: 0 to 65,535 the acknowledgement of a job of this number,
+///   65,536 its paper (GS r 1), 65,537 its drawer (GS r 2), and 65,538 or more nothing.
+///
+/// # Errors
+///
+/// - SHORT if `bytes` has less room. Then only `needed` is written.
+/// - NO_ORDER if no order is pending, or the order has no bytes for hardware of its kind.
+/// - BAD_SETTINGS if a setting of the device's kind is out of its range.
+/// - NO_MEMORY if memory ran out.
+///
+/// But for SHORT nothing is written then.
+#[unsafe(no_mangle)]
+pub extern "C" fn kijolvar_order_bytes(
+    till: Till,
+    out: &mut Slot,
+    settings: &WireSettings,
+    is_new: u32,
+    end: u32,
+    bytes: &mut [u8],
+    needed: &mut usize,
+) -> u32
+    ensures till { out.new.left ≡ Some till.session }
+    ensures bytes { AnswersOrderBytes ⟦<Device as Hosted>⟧.course till.session settings.now is_new end bytes.old
+        bytes.new needed.old needed.new result }
+{
+    let session = take(till);
+    let code = session.order_bytes(settings, is_new, end, bytes, needed);
+    leave(session, out);
+    code
+}
+
+/// Reads bytes that a printer sent, up to the end of the first reply. Writes the reply's lines to `text`, and to
+/// `needed` how many bytes they have, 0 if no reply ends in these bytes. Returns OK. `name` is the printer's device, or
+/// that of the drawer on its connector. This changes nothing of the till. The till is what is written to `out` from
+/// then on.
+///
+/// - `asked` is what the printer was asked before: 1 to 4 DLE EOT of this number, 5 GS r 1, 6 GS r 2, and 0 nothing.
+/// - `used` says how many bytes were read, with the reply. Pass the others again, with what comes behind them.
+/// - `skipped` says how many of those are no reply.
+///
+/// The lines are `input` lines by which the device becomes what the printer says, and then `status` with what it says;
+/// or `job` and a number, if all of that job is printed (abi/README.md, "Bytes of orders").
+///
+/// # Errors
+///
+/// - SHORT if `text` has less room. Then only `needed` is written, and no byte is used.
+/// - NO_DEVICE if the profile has no printer or drawer of the name, or it is detached.
+/// - BAD_SETTINGS if a setting of the device's kind is out of its range.
+/// - NO_MEMORY if memory ran out.
+///
+/// But for SHORT nothing is written then.
+#[unsafe(no_mangle)]
+pub extern "C" fn kijolvar_replies(
+    till: Till,
+    out: &mut Slot,
+    name: &[u8],
+    settings: &WireSettings,
+    asked: u32,
+    bytes: &[u8],
+    used: &mut usize,
+    skipped: &mut usize,
+    text: &mut [u8],
+    needed: &mut usize,
+) -> u32
+    ensures till { out.new.left ≡ Some till.session }
+    ensures reply { AnswersReplies ⟦<Device as Peripheral>⟧ till.session settings.now name.now asked bytes.now used.old
+        used.new skipped.old skipped.new text.old text.new needed.old needed.new result }
+{
+    let session = take(till);
+    let code = session.replies(name, settings, asked, bytes, used, skipped, text, needed);
     leave(session, out);
     code
 }

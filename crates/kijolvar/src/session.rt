@@ -7,6 +7,7 @@ ghost use Rattle.kijolvar.specs.LineAnswers.{AnswersAs, TakesLines};
 ghost use Rattle.kijolvar.specs.NextOrders.{NextOrder};
 ghost use Rattle.kijolvar.specs.Reports.{TakesReport};
 ghost use Rattle.kijolvar.specs.Tills.{Begins, CarriesOut, Fails, HandsOver, AnswersNextErrand, settlement_of};
+ghost use Rattle.kijolvar.specs.WireCalls.{AnswersOrderBytes, AnswersReplies};
 
 use crate::answers::tell;
 use crate::codes::{DISK_FAILED, ERRANDS, NO_MEMORY, WAITS, code_of};
@@ -16,6 +17,7 @@ use crate::hosted_devices::{drive_device, host_device, next_order};
 use crate::kept::Kept;
 use crate::till_disk::{Settlement, TillDisk};
 use crate::tray::Tray;
+use crate::wire_calls::{tell_order_bytes, tell_reply};
 use pos_disk::Disk;
 use pos_drive::Hosted;
 use pos_profile::Profile;
@@ -23,6 +25,7 @@ use pos_run::{Held, Names, carry_out_lines, end_counter, simulate_profile};
 use pos_script::LineBuffer;
 use pos_service::{NoMemory, Peripheral};
 use pos_streams::{MemorySink, WriteFault};
+use pos_wire::WireSettings;
 use std::alloc::Global;
 use std::collections::VecDeque;
 use std::marker::Model;
@@ -237,6 +240,50 @@ impl Session {
             needed.new result self.new }
     {
         next_order(&mut self.kept, &self.tray, text, needed)
+    }
+
+    /// Writes the bytes of the order that waits or that the host has, and returns OK.
+    ///
+    /// # Errors
+    ///
+    /// SHORT, NO_ORDER, BAD_SETTINGS and NO_MEMORY as `tell_order_bytes` has them.
+    pub fn order_bytes(
+        &self,
+        settings: &WireSettings,
+        is_new: u32,
+        end: u32,
+        bytes: &mut [u8],
+        needed: &mut usize,
+    ) -> u32
+        ensures { AnswersOrderBytes ⟦<Device as Hosted>⟧.course self.now settings.now is_new end bytes.old bytes.new
+            needed.old needed.new result }
+    {
+        tell_order_bytes(&self.kept, self.alloc, settings, is_new, end, bytes, needed)
+    }
+
+    /// Reads what a printer sent up to the end of the first reply, writes its lines for the device of a name, and
+    /// returns OK.
+    ///
+    /// # Errors
+    ///
+    /// SHORT, NO_DEVICE, BAD_SETTINGS and NO_MEMORY as `tell_reply` has them.
+    pub fn replies(
+        &self,
+        name: &[u8],
+        settings: &WireSettings,
+        asked: u32,
+        bytes: &[u8],
+        used: &mut usize,
+        skipped: &mut usize,
+        text: &mut [u8],
+        needed: &mut usize,
+    ) -> u32
+        ensures { AnswersReplies ⟦<Device as Peripheral>⟧ self.now settings.now name.now asked bytes.now used.old
+            used.new skipped.old skipped.new text.old text.new needed.old needed.new result }
+    {
+        tell_reply(
+            &self.kept, self.alloc, name, settings, asked, bytes, used, skipped, text, needed,
+        )
     }
 
     /// Writes the number of the control of a name, and returns OK.

@@ -1,0 +1,520 @@
+"""The line to a receipt printer: what is sent, what has been acknowledged, and what the printer says of itself."""
+from __future__ import annotations
+
+import random
+import re
+import time
+from collections import deque
+from collections.abc import Callable
+from dataclasses import dataclass, field
+from typing import TYPE_CHECKING
+
+from ._wire import JOB_PAPER, Asked, Reply, WireSettings
+from .ports import Port, PortError
+
+if TYPE_CHECKING:
+    from .till import Till
+
+# What is sent while no order is out; the bytes of orders are the library's. Zero bytes do nothing, and end a command
+# that an earlier connection has begun.
+_ZEROS = b"\0" * 12
+_INITIALIZE, _STATUS_ON, _STATUS_OFF = b"\x1b@", b"\x1da\xff", b"\x1da\0"
+_STATUS_NOW = b"\x10\x04"
+# How many numbers of jobs there are.
+_NUMBERS = 65_536
+# How many bytes ask for an acknowledgement: GS ( H, or GS r.
+_JOB_SIZE, _QUESTION_SIZE = 11, 3
+# How long a lost port may take to open while other devices wait, and how often a printer is asked, in seconds.
+_QUICKLY, _OFTEN = 0.25, 0.1
+# What ends a piece: a line feed, a pulse, a feed, or a cut.
+_PIECE = re.compile(rb"(?:\x1b[^pd].|[^\n\x1b\x1d])*(?:\n|\x1bp...|\x1bd.|\x1dV(?:[AB].|[^AB])|\Z)", re.S)
+
+
+def pieces_of(data: bytes) -> list[bytes]:
+    """The lines, cuts and pulses of an order, each with the commands that belong to it."""
+    return [piece for piece in _PIECE.findall(data) if piece]
+
+
+class Wire:
+    """The library's two calls with bytes, for a device and its settings."""
+
+    def __init__(self, till: Till, device: str, settings: WireSettings) -> None:
+        self._order_bytes, self._replies = till.order_bytes, till.replies
+        self._device, self._settings = device, settings
+
+    def order(self, job: int) -> bytes:
+        """The bytes of the order that is out. Behind them stands what asks for an acknowledgement."""
+        return self._order_bytes(self._settings, job=job)
+
+    def reply(self, data: bytes, asked: int | None = None) -> Reply:
+        """The first reply in what the device has sent."""
+        return self._replies(self._device, self._settings, data, asked)
+
+
+@dataclass(frozen=True)
+class Told:
+    """A reply that tells how the printer is: its bytes, and what was asked."""
+
+    data: bytes
+    asked: int | None = None
+
+
+class Job:
+    """An order on its way to the paper, piece by piece.
+
+    Attributes:
+        data: Its bytes.
+        pieces: Its lines, cuts and pulses; an order without any is one empty piece, so that the printer is asked.
+        sent: How many pieces were sent.
+        done: How many pieces are printed, as far as is known.
+        is_torn: Pieces were lost, and later ones may have been printed.
+        is_once: Whether it is for the paper, where the same order must not be twice.
+    """
+
+    def __init__(self, data: bytes, is_once: bool) -> None:
+        self.data, self.is_once = data, is_once
+        self.pieces = pieces_of(data) or [b""]
+        self.sent = self.done = 0
+        self.is_torn = False
+
+    @property
+    def is_done(self) -> bool:
+        """Whether all of it is printed."""
+        return self.done == len(self.pieces)
+
+    def is_late(self, now: Job | None) -> bool:
+        """Whether it puts something on the paper that isn't asked for any more."""
+        return self.is_once and self.data != b"" and self is not now
+
+
+@dataclass(eq=False)
+class _Parcel:
+    """Bytes that go out whole. Once their number is acknowledged, so many pieces of the job are printed."""
+
+    rest: bytes
+    number: int | None = None
+    job: Job | None = None
+    done: int = 0
+    is_begun: bool = False
+    turn: int = field(default=0)
+
+
+class PrinterLink:
+    """The line to a printer, which acknowledges in order what it has printed.
+
+    Attributes:
+        wire: The library's calls for what the printer sends.
+        is_begun: Whether the port was opened, or that was tried.
+        statuses: How many statuses have come.
+        told: The replies that tell how the printer is; none before the first one.
+        signs: What they tell, by the words of a status; such as "open" for "cover".
+        late: How many orders were printed whole after they had failed, while nothing asked for them again.
+    """
+
+    _start, _refresh = _ZEROS + _INITIALIZE + _STATUS_ON, _STATUS_ON
+    _end_size = _JOB_SIZE
+
+    def __init__(self, port: Port, timeout: float, pause: float) -> None:
+        self.port, self.timeout, self._pause = port, timeout, pause
+        self.wire: Wire | None = None
+        self.is_begun = False
+        self.told: list[Told] = []
+        self.statuses = self.late = 0
+        self.signs: dict[str, str] = {}
+        self._job: Job | None = None
+        # A printer may still acknowledge jobs of a host that has ended. Those shouldn't have the numbers of these.
+        self._number = random.randrange(_NUMBERS)
+        self._outbox: deque[_Parcel] = deque()
+        self._due: deque[_Parcel] = deque()
+        self._got = bytearray()
+        self._is_there = self._has_answered = self._was_silent = self._is_refreshing = False
+        self._tried_at = self._refreshed_at = self._heard_at = -1e9
+        self._asked_at: float | None = None
+
+    @property
+    def is_online(self) -> bool:
+        """Whether the port is open and the printer answers."""
+        return self.port.is_open and self._is_there
+
+    @property
+    def is_stopped(self) -> bool:
+        """Whether the printer has said that it prints nothing now, and why."""
+        signs = self.signs
+        return signs.get("offline") == "yes" and (
+            signs.get("cover") == "open" or signs.get("fault") == "yes" or signs.get("paper") == "empty")
+
+    @property
+    def has_paper(self) -> bool:
+        """Whether its sensors see enough paper."""
+        return self.signs.get("paper") == "good"
+
+    # Orders.
+
+    def carry_out(self, wire: Wire, is_once: bool = True) -> bool:
+        """Sends the order that is out, and returns whether the printer acknowledged it within the timeout.
+
+        If an order failed and the next one is the same, only what wasn't printed is sent again. With is_once false it
+        is sent whole.
+        """
+        end = time.monotonic() + self.timeout
+        if not self.is_online:
+            return False
+        number = self._next_number()
+        data = wire.order(self._job_of(number))
+        size = len(data) - self._end_size
+        try:
+            self._receive()
+            job = self._taken_up(wire, data[:size], is_once, end)
+            if not (job.is_done or self.is_stopped or self._is_due(job)):
+                self._post(wire, job, data[size:], number)
+                self._writes()
+                self._pump(lambda: job.is_done or job.is_torn or self.is_stopped, end)
+        except PortError:
+            self._lose()
+            return False
+        if job.is_done:
+            self._job = self._job if job is not self._job else None
+            return True
+        self._drop()
+        if not self.is_stopped:
+            self._was_silent = True
+            self._ask()
+        return False
+
+    def _taken_up(self, wire: Wire, data: bytes, is_once: bool, end: float) -> Job:
+        """The job of an order: the one that failed if the order is the same, and how far that one has come."""
+        if not is_once:
+            return Job(data, is_once)
+        failed = self._job
+        if failed is None or failed.data != data:
+            self._job = Job(data, is_once)
+            return self._job
+        self._catches_up(wire, failed, end)
+        return failed
+
+    def _catches_up(self, wire: Wire, job: Job, end: float) -> None:
+        """Finds out how far a job has come that failed."""
+        if self._is_due(job):
+            # What was sent before is printed or lost once this is acknowledged.
+            number = self._next_number()
+            self._send(self._end(wire, number), number, None, 0)
+            self._pump(lambda: job.is_done or not self._is_due(job) or self.is_stopped, end)
+        if not self._is_due(job):
+            if job.sent > job.done:
+                # Some of it was lost, and the printer may have begun a line.
+                self._puts(self._start)
+            job.sent, job.is_torn = job.done, False
+
+    def _is_due(self, job: Job) -> bool:
+        """Whether something of a job may still be acknowledged."""
+        return any(parcel.job is job for parcel in self._due)
+
+    def _post(self, wire: Wire, job: Job, last_end: bytes, last_number: int) -> None:
+        """Sends the pieces of a job that weren't sent yet. What asks for the last one's acknowledgement is there."""
+        while job.sent < len(job.pieces):
+            job.sent += 1
+            piece, number, end = job.pieces[job.sent - 1], last_number, last_end
+            if job.sent < len(job.pieces):
+                number = self._next_number()
+                end = self._end(wire, number)
+            self._send(piece + end, number, job, job.sent)
+
+    def _send(self, data: bytes, number: int, job: Job | None, done: int) -> None:
+        """Puts bytes into the outbox that end with the question for this acknowledgement."""
+        parcel = _Parcel(data, number, job, done, turn=self.port.turns)
+        self._outbox.append(parcel)
+        self._due.append(parcel)
+
+    def _next_number(self) -> int:
+        self._number = (self._number + 1) % _NUMBERS
+        return self._number
+
+    def _job_of(self, number: int) -> int:
+        """What the library has to put behind an order."""
+        return number
+
+    def _end(self, wire: Wire, number: int) -> bytes:
+        """What asks the printer to acknowledge that everything before it is printed."""
+        return wire.order(self._job_of(number))[-self._end_size:]
+
+    def _drop(self) -> None:
+        """Takes back what hasn't begun to go out."""
+        for parcel in [parcel for parcel in self._outbox if not parcel.is_begun]:
+            self._outbox.remove(parcel)
+            if parcel.number is not None:
+                self._due.remove(parcel)
+            if parcel.job is not None:
+                parcel.job.sent -= 1
+
+    # What comes.
+
+    def _takes(self, data: bytes) -> None:
+        """Reads replies. The bytes of one that has only begun are kept."""
+        assert self.wire is not None
+        self._got += data
+        while self._got:
+            found, asked = bytes(self._got), self._asked()
+            reply = self.wire.reply(found, asked)
+            if not reply.used:
+                return
+            del self._got[:reply.used]
+            if reply.lines:
+                self._answers()
+                self._hears(reply.lines, Told(found[:reply.used], asked))
+
+    def _asked(self) -> int | None:
+        """What was asked, and isn't answered yet."""
+        return None if self._asked_at is None else Asked.PRINTER
+
+    def _answers(self) -> None:
+        """The printer has answered something."""
+        self._asked_at, self._heard_at = None, time.monotonic()
+        if self._was_silent or not self._is_there:
+            self._comes_back()
+
+    def _hears(self, lines: tuple[str, ...], told: Told) -> None:
+        """What a reply says. Only an automatic status tells of the cover."""
+        kind, *words = lines[-1].split()
+        if kind == "job":
+            self._acknowledged(int(words[0]))
+        elif kind == "status" and "cover" in words:
+            self.signs, self.told = dict(zip(words[::2], words[1::2])), [told]
+            self._is_refreshing = False
+            self.statuses += 1
+
+    def _comes_back(self) -> None:
+        """The printer answers again. It may have been off, if the port stays then, and tells no status by itself."""
+        if not self.port.is_reliable:
+            self._puts(self._start)
+        elif self._has_answered:
+            self._puts(self._refresh)
+        self._is_there, self._has_answered, self._was_silent = True, True, False
+
+    def _acknowledged(self, number: int) -> None:
+        """Everything up to the parcel with this number is printed or lost."""
+        turn = next((parcel.turn for parcel in self._due if parcel.number == number), None)
+        while turn is not None:
+            parcel = self._due.popleft()
+            job, is_last = parcel.job, parcel.number == number
+            if job is not None:
+                # Bytes are lost only together with the port, if it is a reliable one.
+                if (is_last or self.port.is_reliable and parcel.turn == turn) and not job.is_torn:
+                    job.done = max(job.done, parcel.done)
+                    self.late += job.is_done and job.is_late(self._job)
+                else:
+                    job.is_torn = True
+            if is_last:
+                return
+
+    def _puts(self, data: bytes) -> None:
+        """Puts bytes that nothing acknowledges into the outbox."""
+        if data:
+            self._outbox.append(_Parcel(data))
+
+    def _receive(self) -> None:
+        """Reads what has come."""
+        while self.port.ready(False, 0)[0] and (data := self.port.read_some()):
+            self._takes(data)
+
+    def _pump(self, until: Callable[[], bool], end: float) -> bool:
+        """Sends and reads until something is so, and returns whether it was so in time."""
+        while not until():
+            left = end - time.monotonic()
+            if left <= 0:
+                return False
+            self._asks_on()
+            can_read, can_write = self.port.ready(bool(self._outbox), min(left, _OFTEN))
+            data = self.port.read_some() if can_read else b""
+            if data:
+                self._takes(data)
+            if can_write:
+                self._writes()
+            elif can_read and not data:
+                time.sleep(_OFTEN)
+        return True
+
+    def _asks_on(self) -> None:
+        """Asks what a printer doesn't say by itself."""
+
+    def _writes(self) -> None:
+        """Sends of the outbox what there is room for."""
+        outbox = self._outbox
+        count = self.port.write_some(b"".join([parcel.rest for parcel in outbox]))
+        while count:
+            parcel = outbox[0]
+            parcel.is_begun = True
+            if count < len(parcel.rest):
+                parcel.rest = parcel.rest[count:]
+                return
+            count -= len(parcel.rest)
+            outbox.popleft()
+
+    # The port.
+
+    def start(self) -> None:
+        """Opens the port, and waits for the printer's first status as long as for an order."""
+        self.is_begun = True
+        end = time.monotonic() + self.timeout
+        self._connect(self.timeout)
+        if self.port.is_open:
+            try:
+                self._pump(lambda: bool(self.told), end)
+            except PortError:
+                self._lose()
+
+    def poll(self) -> None:
+        """Reads what has come and sends what is left, without waiting. A port that was lost is opened again."""
+        now = time.monotonic()
+        if not self.port.is_open:
+            if now - self._tried_at >= self._pause:
+                self._connect(min(self.timeout, _QUICKLY))
+            return
+        try:
+            self._receive()
+            self._look_after(now)
+            if self._outbox and self.port.ready(True, 0)[1]:
+                self._writes()
+        except PortError:
+            self._lose()
+
+    def _look_after(self, now: float) -> None:
+        """Asks a printer that has said nothing for a time, and one that says that it can't print, for more."""
+        if self._asked_at is not None and now - self._asked_at > self.timeout:
+            self._is_there, self.told, self.signs = False, [], {}
+        is_asking = self._asked_at is not None and now - self._asked_at <= self.timeout
+        is_heard = self._is_there and now - self._heard_at <= self.timeout
+        if not (is_heard or is_asking or self._outbox):
+            self._ask()
+        if self.is_stopped and not self._is_refreshing and now - self._refreshed_at > self._pause and not self._outbox:
+            self._is_refreshing, self._refreshed_at = True, now
+            self._puts(self._refresh)
+
+    def _ask(self) -> None:
+        """Asks whether the printer is there."""
+        self._asked_at = time.monotonic()
+        self._puts(_STATUS_NOW + b"\1")
+
+    def _connect(self, seconds: float) -> None:
+        try:
+            self.port.open(seconds)
+        except PortError:
+            return
+        finally:
+            self._tried_at = time.monotonic()
+        self._forget()
+        self._puts(self._start)
+        self._ask()
+
+    def _lose(self) -> None:
+        """The port was lost, with what wasn't sent. What was sent may still be acknowledged over the next one."""
+        self.port.close()
+        self._forget()
+
+    def _forget(self) -> None:
+        self._drop()
+        self._outbox.clear()
+        self._got.clear()
+        self._is_there = self._has_answered = self._was_silent = self._is_refreshing = False
+        self.told, self.signs, self._asked_at = [], {}, None
+
+    def close(self) -> None:
+        """Closes the port."""
+        self._lose()
+        self.is_begun = False
+
+
+class AskedLink(PrinterLink):
+    """The line to a printer that says nothing by itself, and doesn't know the end of a job: it is asked. GS r is
+    answered once everything before it is printed. Its replies have no number, so they are counted."""
+
+    _start, _refresh = _ZEROS + _INITIALIZE + _STATUS_OFF, b""
+    _end_size = _QUESTION_SIZE
+
+    def __init__(self, port: Port, timeout: float, pause: float) -> None:
+        super().__init__(port, timeout, pause)
+        self._question, self._questioned_at = 1, -1e9
+        self._is_asking = False
+        self._heard: dict[int, tuple[Told, list[str]]] = {}
+        self._rounds = 0
+
+    def _job_of(self, number: int) -> int:
+        return JOB_PAPER
+
+    def _asks_on(self) -> None:
+        """Asks the questions of DLE EOT, one after the other: the printer, why it is offline, the paper."""
+        now = time.monotonic()
+        if self._outbox or now - self._questioned_at < (self.timeout if self._is_asking else _OFTEN):
+            return
+        self._questioned_at = now
+        self._asks(1)
+
+    def _asks(self, question: int) -> None:
+        self._question, self._is_asking = question, True
+        self._puts(_STATUS_NOW + bytes([question]))
+
+    def _ask(self) -> None:
+        self._asked_at = time.monotonic()
+        self._asks_on()
+
+    def _look_after(self, now: float) -> None:
+        super()._look_after(now)
+        self._asks_on()
+
+    def _takes(self, data: bytes) -> None:
+        """Reads replies, each of which is a byte: to DLE EOT, or to GS r."""
+        assert self.wire is not None
+        for byte in data:
+            one = bytes([byte])
+            for asked in [self._question] * self._is_asking + [int(Asked.PAPER_IN_ORDER)] * bool(self._due):
+                reply = self.wire.reply(one, asked)
+                if reply.lines:
+                    self._answers()
+                    self._hears(reply.lines, Told(one, asked))
+                    break
+
+    def _hears(self, lines: tuple[str, ...], told: Told) -> None:
+        if told.asked == Asked.PAPER_IN_ORDER:
+            number = self._due[0].number
+            assert number is not None
+            self._acknowledged(number)
+            return
+        self._is_asking = False
+        self._heard[self._question] = told, lines[-1].split()[1:]
+        if self._question != 4:
+            self._asks(2 * self._question)
+        else:
+            self._rounds += 1
+            self._composes()
+
+    def _composes(self) -> None:
+        """Puts the replies together to what an automatic status would tell. The paper's sensor tells the most."""
+        heard = [self._heard[question] for question in (1, 2, 4)]
+        signs = {name: sign for _, words in heard for name, sign in zip(words[::2], words[1::2])}
+        if signs != self.signs:
+            self.signs, self.told = signs, [told for told, _ in heard]
+            self.statuses += 1
+
+    def _taken_up(self, wire: Wire, data: bytes, is_once: bool, end: float) -> Job:
+        self._gives_up(end)
+        return super()._taken_up(wire, data, is_once, end)
+
+    def _gives_up(self, end: float) -> None:
+        """Waits for acknowledgements that are late, where they can be lost. They are if none comes for the whole time,
+        although the printer says that it can print."""
+        count, rounds = len(self._due), self._rounds
+        if self.port.is_reliable or not self._due:
+            return
+        self._pump(lambda: not self._due or self.is_stopped, end)
+        if len(self._due) == count and self._rounds > rounds + 1 and not self.is_stopped:
+            self._lost_due()
+
+    def _lost_due(self) -> None:
+        for parcel in self._due:
+            if parcel.job is not None:
+                parcel.job.is_torn = True
+        self._due.clear()
+
+    def _forget(self) -> None:
+        super()._forget()
+        self._lost_due()
+        self._is_asking, self._questioned_at = False, -1e9

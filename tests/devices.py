@@ -1,0 +1,1045 @@
+"""Tries the drivers of the Python package over emulated devices (tests/emulator), or over a printer that is there.
+
+Usage: devices.py LIBRARY [--faults N] [--seed N] [--only WORD]
+       devices.py LIBRARY --port PORT [--columns N]
+
+LIBRARY is libkijolvar.so. N random faults are tried, by default 150, from a seed. --only tries what has the word in its
+name. With --port it prints a page on a real printer at that port and says what has to be on it; PORT is a path or
+tcp:HOST:PORT. The last line is 'N passed, M failed'.
+"""
+import argparse
+import contextlib
+import io
+import os
+import operator
+import pathlib
+import random
+import re
+import shutil
+import signal
+import subprocess
+import sys
+import tempfile
+import time
+
+TOP = pathlib.Path(__file__).resolve().parent.parent
+sys.path[:0] = [str(TOP / "abi/python"), str(TOP / "tests")]
+
+import kijolvar
+from emulator import Cut, Display, Line, Printer, PtyCable, Scanner, TcpCable
+from kijolvar import (Driver, EscPosDrawer, EscPosPrinter, OutputCompleteEvent, PrintedCut, SerialDisplay, SerialPort,
+                      StatusUpdateEvent, WedgeScanner, WireSettings)
+from kijolvar._links import PrinterLink, pieces_of
+
+SCRIPTS = TOP / "tests/scripts"
+WORK = pathlib.Path(tempfile.mkdtemp())
+PROFILE = """
+[[device]]
+name = "r1"
+category = "POSPrinter"
+chars = 42
+lines = 1000
+near = 20
+[[device]]
+name = "d1"
+category = "CashDrawer"
+[[device]]
+name = "p1"
+category = "LineDisplay"
+rows = 2
+columns = 20
+[[device]]
+name = "s1"
+category = "Scanner"
+[[device]]
+name = "t1"
+category = "HardTotals"
+"""
+# How long an order may take here, how much later than its timeout a call may return, and how soon a lost port is tried
+# again, in seconds. A machine that does much else needs more time.
+IS_BUSY = os.getloadavg()[0] > 1.5 * (os.cpu_count() or 1)
+TIMEOUT, SLACK, PAUSE = (2.0, 2.0, 0.01) if IS_BUSY else (0.4, 0.6, 0.01)
+# How long something may take that has to happen.
+PATIENCE = 60 if IS_BUSY else 10
+MOST_LINES = 100_000
+passed = failed = 0
+made = 0
+
+
+def told(name, wanted, found):
+    """Whether two values are the same."""
+    global passed, failed
+    if wanted == found:
+        passed += 1
+    else:
+        failed += 1
+        print(f"failed: {name}\n  wanted: {wanted!r}\n  found:  {found!r}", flush=True)
+
+
+def raised(call, *words, **named):
+    """What a call is refused with: its code and extended code, or None."""
+    try:
+        call(*words, **named)
+    except kijolvar.UposError as fault:
+        return fault.code, fault.extended
+    return None
+
+
+def opened(profile=PROFILE, totals=None, **named):
+    """A till over the library."""
+    return kijolvar.open(profile, totals, library=LIBRARY, **named)
+
+
+def cable(kind="usb"):
+    """A new cable: "usb" hangs up with the device, "serial" doesn't, and "tcp" is a network printer's. "asked" is a
+    simpler printer on "usb"."""
+    global made
+    made += 1
+    return TcpCable() if kind == "tcp" else PtyCable(WORK / f"port-{made}", hangs_up=kind != "serial")
+
+
+def port_of(device, kind="usb"):
+    return SerialPort(device.path, 115200, flow="none") if kind == "serial" else device.path
+
+
+def signs_of(device):
+    """What an emulated printer has to tell of itself, by the words of a status."""
+    first, second, third, _ = device.status()
+    return {"pin": "high" if first & 4 else "low", "offline": "yes" if first & 8 else "no",
+            "cover": "open" if first & 32 else "closed",
+            "paper": "empty" if third & 12 else "near" if third & 3 else "good", "fault": "yes" if second else "no"}
+
+
+def until(condition, seconds=PATIENCE):
+    """Whether something becomes so."""
+    end = time.monotonic() + seconds
+    while not condition():
+        if time.monotonic() > end:
+            return False
+        time.sleep(0.001)
+    return True
+
+
+# ---- what is on the paper
+
+def item_of(item, feed=3):
+    """An item of `show` as the emulated printer has it on its paper."""
+    if isinstance(item, PrintedCut):
+        return Cut(item.percentage == 100, feed)
+    return Line(item.alignment, item.characters, item.is_bold)
+
+
+def same_paper(name, printer, items):
+    """Whether the paper has these items of `show`, each once. Only one that was printed when the plug was pulled,
+    before it could be acknowledged, is there once more, right behind."""
+    printer.wait(lambda: printer.is_idle)
+    receipt = printer.receipt()
+    paper = [item for place, item in enumerate(receipt) if place not in printer.doubts]
+    wanted = [item_of(item) for item in items]
+    at = next((at for at, pair in enumerate(zip(paper, wanted)) if pair[0] != pair[1]), min(len(paper), len(wanted)))
+    strange = [place for place in printer.doubts if receipt[place] not in receipt[place + 1:place + 2]]
+    told(name, (len(wanted), wanted[at:at + 2], []), (len(paper), paper[at:at + 2], strange))
+
+
+def characters_of(printer):
+    return [item.characters for item in printer.receipt() if isinstance(item, Line)]
+
+
+# ---- scripts
+
+class Bench:
+    """A till whose printers, drawers and displays are all emulated."""
+
+    def __init__(self, stack, profile, protocol):
+        self.till = stack.enter_context(opened(profile))
+        self.devices, self.drivers = {}, {}
+        for device in self.till._devices():
+            driver = None
+            if device.category in ("POSPrinter", "CashDrawer"):
+                found = stack.enter_context(self.printer(device))
+                driver = EscPosPrinter(found.path, lines=max(found.lines_left, 1), timeout=5, pause=PAUSE)
+                driver = driver if device.category == "POSPrinter" else EscPosDrawer(driver)
+            elif device.category == "LineDisplay":
+                found = stack.enter_context(Display(cable(), device.rows, device.columns, protocol))
+                driver = SerialDisplay(found.path, protocol, pause=PAUSE)
+            if driver is None or (device.near or 0) >= MOST_LINES:
+                # What no driver is for stays simulated.
+                continue
+            self.devices[device.name], self.drivers[device.name] = found, driver
+            self.till.drive(device.name, driver)
+        self.settle()
+
+    def printer(self, device):
+        if device.category == "CashDrawer":
+            return Printer(cable())
+        view = self.till.device(device.name).show()
+        return Printer(cable(), device.chars, view.lines_left, device.near)
+
+    def settle(self):
+        """Lets the till learn what its devices show."""
+        for name, device in self.devices.items():
+            assert until(lambda: self.is_known(device, self.drivers[name])), name
+        self.till._drives.hand_in()
+
+    def is_known(self, device, driver):
+        driver.poll()
+        if driver.is_online != device.is_on or not device.is_on or isinstance(device, Display):
+            return driver.is_online == device.is_on
+        link = driver.link if isinstance(driver, EscPosPrinter) else driver._printer.link
+        return link.signs in (signs_of(device), {})
+
+    def happens(self, words):
+        """An input of a script happens at the device first."""
+        name, *what = words
+        device = self.devices.get(name)
+        if device is None:
+            return
+        if what[0] == "power":
+            device.plug_in() if what[1] == "on" else device.pull_plug()
+        elif not isinstance(device, Printer) or not device.is_on:
+            return
+        elif isinstance(self.drivers[name], EscPosPrinter):
+            if what[0] == "cover":
+                device.cover(what[1] == "open")
+            elif what[0] == "paper" and int(what[1]) <= MOST_LINES:
+                device.load(int(what[1]))
+        elif what[0] in ("open", "closed"):
+            device.drawer(what[0] == "open")
+        self.settle()
+
+    def runs(self, script):
+        """Carries out a script: its answers, and what `show` told of a device that shows something else."""
+        answers, wrong = "", []
+        for line in script.splitlines():
+            words = line.split()
+            if words[:1] == ["input"]:
+                self.happens(words[1:])
+            answer = self.till.carry_out(line)
+            answers += answer
+            if words[:1] == ["show"] and words[1] in self.devices:
+                wrong += self.differs(words[1], answer)
+        return answers, wrong
+
+    def differs(self, name, answer):
+        """What `show` says and the device doesn't show."""
+        device, view = self.devices[name], kijolvar._devices.read_view(answer.rstrip("\n")[3:])
+        device.wait(lambda: device.is_idle)
+        if isinstance(device, Display):
+            if not device.is_on:
+                return []
+            shown = device.wait(lambda: device.shows() == view.characters, PATIENCE)
+            return [] if shown else [(answer, device.shows())]
+        if isinstance(view, kijolvar.DrawerView):
+            return [] if view.is_open == device.is_drawer_open else [(answer, device.is_drawer_open)]
+        paper = [item_of(item) for item in view.items]
+        found = device.receipt(), device.is_cover_open, device.lines_left
+        return [] if found == (paper, view.is_cover_open, view.lines_left) else [(answer, found)]
+
+
+def try_scripts():
+    """What the console's scripts print and show is on the emulated devices."""
+    count = 0
+    for expected in sorted(SCRIPTS.glob("*.stdout")):
+        kind = expected.name.split(".")[0]
+        if kind not in ("printer", "display", "drawer"):
+            continue
+        script = expected.with_suffix("")
+        profile = pathlib.Path(f"{script}.profile")
+        for protocol in ["cd5220", "escpos"] if kind == "display" else ["cd5220"]:
+            with contextlib.ExitStack() as stack:
+                bench = Bench(stack, profile if profile.exists() else None, protocol)
+                answers, wrong = bench.runs(script.read_text())
+            name = script.name + (f" ({protocol})" if kind == "display" else "")
+            different = [pair for pair in zip(expected.read_text().splitlines(), answers.splitlines())
+                         if pair[0] != pair[1]]
+            told(f"{name}: its answers", ([], len(expected.read_text())), (different[:2], len(answers)))
+            told(f"{name}: what is printed and shown", [], wrong[:1])
+            count += 1
+    told("there are scripts", True, count >= 15)
+
+
+# ---- bytes
+
+class Asker(Driver):
+    """Asks the library for the bytes of each order: alone, at the start, and with what asks for an acknowledgement."""
+
+    def __init__(self, settings):
+        self.settings, self.asked = settings, []
+
+    def begin(self, till, device):
+        self.till = till
+
+    def carry_out(self, order):
+        ask = self.till.order_bytes
+        self.asked.append([ask(self.settings), ask(self.settings, True)])
+        if order.name in ("print", "openDrawer"):
+            self.asked[-1] += [ask(self.settings, job=0x1234), ask(self.settings, job=65_536)]
+        return True
+
+
+def try_bytes():
+    """What a driver sends by itself, and where it cuts an order, fit the library's bytes."""
+    settings = WireSettings(width=42, cutter=0, feed=10, lines=1000, pin=2, on=10, off=250, open_is_high=1, protocol=0)
+    asker = Asker(settings)
+    with opened() as till:
+        for name in ("r1", "d1", "p1"):
+            till.drive(name, asker)
+        with till.printer("r1").in_use() as printer, till.display("p1").in_use() as display:
+            printer.print(TEXT + b"\x1b|50P\x1b|P")
+            till.drawer("d1").open_drawer()
+            display.display_text_at(1, 0, b"Bread")
+            display.display_text_at(0, 0, b"Milk")
+    (line, drawer), (before, after) = asker.asked[:2], asker.asked[2:]
+    for name, (plain, new, job, asked), count in (("a text", line, 5), ("a drawer", drawer, 1)):
+        told(f"{name}: the start", PrinterLink._start.lstrip(b"\0") + plain, new)
+        told(f"{name}: the end of a job", plain + b"\x1d(H\x06\x0000ABCD", job)
+        told(f"{name}: the question for paper", plain + b"\x1dr\x01", asked)
+        told(f"{name}: its pieces", (count, plain), (len(pieces_of(plain)), b"".join(pieces_of(plain))))
+    told("a row", b"\x1bl\x01\x02Bread" + b" " * 15, before[0])
+    told("another row", b"\x1bl\x01\x01Milk" + b" " * 16, after[0])
+    told("all rows of a new display", b"\x1b@\x0c" + after[0] + before[0], after[1])
+
+
+# ---- a printer
+
+class Shop:
+    """A till with an emulated printer, which may be in trouble."""
+
+    def __init__(self, stack, kind="usb", lines=1000, **named):
+        self.till = stack.enter_context(opened())
+        is_asked = kind == "asked"
+        self.device = stack.enter_context(Printer(cable(kind), lines=lines, is_simple=is_asked))
+        self.driver = EscPosPrinter(port_of(self.device, kind), is_asked=is_asked,
+                                    **{"timeout": TIMEOUT, "pause": PAUSE, "lines": 1000, **named})
+        self.till.drive("r1", self.driver)
+        self.control = self.till.printer("r1")
+        stack.enter_context(self.control.in_use())
+
+    def settle(self):
+        """Waits until the till knows how the printer is."""
+        device = self.device
+
+        def is_known():
+            self.driver.poll()
+            return self.driver.is_online and self.driver.link.signs == signs_of(device)
+        known = until(is_known)
+        self.till._drives.hand_in()
+        return known
+
+    def same_paper(self, name):
+        same_paper(name, self.device, self.till.device("r1").show().items)
+
+
+TEXT = b"First line\n\x1b|cA\x1b|bCSecond line\x1b|N\n\x1b|rAThird line\n"
+TROUBLES = {
+    "the cover is opened": (lambda device: device.cover(True), lambda device: device.cover(False), (114, 201)),
+    "the paper runs out": (lambda device: device.load(0), lambda device: device.load(1000), (114, 203)),
+    "the plug is pulled": (Printer.pull_plug, Printer.plug_in, (108, 0)),
+    "the printer falls silent": (Printer.hang, lambda device: device.hang(False), (111, 0)),
+}
+
+
+def try_troubles():
+    """Trouble during an order: the answer is never ok, and a retry prints once."""
+    for kind in ("usb", "tcp", "serial", "asked"):
+        for trouble, (deed, undo, wanted) in TROUBLES.items():
+            # A serial line doesn't tell that the device is off: the order fails, and later ones find it off.
+            found_as = (111, 0) if kind == "serial" and wanted[0] == 108 else wanted
+            for place in (3, 30, 50):
+                name = f"{trouble} after {place} bytes, over {kind}"
+                with contextlib.ExitStack() as stack:
+                    shop = Shop(stack, kind)
+                    shop.device.after(place, lambda: deed(shop.device))
+                    began = time.monotonic()
+                    told(f"{name}: the answer", found_as, raised(shop.control.print, TEXT))
+                    told(f"{name}: in time", True, time.monotonic() - began < TIMEOUT + SLACK)
+                    told(f"{name}: still", True, raised(shop.control.print, TEXT) is not None)
+                    undo(shop.device)
+                    told(f"{name}: it ends", True, shop.settle())
+                    told(f"{name}: again", None, raised(shop.control.print, TEXT))
+                    shop.same_paper(f"{name}: the paper")
+                    told(f"{name}: nothing else", 0, shop.driver.late_orders)
+                    told(f"{name}: paper", True, shop.till.device("r1").show().lines_left > 990)
+
+
+def try_asynchronous():
+    """Trouble during output that waits: an ErrorEvent, and a retry prints once."""
+    for trouble, (deed, undo, wanted) in TROUBLES.items():
+        for place in (3, 30, 50):
+            name = f"{trouble} after {place} bytes of waiting output"
+            with contextlib.ExitStack() as stack:
+                shop = Shop(stack)
+                shop.control.async_mode = True
+                told(f"{name}: accepted", None, raised(shop.control.print, TEXT))
+                told(f"{name}: nothing is printed yet", [], shop.device.receipt())
+                shop.device.after(place, lambda: deed(shop.device))
+                shop.till.run_devices()
+                events = [event for event in shop.till.events() if not isinstance(event, StatusUpdateEvent)]
+                told(f"{name}: the event", [("ErrorEvent", *wanted)],
+                     [(type(event).__name__, event.code, event.extended) for event in events])
+                undo(shop.device)
+                shop.settle()
+                events = []
+
+                def is_complete():
+                    shop.till.run_devices()
+                    events.extend(event for event in shop.till.events() if not isinstance(event, StatusUpdateEvent))
+                    return any(isinstance(event, OutputCompleteEvent) for event in events)
+                told(f"{name}: a retry is complete", True, until(is_complete))
+                told(f"{name}: one event", 1, len(events))
+                shop.same_paper(f"{name}: the paper")
+                told(f"{name}: three lines", 3, len(shop.till.device("r1").show().items))
+
+
+def try_order_of_lines():
+    """Lines after one that waits are carried out after it, and all answers come."""
+    with contextlib.ExitStack() as stack:
+        shop = Shop(stack)
+        word = shop.control.name
+        lines = f"get {word} State\ncall {word} printNormal 2 410a\n# no answer\nget {word} State\n"
+        lines += f"call {word} printNormal 2 420a\ncall {word} cutPaper 100\nget {word} CoverOpen\n"
+        told("lines around orders", "ok 2\nok\nok 2\nok\nok\nok false\n", shop.till.carry_out(lines))
+        shop.same_paper("lines around orders: the paper")
+        shop.device.after(20, lambda: shop.device.cover(True))
+        lines = f"call {word} printNormal 2 430a\ncall {word} printNormal 2 440a\nget {word} CoverOpen\n"
+        told("lines around an order that fails", "ok\nerr 114 201\nok true\n", shop.till.carry_out(lines))
+        shop.device.cover(False)
+        shop.settle()
+        told("the order again", "ok\n", shop.till.carry_out(f"call {word} printNormal 2 440a\n"))
+        shop.same_paper("lines around an order that fails: the paper")
+
+
+def try_errands():
+    """Lines that wait between lines that change the totals in a file: all is in the file once it is answered."""
+    path = WORK / "errands"
+    with contextlib.ExitStack() as stack:
+        till = stack.enter_context(opened(PROFILE, path, create=True))
+        device = stack.enter_context(Printer(cable()))
+        till.drive("r1", EscPosPrinter(device.path, timeout=TIMEOUT, pause=PAUSE))
+        totals = till.totals("t1")
+        totals.create("COUNT", 1)
+        printer = stack.enter_context(till.printer("r1").in_use())
+        handle = operator.index(totals["COUNT"])
+
+        def lines(first, text, second):
+            return (f"call {totals.name} write {handle} 0 {first:02x}\ncall {printer.name} printNormal 2 {text}\n"
+                    f"call {totals.name} write {handle} 0 {second:02x}\n")
+
+        def kept():
+            return path.read_bytes(), totals["COUNT"].read(0, 1)
+        told("totals around an order", "ok\nok\nok\n", till.carry_out(lines(1, "410a", 2)))
+        told("they are there", b"\2", kept()[1])
+        device.after(5, lambda: device.cover(True))
+        told("totals around an order that fails", "ok\nerr 114 201\nok\n", till.carry_out(lines(3, "420a", 4)))
+        told("they are there too", b"\4", kept()[1])
+        before = path.read_bytes()
+        stack.pop_all().close()
+    told("nothing is written at the end", True, len(path.read_bytes()) == len(before))
+    told("the file", b"\4", kijolvar.files(path, library=LIBRARY).files[b"COUNT"])
+
+
+def try_interrupts():
+    """An interrupt during an order: it failed, and the till goes on."""
+    with contextlib.ExitStack() as stack:
+        shop = Shop(stack, timeout=5)
+        shop.device.hang()
+        signal.signal(signal.SIGALRM, signal.default_int_handler)
+        signal.setitimer(signal.ITIMER_REAL, 0.1)
+        try:
+            shop.control.print(TEXT)
+            found = "no interrupt"
+        except KeyboardInterrupt:
+            found = "interrupted"
+        told("an interrupt during an order", "interrupted", found)
+        shop.device.hang(False)
+        told("the till goes on", None, raised(shop.control.print, TEXT))
+        shop.same_paper("the order that was interrupted, again")
+
+
+def try_slow():
+    """A slow printer has time until the timeout, and what comes later isn't printed again."""
+    with contextlib.ExitStack() as stack:
+        shop = Shop(stack, timeout=1.0)
+        shop.device.slow(0.1)
+        told("a slow printer", None, raised(shop.control.print, TEXT))
+        shop.device.slow(0.5)
+        told("a printer that is too slow", (111, 0), raised(shop.control.print, TEXT))
+        shop.device.slow(0)
+        told("the same again", None, raised(shop.control.print, TEXT))
+        shop.same_paper("a slow printer: the paper")
+        told("a long order", None, raised(shop.control.print, b"A line that isn't as long as it might be\n" * 99))
+        shop.same_paper("a long order: the paper")
+
+
+def try_silence():
+    """A printer whose answers are lost, and one that was silent from the start."""
+    with contextlib.ExitStack() as stack:
+        shop = Shop(stack)
+        shop.device.mute()
+        told("answers are lost", (111, 0), raised(shop.control.print, TEXT))
+        shop.device.mute(False)
+        told("answers are lost: again", None, raised(shop.control.print, TEXT))
+        shop.same_paper("answers are lost: the paper")
+        shop.device.hang()
+        began = time.monotonic()
+        told("silent", (111, 0), raised(shop.control.print, TEXT))
+        told("silent: in time", True, TIMEOUT <= time.monotonic() - began < TIMEOUT + SLACK)
+        told("after longer silence it counts as off", True,
+             until(lambda: shop.till.run_devices(0.05) and raised(shop.control.print, TEXT) == (108, 0)))
+        shop.device.hang(False)
+        told("it answers again", True, shop.settle())
+        told("it prints again", None, raised(shop.control.print, TEXT))
+        shop.same_paper("silence: the paper")
+        shop.device.hang()
+        told("it counts as off without an order too", True,
+             until(lambda: shop.till.run_devices(0.05) and not shop.driver.is_online))
+        told("off", (108, 0), raised(shop.control.print, TEXT))
+    with contextlib.ExitStack() as stack:
+        device = stack.enter_context(Printer(cable()))
+        device.hang()
+        till = stack.enter_context(opened())
+        began = time.monotonic()
+        till.drive("r1", EscPosPrinter(device.path, timeout=TIMEOUT, pause=PAUSE))
+        told("silent from the start: in time", True, time.monotonic() - began < TIMEOUT + SLACK)
+        with till.printer("r1").in_use() as printer:
+            told("silent from the start: it is off", (108, 0), raised(printer.print, TEXT))
+            device.hang(False)
+            until(lambda: till.run_devices(0.05) and raised(printer.print, TEXT) is None)
+            same_paper("silent from the start: the paper", device, till.device("r1").show().items)
+
+
+def try_absent():
+    """A printer that isn't there yet."""
+    with contextlib.ExitStack() as stack:
+        device = Printer(cable())
+        till = stack.enter_context(opened())
+        till.drive("r1", EscPosPrinter(device.path, timeout=TIMEOUT, pause=PAUSE))
+        printer = till.printer("r1")
+        printer.power_notify = kijolvar.PN_ENABLED
+        stack.enter_context(printer.in_use())
+        told("absent", (108, 0), raised(printer.print, TEXT))
+        stack.enter_context(device)
+        until(lambda: till.run_devices(0.05) and raised(printer.print, TEXT) is None)
+        told("the power that was told", [2004, 2001],
+             [event.status for event in till.events() if isinstance(event, StatusUpdateEvent) and event.status > 2000])
+        same_paper("absent: the paper", device, till.device("r1").show().items)
+        told("not a device", "PortError", name_of(kijolvar.port_of(__file__).open))
+
+
+def name_of(call, *words, **named):
+    """The name of what a call raises, or None."""
+    try:
+        call(*words, **named)
+    except Exception as fault:
+        return type(fault).__name__
+    return None
+
+
+def try_status():
+    """What a printer says of itself is what the till tells."""
+    with contextlib.ExitStack() as stack:
+        shop = Shop(stack)
+        device, control = shop.device, shop.control
+        device.cover(True)
+        shop.settle()
+        told("an open cover", True, control.cover_open)
+        told("an open cover asks no printer", (114, 201), raised(control.print, TEXT))
+        device.cover(False)
+        device.load(10)
+        shop.settle()
+        told("near the end", (True, False, False), (control.rec_near_end, control.rec_empty, control.cover_open))
+        told("the events", [11, 12, 25], [event.status for event in control.events()])
+        told("prints near the end", None, raised(control.print, TEXT))
+        shop.same_paper("near the end: the paper")
+        device.load(0)
+        shop.settle()
+        told("no paper", (True, (114, 203)), (control.rec_empty, raised(control.print, TEXT)))
+        device.load(1000)
+        shop.settle()
+        told("a new roll", (False, False), (control.rec_near_end, control.rec_empty))
+        # Bytes that happen to be a status are one. It is asked for again, and put right.
+        device.garbage(b"\x38\x00\x00\x00")
+        told("a wrong status", True, until(lambda: shop.till.run_devices(0.01) and control.cover_open))
+        told("a wrong status is put right", True,
+             until(lambda: shop.till.run_devices(0.01) or not control.cover_open) and
+             until(lambda: shop.till.run_devices(0.01) or not control.cover_open))
+        list(control.events())
+        for data in (b"\x10\x00", b"\x37\x22\x40\x40", bytes(range(32, 128)) * 3, b"\x37" * 9, b"\xff\xfe"):
+            device.garbage(data)
+            device.wait(lambda: not device._sends)
+            told(f"garbage {data[:4]!r}", None, raised(control.print, TEXT))
+        shop.same_paper("garbage: the paper")
+        told("garbage tells nothing", [], list(control.events()))
+        device.breaks(True)
+        told("a jam", True, raised(control.print, TEXT) in ((111, 0),))
+        device.breaks(False)
+        shop.settle()
+        told("a jam: again", None, raised(control.print, TEXT))
+        shop.same_paper("a jam: the paper")
+
+
+def try_drawer():
+    """A drawer on a printer's connector."""
+    for is_open_high in (True, False):
+        with contextlib.ExitStack() as stack:
+            till = stack.enter_context(opened())
+            device = stack.enter_context(Printer(cable()))
+            if not is_open_high:
+                device.status = lambda plain=device.status: bytes([plain()[0] ^ 4, *plain()[1:]])
+            printer = EscPosPrinter(device.path, pin=5, pulse=(20, 40), is_open_high=is_open_high, timeout=TIMEOUT,
+                                    pause=PAUSE)
+            till.drive("r1", printer)
+            till.drive("d1", EscPosDrawer(printer, settle=0.1))
+            drawer = till.drawer("d1")
+
+            def hears(status):
+                found = []
+
+                def is_heard():
+                    till.run_devices(0.01)
+                    found.extend(event.status for event in drawer.events())
+                    return bool(found)
+                until(is_heard)
+                return found == [status] or found
+            told("the drawer is opened", None, raised(drawer.open_drawer))
+            told("the pulse", [(5, 20, 40)], device.pulses)
+            told("it is open", (True, True), (drawer.drawer_opened, hears(1)))
+            device.drawer(False)
+            told("it is closed by hand", (True, False), (hears(0), drawer.drawer_opened))
+            device.drawer(True)
+            told("it is opened by hand", True, hears(1))
+            device.drawer(False)
+            told("and closed", True, hears(0))
+            device.is_drawer_stuck = True
+            told("a drawer that sticks", None, raised(drawer.open_drawer))
+            told("it is open, as far as is known", True, hears(1))
+            told("it isn't, says its sensor", (True, False), (hears(0), drawer.drawer_opened))
+            device.is_drawer_stuck = False
+            device.hang()
+            told("silent", (111, 0), raised(drawer.open_drawer))
+            device.hang(False)
+            device.wait(lambda: device.is_idle)
+            device.drawer(False)
+            pulses = len(device.pulses)
+            told("an order for a drawer is always sent", None, raised(drawer.open_drawer))
+            told("the pulses", pulses + 1, len(device.pulses))
+            device.pull_plug()
+            until(lambda: till.run_devices(0.01))
+            told("the printer is off, and so is the drawer", (108, 0), raised(drawer.open_drawer))
+
+
+def try_display():
+    """A customer display."""
+    for protocol in ("cd5220", "escpos"):
+        for kind in ("usb", "tcp", "serial"):
+            with contextlib.ExitStack() as stack:
+                till = stack.enter_context(opened())
+                device = stack.enter_context(Display(cable(kind), 2, 20, protocol))
+                till.drive("p1", SerialDisplay(port_of(device, kind), protocol, pause=PAUSE))
+                display = till.display("p1")
+                stack.enter_context(display.in_use())
+                name = f"a display with {protocol} over {kind}"
+
+                def shows(text):
+                    return device.wait(lambda: device.shows() == text, PATIENCE) or device.shows()
+                display.display_text(b"Bread           4.50")
+                told(f"{name}: a row", True, shows(b"Bread           4.50" + b" " * 20))
+                display.display_text_at(1, 0, b"Total           9.00")
+                told(f"{name}: two rows", True, shows(b"Bread           4.50Total           9.00"))
+                if kind != "serial":
+                    device.pull_plug()
+                    until(lambda: till.run_devices(0.01))
+                    told(f"{name}: off", (108, 0), raised(display.clear_text))
+                    device.plug_in()
+                    until(lambda: till.run_devices(0.01))
+                    told(f"{name}: on again", None, raised(display.display_text_at, 0, 0, b"Milk "))
+                    told(f"{name}: it shows all rows again", True, shows(b"Milk            4.50Total           9.00"))
+                display.scroll_text(1, 1)
+                told(f"{name}: scrolled", True, shows(b"Total           9.00" + b" " * 20))
+                display.clear_text()
+                told(f"{name}: cleared", True, shows(b" " * 40))
+
+
+def try_scanner():
+    """Scanners: on a serial line, and as a keyboard."""
+    codes = [(b"]E04006381333931", 104, b"4006381333931"), (b"]C1" + b"0104006381333931", 110, b"0104006381333931"),
+             (b"]E450123452", 103, b"50123452"), (b"12345", 0, b"12345"), (b"]d1A b", 203, b"A b")]
+    for keys in (False, True):
+        with contextlib.ExitStack() as stack:
+            till = stack.enter_context(opened())
+            device = stack.enter_context(Scanner(cable()))
+            driver = WedgeScanner(device.path, keys=keys, pause=PAUSE)
+            till.drive("s1", driver)
+            scanner = till.scanner("s1")
+            stack.enter_context(scanner.in_use())
+            scanner.decode_data = True
+            found = []
+
+            def scans():
+                till.run_devices(0.01)
+                scanner.data_event_enabled = True
+                for _ in scanner.events():
+                    found.append((scanner.scan_data, scanner.scan_data_type, scanner.scan_data_label))
+                    scanner.data_event_enabled = True
+                return len(found) == len(codes)
+            for code, _, _ in codes:
+                device.types(code) if keys else device.scan(code, random.choice([b"\r", b"\r\n", b"\n"]))
+            until(scans)
+            told(f"scans, keys {keys}", [(code, kind, label) for code, kind, label in codes], found)
+            found.clear()
+            device.pull_plug()
+            until(lambda: till.run_devices(0.01))
+            told("a scanner is off", False, driver.is_online)
+            device.plug_in()
+            until(lambda: driver.is_online or till.run_devices(0.01))
+            device.types(b"7") if keys else device.scan(b"7")
+            until(lambda: scans() or found)
+            told("a scanner is back", [(b"7", 0, b"7")], found)
+
+
+def try_refusals():
+    """Devices and drivers that don't fit."""
+    with opened() as till:
+        told("no such device", "NoDeviceError", name_of(till.drive, "r9", EscPosPrinter("/dev/null")))
+        told("another category", "DriverError", name_of(till.drive, "d1", EscPosPrinter("/dev/null")))
+        told("no such drawer", "NoDeviceError", name_of(till.drive, "r1", EscPosPrinter("/dev/null", drawer="d9")))
+        told("a narrow printer", "ValueError", name_of(till.drive, "r1", EscPosPrinter("/dev/null", width=20)))
+        with till.printer("r1").in_use() as printer:
+            told("a device that isn't driven answers at once", None, raised(printer.print, TEXT))
+    with opened(PROFILE.replace("near = 20", f"near = {MOST_LINES}")) as till:
+        told("near its end for ever", "ValueError", name_of(till.drive, "r1", EscPosPrinter("/dev/null")))
+    told("no such cutter", "ValueError", name_of(EscPosPrinter, "/dev/null", cutter="axe"))
+    told("no such pin", "ValueError", name_of(EscPosPrinter, "/dev/null", pin=3))
+    told("no such roll", "ValueError", name_of(EscPosPrinter, "/dev/null", lines=MOST_LINES + 1))
+    told("no such protocol", "ValueError", name_of(SerialDisplay, "/dev/null", "morse"))
+    told("no such speed", "ValueError", name_of(SerialPort, "/dev/ttyS0", 9601))
+    told("no such parity", "ValueError", name_of(SerialPort, "/dev/ttyS0", parity="odder"))
+    told("ports", ["FilePort", "SerialPort", "TcpPort tcp://a:1", "TcpPort tcp://a:1", "TcpPort tcp://a:9100"],
+         [type(port).__name__ + f" {port.name}" * isinstance(port, kijolvar.TcpPort) for port in map(
+             kijolvar.port_of, ("/dev/usb/lp0", "/dev/ttyUSB0", "tcp:a:1", "tcp://a:1", "tcp:a"))])
+
+
+# ---- random faults
+
+def try_random():
+    """Random trouble: each order that was answered ok is on the paper once, in order, and nothing else is."""
+    for kind in ("usb", "tcp", "asked"):
+        chance = random.Random(WORDS.seed)
+        rounds = WORDS.faults // 3
+        counts = {}
+        with contextlib.ExitStack() as stack:
+            shop = Shop(stack, kind, lines=100_000)
+            shop.device.load(100_000)
+            for number in range(rounds):
+                trouble = random_round(shop, chance, number, SIMPLE if kind == "asked" else ())
+                counts[trouble] = counts.get(trouble, 0) + 1
+            shop.device.clear_triggers()
+            shop.same_paper(f"{rounds} random faults over {kind}: the paper")
+            told(f"{rounds} random faults over {kind}: each order is printed", rounds,
+                 len({item.characters.split()[0] for item in shop.till.device("r1").show().items
+                      if not isinstance(item, PrintedCut)}))
+            told(f"{rounds} random faults over {kind}: no late order", 0, shop.driver.late_orders)
+            told(f"{rounds} random faults over {kind}: no more doubts than pulled plugs", True,
+                 len(shop.device.doubts) <= counts.get("plug", 0))
+            print(f"{rounds} random faults over {kind}: {counts}, in doubt: {len(shop.device.doubts)}", flush=True)
+
+
+# What a printer that is asked must not meet: its answers have no number.
+SIMPLE = ("lost answers", "garbage")
+
+
+def random_trouble(device, chance, unless):
+    """Some trouble: its name, what it does, and what ends it."""
+    noise = bytes(chance.randrange(256) for _ in range(chance.randrange(1, 20)))
+    troubles = {
+        "none": (lambda: None, lambda: None),
+        "cover": (lambda: device.cover(True), lambda: device.cover(False)),
+        "paper": (lambda: device.load(chance.choice([0, 1])), lambda: device.load(100_000)),
+        "plug": (device.pull_plug, device.plug_in),
+        "silence": (device.hang, lambda: device.hang(False)),
+        "lost answers": (device.mute, lambda: device.mute(False)),
+        "garbage": (lambda: device.garbage(noise), lambda: None),
+        "slow": (lambda: device.slow(chance.choice([0.01, 0.3])), lambda: device.slow(0)),
+        "jam": (lambda: device.breaks(True), lambda: device.breaks(False)),
+    }
+    name = chance.choice([name for name in troubles if name not in unless])
+    return name, *troubles[name]
+
+
+def random_round(shop, chance, number, unless):
+    """An order, trouble during it, and retries until it is printed."""
+    device, control = shop.device, shop.control
+    count = chance.randrange(1, 5)
+    text = b"".join(b"\x1b|%bA%06d of %d\n" % (chance.choice([b"c", b"r"]), number, count) for _ in range(count))
+    text += chance.choice([b"", b"", b"\x1b|P"])
+    name, deed, undo = random_trouble(device, chance, unless)
+    device.clear_triggers()
+    device.after(chance.randrange(1, 40 * count), deed)
+    waits = control.async_mode = chance.random() < 0.5
+    is_printed = raised(control.print, text) is None and not waits
+    control.async_mode = False
+    left = chance.randrange(3)
+    end = time.monotonic() + PATIENCE
+    while not is_printed:
+        if left == 0:
+            device.clear_triggers()
+            undo()
+        left -= 1
+        shop.till.run_devices(0.01)
+        events = list(control.events())
+        if waits:
+            is_printed = any(isinstance(event, OutputCompleteEvent) for event in events)
+        else:
+            is_printed = raised(control.print, text) is None
+        if time.monotonic() > end:
+            told(f"round {number}: {name} ends", True, False)
+            break
+    device.clear_triggers()
+    undo()
+    shop.settle()
+    shop.till.run_devices()
+    list(control.events())
+    return name
+
+
+def try_random_display():
+    """Random trouble of a display: after an order that was answered ok it shows what the till shows."""
+    for kind, protocol in (("usb", "cd5220"), ("tcp", "escpos")):
+        chance = random.Random(WORDS.seed)
+        rounds, wrong = WORDS.faults // 5, []
+        with contextlib.ExitStack() as stack:
+            till = stack.enter_context(opened())
+            device = stack.enter_context(Display(cable(kind), 2, 20, protocol))
+            till.drive("p1", SerialDisplay(device.path, protocol, timeout=TIMEOUT, pause=PAUSE))
+            display = stack.enter_context(till.display("p1").in_use())
+            for number in range(rounds):
+                device.after(chance.randrange(1, 50), chance.choice([device.pull_plug, device.hang, lambda: None]))
+                order = random_order(display, chance)
+                raised(order)
+                device.wait(lambda: device.is_idle or device.is_hung)
+                device.clear_triggers()
+                if chance.random() < 0.5:
+                    till.run_devices(0.01)
+                device.plug_in()
+                device.hang(False)
+                if not until(lambda: is_done_or_waits(till, order)):
+                    wrong.append((number, "it isn't done"))
+                wanted = till.device("p1").show().characters
+                if not device.wait(lambda: device.shows() == wanted, PATIENCE):
+                    wrong.append((number, wanted, device.shows()))
+        told(f"{rounds} random faults of a display over {kind}", [], wrong[:1])
+
+
+def is_done_or_waits(till, order):
+    """Whether an order is done. If not, the devices get some time."""
+    is_done = raised(order) is None
+    if not is_done:
+        till.run_devices(0.01)
+    return is_done
+
+
+def random_order(display, chance):
+    """An order that has the same effect however often it is done."""
+    place, text = (chance.randrange(2), chance.randrange(15)), b"%05d" % chance.randrange(100_000)
+    return chance.choice([lambda: display.display_text_at(*place, text)] * 4 + [display.clear_text])
+
+
+# ---- a host that is killed
+
+HOST = """
+import sys
+sys.path.insert(0, sys.argv[1])
+import kijolvar
+library, path, port = sys.argv[2:5]
+profile = sys.argv[5]
+with kijolvar.open(profile, path, library=library) as till:
+    till.drive("r1", kijolvar.EscPosPrinter(port))
+    printer, totals = till.printer("r1"), till.totals("t1")
+    with printer.in_use():
+        count = int.from_bytes(totals["COUNT"].read(0, 4), "big")
+        while True:
+            count += 1
+            printer.print(b"Sale %d\\n" % count)
+            print("printed", count, flush=True)
+            totals["COUNT"].write(0, count.to_bytes(4, "big"))
+            print("counted", count, flush=True)
+"""
+
+
+def try_killed():
+    """A host that is killed at any moment: the totals are as they were acknowledged."""
+    chance = random.Random(WORDS.seed)
+    for number in range(10):
+        path = WORK / f"totals-{number}"
+        with opened(PROFILE, path, create=True) as till:
+            till.totals("t1").create("COUNT", 4)
+        with Printer(cable(), lines=100_000) as device:
+            words = [sys.executable, "-c", HOST, TOP / "abi/python", LIBRARY, path, device.path, PROFILE]
+            host = subprocess.Popen(words, stdout=subprocess.PIPE, text=True)
+            wanted = chance.randrange(1, 40)
+            said = []
+            for line in host.stdout:
+                said.append(line.split())
+                if len(said) >= wanted:
+                    break
+            time.sleep(chance.random() * 0.003)
+            host.kill()
+            said += [line.split() for line in host.stdout.read().splitlines() if len(line.split()) == 2]
+            host.wait()
+            counted = max([int(count) for what, count in said if what == "counted"], default=0)
+            printed = max([int(count) for what, count in said if what == "printed"], default=0)
+            kept = int.from_bytes(kijolvar.files(path, library=LIBRARY).files[b"COUNT"], "big")
+            device.wait(lambda: device.is_idle)
+            told(f"killed {number}: the totals", True, counted <= kept <= counted + 1)
+            told(f"killed {number}: the paper", True, printed <= len(characters_of(device)) <= printed + 1)
+            with opened(PROFILE, path) as till:
+                till.drive("r1", EscPosPrinter(device.path))
+                with till.printer("r1").in_use() as printer:
+                    told(f"killed {number}: the next host prints", None, raised(printer.print, b"Next\n"))
+            told(f"killed {number}: what it prints", [b"Next"], characters_of(device)[printed + 1:] or
+                 characters_of(device)[printed:])
+
+
+# ---- the guide
+
+GUIDE = TOP / "docs/guide/attach-your-printer.md"
+
+
+def try_guide():
+    """The guide's programs and commands, with emulated devices at its ports."""
+    blocks = re.findall(r"```(python|sh|text)\n(.*?)```", GUIDE.read_text(), re.S)
+    programs, commands, texts = ([text for kind, text in blocks if kind == word] for word in ("python", "sh", "text"))
+    told("the guide's programs, commands and texts", (4, 2, 1), (len(programs), len(commands), len(texts)))
+    with contextlib.ExitStack() as stack:
+        printer = stack.enter_context(Printer(cable(), 8, 5, 2))
+        display, scanner = stack.enter_context(Display(cable(), 2, 4)), stack.enter_context(Scanner(cable()))
+        ports = {"/dev/usb/lp0": printer.path, "/dev/ttyUSB0": display.path,
+                 "/dev/input/by-id/usb-scanner-event-kbd": scanner.path}
+        programs = [re.sub("|".join(ports), lambda found: ports[found[0]], text) for text in programs]
+        said, names = io.StringIO(), {}
+        stack.enter_context(contextlib.redirect_stdout(said))
+        exec(programs[0], names)
+        told("the guide's first program", ([b"Bread"], True), (characters_of(printer), printer.is_drawer_open))
+        exec(programs[1], names)
+        till = stack.enter_context(names["till"])
+        told("the guide's devices are there", [True] * 2,
+             [drive.driver.is_online for drive in till._drives._drives.values()])
+        control = stack.enter_context(till.scanner("s1").in_use())
+        control.data_event_enabled = True
+        scanner.scan(b"123")
+        loop = programs[2].replace("while True", "for _ in range(20)").replace("1.0", "0.05")
+        told("the guide's loop", (True, True), ("for _ in range(20)" in loop, "timeout=0.05" in loop))
+        exec(loop, names)
+        told("the guide's loop delivers a scan", "<kijolvar.DataEvent", said.getvalue()[:19])
+        said.truncate(said.seek(0))
+        exec(programs[3], names)
+        told("the guide's own driver", texts[0], said.getvalue())
+    path = WORK / "guide"
+    command = commands[0].replace("/tmp/printer", str(path))
+    told("the guide's port", True, f"--path {path}" in command)
+    pipes = {"stdin": subprocess.PIPE, "stdout": subprocess.PIPE, "text": True, "cwd": TOP}
+    with subprocess.Popen(command.split(), **pipes) as emulator:
+        told("the emulator says its port", str(path), emulator.stdout.readline().strip())
+        with opened(None) as till:
+            till.drive("r1", EscPosPrinter(path, pause=PAUSE))
+            with till.printer("r1").in_use() as control:
+                control.print(b"\x1b|cABread\n")
+                emulator.stdin.write("cover open\nwait\n")
+                emulator.stdin.flush()
+                told("the emulator's cover is opened", True,
+                     until(lambda: till.run_devices(0.01) or raised(control.print, b"Milk\n") == (114, 201)))
+        emulator.stdin.write("show\n")
+        emulator.stdin.close()
+        told("the emulator shows its paper", " Bread\n", emulator.stdout.read().replace("Milk\n", ""))
+    with Printer(cable(), 42) as printer:
+        command = commands[1].replace("libkijolvar.so", str(LIBRARY)).replace("/dev/usb/lp0", printer.path)
+        ended = subprocess.run([sys.executable, *command.split()[1:]], cwd=TOP, capture_output=True, text=True)
+        told("the guide's test page", ("5 passed, 0 failed", 0), (ended.stdout.splitlines()[-1], ended.returncode))
+
+
+# ---- costs
+
+def try_cost():
+    """What an order costs beside a bare round trip of the same bytes. The least of several rounds counts of each."""
+    words = [sys.executable, str(TOP / "tests/emulator"), "printer", "--path", str(WORK / "cost"), "--lines", "100000"]
+    pipes = {"stdin": subprocess.PIPE, "stdout": subprocess.PIPE, "text": True}
+    with subprocess.Popen(words, **pipes) as emulator, opened() as till:
+        port = emulator.stdout.readline().strip()
+        driver = EscPosPrinter(port)
+        till.drive("r1", driver)
+        with till.printer("r1").in_use() as printer:
+            line = b"A line of the length that lines often have\n"
+            bare = b"\x1ba\0" + line + b"\x1d(H\x06\x00" + b"00" + b"@@@A"
+            bares, orders = [], []
+            while len(orders) < 5 or len(orders) < 20 and min(orders) > 1.3 * min(bares):
+                bares.append(timed(lambda: (driver.link.port.write(bare, 1), read_all(driver.link.port, 7)), 100))
+                orders.append(timed(lambda: printer.print(line), 100))
+        emulator.stdin.close()
+    ratio = min(orders) / min(bares)
+    print(f"an order: {min(orders) * 1e6:.0f} us; a bare round trip: {min(bares) * 1e6:.0f} us; {ratio:.2f} times, "
+          f"{len(orders)} rounds")
+    told("an order costs at most 1.3 times a bare round trip", True, ratio <= 1.3)
+
+
+def read_all(port, count):
+    while count > 0:
+        count -= len(port.read(1))
+
+
+def timed(deed, times):
+    began = time.perf_counter()
+    for _ in range(times):
+        deed()
+    return (time.perf_counter() - began) / times
+
+
+# ---- hardware
+
+def try_hardware(port, columns):
+    """Prints a page on a real printer."""
+    profile = PROFILE.replace("chars = 42", f"chars = {columns}")
+    with opened(profile) as till:
+        driver = EscPosPrinter(port, drawer="d1")
+        till.drive("r1", driver)
+        told("the printer answers", True, driver.is_online)
+        print("status:", *[f"{name} {sign}" for name, sign in driver.link.signs.items()] or ["none"])
+        with till.printer("r1").in_use() as printer:
+            began = time.monotonic()
+            told("a page", None, raised(printer.print, TEXT + b"\x1b|N" + b"0123456789" * (columns // 10) + b"\n"))
+            print(f"acknowledged after {time.monotonic() - began:.2f} s")
+            told("a full line", None, raised(printer.print, b"x" * columns + b"\nand the next\n"))
+            told("a cut", None, raised(printer.cut_paper, 100))
+            told("the drawer", None, raised(till.drawer("d1").open_drawer))
+            print("on the paper: First line at the left, Second line bold in the centre, Third line at the right,")
+            print("digits, a full line of x and the next one right below it, and a cut. The drawer is open.")
+
+
+def main():
+    tries = [value for name, value in globals().items() if name.startswith("try_") and name != "try_hardware"]
+    try:
+        if WORDS.port is not None:
+            try_hardware(WORDS.port, WORDS.columns)
+            tries = []
+        for one in tries:
+            if WORDS.only in one.__name__:
+                began = time.monotonic()
+                one()
+                print(f"{one.__name__}: {time.monotonic() - began:.1f} s", flush=True)
+    finally:
+        shutil.rmtree(WORK)
+    print(f"{passed} passed, {failed} failed")
+    sys.exit(failed != 0)
+
+
+if __name__ == "__main__":
+    reader = argparse.ArgumentParser(description=__doc__, formatter_class=argparse.RawDescriptionHelpFormatter)
+    reader.add_argument("library")
+    reader.add_argument("--faults", type=int, default=150)
+    reader.add_argument("--seed", type=int, default=1)
+    reader.add_argument("--only", default="")
+    reader.add_argument("--port", default=None)
+    reader.add_argument("--columns", type=int, default=42)
+    WORDS = reader.parse_args()
+    LIBRARY = pathlib.Path(WORDS.library).resolve()
+    os.environ["KIJOLVAR_LIBRARY"] = os.fspath(LIBRARY)
+    main()

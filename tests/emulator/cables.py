@@ -1,0 +1,146 @@
+"""What an emulated device is plugged into: a pseudo terminal with a name of its own, or a TCP port."""
+import contextlib
+import errno
+import fcntl
+import os
+import socket
+import termios
+import time
+import tty
+
+
+class PtyCable:
+    """A pseudo terminal. `path` is a symbolic link to it, which is there only while the device is on, as that of a USB
+    printer. With `hangs_up` false it is a serial line: it stays when the device goes off, and nothing answers."""
+
+    def __init__(self, path, hangs_up=True):
+        self.path, self.hangs_up = os.fspath(path), hangs_up
+        self._master = self._slave = None
+
+    def plug_in(self):
+        if self._master is not None:
+            return
+        self._master, self._slave = os.openpty()
+        tty.setraw(self._slave)
+        os.set_blocking(self._master, False)
+        made = f"{self.path}.new"
+        with contextlib.suppress(FileNotFoundError):
+            os.unlink(made)
+        os.symlink(os.ttyname(self._slave), made)
+        os.replace(made, self.path)
+
+    def pull_out(self, is_forever=False):
+        if self._master is None or not (self.hangs_up or is_forever):
+            return
+        with contextlib.suppress(FileNotFoundError):
+            os.unlink(self.path)
+        os.close(self._slave)
+        os.close(self._master)
+        self._master = self._slave = None
+
+    def settle(self, seconds=0.5):
+        """Waits until the host has read what was sent, as it would over a wire, but not longer than this."""
+        end, quiet = time.monotonic() + seconds, 0
+        while self._slave is not None and time.monotonic() < end and quiet < 5:
+            # What was written takes a moment until it counts as there to be read.
+            time.sleep(0.001)
+            left = int.from_bytes(fcntl.ioctl(self._slave, termios.FIONREAD, bytes(4)), "little")
+            quiet = 0 if left else quiet + 1
+
+    def files(self):
+        """The files to wait for bytes of."""
+        return [] if self._master is None else [self._master]
+
+    def read(self, size):
+        """What has come, at most so many bytes."""
+        if self._master is None:
+            return b""
+        try:
+            return os.read(self._master, size)
+        except (BlockingIOError, InterruptedError):
+            return b""
+        except OSError as fault:
+            if fault.errno != errno.EIO:
+                raise
+            return b""
+
+    def write(self, data):
+        """Sends what there is room for, and returns how many bytes that was."""
+        if self._master is None:
+            return len(data)
+        try:
+            return os.write(self._master, data)
+        except BlockingIOError:
+            return 0
+
+
+class TcpCable:
+    """A TCP port of this machine, as a network printer's 9100. One host is connected at a time."""
+
+    def __init__(self, port=0):
+        self._port, self._listener, self._host = port, None, None
+
+    @property
+    def path(self):
+        return f"tcp://127.0.0.1:{self._port}"
+
+    def plug_in(self):
+        if self._listener is None:
+            self._listener = socket.create_server(("127.0.0.1", self._port), reuse_port=False)
+            self._listener.setblocking(False)
+            self._port = self._listener.getsockname()[1]
+
+    def pull_out(self, is_forever=False):
+        self.drop()
+        if self._listener is not None:
+            self._listener.close()
+            self._listener = None
+
+    def settle(self, seconds=0.0):
+        """What was sent arrives, unless there is something that wasn't read."""
+        with contextlib.suppress(OSError, AttributeError):
+            while self._host.recv(65536):
+                pass
+
+    def drop(self):
+        """Ends the connection; the device goes on."""
+        if self._host is not None:
+            self._host.close()
+            self._host = None
+
+    def files(self):
+        return [file for file in (self._listener, self._host) if file is not None]
+
+    def read(self, size):
+        self._accept()
+        if self._host is None:
+            return b""
+        try:
+            found = self._host.recv(size)
+        except (BlockingIOError, InterruptedError):
+            return b""
+        except ConnectionError:
+            found = b""
+        if not found:
+            self.drop()
+        return found
+
+    def _accept(self):
+        if self._listener is not None:
+            with contextlib.suppress(BlockingIOError):
+                host, _ = self._listener.accept()
+                self.drop()
+                host.setblocking(False)
+                host.setsockopt(socket.IPPROTO_TCP, socket.TCP_NODELAY, 1)
+                self._host = host
+
+    def write(self, data):
+        if self._host is None:
+            return len(data)
+        try:
+            return self._host.send(data)
+        except (BlockingIOError, InterruptedError):
+            return 0
+        except ConnectionError:
+            self.drop()
+            return len(data)

@@ -1,0 +1,216 @@
+"""What every emulated device has: its cable, its plug, and a thread that does what it is sent."""
+import contextlib
+import os
+import select
+import threading
+import time
+
+
+class Device:
+    """A device on a cable. Its methods may be called in any thread; `with device:` switches it on and ends it."""
+
+    #: How many bytes it takes before it has worked off what came before.
+    ROOM = 4096
+
+    def __init__(self, cable):
+        self.cable = cable
+        self.lock = threading.RLock()
+        self.is_on = False
+        #: The device does nothing and answers nothing, but keeps what it got.
+        self.is_hung = False
+        #: The device works, but what it answers is lost.
+        self.is_mute = False
+        #: How long a line takes, in seconds.
+        self.line_time = 0.0
+        #: How many bytes it has worked off.
+        self.worked = 0
+        self._ready_at = 0.0
+        self._got, self._sends = bytearray(), bytearray()
+        self._triggers = []
+        self._is_ending = False
+        self._thread = None
+        self._wakes, self._waker = os.pipe()
+        os.set_blocking(self._waker, False)
+        os.set_blocking(self._wakes, False)
+
+    @property
+    def path(self):
+        """The port that a driver opens."""
+        return self.cable.path
+
+    def __enter__(self):
+        self.plug_in()
+        self._thread = threading.Thread(target=self._run, daemon=True)
+        self._thread.start()
+        return self
+
+    def __exit__(self, *_):
+        with self.lock:
+            self._is_ending = True
+        self._wake()
+        self._thread.join()
+        self.cable.pull_out(is_forever=True)
+        os.close(self._wakes)
+        os.close(self._waker)
+
+    # What happens to it.
+
+    def plug_in(self):
+        """Switches the device on."""
+        with self.lock:
+            if not self.is_on:
+                self.is_on = True
+                self.cable.plug_in()
+                self.started()
+        self._wake()
+
+    def pull_plug(self):
+        """Takes its power: what it had got and not worked off is lost. What it sent reaches the host."""
+        with self.lock:
+            self._flush()
+            self.cable.settle()
+            self.is_on = False
+            self._got.clear()
+            self._sends.clear()
+            self.forget()
+            self.cable.pull_out()
+        self._wake()
+
+    def hang(self, is_hung=True):
+        """Makes the device silent: it does nothing, answers nothing, and keeps what it got. Or lets it go on."""
+        with self.lock:
+            self.is_hung = is_hung
+            if not is_hung:
+                self.goes_on()
+        self._wake()
+
+    def mute(self, is_mute=True):
+        """Loses what the device answers, while it works. Or ends that."""
+        with self.lock:
+            self.is_mute = is_mute
+            self._sends.clear()
+
+    def slow(self, line_time):
+        """Makes each line take so many seconds."""
+        with self.lock:
+            self.line_time = line_time
+
+    def garbage(self, data):
+        """Sends bytes that mean nothing."""
+        with self.lock:
+            self._sends += data
+        self._wake()
+
+    def after(self, count, *actions):
+        """Does something once the device has worked off so many more bytes."""
+        with self.lock:
+            self._triggers.append((self.worked + count, actions))
+            self._triggers.sort(key=lambda trigger: trigger[0])
+
+    def clear_triggers(self):
+        """Forgets what `after` was to do."""
+        with self.lock:
+            self._triggers.clear()
+
+    @property
+    def is_idle(self):
+        """Whether it has worked off all that it got."""
+        with self.lock:
+            return not self._got
+
+    def wait(self, condition, seconds=5.0):
+        """Waits until a condition holds, and says whether it does."""
+        end = time.monotonic() + seconds
+        while True:
+            with self.lock:
+                if condition():
+                    return True
+            if time.monotonic() > end:
+                return False
+            time.sleep(0.001)
+
+    # What a kind of device does.
+
+    def started(self):
+        """It was switched on."""
+
+    def forget(self):
+        """What it forgets without power."""
+
+    def goes_on(self):
+        """It was silent, and goes on."""
+
+    def arrives(self, data):
+        """Bytes arrive: gives those that wait for their turn."""
+        return data
+
+    def may_work(self):
+        """Whether it works off what it got."""
+        return True
+
+    def takes(self, byte):
+        """Works off a byte."""
+        raise NotImplementedError
+
+    # The thread.
+
+    def send(self, data):
+        """Sends an answer."""
+        if not (self.is_hung or self.is_mute):
+            self._sends += data
+
+    def line_done(self):
+        """A line was worked off: the next byte waits for as long as a line takes."""
+        if self.line_time:
+            self._ready_at = time.monotonic() + self.line_time
+
+    def _wake(self):
+        with contextlib.suppress(BlockingIOError):
+            os.write(self._waker, b"x")
+
+    def _flush(self):
+        """Sends what there is room for."""
+        if self._sends and self.is_on:
+            del self._sends[:self.cable.write(bytes(self._sends))]
+
+    def _works(self):
+        """Works off what it may, and gives the seconds after which it goes on, or None."""
+        while self.is_on and not self.is_hung and self._got and self.may_work():
+            left = self._ready_at - time.monotonic()
+            if left > 0:
+                return left
+            byte = self._got[0]
+            if not self.takes(byte):
+                return None
+            del self._got[:1]
+            self.worked += 1
+            self._flush()
+            while self._triggers and self._triggers[0][0] <= self.worked:
+                for action in self._triggers.pop(0)[1]:
+                    action()
+        return None
+
+    def _run(self):
+        while True:
+            with self.lock:
+                if self._is_ending:
+                    return
+                pause = self._works()
+                self._flush()
+                if self._sends:
+                    pause = 0.001
+                files = [self._wakes]
+                if len(self._got) < self.ROOM:
+                    files += self.cable.files()
+            try:
+                ready = select.select(files, [], [], pause)[0]
+            except (OSError, ValueError):
+                # The cable was pulled out meanwhile.
+                continue
+            if self._wakes in ready:
+                with contextlib.suppress(BlockingIOError):
+                    os.read(self._wakes, 4096)
+            with self.lock:
+                found = self.cable.read(self.ROOM - len(self._got)) if len(self._got) < self.ROOM else b""
+                if self.is_on and found:
+                    self._got += self.arrives(found)
