@@ -2,7 +2,7 @@
 
 Usage: native.py NAME HOST [--faults N] [--seed N] [--only WORD] [--slack SECONDS]
 
-HOST is the program that tests/native/host.c says the commands of. N random faults are tried, by default 60, from a
+HOST is the program that tests/native/host.c says the commands of. N random faults are tried, by default 100, from a
 seed. --only tries what has the word in its name; --slack is how much later than its timeout a call may return. The
 last line is 'N passed, M failed'.
 """
@@ -62,10 +62,10 @@ def told(name, wanted, found):
 
 
 def cable(kind="usb"):
-    """A new cable: "usb" hangs up with the device, "serial" doesn't, "tcp" is a network printer's."""
+    """A new cable: "usb" hangs up with the device, a serial line doesn't, "tcp" is a network printer's."""
     global made
     made += 1
-    return TcpCable() if kind == "tcp" else PtyCable(WORK / f"port-{made}", hangs_up=kind != "serial")
+    return TcpCable() if kind == "tcp" else PtyCable(WORK / f"port-{made}", hangs_up="serial" not in kind)
 
 
 def until(condition, seconds=PATIENCE):
@@ -121,12 +121,12 @@ TROUBLES = {
 
 
 class Shop:
-    """A host whose printer is emulated, and may be in trouble."""
+    """A host whose printer is emulated, and may be in trouble. One of the kind "asked" is simpler, on "usb"."""
 
     def __init__(self, stack, kind="usb", words="", lines=1000, is_claimed=True):
-        self.device = stack.enter_context(Printer(cable(kind), lines=lines, is_simple=kind == "asked"))
+        self.device = stack.enter_context(Printer(cable(kind), lines=lines, is_simple="asked" in kind))
         self.host = Host(stack)
-        words += {"asked": " asked", "serial": " serial 115200"}.get(kind, "")
+        words += " asked" * ("asked" in kind) + " serial 115200" * ("serial" in kind)
         opened = f"printer r1 {self.device.path} timeout {TIMEOUT} pause 10 lines 1000 {words}"
         told("the printer is opened", "ok", self.host.ask(opened))
         if is_claimed:
@@ -496,8 +496,10 @@ def try_memory():
 
 # ---- random faults
 
-# What a printer that is asked must not meet: its answers have no number.
-SIMPLE = ("lost answers", "garbage")
+# The kinds of printers, and what they must not meet: answers that are asked for have no number, and on a serial line
+# nobody can tell an answer that was lost from bytes that were.
+KINDS = {"usb": (), "tcp": (), "serial": ("lost answers",), "asked": ("lost answers", "garbage"),
+         "asked serial": ("lost answers", "garbage")}
 
 
 def random_trouble(device, chance, unless):
@@ -546,17 +548,17 @@ def random_round(shop, chance, number, unless):
 
 def try_random():
     """Random trouble: each order that was answered ok is on the paper once, in order, and nothing else is."""
-    for kind in ("usb", "tcp", "asked"):
+    for kind, unless in KINDS.items():
         chance, counts, wanted = random.Random(WORDS.seed), {}, []
         with contextlib.ExitStack() as stack:
             shop = Shop(stack, kind, lines=100_000)
-            for number in range(WORDS.faults // 3):
-                lines, trouble = random_round(shop, chance, number, SIMPLE if kind == "asked" else ())
+            for number in range(WORDS.faults // len(KINDS)):
+                lines, trouble = random_round(shop, chance, number, unless)
                 wanted += lines
                 counts[trouble] = counts.get(trouble, 0) + 1
             told(f"random faults over {kind}: the paper", wanted, [item[1] for item in shop.paper()])
             told(f"random faults over {kind}: no late order", "0", shop.late())
-            print(f"{WORDS.name}, {WORDS.faults // 3} random faults over {kind}: {counts}", flush=True)
+            print(f"{WORDS.name}, {WORDS.faults // len(KINDS)} random faults over {kind}: {counts}", flush=True)
 
 
 def main():
@@ -574,7 +576,7 @@ if __name__ == "__main__":
     reader = argparse.ArgumentParser(description=__doc__, formatter_class=argparse.RawDescriptionHelpFormatter)
     reader.add_argument("name")
     reader.add_argument("host")
-    reader.add_argument("--faults", type=int, default=60)
+    reader.add_argument("--faults", type=int, default=100)
     reader.add_argument("--seed", type=int, default=1)
     reader.add_argument("--only", default="")
     reader.add_argument("--slack", type=float, default=0.6)

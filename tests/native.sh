@@ -3,7 +3,7 @@
 # (tests/native.py says what): the layer of C as it is, and under the address and the undefined behaviour sanitizer;
 # the crate of Rust. valgrind looks for what the layer of C forgets. It installs nothing, and a missing tool is a
 # failure that names its package.
-# Usage: tests/native.sh [WORD ..]. The words are those of tests/native.py: --faults N (60 random faults by default),
+# Usage: tests/native.sh [WORD ..]. The words are those of tests/native.py: --faults N (100 random faults by default),
 # --seed N, --only WORD. KIJOLVAR_ARCHIVE names a library in place of the one that rt lib builds. Its last line is
 # 'N passed, M failed'.
 set -u
