@@ -42,6 +42,11 @@
 //! # Ok::<(), kijolvar::Error>(())
 //! ```
 //!
+//! # Hardware
+//!
+//! All devices are simulated at first. [`Till::drive`] has a driver carry out the orders of one: [`EscPosPrinter`] and its
+//! drawer, [`SerialDisplay`], [`WedgeScanner`], or a [`Driver`] of your own. [`Till::run_devices`] is their loop.
+//!
 //! # Threads
 //!
 //! A till may be moved to another thread, and is used by one thread at a time. An [`Actor`] has a till for several
