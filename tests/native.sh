@@ -57,19 +57,28 @@ if [ "$failed" -gt 0 ]; then
   exit 1
 fi
 
-# tries NAME HOST WORD ..: what tests/native.py makes of a host, which is added up
+# tries NAME HOST WORD ..: begins what tests/native.py does with a host. Most of it is waiting, so several run at a time
+names=()
 tries() {
-  local line name=$1
-  python3 -W error -W ignore::ResourceWarning "$top/tests/native.py" "$@" > "$work/tried" 2>&1
-  line=$(tail -n 1 "$work/tried")
-  if [[ $line =~ ^([0-9]+)\ passed,\ ([0-9]+)\ failed$ ]]; then
-    passed=$((passed + BASH_REMATCH[1]))
-    failed=$((failed + BASH_REMATCH[2]))
-    head -n -1 "$work/tried"
-    echo "$name: $line"
-  else
-    told "$name: the tests end" "N passed, M failed" "$(tail -n 12 "$work/tried")"
-  fi
+  names+=("$1")
+  python3 -W error -W ignore::ResourceWarning "$top/tests/native.py" "$@" > "$work/tried-${#names[@]}" 2>&1 &
+}
+
+# collects: waits for what was begun, and adds up its checks
+collects() {
+  local number line
+  wait
+  for number in "${!names[@]}"; do
+    line=$(tail -n 1 "$work/tried-$((number + 1))")
+    if [[ $line =~ ^([0-9]+)\ passed,\ ([0-9]+)\ failed$ ]]; then
+      passed=$((passed + BASH_REMATCH[1]))
+      failed=$((failed + BASH_REMATCH[2]))
+      head -n -1 "$work/tried-$((number + 1))"
+      echo "${names[number]}: $line"
+    else
+      told "${names[number]}: the tests end" "N passed, M failed" "$(tail -n 12 "$work/tried-$((number + 1))")"
+    fi
+  done
 }
 
 [ -n "${KIJOLVAR_ARCHIVE:-}" ] || (cd "$top/crates/kijolvar" && rt lib > "$work/said" 2>&1)
@@ -88,7 +97,7 @@ runs "the host in C++17 is built" g++ -std=c++17 "${strict[@]}" -O1 -x c++ "$her
   -o "$work/plus" "${bare[@]}"
 cat > "$work/watched" <<END
 #!/bin/sh
-exec valgrind -q --error-exitcode=99 --undef-value-errors=no --leak-check=full "$work/host" "\$@"
+exec valgrind -q --error-exitcode=99 --undef-value-errors=no --leak-check=full --sim-hints=lax-ioctls "$work/host" "\$@"
 END
 chmod +x "$work/watched"
 
@@ -98,10 +107,13 @@ runs "the host in Rust is built" cargo build -q --offline --release --manifest-p
 
 tries "C" "$work/host" "$@"
 tries "C with sanitizers" "$work/checked" "$@"
-tries "C, watched" "$work/watched" --only plain --slack 6 "$@"
-tries "C, want of memory" "$work/heap" --only memory "$@"
-tries "C++" "$work/plus" --only plain "$@"
+for word in plain display scanner drawer; do
+  tries "C, watched: $word" "$work/watched" --slack 6 "$@" --only "$word"
+done
+tries "C, want of memory" "$work/heap" "$@" --only memory
+tries "C++" "$work/plus" "$@" --only plain
 tries "Rust" "$work/target/release/host" "$@"
+collects
 
 echo "$passed passed, $failed failed"
 [ "$failed" -eq 0 ]
