@@ -400,6 +400,17 @@ uint32_t kijolvar_next_order(kijolvar_till till, void **out, uint8_t *text, size
 uint32_t kijolvar_order_done(kijolvar_till till, void **out, uint32_t outcome, const uint8_t *inputs, size_t inputs_len,
     uint8_t *text, size_t text_len, size_t *needed);
 
+/* Takes the printed paper of the device of this name away, and returns OK. A printer keeps no line and no cut then,
+   only the line that has begun, and a show line shows it so; another device stays as it is. A till keeps all that a
+   printer prints until the host does this, which it may do after each receipt. The till is what is written to out
+   from then on.
+
+   Errors:
+
+   NO_DEVICE if the profile has no device of the name, it is one of Hard Totals, or it is detached, and NO_MEMORY if
+   memory ran out. Then nothing changes. */
+uint32_t kijolvar_tear_off(kijolvar_till till, void **out, const uint8_t *name, size_t name_len);
+
 /* Writes the bytes of the pending order of a driven device to bytes, and to needed how many they are, and returns
    OK. It is the order that waits, or that the host has. Send them to the hardware as they are (abi/README.md, "Bytes
    of orders"). This changes nothing of the till. The till is what is written to out from then on.

@@ -16,6 +16,10 @@ if TYPE_CHECKING:
     from .till import Till
 
 
+# How many orders of a printer the till keeps the paper of.
+_KEPT_ORDERS = 500
+
+
 class Drive:
     """A device and its driver."""
 
@@ -24,6 +28,8 @@ class Drive:
         self.word = device_word(device.name)
         # Whether the till takes the device as switched on.
         self.is_on = True
+        # How many orders it has done since its paper was taken away.
+        self.orders = 0
 
     def power_off(self) -> bytes:
         """The input that says that the device isn't there, the first time."""
@@ -76,6 +82,7 @@ class Drives:
         order = read_order(line.decode())
         drive = self._drives[order.device]
         if drive.driver.is_online and drive.driver.carry_out(order):
+            drive.orders += 1
             return True, b""
         return False, drive.inputs()
 
@@ -92,6 +99,9 @@ class Drives:
             self._is_handing_in = False
 
     def _hand_in(self, drive: Drive) -> bool:
+        if drive.orders >= _KEPT_ORDERS and drive.category == "POSPrinter":
+            drive.orders = 0
+            self._session.tear_off(drive.word)
         lines = drive.inputs()
         if lines:
             self._happens(lines)

@@ -44,6 +44,7 @@ def declare(library: ctypes.CDLL) -> ctypes.CDLL:
         "kijolvar_drive": ([Raw, out, text, size], number),
         "kijolvar_next_order": ([Raw, out, text, size, needed], number),
         "kijolvar_order_done": ([Raw, out, number, text, size, text, size, needed], number),
+        "kijolvar_tear_off": ([Raw, out, text, size], number),
         "kijolvar_order_bytes": ([Raw, out, settings, number, number, text, size, needed], number),
         "kijolvar_replies": ([Raw, out, text, size, settings, number, text, size, needed, needed, text, size, needed],
                              number),

@@ -307,6 +307,13 @@ class Session:
             self._mark_calls()
         self._driven.add(device)
 
+    def tear_off(self, device: bytes) -> None:
+        """Takes away what the device of this name has printed. Its line that has begun stays."""
+        self.check()
+        code = self._library.kijolvar_tear_off(self._raw, self._out, device, len(device))
+        if code != KIJOLVAR_OK:
+            raise library_fault(code)
+
     def order_bytes(self, settings: RawSettings, is_new: bool, behind: int) -> bytes:
         """The bytes of the order that waits or that the host has. Nothing changes."""
         self.check()

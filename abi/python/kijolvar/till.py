@@ -312,6 +312,16 @@ class Till:
         """
         return self._session.reply(device_word(device), settings.raw, expected(asked), bytes(data))
 
+    def tear_off(self, device: str) -> None:
+        """Takes the printed paper of a device away: what it shows has only the line that has begun then. A till keeps
+        all that a printer prints, so do it now and then for a printer of which the host has the hardware. A till does
+        it by itself for a printer that has a driver, after each 500 orders.
+
+        Raises:
+            NoDeviceError: The profile has no device of the name, it is one of Hard Totals, or it is detached.
+        """
+        self._session.tear_off(device_word(device))
+
     def run_devices(self, timeout: float = 0.0) -> bool:
         """Does what the driven devices need: tells the till what they say of themselves and what was scanned, opens
         lost ports again, and prints output that waits (AsyncMode). Call it regularly, and then deliver events.

@@ -8,6 +8,7 @@ pub mod LineAnswers
 pub mod NextOrders
 pub mod Reports
 pub mod Hosting
+pub mod Paper
 pub mod Opening
 pub mod Tills
 pub mod Profiles

@@ -9,15 +9,15 @@ use Rattle.pos_drive.specs.declared.courses.Course.{Course}
 use Rattle.pos_escpos.specs.declared.printer_commands.NowStatus.TheVariants as now_status
 use Rattle.pos_escpos.specs.declared.printer_commands.OrderStatus.TheVariants as order_status
 use Rattle.pos_escpos.specs.declared.statuses.PrinterReply.{PrinterReply}
-use Rattle.pos_wire.specs.Orders.{SendsOrder}
-use Rattle.pos_wire.specs.ReplyReads.{Reads, reader_of}
-use Rattle.pos_wire.specs.ReplyText.{has_replies, reply_lines}
+use Rattle.pos_wire.specs.Orders.{HasNoBytes, SendsOrder}
+use Rattle.pos_wire.specs.Replies.{Reads, reader_of}
+use Rattle.pos_wire.specs.ReplyLines.{TellsReply, has_replies}
 use Rattle.pos_wire.specs.Settings.{settings_fit}
 use Rattle.pos_wire.specs.declared.frames.JobEnd.{JobEnd}
 use Rattle.pos_wire.specs.declared.frames.JobEnd.TheVariants as job_end
-use Rattle.pos_wire.specs.declared.reply_reads.Asked.{Asked}
-use Rattle.pos_wire.specs.declared.reply_reads.Asked.TheVariants as asked
-use Rattle.pos_wire.specs.declared.reply_reads.ReplyRead.{ReplyRead}
+use Rattle.pos_wire.specs.declared.replies.Asked.{Asked}
+use Rattle.pos_wire.specs.declared.replies.Asked.TheVariants as asked
+use Rattle.pos_wire.specs.declared.replies.ReplyRead.{ReplyRead}
 use Rattle.pos_wire.specs.declared.settings.WireSettings.{WireSettings}
 use Rattle.pos_run.specs.declared.wrapped.Wrapped.{Wrapped}
 use Rattle.pos_run.specs.Simulating.{wrapped_state}
@@ -69,15 +69,15 @@ pub record TellsBytes (settings : WireSettings) (is_new : Bool) (behind : JobEnd
   pub tells : TellsWhole bytes before after needed code
 
 -- why the bytes of an order aren't told: there was no memory, the settings are out of range, or it has none
-abbrev pub IsNoBytesCode : WireSettings → PeripheralState → Order → (code : ℕ) → Type 0
-IsNoBytesCode settings state given code = (code ≡ no_memory)
+abbrev pub IsNoBytesCode : WireSettings → Bool → PeripheralState → Order → (code : ℕ) → Type 0
+IsNoBytesCode settings is_new state given code = (code ≡ no_memory)
     ⊎ ((code ≡ bad_settings) × (settings_fit state.kind settings ≡ false))
-    ⊎ (code ≡ no_order)
+    ⊎ ((code ≡ no_order) × (order_fits state.kind given ≡ true → HasNoBytes is_new state given))
 
 -- Nothing is written, for this cause.
-pub record TellsNoBytes (settings : WireSettings) (state : PeripheralState) (given : Order) (before after : List ℕ)
-    (needed_before needed code : ℕ) : Type 0 where
-  pub why : IsNoBytesCode settings state given code
+pub record TellsNoBytes (settings : WireSettings) (is_new : Bool) (state : PeripheralState) (given : Order)
+    (before after : List ℕ) (needed_before needed code : ℕ) : Type 0 where
+  pub why : IsNoBytesCode settings is_new state given code
   pub tells : TellsNothing before after needed_before needed code code
 
 -- what is told of an order of a simulated peripheral, if there is one
@@ -87,7 +87,7 @@ AnswersBytesOf None settings is_new behind before after needed_before needed cod
     TellsNothing before after needed_before needed code no_order
 AnswersBytesOf (Some (twin, given)) settings is_new behind before after needed_before needed code =
     TellsBytes settings (not (is_new == 0)) (end_numbered behind) (wrapped_state twin) given before after needed code
-    ⊎ TellsNoBytes settings (wrapped_state twin) given before after needed_before needed code
+    ⊎ TellsNoBytes settings (not (is_new == 0)) (wrapped_state twin) given before after needed_before needed code
 
 -- what is told of the bytes of the order that is pending
 abbrev pub AnswersOrderBytes : (Device → Course) → Kept → WireSettings → (is_new behind : ℕ) (before after : List ℕ)
@@ -98,24 +98,24 @@ AnswersOrderBytes hosts till = AnswersBytesOf (pending_order hosts till)
 abbrev pub count_told : (code : ℕ) (before count : ℕ) → ℕ
 count_told code before count = if code == ok then count else before
 
--- the text of a reply; none if there is no reply
-abbrev pub text_read : Option PrinterReply → (PrinterReply → List ℕ) → List ℕ
-text_read None text_of = []
-text_read (Some reply) text_of = text_of reply
+-- a text is that of the reply; it is empty if there is no reply
+abbrev pub IsText : Option PrinterReply → (PrinterReply → List ℕ → Type 0) → List ℕ → Type 0
+IsText None is_of text = text ≡ []
+IsText (Some reply) is_of text = is_of reply text
 
 -- Bytes are read up to the end of the first reply, and its text is told. Without room for it none counts as read. If
--- no reply ends in them, there is no text.
-pub record TellsReply (settings : WireSettings) (name : List ℕ) (state : PeripheralState) (expected : Asked)
+-- no reply ends in them, the text is empty.
+pub record TellsFirst (settings : WireSettings) (name : List ℕ) (state : PeripheralState) (expected : Asked)
     (bytes : List ℕ) (used_before used skipped_before skipped : ℕ) (before after : List ℕ) (needed code : ℕ) : Type 0
   where
     pub read : ReplyRead
-    pub reads : Reads (reader_of expected) bytes read
+    pub reads : Reads (reader_of expected) bytes read read.reply
     pub used_told : used ≡ count_told code used_before read.used
     pub skipped_told : skipped ≡ count_told code skipped_before read.skipped
     pub fit : settings_fit state.kind settings ≡ true
-    pub tells : TellsWhole
-        (text_read read.reply (reply_lines settings name state.kind (signs_of state.kind state.plant)))
-        before after needed code
+    pub text : List ℕ
+    pub is : IsText read.reply (TellsReply settings name state.kind (signs_of state.kind state.plant)) text
+    pub tells : TellsWhole text before after needed code
 
 -- nothing is written, and the code is this one
 pub record TellsNoReply (used_before used skipped_before skipped : ℕ) (before after : List ℕ)
@@ -134,7 +134,7 @@ abbrev pub AnswersReplyOf : PeripheralState → WireSettings → (name : List �
     (used_before used skipped_before skipped : ℕ) (before after : List ℕ) (needed_before needed code : ℕ) → Type 0
 AnswersReplyOf state settings name expected bytes used_before used skipped_before skipped before after needed_before
     needed code =
-    TellsReply settings name state expected bytes used_before used skipped_before skipped before after needed code
+    TellsFirst settings name state expected bytes used_before used skipped_before skipped before after needed code
     ⊎ (IsNoReplyCode settings state code
     × TellsNoReply used_before used skipped_before skipped before after needed_before needed code code)
 

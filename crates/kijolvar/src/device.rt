@@ -98,6 +98,10 @@ impl Hosted for Device {
     fn settle(&mut self) {
         self.driven.settle();
     }
+
+    fn tear_off(&mut self) -> Result<(), NoMemory> {
+        self.driven.tear_off()
+    }
 }
 
 impl Ends for Device {

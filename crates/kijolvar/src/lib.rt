@@ -26,6 +26,7 @@ ghost use Rattle.kijolvar.specs.Mistakes.{AnswersMistake};
 ghost use Rattle.kijolvar.specs.NextOrders.{NextOrder};
 ghost use Rattle.kijolvar.specs.Opening.{AnswersMove, AnswersOpening, IsFormattedOf, IsMovedOf, Opens};
 ghost use Rattle.kijolvar.specs.Opening.{format_code, open_code};
+ghost use Rattle.kijolvar.specs.Paper.{TearsOff};
 ghost use Rattle.kijolvar.specs.Profiles.{GivesProfile, IsRefused, RefusesProfile};
 ghost use Rattle.kijolvar.specs.Reports.{AnswersReport};
 ghost use Rattle.kijolvar.specs.Surveys.{AnswersSurvey};
@@ -48,6 +49,7 @@ mod kept;
 mod loose;
 mod mistakes;
 mod orders;
+mod paper;
 mod reports;
 mod session;
 mod surveys;
@@ -574,6 +576,26 @@ pub extern "C" fn kijolvar_order_done(
 {
     let mut session = take(till);
     let code = report(&mut session, outcome, inputs, text, needed);
+    leave(session, out);
+    code
+}
+
+/// Takes the printed paper of the device of this name away, and returns OK. A printer keeps no line and no cut then,
+/// only the line that has begun, and a `show` line shows it so; another device stays as it is. A till keeps all that a
+/// printer prints until the host does this, which it may do after each receipt. The till is what is written to `out`
+/// from then on.
+///
+/// # Errors
+///
+/// NO_DEVICE if the profile has no device of the name, it is one of Hard Totals, or it is detached, and NO_MEMORY if
+/// memory ran out. Then nothing changes.
+#[unsafe(no_mangle)]
+pub extern "C" fn kijolvar_tear_off(till: Till, out: &mut Slot, name: &[u8]) -> u32
+    ensures { MatchOption out.new.left ⊥
+        (TearsOff ⟦<Device as Hosted>⟧.course ⟦<Device as Peripheral>⟧ till.session name.now result) }
+{
+    let mut session = take(till);
+    let code = session.tear_off(name);
     leave(session, out);
     code
 }

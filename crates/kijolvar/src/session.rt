@@ -5,6 +5,7 @@ ghost use Rattle.kijolvar.specs.Controls.{FindsNumber, NextEvent};
 ghost use Rattle.kijolvar.specs.Hosting.{Drives, IsHostCode};
 ghost use Rattle.kijolvar.specs.LineAnswers.{AnswersAs, TakesLines};
 ghost use Rattle.kijolvar.specs.NextOrders.{NextOrder};
+ghost use Rattle.kijolvar.specs.Paper.{TearsOff};
 ghost use Rattle.kijolvar.specs.Reports.{TakesReport};
 ghost use Rattle.kijolvar.specs.Tills.{Begins, CarriesOut, Fails, HandsOver, AnswersNextErrand, settlement_of};
 ghost use Rattle.kijolvar.specs.WireCalls.{AnswersOrderBytes, AnswersReplies};
@@ -15,6 +16,7 @@ use crate::controls::{find_number, next_event};
 use crate::device::Device;
 use crate::hosted_devices::{drive_device, host_device, next_order};
 use crate::kept::Kept;
+use crate::paper::tear_off;
 use crate::till_disk::{Settlement, TillDisk};
 use crate::tray::Tray;
 use crate::wire_calls::{tell_order_bytes, tell_reply};
@@ -226,6 +228,17 @@ impl Session {
         ensures { Drives ⟦<Device as Hosted>⟧.course ⟦<Device as Peripheral>⟧ self.old name.now result self.new }
     {
         drive_device(&mut self.kept, name)
+    }
+
+    /// Takes the printed paper of the device of a name away, and returns OK.
+    ///
+    /// # Errors
+    ///
+    /// NO_DEVICE if no device has the name or nothing serves it, and NO_MEMORY if memory ran out. Then nothing changes.
+    pub fn tear_off(&mut self, name: &[u8]) -> u32
+        ensures { TearsOff ⟦<Device as Hosted>⟧.course ⟦<Device as Peripheral>⟧ self.old name.now result self.new }
+    {
+        tear_off(&mut self.kept, name)
     }
 
     /// Writes the next order of the devices that the host has, and removes it. It returns ORDER, or OK if none is left.

@@ -1,11 +1,11 @@
 //! The bytes of driven devices' orders, and what printers reply.
 ghost use Rattle.std.specs.Prelude.{◌≡◌, IfOk, IsErrOf, false};
 ghost use Rattle.pos_service.specs.Peripherals.{signs_of};
-ghost use Rattle.pos_wire.specs.ReplyText.{has_replies, reply_lines};
+ghost use Rattle.pos_wire.specs.ReplyLines.{TellsReply, has_replies};
 ghost use Rattle.pos_wire.specs.Settings.{settings_fit};
 ghost use Rattle.pos_wire.specs.declared.wire_fault.WireFault.TheVariants as fault;
 ghost use Rattle.kijolvar.specs.HeldLines.{IsTillSound};
-ghost use Rattle.kijolvar.specs.WireCalls.{AnswersOrderBytes, AnswersReplies, TellsWhole, asked_numbered, end_numbered, text_read};
+ghost use Rattle.kijolvar.specs.WireCalls.{AnswersOrderBytes, AnswersReplies, IsText, TellsWhole, asked_numbered, end_numbered};
 
 use crate::codes::{BAD_SETTINGS, NO_DEVICE, NO_MEMORY, NO_ORDER, OK, SHORT};
 use crate::device::Device;
@@ -123,8 +123,8 @@ fn text_read(
     reply: Option<PrinterReply>,
 ) -> Result<Vec<u8>, WireFault>
     ensures text { let state = ⟦<Device as Peripheral>⟧.state device.now in
-        IfOk result (λ text. text.items ≡ text_read reply
-        (reply_lines settings.now name.now state.kind (signs_of state.kind state.plant))) }
+        IfOk result (λ text. IsText reply
+        (TellsReply settings.now name.now state.kind (signs_of state.kind state.plant)) text.items) }
     ensures bad_settings { let state = ⟦<Device as Peripheral>⟧.state device.now in
         IsErrOf result fault.BadSettings → settings_fit state.kind settings.now ≡ false }
     ensures no_bytes { let state = ⟦<Device as Peripheral>⟧.state device.now in

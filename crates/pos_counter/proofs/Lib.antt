@@ -19,5 +19,6 @@ pub mod ReopenLemmas
 pub mod ErrandLemmas
 pub mod HostsLemmas
 pub mod ServedLemmas
+pub mod PaperLemmas
 mod MoveLemmas
 pub mod NextEventLemmas

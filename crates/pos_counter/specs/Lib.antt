@@ -7,6 +7,7 @@ pub mod Examples
 pub mod FileCalls
 pub mod History
 pub mod Hosts
+pub mod Paper
 pub mod KeptDevices
 pub mod Leaving
 pub mod Machine

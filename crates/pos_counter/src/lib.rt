@@ -20,6 +20,7 @@ mod inputs;
 pub mod laws;
 pub mod moves;
 mod output;
+mod paper;
 mod properties;
 mod relay;
 pub mod responses;

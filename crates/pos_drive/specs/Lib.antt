@@ -1,3 +1,4 @@
 pub mod Courses
 pub mod DrivenPeripherals
+pub mod Papers
 pub mod Previews

@@ -7,6 +7,7 @@ ghost use Rattle.pos_drive.specs.DrivenPeripherals.{Answers, Keeps, Passes, Puts
 use crate::courses::{Course, Progress};
 use crate::hosted::Hosted;
 use crate::order_copies::copy_order;
+use crate::paper::Tears;
 use crate::preview::Preview;
 use pos_service::{Ends, Input, Kind, NoMemory, Order, Peripheral, Reply, Signs, Snapshot, Taken};
 use std::alloc::Global;
@@ -148,7 +149,7 @@ impl<P: Preview> Peripheral for Driven<P> {
     }
 }
 
-impl<P: Preview> Hosted for Driven<P> {
+impl<P: Preview + Tears> Hosted for Driven<P> {
     ghost course = { λ driven. driven.course };
 
     fn progress(&self) -> Progress {
@@ -177,6 +178,10 @@ impl<P: Preview> Hosted for Driven<P> {
     fn settle(&mut self) {
         let course = self.exchange(Course::Ready);
         self.course = course.settled();
+    }
+
+    fn tear_off(&mut self) -> Result<(), NoMemory> {
+        self.twin.tear_off()
     }
 }
 

@@ -1,9 +1,10 @@
 //! What a host does with a peripheral.
 ghost use Rattle.std.specs.Prelude.{◌≡◌, option_map};
+ghost use Rattle.pos_drive.specs.Papers.{TearsOff};
 ghost use Rattle.pos_drive.specs.Courses.{driven_course, handed_out_course, order_in, progress_of, reported_course, settled_course};
 
 use crate::courses::Progress;
-use pos_service::{Order, Peripheral};
+use pos_service::{NoMemory, Order, Peripheral};
 
 /// A peripheral whose orders may wait for a host. What the host does with it changes nothing that a counter sees of it.
 pub trait Hosted: Peripheral {
@@ -40,4 +41,13 @@ pub trait Hosted: Peripheral {
     fn settle(&mut self)
         ensures state { Self.Peripheral.state self.new ≡ Self.Peripheral.state self.old }
         ensures course { course self.new ≡ settled_course (course self.old) };
+
+    /// Takes the printed paper away: a printer keeps no line and no cut, only the line that has begun.
+    ///
+    /// # Errors
+    ///
+    /// [`NoMemory`] if memory ran out. Then nothing has changed.
+    fn tear_off(&mut self) -> Result<(), NoMemory>
+        ensures state { TearsOff (Self.Peripheral.state self.old) result (Self.Peripheral.state self.new) }
+        ensures course { course self.new ≡ course self.old };
 }

@@ -3,7 +3,7 @@
 //! - [`Driven`] is a simulated peripheral that stands for the host's. Once it is driven, it keeps an order for the host
 //!   and answers that there is no memory, until the host has reported what became of the order and it is given again.
 //! - [`Hosted`] is what a host does with such a peripheral, and [`Progress`] how far it is with an order.
-//! - [`Preview`] says before an order what a peripheral would reply.
+//! - [`Preview`] says before an order what a peripheral would reply, and [`Tears`] takes printed paper away.
 //!
 //! The layer above relies on this: an order that waits has done nothing, and want of memory forgets no report. A driven
 //! peripheral answers an order with `Done` only if the host has reported that this order is done.
@@ -13,10 +13,12 @@ mod courses;
 mod driven;
 mod hosted;
 mod order_copies;
+mod paper;
 mod preview;
 
 pub use courses::{Course, Progress};
 pub use driven::Driven;
 pub use hosted::Hosted;
 pub use order_copies::{copy_order, is_same_order};
+pub use paper::Tears;
 pub use preview::Preview;

@@ -3,7 +3,7 @@ ghost use Rattle.std.specs.Prelude.{◌≡◌, ◌≤◌, IfOk, option_map};
 ghost use Rattle.pos_run.specs.Simulating.{IsDeviceFor, IsDisplay, IsSimulable, IsSimulatedFor, simulated_for, state_of, wrapped_state};
 
 use crate::wrapped::{Wrapped, wrap};
-use pos_drive::Preview;
+use pos_drive::{Preview, Tears};
 use pos_profile::Entry;
 use pos_service::{Input, Kind, NoMemory, Order, Peripheral, Reply, Signs, Snapshot, Taken};
 use pos_sims::{
@@ -108,6 +108,18 @@ impl Preview for Simulation {
             Simulation::Display(display) => display.would(order),
             Simulation::Ring(ring) => ring.would(order),
             Simulation::Printer(printer) => printer.would(order),
+        }
+    }
+}
+
+impl Tears for Simulation {
+    fn tear_off(&mut self) -> Result<(), NoMemory> {
+        match self {
+            Simulation::Drawer(drawer) => drawer.tear_off(),
+            Simulation::Scanner(scanner) => scanner.tear_off(),
+            Simulation::Display(display) => display.tear_off(),
+            Simulation::Ring(ring) => ring.tear_off(),
+            Simulation::Printer(printer) => printer.tear_off(),
         }
     }
 }

@@ -3,7 +3,7 @@ ghost use Rattle.std.specs.Prelude.{◌≡◌, false, true};
 ghost use Rattle.pos_run.specs.Simulating.{state_of, wrapped_by, wrapped_state};
 
 use crate::simulation::Simulation;
-use pos_drive::Preview;
+use pos_drive::{Preview, Tears};
 use pos_service::{Ends, Input, Kind, NoMemory, Order, Peripheral, Reply, Signs, Snapshot, Taken};
 use pos_sims::{Flaky, PrintPreview, Recorder, Roll};
 use std::alloc::Global;
@@ -117,6 +117,17 @@ impl Preview for Wrapped {
             Wrapped::Flaky(flaky) => flaky.would(order),
             Wrapped::Recorded(recorder) => recorder.would(order),
             Wrapped::Both(recorder) => recorder.would(order),
+        }
+    }
+}
+
+impl Tears for Wrapped {
+    fn tear_off(&mut self) -> Result<(), NoMemory> {
+        match self {
+            Wrapped::Bare(device) => device.tear_off(),
+            Wrapped::Flaky(flaky) => flaky.tear_off(),
+            Wrapped::Recorded(recorder) => recorder.tear_off(),
+            Wrapped::Both(recorder) => recorder.tear_off(),
         }
     }
 }

@@ -8,7 +8,7 @@ use crate::power::{passes_by, reply_while};
 use crate::ring::Ring;
 use crate::screen::Screen;
 use crate::window::Window;
-use pos_drive::Preview;
+use pos_drive::{Preview, Tears};
 use pos_service::display_text::Place;
 use pos_service::{
     DisplayCells, Form, Input, Kind, NoMemory, Order, PaperLevel, Peripheral, Plant, Reply, Signs,
@@ -164,5 +164,11 @@ impl<S: Screen> Peripheral for LineDisplay<S> {
 impl<S: Screen> Preview for LineDisplay<S> {
     fn would(&self, _: &Order) -> Reply {
         reply_while(self.powered, Reply::Done)
+    }
+}
+
+impl<S: Screen> Tears for LineDisplay<S> {
+    fn tear_off(&mut self) -> Result<(), NoMemory> {
+        Ok(())
     }
 }

@@ -4,7 +4,7 @@ ghost use Rattle.pos_service.specs.Peripherals.{Asked, Fed, input_fits, order_fi
 ghost use Rattle.pos_sims.specs.Drawers.{drawer_state, state_of};
 
 use crate::power::{passes_by, reply_while};
-use pos_drive::Preview;
+use pos_drive::{Preview, Tears};
 use pos_service::{
     Form, Input, Kind, NoMemory, Order, PaperLevel, Peripheral, Plant, Reply, Signs, Snapshot,
     Taken,
@@ -106,5 +106,11 @@ impl Peripheral for PlainDrawer {
 impl Preview for PlainDrawer {
     fn would(&self, _: &Order) -> Reply {
         reply_while(self.powered, Reply::Done)
+    }
+}
+
+impl Tears for PlainDrawer {
+    fn tear_off(&mut self) -> Result<(), NoMemory> {
+        Ok(())
     }
 }

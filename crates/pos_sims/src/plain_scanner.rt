@@ -4,7 +4,7 @@ ghost use Rattle.pos_service.specs.Peripherals.{Asked, Fed, input_fits};
 ghost use Rattle.pos_sims.specs.Scanners.{scanner_state, state_of};
 
 use crate::power::passes_by;
-use pos_drive::Preview;
+use pos_drive::{Preview, Tears};
 use pos_service::{
     Form, Input, Kind, NoMemory, Order, PaperLevel, Peripheral, Plant, Reply, Signs, Snapshot,
     Taken,
@@ -97,5 +97,11 @@ impl Peripheral for PlainScanner {
 impl Preview for PlainScanner {
     fn would(&self, _: &Order) -> Reply {
         Reply::LineFault
+    }
+}
+
+impl Tears for PlainScanner {
+    fn tear_off(&mut self) -> Result<(), NoMemory> {
+        Ok(())
     }
 }

@@ -5,7 +5,7 @@ ghost use Rattle.pos_sims.specs.Recorders.{recorder_of, state_of};
 
 use crate::print_preview::PrintPreview;
 use crate::roll::Roll;
-use pos_drive::Preview;
+use pos_drive::{Preview, Tears};
 use pos_service::{Input, Kind, NoMemory, Order, Peripheral, Reply, Signs, Snapshot, Taken};
 use std::alloc::Global;
 
@@ -84,5 +84,11 @@ impl<P: Preview> Preview for Recorder<P> {
 impl<P: PrintPreview> PrintPreview for Recorder<P> {
     fn would_add(&self, alloc: Global, order: &Order) -> Result<Option<Roll>, NoMemory> {
         self.inner.would_add(alloc, order)
+    }
+}
+
+impl<P: Tears> Tears for Recorder<P> {
+    fn tear_off(&mut self) -> Result<(), NoMemory> {
+        self.inner.tear_off()
     }
 }

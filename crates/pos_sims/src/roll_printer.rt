@@ -4,7 +4,7 @@ ghost use Rattle.std.specs.Prelude.{◌≤◌};
 use crate::power::passes_by;
 use crate::print_preview::PrintPreview;
 use crate::roll::{Roll, reply_of};
-use pos_drive::Preview;
+use pos_drive::{Preview, Tears};
 use pos_service::receipt_text::Outcome;
 use pos_service::{
     Form, Input, Kind, NoMemory, Order, PaperLevel, Peripheral, Plant, Receipt, Reply, Signs,
@@ -163,5 +163,12 @@ impl PrintPreview for RollPrinter {
         } else {
             Ok(None)
         }
+    }
+}
+
+impl Tears for RollPrinter {
+    fn tear_off(&mut self) -> Result<(), NoMemory> {
+        self.roll = self.roll.begun(self.alloc)?;
+        Ok(())
     }
 }

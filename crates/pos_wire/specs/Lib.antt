@@ -1,0 +1,5 @@
+pub mod Frames
+pub mod Orders
+pub mod Replies
+pub mod ReplyLines
+pub mod Settings
