@@ -250,6 +250,21 @@ def try_asynchronous():
             told(f"{name}: the paper", PRINTED, shop.paper())
 
 
+def try_tear_off():
+    """The till keeps the paper of at most 500 orders of a printer that has a driver, and what it prints stays right."""
+    with contextlib.ExitStack() as stack:
+        shop = Shop(stack, lines=100_000)
+        for number in range(0, 520, 20):
+            lines = [f"call r printNormal 2 {(b'%d' % one).hex()}0a" for one in range(number, number + 20)]
+            told(f"orders from {number} on", ["ok"] * 20, shop.host.lines(*lines))
+        told("the paper of all orders", [b"%d" % number for number in range(520)], [item[1] for item in shop.paper()])
+        kept = len(shop.host.line("show r1").split()) - 4
+        told("the paper that the till keeps", True, 20 <= kept <= 40)
+        told("its paper is taken away", "ok", shop.host.ask("tear r1"))
+        told("none is left", 4, len(shop.host.line("show r1").split()))
+        told("a device that isn't there", "KIJ_NO_DEVICE", shop.host.ask("tear r9"))
+
+
 def try_absent():
     """A printer that is off at first, one that is silent all the time, and one that comes back as another."""
     with contextlib.ExitStack() as stack:
@@ -454,7 +469,7 @@ def try_errands():
         told("the printer", "ok", host.ask(f"printer r1 {device.path} timeout {TIMEOUT} pause 10"))
         host.lines("new r POSPrinter", "open r r1", "claim r 0", "set r DeviceEnabled true", "new t HardTotals",
                    "open t t1", "set t DeviceEnabled true", "call t create 434f554e54 1 false")
-        lines = ("call t write 1 05 0 1", "call r printNormal 2 410a", "call t write 1 06 0 1",
+        lines = ("call t write 1 0 05", "call r printNormal 2 410a", "call t write 1 0 06",
                  "call r printNormal 2 420a", "call t read 1 0 1")
         told("totals and orders", ["ok"] * 4 + ["ok 06"], host.lines(*lines))
         told("both are printed", 2, len(device.receipt()))

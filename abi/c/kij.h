@@ -500,6 +500,12 @@ kij_result kij_host(kij_till *till, const char *device);
 /** Takes out the oldest order of the devices that you have, or writes KIJ_NO_ORDER. Take them out after each call. */
 kij_result kij_next_order(kij_till *till, kij_order *order);
 
+/** Takes the printed paper of a device away: a printer shows no line and no cut then, only the line that has begun. A
+ * till keeps all that a printer prints, so do it now and then for a printer of which you have the hardware. A till does
+ * it by itself for a printer that has a driver, after each 500 orders. KIJ_NO_DEVICE if the profile has no such device,
+ * or it is detached. */
+kij_result kij_tear_off(kij_till *till, const char *device);
+
 /* ---- Drivers: hardware of your own on a port. A call that orders something of a driven device returns once the device
  * has done it, or hasn't. ---- */
 

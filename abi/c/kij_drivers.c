@@ -13,8 +13,9 @@ static kij_result plain(int code) { return kij_internal_result(code, 0, KIJ_NO_C
    all others, in milliseconds. */
 static const int64_t quickly = 250, settle = 1000, never = -1000000000;
 
-/* The longest code of a scanner, and how many ports are waited for at once. */
-enum { LONGEST_CODE = 4096, MOST_PORTS = 64 };
+/* The longest code of a scanner, how many ports are waited for at once, and of how many orders of a printer the till
+   keeps the paper. */
+enum { LONGEST_CODE = 4096, MOST_PORTS = 64, KEPT_ORDERS = 500 };
 
 /* The drive of the device of a name, which is written behind a space; or null. */
 static kij_drive *drive_of(const kij_drives *drives, const char *name, size_t size) {
@@ -140,6 +141,11 @@ static int inputs_code(const char *answers) {
 static int hand_in_of(kij_till *till, kij_drive *drive, bool *is_any) {
     kij_buffer *inputs = &till->drives->inputs;
     bool was_on = drive->is_on, was_known = drive->is_known;
+    /* Without memory it is taken away the next time. */
+    if (drive->orders >= KEPT_ORDERS &&
+        kijolvar_tear_off(till->inner, &till->inner.at, (const uint8_t *)drive->name.text + 1, drive->name.size - 1) ==
+            KIJOLVAR_OK)
+        drive->orders = 0;
     if (!write_inputs(till, drive, inputs)) return KIJ_NO_MEMORY;
     if (inputs->size == 0) return KIJ_OK;
     int code = kij_internal_carry_out(till, inputs->bytes, inputs->size);
@@ -198,6 +204,7 @@ static bool carry_out(kij_till *till, kij_drive *drive) {
     uint64_t statuses = drive->link->statuses;
     bool is_printer = drive->category == KIJ_POS_PRINTER;
     bool is_done = kij_internal_link_carry_out(drive->link, &drive->wire, is_printer);
+    if (is_done && is_printer) drive->orders++;
     if (is_done && !is_printer) {
         drive->kicked_at = kij_internal_now();
         drive->statuses = statuses;

@@ -148,8 +148,9 @@ typedef struct kij_drive {
     /* A printer, and its drawer: the line, and whether this device has it. */
     kij_link *link;
     bool has_link;
-    /* A printer: whether its first status has come. */
+    /* A printer: whether its first status has come, and how many orders it has done since its paper was taken away. */
     bool is_known;
+    unsigned orders;
     /* A drawer: when it got its pulse, or -1, and how many statuses had come. */
     int64_t kicked_at;
     uint64_t statuses;

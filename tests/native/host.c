@@ -10,6 +10,7 @@
    print HEX         a typed call
    host DEVICE       kij_host
    order             kij_next_order: its device, or `none`
+   tear DEVICE       kij_tear_off
    memory N          refuses all allocations from now on but N, and gives all again if N is 0 or less
 
    What is refused is answered by the name of its code, and the extended code if it has one. */
@@ -164,6 +165,7 @@ static void obey(char *line) {
     else if (strcmp(verb, "state") == 0) state();
     else if (strcmp(verb, "print") == 0) print();
     else if (strcmp(verb, "host") == 0) answer(kij_host(till, word()), "ok");
+    else if (strcmp(verb, "tear") == 0) answer(kij_tear_off(till, word()), "ok");
     else if (strcmp(verb, "order") == 0) order();
 #ifdef HOST_HAS_HEAP
     else if (strcmp(verb, "memory") == 0) {

@@ -27,6 +27,8 @@ struct Drive {
     category: Category,
     /// Whether the till takes the device as switched on.
     is_on: bool,
+    /// How many orders it has done since its paper was taken away.
+    orders: u32,
     driver: Box<dyn Driver>,
 }
 
@@ -72,6 +74,9 @@ impl Drives {
         self.hosted.pop_front()
     }
 }
+
+/// Of how many orders of a printer the till keeps the paper.
+const KEPT_ORDERS: u32 = 500;
 
 /// How often a call that found no memory is made again.
 const TRIES: u32 = 3;
@@ -229,6 +234,7 @@ impl Inner {
         Ok(self.with_drives(|inner, list| {
             let Some(drive) = list.iter_mut().find(|drive| drive.name == name) else { return Report::not_done() };
             if drive.driver.is_online() && drive.driver.carry_out(&mut DriverTill { inner }, &order) {
+                drive.orders += 1;
                 return Report { is_done: true, inputs: Vec::new() };
             }
             Report { is_done: false, inputs: drive.inputs(inner) }
@@ -266,6 +272,12 @@ impl Inner {
     fn hand_in_all(&mut self) -> Result<bool, Cause> {
         let mut is_any = false;
         for place in 0..self.drives.list.len() {
+            let drive = &self.drives.list[place];
+            if drive.category == Category::PosPrinter && drive.orders >= KEPT_ORDERS {
+                let name = drive.name.clone();
+                self.tear_off(&name)?;
+                self.drives.list[place].orders = 0;
+            }
             let inputs = self.with_drives(|inner, list| list[place].inputs(inner));
             if inputs.is_empty() {
                 continue;
@@ -277,6 +289,17 @@ impl Inner {
             is_any = true;
         }
         Ok(is_any)
+    }
+
+    /// Takes the printed paper of a device away.
+    pub(crate) fn tear_off(&mut self, device: &str) -> Result<(), Cause> {
+        let till = self.at;
+        // SAFETY: the pointer is the one that was written last, and the name is lent for the call.
+        match unsafe { kijolvar_tear_off(till, &mut self.at.0, device.as_ptr(), device.len()) } {
+            library::OK => Ok(()),
+            library::NO_DEVICE => Err(Cause::NoDevice),
+            _ => Err(Cause::NoMemory),
+        }
     }
 
     /// What a device is, by what `show` prints of it.
@@ -303,7 +326,7 @@ impl Inner {
         if category != driver.category() {
             return Err(Cause::KindDiffers);
         }
-        let mut drive = Drive { name: device.to_string(), category, is_on: true, driver };
+        let mut drive = Drive { name: device.to_string(), category, is_on: true, orders: 0, driver };
         drive.driver.start(&mut DriverTill { inner: self }, device).map_err(|error| error.into_cause())?;
         if category != Category::Scanner {
             let till = self.at;

@@ -44,8 +44,9 @@
 //!
 //! # Hardware
 //!
-//! All devices are simulated at first. [`Till::drive`] has a driver carry out the orders of one: [`EscPosPrinter`] and its
-//! drawer, [`SerialDisplay`], [`WedgeScanner`], or a [`Driver`] of your own. [`Till::run_devices`] is their loop.
+//! All devices are simulated at first. [`Till::drive`] has a driver carry out the orders of one: [`EscPosPrinter`]
+//! and its drawer, [`SerialDisplay`], [`WedgeScanner`], or a [`Driver`] of your own. [`Till::run_devices`] is their
+//! loop.
 //!
 //! # Threads
 //!

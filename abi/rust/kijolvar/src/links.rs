@@ -169,8 +169,8 @@ pub(crate) fn is_over(since: Option<Instant>, time: Duration) -> bool {
     since.is_none_or(|since| since.elapsed() >= time)
 }
 
-/// A number of a job. A printer may still acknowledge jobs of a host that has ended, which shouldn't have the numbers of
-/// these.
+/// A number of a job. A printer may still acknowledge jobs of a host that has ended, which shouldn't have the numbers
+/// of these.
 fn first_number() -> u16 {
     let now = SystemTime::now().duration_since(UNIX_EPOCH).unwrap_or_default();
     (now.subsec_nanos() >> 8) as u16

@@ -84,6 +84,7 @@ extern "C" {
     ) -> u32;
     pub(crate) fn kijolvar_host(till: Raw, out: *mut *mut c_void, name: *const u8, name_len: usize) -> u32;
     pub(crate) fn kijolvar_drive(till: Raw, out: *mut *mut c_void, name: *const u8, name_len: usize) -> u32;
+    pub(crate) fn kijolvar_tear_off(till: Raw, out: *mut *mut c_void, name: *const u8, name_len: usize) -> u32;
     pub(crate) fn kijolvar_order_done(
         till: Raw,
         out: *mut *mut c_void,

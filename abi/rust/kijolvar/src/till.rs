@@ -626,6 +626,18 @@ impl Till {
         }
     }
 
+    /// Takes the printed paper of a device away: a printer shows no line and no cut then, only the line that has
+    /// begun. A till keeps all that a printer prints, so do it now and then for a printer of which you have the
+    /// hardware. A till does it by itself for a printer that has a driver, after each 500 orders.
+    ///
+    /// # Errors
+    ///
+    /// [`Cause::NoDevice`], [`Cause::NoMemory`].
+    pub fn tear_off(&self, device: &str) -> Result<(), Error> {
+        let done = self.inner.borrow_mut().tear_off(device);
+        done.map_err(|cause| Error::new("tear_off", cause))
+    }
+
     /// Takes out the oldest order of the devices that you have. Take them out after each call.
     ///
     /// # Errors

@@ -110,6 +110,7 @@ fn obey<'t>(till: &'t Till, printer: &mut Option<PosPrinter<'t>>, line: &str) ->
         "lines" => till.carry_out(rest.replace(';', "\n")).map(|answers| answers.replace('\n', ";")),
         "print" => print(till, printer, rest),
         "host" => till.host(rest).map(|()| "ok".to_string()),
+        "tear" => till.tear_off(rest).map(|()| "ok".to_string()),
         "order" => till.next_order().map(|order| match order {
             Some(Order::OpenDrawer { device }) => device,
             _ => "none".to_string(),
