@@ -108,7 +108,7 @@ module _ {P : Type 0} (course_of : P → Course) where
   pending_served (slot ∷ slots) (suc place) pends = pending_served slots place pends
 
 -- the places behind the first
-tail_first : (host : Host) (hosts : List Host) (place : ℕ) → IsFirstPending (host ∷ hosts) (suc place) → IsFirstPending hosts place
+pub tail_first : (host : Host) (hosts : List Host) (place : ℕ) → IsFirstPending (host ∷ hosts) (suc place) → IsFirstPending hosts place
 tail_first host hosts place first = record {
   pends = first.pends;
   none_before = λ lower less. first.none_before (suc lower) (omega (arith, less));
@@ -123,7 +123,7 @@ first_changed change (host ∷ hosts) (suc place) first =
     rw (first.none_before zero (omega arith)) (ap (λ hs. host ∷ hs) (first_changed change hosts place (tail_first host hosts place first)))
 
 -- no device has an order
-tail_none : (host : Host) (hosts : List Host) → NonePending (host ∷ hosts) → NonePending hosts
+pub tail_none : (host : Host) (hosts : List Host) → NonePending (host ∷ hosts) → NonePending hosts
 tail_none host hosts none = λ place. none (suc place)
 
 pub none_changed : (change : Course → Course) (hosts : List Host) → NonePending hosts → changed_pending change hosts ≡ hosts

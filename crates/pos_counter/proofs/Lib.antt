@@ -18,5 +18,6 @@ pub mod PrefixLemmas
 pub mod ReopenLemmas
 pub mod ErrandLemmas
 pub mod HostsLemmas
+pub mod ServedLemmas
 mod MoveLemmas
 pub mod NextEventLemmas

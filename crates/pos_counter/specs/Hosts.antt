@@ -42,6 +42,18 @@ abbrev pub has_pending : Host → Bool
 has_pending (name, None) = false
 has_pending (name, Some course) = is_pending course
 
+-- the first device with a pending order: its name, and its peripheral
+abbrev pub pending_peripheral : {P : Type 0} → (P → Course) → List (Slot P) → Option (List ℕ × P)
+pending_peripheral course_of [] = None
+pending_peripheral course_of (slot ∷ slots) =
+    if has_pending (host_of course_of slot) then option_map (λ found. (slot.name, found)) slot.peripheral
+    else pending_peripheral course_of slots
+
+-- what serves the first device with a name; none if it is vacant or there is no such device
+abbrev pub served_named : {P : Type 0} → List ℕ → List (Slot P) → Option P
+served_named name [] = None
+served_named name (slot ∷ slots) = if bytes_eq name slot.name then slot.peripheral else served_named name slots
+
 -- an order of the device at a place is pending
 abbrev pub pends_at : List Host → ℕ → Bool
 pends_at [] place = false

@@ -6,7 +6,7 @@ ghost use Rattle.pos_drive.specs.declared.courses.Progress.TheVariants as progre
 ghost use Rattle.pos_profile.specs.Registries.{peripheral_at};
 ghost use Rattle.pos_service.specs.Hardware.{StaysInService};
 ghost use Rattle.pos_counter.specs.Counters.{IsCounterSound, Stays};
-ghost use Rattle.pos_counter.specs.Hosts.{IsFirstPending, IsNamedAt, NonePending, changed_all, changed_at, changed_named, changed_pending, course_after, course_named, has_pending, host_of, hosts_in, hosts_of, pending_of, pends_at, progress_handed_out, progress_in, progress_reported, waiting_in};
+ghost use Rattle.pos_counter.specs.Hosts.{IsFirstPending, IsNamedAt, NonePending, changed_all, changed_at, changed_named, changed_pending, course_after, course_named, has_pending, host_of, hosts_in, hosts_of, pending_of, pending_peripheral, pends_at, progress_handed_out, progress_in, progress_reported, served_named, waiting_in};
 ghost use Rattle.pos_counter.specs.KeptDevices.{AreDevicesSound, devices_in, slots_in};
 
 use crate::counter::Counter;
@@ -68,6 +68,24 @@ impl<D: Disk, P: Hosted> Counter<D, P> {
         let (name, peripheral) = self.devices.pending()?;
         let order = peripheral.waiting()?;
         Some((name, order))
+    }
+
+    /// Returns the first device that has an order pending: its name, and its peripheral.
+    pub fn pending(&self) -> Option<(&[u8], &P)>
+        ensures { option_map (λ found. (found.0.now, found.1.now)) result
+            ≡ pending_peripheral P.Hosted.course (slots_in self.now.devices) }
+    {
+        self.devices.pending()
+    }
+
+    /// Returns what serves the first device of this name. It is `None` if there is no such device, or it is vacant.
+    pub fn served(&self, device: &[u8]) -> Option<&P>
+        requires sound { IsCounterSound P.Peripheral self.now }
+        ensures { option_map (λ found. found.now) result ≡ served_named device.now (slots_in self.now.devices) }
+    {
+        let place = self.devices.registry.find(device)?;
+        let slot = self.devices.registry.slot(place)?;
+        slot.peripheral.as_ref()
     }
 
     /// Gives the order of the first device that has one pending to the host. Nothing changes if it doesn't wait.
@@ -203,8 +221,10 @@ impl<P: Hosted> Devices<P> {
 
     /// Returns the first device that has an order pending: its name, and its peripheral.
     fn pending(&self) -> Option<(&[u8], &P)>
-        ensures { option_map (λ found. (found.0.now, P.Hosted.course found.1.now)) result
+        ensures hosts { option_map (λ found. (found.0.now, P.Hosted.course found.1.now)) result
             ≡ pending_of (hosts_of P.Hosted.course (slots_in self.now)) }
+        ensures peripheral { option_map (λ found. (found.0.now, found.1.now)) result
+            ≡ pending_peripheral P.Hosted.course (slots_in self.now) }
     {
         let place = self.find_pending()?;
         let slot = self.registry.slot(place)?;

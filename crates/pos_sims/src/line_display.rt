@@ -11,8 +11,8 @@ use crate::window::Window;
 use pos_drive::Preview;
 use pos_service::display_text::Place;
 use pos_service::{
-    Form, Input, Kind, NoMemory, Order, PaperLevel, Peripheral, Plant, Reply, Signs, Snapshot,
-    Taken,
+    DisplayCells, Form, Input, Kind, NoMemory, Order, PaperLevel, Peripheral, Plant, Reply, Signs,
+    Snapshot, Taken,
 };
 use std::alloc::Global;
 
@@ -48,6 +48,31 @@ impl<S: Screen> LineDisplay<S> {
         Ok(LineDisplay {
             alloc,
             screen: S::new(alloc, rows, columns)?,
+            powered: true,
+            is_parked: false,
+            orders: 0,
+        })
+    }
+}
+
+impl LineDisplay<Window> {
+    ghost use Rattle.std.specs.Prelude.{◌*◌, length};
+    ghost use Rattle.pos_sims.specs.LineDisplays.{state_of};
+
+    /// Returns a display of 1 to 8 rows of 1 to 80 columns that shows these cells, and is on and in service.
+    ///
+    /// # Errors
+    ///
+    /// [`NoMemory`] if memory ran out.
+    pub fn showing(alloc: Global, shown: &DisplayCells) -> Result<Self, NoMemory>
+        requires rows { (1 ≤ shown.now.rows) × (shown.now.rows ≤ 8) }
+        requires columns { (1 ≤ shown.now.columns) × (shown.now.columns ≤ 80) }
+        requires cells { length shown.now.cells ≡ shown.now.rows * shown.now.columns }
+        ensures { IfOk result (λ display. state_of display ≡ display_state shown.now false) }
+    {
+        Ok(LineDisplay {
+            alloc,
+            screen: Window::showing(alloc, shown)?,
             powered: true,
             is_parked: false,
             orders: 0,

@@ -28,6 +28,28 @@ impl Model for Window {
     ghost invariant = { λ w. IsSized w.rows w.columns (vec_len w.cells) };
 }
 
+impl Window {
+    ghost use Rattle.std.specs.Prelude.{◌≡◌, IfOk, length};
+    ghost use Rattle.pos_sims.specs.Windows.{IsSized};
+
+    /// Returns a window that shows these cells, which fill it.
+    ///
+    /// # Errors
+    ///
+    /// [`NoMemory`] if memory ran out.
+    pub(crate) fn showing(alloc: Global, shown: &DisplayCells) -> Result<Self, NoMemory>
+        requires sized { IsSized shown.now.rows shown.now.columns (length shown.now.cells) }
+        ensures { IfOk result (λ window. window ≡ shown.now) }
+    {
+        let cells = Vec::from_slice(alloc, shown.as_slice())?;
+        Ok(Window {
+            rows: shown.rows(),
+            columns: shown.columns(),
+            cells,
+        })
+    }
+}
+
 impl Screen for Window {
     ghost shown = { λ window. window };
 
