@@ -144,5 +144,5 @@ abbrev pub Runs : {F B S G : Type 0} → Ghosts F B → FileGhosts B → DiskGho
     → Option (Bor (List ℕ)) → Streams → Streams → Result (Unit {0}) RunFault → Type 0
 Runs files below mirrors memories them system it manner paths profile totals old new result =
     (read : Result (List Script) RunFault) × ReadsEach system it paths read
-    × RunsRead (λ scripts. RunsAll files below mirrors memories them manner (Some scripts) profile totals old new result)
-    read old new result
+    × RunsRead (λ scripts. RunsAll files below mirrors memories them manner (Some scripts) profile totals old new
+    result) read old new result

@@ -126,7 +126,8 @@ fn exchange<R: Source, W: Sink, D: Disk, P: Peripheral + Ends>(
 fn end_line<W: Sink>(writer: &mut W) -> Result<(), TellFault>
     ensures { MatchResult result
         (λ _. IsWritten (output_of W.Sink writer.old) (output_of W.Sink writer.new) (codes "\n"))
-        (λ why. (why ≡ WriteFails) × IsCutOff (output_of W.Sink writer.old) (output_of W.Sink writer.new) (codes "\n")) }
+        (λ why. (why ≡ WriteFails)
+        × IsCutOff (output_of W.Sink writer.old) (output_of W.Sink writer.new) (codes "\n")) }
 {
     match write_text(writer, b"\n") {
         Ok(()) => Ok(()),

@@ -20,7 +20,7 @@ use pos_service::{Ends, NoMemory, Peripheral};
 use pos_streams::{Sink, Source};
 use std::alloc::Global;
 
-// Runs scripts, or what is typed, over a counter whose controls have no names yet, and tells what the lines are answered.
+// Runs scripts, or what is typed, over a counter whose controls have no names yet, and tells the answers.
 fn tell_all<R: Source, W: Sink, D: Disk, P: Peripheral + Ends>(
     alloc: Global,
     manner: &Manner<'_>,

@@ -150,9 +150,9 @@ fn run_over_totals<'a, R: Source, W: Sink, F: BlockFile + Drop>(
     writer: &mut W,
     totals: TotalsDisk<F>,
 ) -> Result<(), RunFault<'a>>
-    ensures { RunsOverTotals ⟦<F as BlockFile>⟧ ⟦<TotalsDisk<F> as Disk>⟧ manner.now profile.now (lines_in scripts.entry)
-        totals (streams_of R.Source reader.old W.Sink writer.old) (streams_of R.Source reader.new W.Sink writer.new)
-        result }
+    ensures { RunsOverTotals ⟦<F as BlockFile>⟧ ⟦<TotalsDisk<F> as Disk>⟧ manner.now profile.now
+        (lines_in scripts.entry) totals (streams_of R.Source reader.old W.Sink writer.old)
+        (streams_of R.Source reader.new W.Sink writer.new) result }
 {
     let (answer, after) = run_lines(alloc, manner, profile, scripts, reader, writer, totals);
     file_is_mirrored(&after);

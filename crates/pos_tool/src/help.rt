@@ -13,7 +13,7 @@ pub(crate) const LINES_HELP: &str = "\
   claim CONTROL TIMEOUT          claim the device, for so many milliseconds
   set CONTROL PROPERTY VALUE     set a property: set a DeviceEnabled true
   get CONTROL PROPERTY           print a property
-  call CONTROL METHOD ..         call a method: call a openDrawer
+  call CONTROL METHOD ..         call a method of the standard
   deliver CONTROL [retry|clear|continue]
                                  deliver the next event, and answer an ErrorEvent
   release CONTROL, close CONTROL

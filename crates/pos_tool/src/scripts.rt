@@ -36,7 +36,7 @@ fn form_of(json: bool) -> Form
     Form::Numbered
 }
 
-// Whether the lines of a run are typed: standard input is a terminal, no script is named, and a person reads the answers.
+// Whether the lines of a run are typed: the input is a terminal, no script is named, and a person reads the answers.
 fn is_typed(scripts: &[&str], json: bool, is_terminal: bool) -> bool
     ensures { result ≡ is_typed scripts.now json is_terminal }
 {
@@ -74,8 +74,8 @@ fn run_lines<'a, F: NamedFiles, S: FileSystem + AllocGlobal, R: Source, W: Sink>
     )
 }
 
-/// Runs the scripts at paths, and prints what each line is answered. At a terminal it runs what is typed, if no script is
-/// named. docs/reference/tool.md, "run".
+/// Runs the scripts at paths, and prints what each line is answered. At a terminal it runs what is typed, if no script
+/// is named. docs/reference/tool.md, "run".
 ///
 /// # Errors
 ///
@@ -95,8 +95,8 @@ pub(crate) fn run_paths<'a, F: NamedFiles, S: FileSystem + AllocGlobal, R: Sourc
 ) -> Result<Finding, Fault<'a>>
     ensures { EndsRun F.NamedFiles ⟦<F::File as BlockFile>⟧ ⟦<TotalsDisk<F::File> as Disk>⟧ ⟦<MemDisk as Disk>⟧
         files.now S.FileSystem system.now codes.entry help.entry scripts.entry.now profile.entry totals.entry json
-        is_terminal (streams_of R.Source reader.old W.Sink writer.old) (streams_of R.Source reader.new W.Sink writer.new)
-        result }
+        is_terminal (streams_of R.Source reader.old W.Sink writer.old)
+        (streams_of R.Source reader.new W.Sink writer.new) result }
 {
     let typed = is_typed(scripts, json, is_terminal);
     let answer = run_lines(
