@@ -3,7 +3,7 @@ use Rattle.std.proofs.Common.{◌≡◌, ◌++◌, ◌∷◌, ◌∙◌, ℕ, Er
 use Rattle.std.specs.Prelude.{MatchResult, codes, flat_map}
 use Rattle.pos_counter.specs.Steps.{Request, Response}
 use Rattle.pos_run.proofs.Common.{Appends-trans, taken_twice}
-use Rattle.pos_run.specs.Transcript.{LinesPrint, Session}
+use Rattle.pos_run.specs.Transcript.{Session}
 use Rattle.pos_script.proofs.LineLemmas.{ends_rest, go_on_lines, go_on_rest, two_parts}
 use Rattle.pos_script.specs.Lines.{complete_lines, last_line, lines_of, pieces, unfinished}
 use Rattle.pos_streams.specs.Streams.{taken_after}

@@ -5,7 +5,7 @@ use Rattle.pos_streams.specs.Streams.{Appends, Taken, end_after, read_fault_afte
 use Rattle.pos_counter.specs.Steps.{Request, Response}
 use Rattle.pos_run.specs.Transcript.{LinesPrint, Session}
 use Rattle.pos_script.specs.LineBuffers.{is_no_feed}
-use Rattle.pos_script.specs.Lines.{lines_of, unfinished, words_of}
+use Rattle.pos_script.specs.Lines.{lines_of, words_of}
 use Rattle.pos_shell.specs.Outputs.{IsCutOff, IsWritten, Output, Streams}
 use Rattle.pos_shell.specs.Scripts.{TellsText, Turn, turn_text}
 use Rattle.pos_shell.specs.Told.{is_command}

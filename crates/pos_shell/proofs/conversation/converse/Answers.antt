@@ -1,4 +1,4 @@
-use Rattle.std.proofs.Common.{List, Ok, Result, [], ap, append-nil, arith, inl, inr, length, refl, subst, sym, ◌++◌, ◌+◌, ◌∙◌, ◌∷◌, ◌≤◌, ℕ}
+use Rattle.std.proofs.Common.{Ok, Result, [], ap, append-nil, arith, inl, inr, length, refl, subst, sym, ◌++◌, ◌+◌, ◌∙◌, ◌∷◌, ◌≤◌}
 use Rattle.std.proofs.lemmas.List.{length-append}
 use Rattle.pos_counter.proofs.RunLemmas.{runs_join}
 use Rattle.pos_run.proofs.Common.{Appends-nil, taken_none}
