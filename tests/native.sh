@@ -1,8 +1,8 @@
 #!/usr/bin/env bash
 # Tries the drivers of the typed layers of C and Rust over an emulated printer, drawer, display and scanner
 # (tests/native.py says what): the layer of C as it is, and under the address and the undefined behaviour sanitizer;
-# the crate of Rust. valgrind looks for what the layer of C forgets. It installs nothing, and a missing tool is a
-# failure that names its package.
+# the crate of Rust. valgrind looks for what the layer of C forgets, and tests/native/cost.c says what an order costs. It
+# installs nothing, and a missing tool is a failure that names its package.
 # Usage: tests/native.sh [WORD ..]. The words are those of tests/native.py: --faults N (100 random faults by default),
 # --seed N, --only WORD. KIJOLVAR_ARCHIVE names a library in place of the one that rt lib builds. Its last line is
 # 'N passed, M failed'.
@@ -93,6 +93,8 @@ runs "the host in C is built with sanitizers" gcc -std=c99 "${strict[@]}" -O1 -g
   -fno-sanitize-recover -o "$work/checked" "$here/host.c" "$abi"/c/kij_*.c "${bare[@]}"
 runs "the host in C is built with a heap" gcc -std=c99 "${strict[@]}" -O1 -g -DHOST_HAS_HEAP -o "$work/heap" \
   "$here/host.c" "$work/libkijolvar.a" -Wl,--wrap=malloc,--wrap=calloc,--wrap=realloc
+runs "what measures the cost is built" gcc -std=c99 "${strict[@]}" -O2 -o "$work/cost" "$here/cost.c" \
+  "$work/libkijolvar.a"
 runs "the host in C++17 is built" g++ -std=c++17 "${strict[@]}" -O1 -x c++ "$here/host.c" "$abi"/c/kij_*.c -x none \
   -o "$work/plus" "${bare[@]}"
 cat > "$work/watched" <<END
@@ -114,6 +116,15 @@ tries "C, want of memory" "$work/heap" "$@" --only memory
 tries "C++" "$work/plus" "$@" --only plain
 tries "Rust" "$work/target/release/host" "$@"
 collects
+
+# nothing else of this runs meanwhile
+coproc emulator { python3 "$top/tests/emulator" printer --path "$work/port" --lines 100000; }
+to_emulator=${emulator[1]}
+read -r port <&"${emulator[0]}"
+"$work/cost" "$port"
+told "an order in C costs at most 1.3 times a bare round trip" 0 "$?"
+exec {to_emulator}>&-
+wait
 
 echo "$passed passed, $failed failed"
 [ "$failed" -eq 0 ]
