@@ -6,7 +6,7 @@ import time
 from typing import TYPE_CHECKING
 
 from ._control import device_word
-from ._devices import Device, WorkDone, read_order
+from ._devices import Device, Order, WorkDone, read_order
 from ._faults import DriverError, InputError, LineError
 from ._questions import ProfileDevice
 from ._session import Session
@@ -26,6 +26,8 @@ class Drive:
     def __init__(self, device: ProfileDevice, driver: Driver) -> None:
         self.name, self.category, self.driver = device.name, device.category, driver
         self.word = device_word(device.name)
+        # What a driver gets that doesn't look at its orders.
+        self.order = Order(device.name, "", ())
         # Whether the till takes the device as switched on.
         self.is_on = True
         # How many orders it has done since its paper was taken away.
@@ -55,9 +57,10 @@ class Drives:
     def __init__(self, till: Till, session: Session) -> None:
         self._till, self._session = till, session
         self._drives: dict[str, Drive] = {}
+        self._by_word: dict[bytes, Drive] = {}
         self._is_handing_in = False
         session.serve = self.serve
-        session.served = self.hand_in
+        session.served = self.served
 
     def add(self, device: ProfileDevice, driver: Driver) -> None:
         """Has a driver carry out the orders of a device from now on."""
@@ -72,19 +75,28 @@ class Drives:
         except BaseException:
             driver.close()
             raise
-        self._drives[device.name] = Drive(device, driver)
+        drive = self._drives[device.name] = Drive(device, driver)
+        self._by_word[drive.word] = drive
         self.hand_in()
 
     # Orders.
 
     def serve(self, line: bytes) -> tuple[bool, bytes]:
         """Carries out an order: whether the device has done it, and what happened at the device if it hasn't."""
-        order = read_order(line.decode())
-        drive = self._drives[order.device]
-        if drive.driver.is_online and drive.driver.carry_out(order):
+        drive = self._by_word[line[:line.find(b" ")]]
+        driver = drive.driver
+        order = read_order(line.decode()) if driver.reads_orders else drive.order
+        if driver.is_online and driver.carry_out(order):
             drive.orders += 1
             return True, b""
         return False, drive.inputs()
+
+    def served(self) -> None:
+        """Is called once orders were carried out. It is most often all that there is to do."""
+        for drive in self._by_word.values():
+            if not (drive.is_on and drive.driver.is_quiet and drive.orders < _KEPT_ORDERS):
+                self.hand_in()
+                return
 
     # Inputs.
 

@@ -58,12 +58,25 @@ def declare(library: ctypes.CDLL) -> ctypes.CDLL:
     return library
 
 
-def carrier(library: ctypes.CDLL) -> Any:
-    """The export that carries out lines, with addresses in place of pointers, which ctypes passes on faster."""
-    call = library["kijolvar_carry_out"]
-    place, size = ctypes.c_void_p, ctypes.c_size_t
-    call.argtypes, call.restype = [Raw, place, ctypes.c_char_p, size, place, size, place], ctypes.c_uint32
+def by_addresses(library: ctypes.CDLL, name: str) -> Any:
+    """An export of an order's way, with addresses in place of pointers, which ctypes passes on faster."""
+    call = library[name]
+    place, size, text, number = ctypes.c_void_p, ctypes.c_size_t, ctypes.c_char_p, ctypes.c_uint32
+    room = [place, size, place]
+    given: dict[str, list[Any]] = {
+        "kijolvar_carry_out": [text, size],
+        "kijolvar_next_order": [],
+        "kijolvar_order_done": [number, text, size],
+        "kijolvar_order_bytes": [place, number, number],
+        "kijolvar_replies": [text, size, place, number, text, size, place, place],
+    }
+    call.argtypes, call.restype = [Raw, place, *given[name], *room], number
     return call
+
+
+def carrier(library: ctypes.CDLL) -> Any:
+    """The export that carries out lines, by addresses."""
+    return by_addresses(library, "kijolvar_carry_out")
 
 
 def load(path: Path) -> ctypes.CDLL:

@@ -6,10 +6,11 @@ import re
 import time
 from collections import deque
 from collections.abc import Callable
-from dataclasses import dataclass, field
+from dataclasses import dataclass
 from typing import TYPE_CHECKING
 
-from ._wire import JOB_PAPER, Asked, Reply, WireSettings
+from ._control import device_word
+from ._wire import JOB_PAPER, Asked, WireSettings
 from .ports import Port, PortError
 
 if TYPE_CHECKING:
@@ -22,12 +23,16 @@ _INITIALIZE, _STATUS_ON, _STATUS_OFF = b"\x1b@", b"\x1da\xff", b"\x1da\0"
 _STATUS_NOW = b"\x10\x04"
 # How many numbers of jobs there are.
 _NUMBERS = 65_536
-# How many bytes ask for an acknowledgement: GS ( H, or GS r.
-_JOB_SIZE, _QUESTION_SIZE = 11, 3
+# How many bytes ask for an acknowledgement: GS ( H, which ends with four characters for the number, or GS r.
+_JOB_SIZE, _NUMBER_SIZE, _QUESTION_SIZE = 11, 4, 3
+# In how many bytes a reply is looked for at once; it has at most seven.
+_READ_AT_ONCE = 64
+# What the library has to know was asked.
+_PRINTER, _PAPER_IN_ORDER = int(Asked.PRINTER), int(Asked.PAPER_IN_ORDER)
 # How long a lost port may take to open while other devices wait, and how often a printer is asked, in seconds.
 _QUICKLY, _OFTEN = 0.25, 0.1
 # What ends a piece: a line feed, a pulse, a feed, or a cut.
-_PIECE = re.compile(rb"(?:\x1b[^pd].|[^\n\x1b\x1d])*(?:\n|\x1bp...|\x1bd.|\x1dV(?:[AB].|[^AB])|\Z)", re.S)
+_PIECE = re.compile(rb"(?:\x1b[^pd].|[^\n\x1b\x1d]++)*+(?:\n|\x1bp...|\x1bd.|\x1dV(?:[AB].|[^AB])|\Z)", re.S)
 
 
 def pieces_of(data: bytes) -> list[bytes]:
@@ -36,19 +41,19 @@ def pieces_of(data: bytes) -> list[bytes]:
 
 
 class Wire:
-    """The library's two calls with bytes, for a device and its settings."""
+    """The library's two calls with bytes (`order_bytes` and `replies` of a till), for a device and its settings."""
 
     def __init__(self, till: Till, device: str, settings: WireSettings) -> None:
-        self._order_bytes, self._replies = till.order_bytes, till.replies
-        self._device, self._settings = device, settings
+        self._session, self._device, self._settings = till._session, device_word(device), settings.raw
 
     def order(self, job: int) -> bytes:
         """The bytes of the order that is out. Behind them stands what asks for an acknowledgement."""
-        return self._order_bytes(self._settings, job=job)
+        return self._session.order_bytes(self._settings, False, job)
 
-    def reply(self, data: bytes, asked: int | None = None) -> Reply:
-        """The first reply in what the device has sent."""
-        return self._replies(self._device, self._settings, data, asked)
+    def reply(self, data: bytes, asked: int = 0) -> tuple[int, bytes]:
+        """The first reply in what the device has sent: how many bytes were read, and the text of its lines."""
+        text = self._session.reply_text(self._device, self._settings, asked, data)
+        return self._session.used, text
 
 
 @dataclass(frozen=True)
@@ -56,7 +61,13 @@ class Told:
     """A reply that tells how the printer is: its bytes, and what was asked."""
 
     data: bytes
-    asked: int | None = None
+    asked: int = 0
+
+
+def signs_of(text: bytes) -> dict[str, str]:
+    """What a reply tells of the printer, by the words of its last line: `status cover open paper good`."""
+    _, *words = text.decode().splitlines()[-1].split()
+    return dict(zip(words[::2], words[1::2]))
 
 
 class Job:
@@ -67,36 +78,38 @@ class Job:
         pieces: Its lines, cuts and pulses; an order without any is one empty piece, so that the printer is asked.
         sent: How many pieces were sent.
         done: How many pieces are printed, as far as is known.
+        is_done: Whether all of it is printed.
         is_torn: Pieces were lost, and later ones may have been printed.
         is_once: Whether it is for the paper, where the same order must not be twice.
     """
 
     def __init__(self, data: bytes, is_once: bool) -> None:
         self.data, self.is_once = data, is_once
-        self.pieces = pieces_of(data) or [b""]
+        # Most orders are one line.
+        is_line = data.find(b"\n") == len(data) - 1 and b"\x1dV" not in data
+        self.pieces = [data] if is_line else pieces_of(data) or [b""]
         self.sent = self.done = 0
-        self.is_torn = False
+        self.is_done = self.is_torn = False
 
-    @property
-    def is_done(self) -> bool:
-        """Whether all of it is printed."""
-        return self.done == len(self.pieces)
+    def has_done(self, count: int) -> None:
+        """So many of its pieces are printed, or more."""
+        self.done = max(self.done, count)
+        self.is_done = self.done == len(self.pieces)
 
     def is_late(self, now: Job | None) -> bool:
         """Whether it puts something on the paper that isn't asked for any more."""
         return self.is_once and self.data != b"" and self is not now
 
 
-@dataclass(eq=False)
 class _Parcel:
     """Bytes that go out whole. Once their number is acknowledged, so many pieces of the job are printed."""
 
-    rest: bytes
-    number: int | None = None
-    job: Job | None = None
-    done: int = 0
-    is_begun: bool = False
-    turn: int = field(default=0)
+    __slots__ = ("rest", "number", "job", "done", "turn", "is_begun")
+
+    def __init__(self, rest: bytes, number: int | None = None, job: Job | None = None, done: int = 0,
+                 turn: int = 0) -> None:
+        self.rest, self.number, self.job, self.done, self.turn = rest, number, job, done, turn
+        self.is_begun = False
 
 
 class PrinterLink:
@@ -108,22 +121,29 @@ class PrinterLink:
         statuses: How many statuses have come.
         told: The replies that tell how the printer is; none before the first one.
         signs: What they tell, by the words of a status; such as "open" for "cover".
+        is_stopped: Whether the printer has said that it prints nothing now, and why.
         late: How many orders were printed whole after they had failed, while nothing asked for them again.
+        lines: How many lines the orders had that were done, or more.
     """
 
+    # What the library puts behind an order: the end of a job, whose number is another one in the end.
+    _job = 0
     _start, _refresh = _ZEROS + _INITIALIZE + _STATUS_ON, _STATUS_ON
     _end_size = _JOB_SIZE
 
     def __init__(self, port: Port, timeout: float, pause: float) -> None:
         self.port, self.timeout, self._pause = port, timeout, pause
         self.wire: Wire | None = None
-        self.is_begun = False
+        self.is_begun = self.is_stopped = False
         self.told: list[Told] = []
-        self.statuses = self.late = 0
+        self.statuses = self.late = self.lines = 0
         self.signs: dict[str, str] = {}
-        self._job: Job | None = None
+        # What was begun last for the paper, if it isn't done.
+        self._failed: Job | None = None
         # A printer may still acknowledge jobs of a host that has ended. Those shouldn't have the numbers of these.
         self._number = random.randrange(_NUMBERS)
+        # What asks for an acknowledgement, as the library put it behind the last order.
+        self._question = b""
         self._outbox: deque[_Parcel] = deque()
         self._due: deque[_Parcel] = deque()
         self._got = bytearray()
@@ -134,13 +154,13 @@ class PrinterLink:
     @property
     def is_online(self) -> bool:
         """Whether the port is open and the printer answers."""
-        return self.port.is_open and self._is_there
+        return self._is_there and self.port.is_open
 
-    @property
-    def is_stopped(self) -> bool:
-        """Whether the printer has said that it prints nothing now, and why."""
-        signs = self.signs
-        return signs.get("offline") == "yes" and (
+    def _is_told(self, signs: dict[str, str], told: list[Told]) -> None:
+        """The printer is as these replies tell, or it isn't known how it is."""
+        self.signs, self.told = signs, told
+        self.statuses += bool(told)
+        self.is_stopped = signs.get("offline") == "yes" and (
             signs.get("cover") == "open" or signs.get("fault") == "yes" or signs.get("paper") == "empty")
 
     @property
@@ -159,21 +179,21 @@ class PrinterLink:
         end = time.monotonic() + self.timeout
         if not self.is_online:
             return False
-        number = self._next_number()
-        data = wire.order(self._job_of(number))
-        size = len(data) - self._end_size
+        data = wire.order(self._job)
+        self._question = data[-self._end_size:]
         try:
             self._receive()
-            job = self._taken_up(wire, data[:size], is_once, end)
+            job = self._taken_up(data[:-self._end_size], is_once, end)
             if not (job.is_done or self.is_stopped or self._is_due(job)):
-                self._post(wire, job, data[size:], number)
+                self._post(job)
                 self._writes()
                 self._pump(lambda: job.is_done or job.is_torn or self.is_stopped, end)
         except PortError:
             self._lose()
             return False
         if job.is_done:
-            self._job = self._job if job is not self._job else None
+            self._failed = self._failed if job is not self._failed else None
+            self.lines += job.data.count(b"\n")
             return True
         self._drop()
         if not self.is_stopped:
@@ -181,23 +201,22 @@ class PrinterLink:
             self._ask()
         return False
 
-    def _taken_up(self, wire: Wire, data: bytes, is_once: bool, end: float) -> Job:
+    def _taken_up(self, data: bytes, is_once: bool, end: float) -> Job:
         """The job of an order: the one that failed if the order is the same, and how far that one has come."""
         if not is_once:
             return Job(data, is_once)
-        failed = self._job
+        failed = self._failed
         if failed is None or failed.data != data:
-            self._job = Job(data, is_once)
-            return self._job
-        self._catches_up(wire, failed, end)
+            self._failed = Job(data, is_once)
+            return self._failed
+        self._catches_up(failed, end)
         return failed
 
-    def _catches_up(self, wire: Wire, job: Job, end: float) -> None:
+    def _catches_up(self, job: Job, end: float) -> None:
         """Finds out how far a job has come that failed."""
         if self._is_due(job):
             # What was sent before is printed or lost once this is acknowledged.
-            number = self._next_number()
-            self._send(self._end(wire, number), number, None, 0)
+            self._send(b"", None, 0)
             self._pump(lambda: job.is_done or not self._is_due(job) or self.is_stopped, end)
         if not self._is_due(job):
             if job.sent > job.done:
@@ -207,35 +226,26 @@ class PrinterLink:
 
     def _is_due(self, job: Job) -> bool:
         """Whether something of a job may still be acknowledged."""
-        return any(parcel.job is job for parcel in self._due)
+        return bool(self._due) and any(parcel.job is job for parcel in self._due)
 
-    def _post(self, wire: Wire, job: Job, last_end: bytes, last_number: int) -> None:
-        """Sends the pieces of a job that weren't sent yet. What asks for the last one's acknowledgement is there."""
+    def _post(self, job: Job) -> None:
+        """Sends the pieces of a job that weren't sent yet."""
         while job.sent < len(job.pieces):
             job.sent += 1
-            piece, number, end = job.pieces[job.sent - 1], last_number, last_end
-            if job.sent < len(job.pieces):
-                number = self._next_number()
-                end = self._end(wire, number)
-            self._send(piece + end, number, job, job.sent)
+            self._send(job.pieces[job.sent - 1], job, job.sent)
 
-    def _send(self, data: bytes, number: int, job: Job | None, done: int) -> None:
-        """Puts bytes into the outbox that end with the question for this acknowledgement."""
-        parcel = _Parcel(data, number, job, done, turn=self.port.turns)
+    def _send(self, piece: bytes, job: Job | None, done: int) -> None:
+        """Puts a piece and the question for its acknowledgement into the outbox."""
+        self._number = (self._number + 1) % _NUMBERS
+        parcel = _Parcel(piece + self._end(self._number), self._number, job, done, self.port.turns)
         self._outbox.append(parcel)
         self._due.append(parcel)
 
-    def _next_number(self) -> int:
-        self._number = (self._number + 1) % _NUMBERS
-        return self._number
-
-    def _job_of(self, number: int) -> int:
-        """What the library has to put behind an order."""
-        return number
-
-    def _end(self, wire: Wire, number: int) -> bytes:
-        """What asks the printer to acknowledge that everything before it is printed."""
-        return wire.order(self._job_of(number))[-self._end_size:]
+    def _end(self, number: int) -> bytes:
+        """What asks the printer to acknowledge that everything before it is printed: the library's question, with
+        another number."""
+        return self._question[:-_NUMBER_SIZE] + bytes((
+            0x40 | number >> 12, 0x40 | number >> 8 & 0x0F, 0x40 | number >> 4 & 0x0F, 0x40 | number & 0x0F))
 
     def _drop(self) -> None:
         """Takes back what hasn't begun to go out."""
@@ -253,18 +263,15 @@ class PrinterLink:
         assert self.wire is not None
         self._got += data
         while self._got:
-            found, asked = bytes(self._got), self._asked()
-            reply = self.wire.reply(found, asked)
-            if not reply.used:
+            found = bytes(self._got[:_READ_AT_ONCE])
+            asked = 0 if self._asked_at is None else _PRINTER
+            used, text = self.wire.reply(found, asked)
+            if not used:
                 return
-            del self._got[:reply.used]
-            if reply.lines:
+            del self._got[:used]
+            if text:
                 self._answers()
-                self._hears(reply.lines, Told(found[:reply.used], asked))
-
-    def _asked(self) -> int | None:
-        """What was asked, and isn't answered yet."""
-        return None if self._asked_at is None else Asked.PRINTER
+                self._hears(text, found[:used], asked)
 
     def _answers(self) -> None:
         """The printer has answered something."""
@@ -272,15 +279,13 @@ class PrinterLink:
         if self._was_silent or not self._is_there:
             self._comes_back()
 
-    def _hears(self, lines: tuple[str, ...], told: Told) -> None:
+    def _hears(self, text: bytes, data: bytes, asked: int) -> None:
         """What a reply says. Only an automatic status tells of the cover."""
-        kind, *words = lines[-1].split()
-        if kind == "job":
-            self._acknowledged(int(words[0]))
-        elif kind == "status" and "cover" in words:
-            self.signs, self.told = dict(zip(words[::2], words[1::2])), [told]
+        if text.startswith(b"job "):
+            self._acknowledged(int(text[4:]))
+        elif "cover" in (signs := signs_of(text)):
+            self._is_told(signs, [Told(data, asked)])
             self._is_refreshing = False
-            self.statuses += 1
 
     def _comes_back(self) -> None:
         """The printer answers again. It may have been off, if the port stays then, and tells no status by itself."""
@@ -292,15 +297,18 @@ class PrinterLink:
 
     def _acknowledged(self, number: int) -> None:
         """Everything up to the parcel with this number is printed or lost."""
-        turn = next((parcel.turn for parcel in self._due if parcel.number == number), None)
+        if self._due and self._due[0].number == number:
+            turn: int | None = self._due[0].turn
+        else:
+            turn = next((parcel.turn for parcel in self._due if parcel.number == number), None)
         while turn is not None:
             parcel = self._due.popleft()
             job, is_last = parcel.job, parcel.number == number
             if job is not None:
                 # Bytes are lost only together with the port, if it is a reliable one.
                 if (is_last or self.port.is_reliable and parcel.turn == turn) and not job.is_torn:
-                    job.done = max(job.done, parcel.done)
-                    self.late += job.is_done and job.is_late(self._job)
+                    job.has_done(parcel.done)
+                    self.late += job.is_done and job.is_late(self._failed)
                 else:
                     job.is_torn = True
             if is_last:
@@ -339,7 +347,8 @@ class PrinterLink:
     def _writes(self) -> None:
         """Sends of the outbox what there is room for."""
         outbox = self._outbox
-        count = self.port.write_some(b"".join([parcel.rest for parcel in outbox]))
+        is_one = len(outbox) == 1
+        count = self.port.write_some(outbox[0].rest if is_one else b"".join([parcel.rest for parcel in outbox]))
         while count:
             parcel = outbox[0]
             parcel.is_begun = True
@@ -380,7 +389,8 @@ class PrinterLink:
     def _look_after(self, now: float) -> None:
         """Asks a printer that has said nothing for a time, and one that says that it can't print, for more."""
         if self._asked_at is not None and now - self._asked_at > self.timeout:
-            self._is_there, self.told, self.signs = False, [], {}
+            self._is_there = False
+            self._is_told({}, [])
         is_asking = self._asked_at is not None and now - self._asked_at <= self.timeout
         is_heard = self._is_there and now - self._heard_at <= self.timeout
         if not (is_heard or is_asking or self._outbox):
@@ -415,7 +425,8 @@ class PrinterLink:
         self._outbox.clear()
         self._got.clear()
         self._is_there = self._has_answered = self._was_silent = self._is_refreshing = False
-        self.told, self.signs, self._asked_at = [], {}, None
+        self._is_told({}, [])
+        self._asked_at = None
 
     def close(self) -> None:
         """Closes the port."""
@@ -427,18 +438,19 @@ class AskedLink(PrinterLink):
     """The line to a printer that says nothing by itself, and doesn't know the end of a job: it is asked. GS r is
     answered once everything before it is printed. Its replies have no number, so they are counted."""
 
+    _job = JOB_PAPER
     _start, _refresh = _ZEROS + _INITIALIZE + _STATUS_OFF, b""
     _end_size = _QUESTION_SIZE
 
     def __init__(self, port: Port, timeout: float, pause: float) -> None:
         super().__init__(port, timeout, pause)
-        self._question, self._questioned_at = 1, -1e9
+        self._asked_last, self._questioned_at = 1, -1e9
         self._is_asking = False
-        self._heard: dict[int, tuple[Told, list[str]]] = {}
+        self._heard: dict[int, tuple[Told, dict[str, str]]] = {}
         self._rounds = 0
 
-    def _job_of(self, number: int) -> int:
-        return JOB_PAPER
+    def _end(self, number: int) -> bytes:
+        return self._question
 
     def _asks_on(self) -> None:
         """Asks the questions of DLE EOT, one after the other: the printer, why it is offline, the paper."""
@@ -449,7 +461,7 @@ class AskedLink(PrinterLink):
         self._asks(1)
 
     def _asks(self, question: int) -> None:
-        self._question, self._is_asking = question, True
+        self._asked_last, self._is_asking = question, True
         self._puts(_STATUS_NOW + bytes([question]))
 
     def _ask(self) -> None:
@@ -465,23 +477,23 @@ class AskedLink(PrinterLink):
         assert self.wire is not None
         for byte in data:
             one = bytes([byte])
-            for asked in [self._question] * self._is_asking + [int(Asked.PAPER_IN_ORDER)] * bool(self._due):
-                reply = self.wire.reply(one, asked)
-                if reply.lines:
+            for asked in [self._asked_last] * self._is_asking + [_PAPER_IN_ORDER] * bool(self._due):
+                _, text = self.wire.reply(one, asked)
+                if text:
                     self._answers()
-                    self._hears(reply.lines, Told(one, asked))
+                    self._hears(text, one, asked)
                     break
 
-    def _hears(self, lines: tuple[str, ...], told: Told) -> None:
-        if told.asked == Asked.PAPER_IN_ORDER:
+    def _hears(self, text: bytes, data: bytes, asked: int) -> None:
+        if asked == _PAPER_IN_ORDER:
             number = self._due[0].number
             assert number is not None
             self._acknowledged(number)
             return
         self._is_asking = False
-        self._heard[self._question] = told, lines[-1].split()[1:]
-        if self._question != 4:
-            self._asks(2 * self._question)
+        self._heard[asked] = Told(data, asked), signs_of(text)
+        if asked != 4:
+            self._asks(2 * asked)
         else:
             self._rounds += 1
             self._composes()
@@ -489,14 +501,13 @@ class AskedLink(PrinterLink):
     def _composes(self) -> None:
         """Puts the replies together to what an automatic status would tell. The paper's sensor tells the most."""
         heard = [self._heard[question] for question in (1, 2, 4)]
-        signs = {name: sign for _, words in heard for name, sign in zip(words[::2], words[1::2])}
+        signs = {name: sign for _, told in heard for name, sign in told.items()}
         if signs != self.signs:
-            self.signs, self.told = signs, [told for told, _ in heard]
-            self.statuses += 1
+            self._is_told(signs, [told for told, _ in heard])
 
-    def _taken_up(self, wire: Wire, data: bytes, is_once: bool, end: float) -> Job:
+    def _taken_up(self, data: bytes, is_once: bool, end: float) -> Job:
         self._gives_up(end)
-        return super()._taken_up(wire, data, is_once, end)
+        return super()._taken_up(data, is_once, end)
 
     def _gives_up(self, end: float) -> None:
         """Waits for acknowledgements that are late, where they can be lost. They are if none comes for the whole time,

@@ -11,7 +11,7 @@ from typing import Any, BinaryIO, NoReturn
 from ._constants import (KIJOLVAR_DISK_FAILED, KIJOLVAR_DISK_LENGTH, KIJOLVAR_ERRANDS, KIJOLVAR_EVENT,
                          KIJOLVAR_NO_MEMORY, KIJOLVAR_NO_ORDER, KIJOLVAR_OK, KIJOLVAR_ORDER, KIJOLVAR_SHORT,
                          KIJOLVAR_SYNC, KIJOLVAR_UNDONE, KIJOLVAR_WAITS, KIJOLVAR_WRITE)
-from ._library import Raw, carrier, check
+from ._library import Raw, by_addresses, carrier, check
 from ._wire import RawSettings, Reply
 from .errors import ThreadError, TillClosedError, library_fault
 
@@ -21,6 +21,8 @@ _ROOM = 1024
 _TRIES = 3
 # What says that a call hasn't written how many bytes its answer has.
 _UNWRITTEN = ctypes.c_size_t(-1).value
+# The codes after which an answer has to be asked for.
+_UNANSWERED = KIJOLVAR_ERRANDS, KIJOLVAR_SHORT
 # The outcomes of an order.
 _DONE, _NOT_DONE = 0, 1
 
@@ -45,9 +47,12 @@ class Session:
         self._number = ctypes.c_size_t()
         self._number_at = ctypes.pointer(self._number)
         # The bytes of an order, or the lines of a reply: how many they are, and of a reply's bytes how many were read.
-        self._bytes: Any = ctypes.create_string_buffer(_ROOM)
         self._count, self._used, self._skipped = ctypes.c_size_t(), ctypes.c_size_t(), ctypes.c_size_t()
-        self._count_at, self._used_at, self._skipped_at = map(ctypes.byref, (self._count, self._used, self._skipped))
+        self._raw_at, self._room_at, self._has_at, self._count_at, self._used_at, self._skipped_at = map(
+            ctypes.addressof, (self._raw, self._room, self._needed, self._count, self._used, self._skipped))
+        self._lengthen(KIJOLVAR_SHORT, _ROOM)
+        self._next_order, self._order_done, self._order_bytes, self._replies = (
+            by_addresses(library, f"kijolvar_{name}") for name in ("next_order", "order_done", "order_bytes", "replies"))
         self._later: deque[Callable[[], None]] = deque()
         self._is_settling = self._has_served = False
         # The devices that are driven, and the orders of hosted devices that came before one of these.
@@ -199,7 +204,8 @@ class Session:
         room, parts, tries = self._room, list[bytes](), 0
         report: tuple[int, bytes] | None = None
         while True:
-            code, room = self._answered(code, room)
+            if code in _UNANSWERED:
+                code, room = self._answered(code, room)
             is_taken = True
             if code == KIJOLVAR_NO_MEMORY:
                 # Lines are held. If they wait, the report wasn't taken. If this is said again, it was, and they go on.
@@ -211,9 +217,11 @@ class Session:
             if code not in (KIJOLVAR_OK, KIJOLVAR_WAITS, KIJOLVAR_NO_MEMORY):
                 break
             if is_taken:
-                lines = bytes(room[:self._needed.value]).splitlines(True)
-                # The answers of the inputs are first.
-                parts.append(b"".join(lines[report[1].count(b"\n"):] if report is not None else lines))
+                text: bytes = room[:self._needed.value]
+                if report is not None and report[1]:
+                    # The answers of the inputs are first.
+                    text = b"".join(text.splitlines(True)[report[1].count(b"\n"):])
+                parts.append(text)
                 report = None
             if code == KIJOLVAR_OK:
                 return b"".join(parts)
@@ -222,8 +230,9 @@ class Session:
             elif report is None:
                 report = self._served() if is_wanted else self._refused()
             outcome, inputs = report
-            code = self._library.kijolvar_order_done(self._raw, self._out, outcome, inputs, len(inputs), room,
-                                                     len(room), self._needed_at)
+            room_at = self._room_at if room is self._room else ctypes.addressof(room)
+            code = self._order_done(self._raw, self._raw_at, outcome, inputs, len(inputs), room_at, len(room),
+                                    self._has_at)
         raise library_fault(code)
 
     def _answer_into(self, room: Any) -> int:
@@ -233,7 +242,7 @@ class Session:
 
     def _answered(self, code: int, room: Any) -> tuple[int, Any]:
         """Does the errands, and makes a longer room, until the answer is in the room."""
-        while code in (KIJOLVAR_ERRANDS, KIJOLVAR_SHORT):
+        while code in _UNANSWERED:
             if code == KIJOLVAR_ERRANDS:
                 self._settle()
             else:
@@ -243,7 +252,12 @@ class Session:
 
     def _served(self) -> tuple[int, bytes]:
         """Has the order that waits carried out: the outcome, and what happened at the device if it isn't done."""
-        order = self._driven_order()
+        code = self._next_order(self._raw, self._raw_at, self._bytes_at, self._size, self._count_at)
+        order: bytes | None = self._bytes[:self._count.value] if code == KIJOLVAR_ORDER else None
+        if order is None or order[:order.find(b" ")] not in self._driven:
+            # It doesn't fit, or one of a hosted device came before it.
+            self._hosted += [] if order is None else [order]
+            order = self._driven_order()
         if order is None or self.serve is None:
             raise library_fault(KIJOLVAR_NO_ORDER)
         self._has_served = True
@@ -316,32 +330,45 @@ class Session:
 
     def order_bytes(self, settings: RawSettings, is_new: bool, behind: int) -> bytes:
         """The bytes of the order that waits or that the host has. Nothing changes."""
-        self.check()
+        if self._raw.at is None or _identity() != self._thread:
+            self.check()
         while True:
-            code = self._library.kijolvar_order_bytes(self._raw, self._out, ctypes.byref(settings), is_new, behind,
-                                                      self._bytes, len(self._bytes), self._count_at)
+            code = self._order_bytes(self._raw, self._raw_at, ctypes.addressof(settings), is_new, behind,
+                                     self._bytes_at, self._size, self._count_at)
             if code == KIJOLVAR_OK:
                 told: bytes = self._bytes[:self._count.value]
                 return told
-            self._lengthen(code)
+            self._lengthen(code, self._count.value)
+
+    def reply_text(self, device: bytes, settings: RawSettings, asked: int, data: bytes) -> bytes:
+        """Reads the first reply of what a printer sent, for its device or that of its drawer: the text of its lines.
+        `used` has how many bytes were read. Nothing changes."""
+        if self._raw.at is None or _identity() != self._thread:
+            self.check()
+        while True:
+            code = self._replies(self._raw, self._raw_at, device, len(device), ctypes.addressof(settings), asked, data,
+                                 len(data), self._used_at, self._skipped_at, self._bytes_at, self._size, self._count_at)
+            if code == KIJOLVAR_OK:
+                told: bytes = self._bytes[:self._count.value]
+                return told
+            self._lengthen(code, self._count.value)
+
+    @property
+    def used(self) -> int:
+        """How many bytes were read for the last reply."""
+        return self._used.value
 
     def reply(self, device: bytes, settings: RawSettings, asked: int, data: bytes) -> Reply:
-        """Reads the first reply of what a printer sent, for its device or that of its drawer. Nothing changes."""
-        self.check()
-        while True:
-            code = self._library.kijolvar_replies(self._raw, self._out, device, len(device), ctypes.byref(settings),
-                                                  asked, data, len(data), self._used_at, self._skipped_at,
-                                                  self._bytes, len(self._bytes), self._count_at)
-            if code == KIJOLVAR_OK:
-                lines = self._bytes[:self._count.value].decode().splitlines()
-                return Reply(self._used.value, self._skipped.value, tuple(lines))
-            self._lengthen(code)
+        """Reads a reply as `reply_text` does."""
+        text = self.reply_text(device, settings, asked, data)
+        return Reply(self._used.value, self._skipped.value, tuple(text.decode().splitlines()))
 
-    def _lengthen(self, code: int) -> None:
+    def _lengthen(self, code: int, size: int) -> None:
         """Makes room for the bytes of an order or the lines of a reply. Another cause of the code is raised."""
         if code != KIJOLVAR_SHORT:
             raise library_fault(code)
-        self._bytes = ctypes.create_string_buffer(self._count.value)
+        self._bytes: Any = ctypes.create_string_buffer(size)
+        self._bytes_at, self._size = ctypes.addressof(self._bytes), size
 
     def orders(self) -> Iterator[bytes]:
         """The orders of the devices that the host has, oldest first. Each is taken out as it is given."""
@@ -354,11 +381,10 @@ class Session:
         """The orders that the library has."""
         while True:
             self.check()
-            code = self._library.kijolvar_next_order(self._raw, self._out, self._bytes, len(self._bytes),
-                                                     self._count_at)
+            code = self._next_order(self._raw, self._raw_at, self._bytes_at, self._size, self._count_at)
             if code == KIJOLVAR_OK:
                 return
             if code == KIJOLVAR_ORDER:
                 yield self._bytes[:self._count.value]
             else:
-                self._lengthen(code)
+                self._lengthen(code, self._count.value)

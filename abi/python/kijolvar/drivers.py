@@ -45,14 +45,21 @@ class Driver:
 
     Attributes:
         category: The category of the devices that it is for, such as "POSPrinter". Without one it is for any.
+        reads_orders: Whether `carry_out` looks at the order. If not, it gets one without a name and arguments.
     """
 
     category = ""
+    reads_orders = True
 
     @property
     def is_online(self) -> bool:
         """Whether the device is there. If not, the till takes it as switched off."""
         return True
+
+    @property
+    def is_quiet(self) -> bool:
+        """Whether the device is there and `happened` certainly has nothing to say, so that it needn't be asked."""
+        return False
 
     def begin(self, till: Till, device: ProfileDevice) -> None:
         """Begins, as `start` does, for a driver that needs the till: its `order_bytes` and `replies`."""
@@ -116,6 +123,7 @@ class EscPosPrinter(Driver):
     """
 
     category = "POSPrinter"
+    reads_orders = False
 
     def __init__(self, port: Union[Port, Path], *, drawer: str | None = None, width: int | None = None,
                  cutter: Cutter = "both", feed: int = 3, pin: int = 2, pulse: tuple[int, int] = (25, 250),
@@ -133,6 +141,8 @@ class EscPosPrinter(Driver):
         self.link = (AskedLink if is_asked else PrinterLink)(port_of(port), timeout, pause)
         self._wire: Wire | None = None
         self._is_known = False
+        # Up to which status the till was told, and how many lines may be printed until it has to be looked at again.
+        self._compared, self._lines_until, self._near = -1, 0, 0
         self._others: dict[str, Driver] = {} if drawer is None else {drawer: EscPosDrawer(self)}
 
     def __repr__(self) -> str:
@@ -154,7 +164,7 @@ class EscPosPrinter(Driver):
             raise ValueError(f"{device.name} has lines of {chars}, and the printer prints {self._width}")
         if near >= _MOST_LINES:
             raise ValueError(f"{device.name} is near its end with {near} lines, and a roll has {_MOST_LINES} at most")
-        self._width, self._lines = self._width or chars, max(self._lines, near + 1)
+        self._width, self._lines, self._near = self._width or chars, max(self._lines, near + 1), near
         self._wire = self.link.wire = self._wire_of(till, device)
         self._open()
 
@@ -174,17 +184,31 @@ class EscPosPrinter(Driver):
         assert self._wire is not None
         return self.link.carry_out(self._wire)
 
+    @property
+    def is_quiet(self) -> bool:
+        link = self.link
+        return link.statuses == self._compared and link.lines < self._lines_until and link.is_online
+
     def happened(self) -> list[str]:
         assert self._wire is not None
-        words = _told(self.link, self._wire)
-        if not self._is_known and self.link.told:
+        link = self.link
+        if self.is_quiet:
+            return []
+        words, self._compared = _told(link, self._wire), link.statuses
+        if not self._is_known and link.told:
             self._is_known = True
-            if self.link.has_paper:
+            if link.has_paper:
                 words.append(f"paper {self._lines}")
+        for word in words:
+            if word.startswith("paper "):
+                # So many lines on, the till counts down to another level than the sensors may see.
+                count = int(word[len("paper "):])
+                self._lines_until = link.lines + (count - self._near if count > self._near else count)
         return words
 
     def poll(self) -> None:
         self.link.poll()
+        self._compared = -1
 
     def others(self) -> dict[str, Driver]:
         return self._others
@@ -206,12 +230,13 @@ class EscPosDrawer(Driver):
     """
 
     category = "CashDrawer"
+    reads_orders = False
 
     def __init__(self, printer: EscPosPrinter, settle: float = 1.0) -> None:
         self._printer, self._settle = printer, settle
         self._wire: Wire | None = None
         self._kicked_at: float | None = None
-        self._statuses = 0
+        self._statuses, self._compared = 0, -1
 
     def __repr__(self) -> str:
         return f"<kijolvar.EscPosDrawer on {self._printer!r}>"
@@ -219,6 +244,11 @@ class EscPosDrawer(Driver):
     @property
     def is_online(self) -> bool:
         return self._printer.is_online
+
+    @property
+    def is_quiet(self) -> bool:
+        link = self._printer.link
+        return link.statuses == self._compared and self._kicked_at is None and link.is_online
 
     def begin(self, till: Till, device: ProfileDevice) -> None:
         self._wire = self._printer._wire_of(till, device)
@@ -236,10 +266,13 @@ class EscPosDrawer(Driver):
 
     def happened(self) -> list[str]:
         assert self._wire is not None
-        words = _told(self._printer.link, self._wire)
+        link = self._printer.link
+        if self.is_quiet:
+            return []
+        words, self._compared = _told(link, self._wire), link.statuses
         if self._kicked_at is not None:
             # The drawer may be on its way: a status that says closed is from before.
-            is_open = "closed" not in words and self._printer.link.statuses > self._statuses
+            is_open = "closed" not in words and link.statuses > self._statuses
             if is_open or time.monotonic() - self._kicked_at >= self._settle:
                 self._kicked_at = None
             else:
@@ -248,6 +281,7 @@ class EscPosDrawer(Driver):
 
     def poll(self) -> None:
         self._printer.poll()
+        self._compared = -1
 
     def files(self) -> list[int]:
         return self._printer.files()
@@ -260,7 +294,8 @@ def _told(link: PrinterLink, wire: Wire) -> list[str]:
     """What the printer has told last, as the words of inputs, so far as the device shows something else."""
     words: list[str] = []
     for told in link.told:
-        for line in wire.reply(told.data, told.asked).lines:
+        _, text = wire.reply(told.data, told.asked)
+        for line in text.decode().splitlines():
             kind, *rest = line.split(" ", 2)
             if kind == "input" and rest[1] not in words:
                 words.append(rest[1])
@@ -284,6 +319,7 @@ class SerialDisplay(Driver):
     """
 
     category = "LineDisplay"
+    reads_orders = False
 
     def __init__(self, port: Union[Port, Path], protocol: Protocol = "cd5220", *, timeout: float = 2.0,
                  pause: float = 1.0) -> None:
@@ -299,6 +335,10 @@ class SerialDisplay(Driver):
 
     @property
     def is_online(self) -> bool:
+        return self.port.is_open
+
+    @property
+    def is_quiet(self) -> bool:
         return self.port.is_open
 
     def begin(self, till: Till, device: ProfileDevice) -> None:
