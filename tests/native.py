@@ -46,8 +46,9 @@ category = "Scanner"
 name = "t1"
 category = "HardTotals"
 """
-# How long an order may take, in milliseconds, and how long is waited for what has to happen, in seconds.
-TIMEOUT, PATIENCE = 400, 20
+# How long an order may take where something happens meanwhile, and where nothing does, on a machine that is busy, in
+# milliseconds; and how long is waited for what has to happen, in seconds.
+TIMEOUT, AMPLE, PATIENCE = 800, 10_000, 30
 passed = failed = made = 0
 
 
@@ -123,11 +124,11 @@ TROUBLES = {
 class Shop:
     """A host whose printer is emulated, and may be in trouble. One of the kind "asked" is simpler, on "usb"."""
 
-    def __init__(self, stack, kind="usb", words="", lines=1000, is_claimed=True):
+    def __init__(self, stack, kind="usb", words="", lines=1000, is_claimed=True, timeout=TIMEOUT):
         self.device = stack.enter_context(Printer(cable(kind), lines=lines, is_simple="asked" in kind))
         self.host = Host(stack)
         words += " asked" * ("asked" in kind) + " serial 115200" * ("serial" in kind)
-        opened = f"printer r1 {self.device.path} timeout {TIMEOUT} pause 10 lines 1000 {words}"
+        opened = f"printer r1 {self.device.path} timeout {timeout} pause 10 lines 1000 {words}"
         told("the printer is opened", "ok", self.host.ask(opened))
         if is_claimed:
             lines = ("new r POSPrinter", "open r r1", "claim r 0", "set r DeviceEnabled true")
@@ -158,7 +159,7 @@ def try_plain():
     """Orders by lines and by a typed call, asynchronous output, and lines around orders."""
     for kind in ("usb", "tcp", "serial", "asked"):
         with contextlib.ExitStack() as stack:
-            shop = Shop(stack, kind)
+            shop = Shop(stack, kind, timeout=AMPLE)
             told(f"an order over {kind}", "ok", shop.print(TEXT))
             told(f"a cut over {kind}", "ok", shop.host.line("call r cutPaper 100"))
             told(f"the paper over {kind}", [*PRINTED, Cut(True, 3)], shop.paper())
@@ -166,19 +167,19 @@ def try_plain():
             told(f"its end over {kind}", "ok", shop.print(b"\n"))
             told(f"the state over {kind}", "online 0", shop.host.ask("state r1"))
     with contextlib.ExitStack() as stack:
-        shop = Shop(stack, is_claimed=False)
+        shop = Shop(stack, is_claimed=False, timeout=AMPLE)
         told("a typed call", "ok", shop.host.ask(f"print {TEXT.hex()}"))
         told("the paper of a typed call", PRINTED, shop.paper())
         shop.device.cover(True)
         told("the cover is open", "E_EXTENDED 201", shop.host.ask(f"print {TEXT.hex()}"))
     with contextlib.ExitStack() as stack:
-        shop = Shop(stack)
+        shop = Shop(stack, timeout=AMPLE)
         shop.device.load(21)
         told("the paper is good", "ok false", shop.host.line("get r RecNearEnd"))
         told("the paper is near its end", ["ok", "ok true"],
              [shop.print(b"Line\n"), shop.host.line("get r RecNearEnd")])
     with contextlib.ExitStack() as stack:
-        shop = Shop(stack)
+        shop = Shop(stack, timeout=AMPLE)
         lines = ("get r State", "call r printNormal 2 410a", "get r State", "call r printNormal 2 420a",
                  "call r cutPaper 100", "get r CoverOpen")
         told("lines around orders", ["ok 2", "ok", "ok 2", "ok", "ok", "ok false"], shop.host.lines(*lines))
@@ -212,7 +213,7 @@ def try_troubles():
                     told(f"{name}: still", "err", shop.print(TEXT)[:3])
                     undo(shop.device)
                     told(f"{name}: it ends", True, shop.settle())
-                    told(f"{name}: again", "ok", shop.print(TEXT))
+                    told(f"{name}: again", True, until(lambda: shop.print(TEXT) == "ok"))
                     told(f"{name}: the paper", PRINTED, shop.paper())
                     told(f"{name}: nothing else", "0", shop.late())
 
@@ -253,7 +254,7 @@ def try_asynchronous():
 def try_tear_off():
     """The till keeps the paper of at most 500 orders of a printer that has a driver, and what it prints stays right."""
     with contextlib.ExitStack() as stack:
-        shop = Shop(stack, lines=100_000)
+        shop = Shop(stack, lines=100_000, timeout=AMPLE)
         for number in range(0, 520, 20):
             lines = [f"call r printNormal 2 {(b'%d' % one).hex()}0a" for one in range(number, number + 20)]
             told(f"orders from {number} on", ["ok"] * 20, shop.host.lines(*lines))
@@ -332,7 +333,7 @@ def try_drawer():
     """The drawer on the printer's connector: its pulse, its sensor, and what the printer's trouble is for it."""
     for kind in ("usb", "asked"):
         with contextlib.ExitStack() as stack:
-            shop = Shop(stack, kind, "drawer d1")
+            shop = Shop(stack, kind, "drawer d1", timeout=AMPLE)
             host = shop.host
             lines = ("new d CashDrawer", "open d d1", "set d DeviceEnabled true")
             told(f"the drawer over {kind}", ["ok"] * 3, host.lines(*lines))
@@ -439,7 +440,7 @@ def try_refusals():
 def try_hosted():
     """Orders of a hosted device that come before one of a driven device stay."""
     with contextlib.ExitStack() as stack:
-        shop = Shop(stack)
+        shop = Shop(stack, timeout=AMPLE)
         told("hosted", "ok", shop.host.ask("host d2"))
         shop.host.lines("new d CashDrawer", "open d d2", "set d DeviceEnabled true")
         told("orders of both", ["ok"] * 3,
@@ -466,7 +467,7 @@ def try_errands():
     with contextlib.ExitStack() as stack:
         device = stack.enter_context(Printer(cable()))
         host = Host(stack, PROFILE, path)
-        told("the printer", "ok", host.ask(f"printer r1 {device.path} timeout {TIMEOUT} pause 10"))
+        told("the printer", "ok", host.ask(f"printer r1 {device.path} timeout {AMPLE} pause 10"))
         host.lines("new r POSPrinter", "open r r1", "claim r 0", "set r DeviceEnabled true", "new t HardTotals",
                    "open t t1", "set t DeviceEnabled true", "call t create 434f554e54 1 false")
         lines = ("call t write 1 0 05", "call r printNormal 2 410a", "call t write 1 0 06",
@@ -594,6 +595,6 @@ if __name__ == "__main__":
     reader.add_argument("--faults", type=int, default=100)
     reader.add_argument("--seed", type=int, default=1)
     reader.add_argument("--only", default="")
-    reader.add_argument("--slack", type=float, default=0.6)
+    reader.add_argument("--slack", type=float, default=1.5)
     WORDS = reader.parse_args()
     main()

@@ -110,7 +110,7 @@ runs "the host in Rust is built" cargo build -q --offline --release --manifest-p
 tries "C" "$work/host" "$@"
 tries "C with sanitizers" "$work/checked" "$@"
 for word in plain display scanner drawer; do
-  tries "C, watched: $word" "$work/watched" --slack 6 "$@" --only "$word"
+  tries "C, watched: $word" "$work/watched" --slack 8 "$@" --only "$word"
 done
 tries "C, want of memory" "$work/heap" "$@" --only memory
 tries "C++" "$work/plus" "$@" --only plain
