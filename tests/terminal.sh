@@ -87,21 +87,27 @@ screen 'a bad line says why, and the session goes on' "${lines[@]}" '>'
 typed 'call a clearText' Enter
 lines+=('> call a clearText' '=> err 106 E_ILLEGAL')
 screen 'a number has its name' "${lines[@]}" '>'
-typed Enter '# note' Enter
-lines+=('>' '> # note')
+typed '# note' Enter
+lines+=('> # note')
 screen 'a quiet line has no answer' "${lines[@]}" '>'
 typed ' quit ' Enter
 lines+=('>  quit')
 screen 'quit ends it' "${lines[@]}" 'ready>'
-typed 'clear; kijolvar run' Enter 'help' Enter
+typed 'clear; kijolvar run' Enter
+screen 'a second session' '>'
+typed 'help' Enter
 shows 'help is answered' 'help, quit                     print this, end'
 typed C-d
 shows 'the end of what is typed ends it' 'ready>'
-typed 'clear; kijolvar run; echo "status $?"' Enter 'open a d1' C-d C-d
+typed 'clear; kijolvar run; echo "status $?"' Enter
+screen 'a third session' '>'
+typed 'open a d1' C-d C-d
 screen 'a line without an end is answered too' '> open a d1=> bad control' 'status 0' 'ready>'
 typed 'clear; echo "new a CashDrawer" | kijolvar run' Enter
 screen 'a pipe has no prompt' '-:1: ok' 'ready>'
-typed 'clear; kijolvar run --json' Enter 'new a CashDrawer' Enter C-d
+typed 'clear; echo begun; kijolvar run --json' Enter
+shows 'a run without a prompt' 'begun'
+typed 'new a CashDrawer' Enter C-d
 shows 'and JSON has none' '{"answer":"ok","line":1,"reason":null,"script":"-","text":"new a CashDrawer"}'
 typed 'clear; kijolvar run --totals none.totals' Enter
 shows 'a fault ends it before it asks' "kijolvar: none.totals: can't be opened for reading and writing"
