@@ -35,6 +35,25 @@ shows() {
   tmux -S "$socket" capture-pane -p -t tool | grep . | sed 's/^/  screen: /'
 }
 
+# screen NAME LINE ..: whether the screen has these lines and no others within 30 seconds, from the first on
+screen() {
+  local name=$1 turn found wanted
+  shift
+  wanted=$(printf '%s\n' "$@")
+  for turn in $(seq 300); do
+    found=$(tmux -S "$socket" capture-pane -p -t tool | sed 's/ *$//' | grep .)
+    if [ "$found" = "$wanted" ]; then
+      passed=$((passed + 1))
+      return
+    fi
+    sleep 0.1
+  done
+  failed=$((failed + 1))
+  printf 'failed: %s\n' "$name"
+  sed 's/^/  wanted: /' <<< "$wanted"
+  sed 's/^/  screen: /' <<< "$found"
+}
+
 # typed KEY ..: types keys
 typed() {
   tmux -S "$socket" send-keys -t tool "$@"
@@ -53,11 +72,45 @@ typed 'kijolvar create till.totals; echo "made: $?"' Enter
 shows 'a file is made' 'made: 0'
 typed 'kijolvar check till.t' Tab '--q' Tab '; echo "status $?"' Enter
 shows 'a file and an option are completed' 'status 0'
+# --- lines that are typed at the prompt: each is answered before the next is typed
 typed 'clear; kijolvar run' Enter
-typed 'new a CashDrawer' Enter 'open a d1' Enter 'opn' Enter 'call a clearText' Enter C-d
-shows 'what is typed is run' '-:2: ok'
-shows 'with its reasons' '-:3: bad line: its first word is none that a line has'
-shows 'and its names' '-:4: err 106 E_ILLEGAL'
+screen 'a prompt' '>'
+typed 'new a CashDrawer' Enter
+lines=('> new a CashDrawer' '=> ok')
+screen 'a line is answered at once' "${lines[@]}" '>'
+typed 'open a d1' Enter
+lines+=('> open a d1' '=> ok')
+screen 'and the next one' "${lines[@]}" '>'
+typed 'opn' Enter
+lines+=('> opn' '=> bad line: its first word is none that a line has')
+screen 'a bad line says why, and the session goes on' "${lines[@]}" '>'
+typed 'call a clearText' Enter
+lines+=('> call a clearText' '=> err 106 E_ILLEGAL')
+screen 'a number has its name' "${lines[@]}" '>'
+typed '# note' Enter
+lines+=('> # note')
+screen 'a quiet line has no answer' "${lines[@]}" '>'
+typed ' quit ' Enter
+lines+=('>  quit')
+screen 'quit ends it' "${lines[@]}" 'ready>'
+typed 'clear; kijolvar run' Enter
+screen 'a second session' '>'
+typed 'help' Enter
+shows 'help is answered' 'help, quit                     print this, end'
+typed C-d
+shows 'the end of what is typed ends it' 'ready>'
+typed 'clear; kijolvar run; echo "status $?"' Enter
+screen 'a third session' '>'
+typed 'open a d1' C-d C-d
+screen 'a line without an end is answered too' '> open a d1=> bad control' 'status 0' 'ready>'
+typed 'clear; echo "new a CashDrawer" | kijolvar run' Enter
+screen 'a pipe has no prompt' '-:1: ok' 'ready>'
+typed 'clear; echo begun; kijolvar run --json' Enter
+shows 'a run without a prompt' 'begun'
+typed 'new a CashDrawer' Enter C-d
+shows 'and JSON has none' '{"answer":"ok","line":1,"reason":null,"script":"-","text":"new a CashDrawer"}'
+typed 'clear; kijolvar run --totals none.totals' Enter
+shows 'a fault ends it before it asks' "kijolvar: none.totals: can't be opened for reading and writing"
 typed 'clear; kijolvar chek' Enter
 shows 'an error has a hint' 'hint: `kijolvar help` lists the commands'
 

@@ -691,36 +691,52 @@ done
 # --- random damages: each is answered, and the file stays. DAMAGES is how many
 damages=${DAMAGES:-300}
 python3 - "$tool" "$damages" <<'PYTHON' > counted
-import os, random, subprocess, sys
+import concurrent.futures, os, random, subprocess, sys
 tool, source = sys.argv[1], open('till.totals', 'rb').read()
 random.seed(13)
 places = [0, *range(1, 40), *range(16384, 16500), 32768, *range(32769, 32790), 65536, 196608]
-faults = []
-for turn in range(int(sys.argv[2])):
+
+def damage():
+    return [(random.choice(places), random.choice((0, 1, 0xA5, 0xFF, random.randrange(256))))
+            for _ in range(random.choice((1, 1, 2, 5, 40)))]
+
+def run(*words):
+    return subprocess.run([tool, *words], capture_output=True, text=True)
+
+# what is wrong with the answers of a file with these bytes; nothing if all is well
+def fault(turn, changes):
+    name, to = f'random.{turn}', f'saved.{turn}'
     bytes_ = bytearray(source)
-    for _ in range(random.choice((1, 1, 2, 5, 40))):
-        bytes_[random.choice(places)] = random.choice((0, 1, 0xA5, 0xFF, random.randrange(256)))
-    with open('random.totals', 'wb') as it:
+    for at, byte in changes:
+        bytes_[at] = byte
+    with open(name, 'wb') as it:
         it.write(bytes_)
-    check = subprocess.run([tool, 'check', 'random.totals'], capture_output=True, text=True)
-    files = subprocess.run([tool, 'files', 'random.totals', '--json'], capture_output=True, text=True)
-    first = {0: 'sound: ', 1: 'no totals: ', 2: 'damaged at byte '}.get(check.returncode)
-    if first is None or not check.stdout.startswith(first) or files.returncode != check.returncode:
-        faults.append((turn, check, files))
-    saved = subprocess.run([tool, 'salvage', 'random.totals', 'random.saved'], capture_output=True, text=True)
-    if saved.returncode == 0:
-        with open('random.saved', 'rb') as it:
-            made = it.read()
-        wrong = [at for at in range(len(made)) if made[at] != bytes_[at] and made[at] != 0]
-        check2 = subprocess.run([tool, 'check', 'random.saved'], capture_output=True, text=True)
-        os.remove('random.saved')
-        closed = sum(made[at] != bytes_[at] for at in range(len(made)))
-        if wrong or check2.returncode or closed != saved.stdout.count('\n'):
-            faults.append((turn, saved, wrong))
-    elif saved.returncode != 1:
-        faults.append((turn, saved))
-    if open('random.totals', 'rb').read() != bytes(bytes_):
-        faults.append((turn, 'changed'))
+    try:
+        check = run('check', name)
+        files = run('files', name, '--json')
+        first = {0: 'sound: ', 1: 'no totals: ', 2: 'damaged at byte '}.get(check.returncode)
+        if first is None or not check.stdout.startswith(first) or files.returncode != check.returncode:
+            return turn, check, files
+        saved = run('salvage', name, to)
+        if saved.returncode == 0:
+            with open(to, 'rb') as it:
+                made = it.read()
+            changed = [at for at in range(len(made)) if made[at] != bytes_[at]] if made != bytes_ else []
+            if any(made[at] for at in changed) or run('check', to).returncode or len(changed) != saved.stdout.count('\n'):
+                return turn, saved, changed
+        elif saved.returncode != 1:
+            return turn, saved
+        with open(name, 'rb') as it:
+            if it.read() != bytes_:
+                return turn, 'changed'
+    finally:
+        os.remove(name)
+        if os.path.exists(to):
+            os.remove(to)
+
+turns = [(turn, damage()) for turn in range(int(sys.argv[2]))]
+with concurrent.futures.ThreadPoolExecutor(os.cpu_count()) as pool:
+    faults = [it for it in pool.map(lambda turn: fault(*turn), turns) if it]
 print('good' if not faults else faults[:3])
 PYTHON
 told "every one of $damages random damages is answered, and nothing is written" good "$(cat counted)"

@@ -127,10 +127,14 @@ enum kij_code {
     KIJ_UNKNOWN = 45,
     /** The device has its peripheral, or a control has the device open. */
     KIJ_IN_USE = 46,
-    /** The spare is of another kind than the device. */
+    /** The spare, or the driver, is of another kind than the device. */
     KIJ_KIND_DIFFERS = 47,
     /** No peripheral is attached to the device. */
-    KIJ_VACANT = 48
+    KIJ_VACANT = 48,
+    /** The device has a driver already. */
+    KIJ_DRIVEN = 49,
+    /** A setting of the hardware is out of its range. */
+    KIJ_BAD_SETTINGS = 50
 };
 
 /** Returns what a result means, in English. The text is static. */
@@ -495,6 +499,180 @@ kij_result kij_host(kij_till *till, const char *device);
 
 /** Takes out the oldest order of the devices that you have, or writes KIJ_NO_ORDER. Take them out after each call. */
 kij_result kij_next_order(kij_till *till, kij_order *order);
+
+/** Takes the printed paper of a device away: a printer shows no line and no cut then, only the line that has begun. A
+ * till keeps all that a printer prints, so do it now and then for a printer of which you have the hardware. A till does
+ * it by itself for a printer that has a driver, after each 500 orders. KIJ_NO_DEVICE if the profile has no such device,
+ * or it is detached. */
+kij_result kij_tear_off(kij_till *till, const char *device);
+
+/* ---- Drivers: hardware of your own on a port. A call that orders something of a driven device returns once the device
+ * has done it, or hasn't. ---- */
+
+/** The parity of a serial line. */
+typedef enum kij_parity { KIJ_PARITY_NONE = 0, KIJ_PARITY_EVEN = 1, KIJ_PARITY_ODD = 2 } kij_parity;
+
+/** How a device on a serial line says that it can take no more. */
+typedef enum kij_flow { KIJ_FLOW_NONE = 0, KIJ_FLOW_RTS_CTS = 1, KIJ_FLOW_XON_XOFF = 2 } kij_flow;
+
+/** How a serial line is set up. */
+typedef struct kij_serial_settings {
+    /** Whether the path is a serial line, whatever its name. A path of /dev/tty.. or /dev/serial/.. always is one. */
+    bool is_serial;
+    /** Bits per second, as the device is set up: 1,200 to 230,400. */
+    int speed;
+    /** The bits of a byte, 7 or 8, and the stop bits behind it, 1 or 2. */
+    int bits;
+    int stops;
+    kij_parity parity;
+    kij_flow flow;
+} kij_serial_settings;
+
+/** 9,600 bits per second, 8 bits, 1 stop bit, no parity, RTS/CTS. */
+#define KIJ_SERIAL_SETTINGS                                                                                            \
+    { false, 9600, 8, 1, KIJ_PARITY_NONE, KIJ_FLOW_RTS_CTS }
+
+/** What a printer's cutter does. */
+typedef enum kij_cutter {
+    /** Full cuts and partial ones. */
+    KIJ_CUTTER_BOTH = 0,
+    KIJ_CUTTER_FULL = 1,
+    KIJ_CUTTER_PARTIAL = 2,
+    /** There is no cutter: the paper is fed in place of a cut. */
+    KIJ_CUTTER_ABSENT = 3
+} kij_cutter;
+
+/** A receipt printer with ESC/POS, and the drawer on its connector. Begin with KIJ_ESCPOS_SETTINGS. */
+typedef struct kij_escpos_settings {
+    /** The name of the till's drawer on the printer's connector, which is driven too; null if there is none. */
+    const char *drawer;
+    /** How many characters the printer prints on a line; 0 if it prints as many as the device's lines have. */
+    int width;
+    kij_cutter cutter;
+    /** How far paper is fed before a cut, 0 to 255 dots; without a cutter, lines. */
+    int feed;
+    /** The pin of the drawer connector, 2 or 5; how long its pulse lasts and the pause after it, 0 to 255, in 2 ms. */
+    int pin;
+    int on;
+    int off;
+    /** Whether the drawer is open when pin 3 of the connector is high. */
+    bool is_open_high;
+    /** How many lines the till counts with when the sensors see enough paper: more than where its device is near the
+     * end, at most 100,000. */
+    int lines;
+    /** Whether the printer says nothing by itself, and doesn't know GS ( H. Then it is asked for its status (DLE EOT),
+     * and whether an order is printed (GS r). */
+    bool is_asked;
+    /** How long an order may take, and how long to wait before a lost port is tried again, in milliseconds. */
+    int timeout;
+    int pause;
+    kij_serial_settings serial;
+} kij_escpos_settings;
+
+/** A printer with both cuts, without a drawer; 5 seconds for an order, and 1 until a lost port is tried again. */
+#define KIJ_ESCPOS_SETTINGS                                                                                            \
+    { NULL, 0, KIJ_CUTTER_BOTH, 3, 2, 25, 250, true, 100000, false, 5000, 1000, KIJ_SERIAL_SETTINGS }
+
+/** What a display understands. */
+typedef enum kij_protocol { KIJ_CD5220 = 0, KIJ_ESCPOS = 1 } kij_protocol;
+
+/** A customer display. Begin with KIJ_DISPLAY_SETTINGS. */
+typedef struct kij_display_settings {
+    kij_protocol protocol;
+    /** As those of kij_escpos_settings. */
+    int timeout;
+    int pause;
+    kij_serial_settings serial;
+} kij_display_settings;
+
+/** A display with CD5220; 2 seconds for an order, and 1 until a lost port is tried again. */
+#define KIJ_DISPLAY_SETTINGS                                                                                           \
+    { KIJ_CD5220, 2000, 1000, KIJ_SERIAL_SETTINGS }
+
+/** A scanner. Begin with KIJ_SCANNER_SETTINGS. */
+typedef struct kij_scanner_settings {
+    /** The type of a code without an AIM identifier (ScanDataType); 0 is SCAN_SDT_UNKNOWN. */
+    int type;
+    /** Whether the device sends key events, whatever its name. A path of /dev/input/.. always does. */
+    bool has_keys;
+    /** How long to wait before a lost port is tried again, in milliseconds. */
+    int pause;
+    kij_serial_settings serial;
+} kij_scanner_settings;
+
+/** A scanner whose codes are of an unknown type without an identifier; 1 second until a lost port is tried again. */
+#define KIJ_SCANNER_SETTINGS                                                                                           \
+    { 0, false, 1000, KIJ_SERIAL_SETTINGS }
+
+/**
+ * Has a receipt printer with ESC/POS carry out the orders of a device from now on. The call waits for the printer's
+ * first status, at most as long as for an order. Hardware that isn't there is no error: the device is off until
+ * kij_run_devices finds it. kij_close closes the port.
+ *
+ * An order counts as done once the printer has acknowledged it (GS ( H). Otherwise the call that ordered it is refused
+ * within the timeout: KIJ_E_EXTENDED with KIJ_EPTR_COVER_OPEN or KIJ_EPTR_REC_EMPTY, KIJ_E_OFFLINE, or KIJ_E_FAILURE if
+ * the printer gives no reason. If an order failed and the next one is the same, as a retry is, only the lines and cuts
+ * that the printer hasn't acknowledged are sent again.
+ *
+ * @param device   the name of a printer of the profile
+ * @param port     /dev/usb/lp0, /dev/ttyUSB0, tcp:HOST or tcp:HOST:PORT (9100 if there is none)
+ * @param settings null is KIJ_ESCPOS_SETTINGS
+ * @return KIJ_BAD_DEVICE, KIJ_KIND_DIFFERS, KIJ_DRIVEN, KIJ_NO_DEVICE (it can't be driven, as one with `flaky`),
+ * KIJ_BAD_SETTINGS, KIJ_NO_MEMORY or KIJ_BAD_ARGUMENT on failure; then no device has a driver of this call
+ */
+kij_result kij_escpos_printer_open(kij_till *till, const char *device, const char *port,
+                                   const kij_escpos_settings *settings);
+
+/**
+ * Has a customer display show what the orders of a device from now on say: characters, but neither blinking nor
+ * reverse ones. A display answers nothing, so an order counts as done once its bytes have left this machine. One that
+ * was lost shows all its rows again with the next order.
+ *
+ * @param device   the name of a line display of the profile
+ * @param port     as kij_escpos_printer_open takes it
+ * @param settings null is KIJ_DISPLAY_SETTINGS
+ * @return as kij_escpos_printer_open
+ */
+kij_result kij_serial_display_open(kij_till *till, const char *device, const char *port,
+                                   const kij_display_settings *settings);
+
+/**
+ * Has a scanner read the codes of a device from now on. It sends each with a terminator (CR, LF or both), or types it
+ * as a keyboard of the layout US, whose keys no other program gets meanwhile. An AIM identifier in front of a code,
+ * such as ]E0, says which type it has; ScanDataLabel is the code without it.
+ *
+ * @param device   the name of a scanner of the profile
+ * @param port     /dev/input/.. for a keyboard wedge; else as kij_escpos_printer_open takes it
+ * @param settings null is KIJ_SCANNER_SETTINGS
+ * @return as kij_escpos_printer_open
+ */
+kij_result kij_wedge_scanner_open(kij_till *till, const char *device, const char *port,
+                                  const kij_scanner_settings *settings);
+
+/**
+ * Does what the driven devices need: tells the till what they say of themselves and what was scanned, opens lost ports
+ * again, and prints output that waits (AsyncMode). Call it regularly, and then deliver events.
+ *
+ * @param timeout how long to wait until there is something to do, in milliseconds. Printing may take longer.
+ * @param is_any  where it is written whether anything was done; may be null
+ * @return KIJ_BAD_INPUT if the device can't be as its hardware says, KIJ_NO_MEMORY, KIJ_DISK_FAILED or KIJ_BAD_ARGUMENT
+ * on failure
+ */
+kij_result kij_run_devices(kij_till *till, int timeout, bool *is_any);
+
+/** How the hardware of a driven device is. */
+typedef struct kij_driver_view {
+    /** Whether its port is open, and a printer answers. */
+    bool is_online;
+    /** Why the port couldn't be opened or was lost the last time (errno); 0 if neither ever happened. */
+    int port_error;
+    /** How many orders a printer has printed after they had failed, and weren't asked for again. It had got them before
+     * it stopped, and there is no command that takes them back. */
+    uint64_t late_orders;
+} kij_driver_view;
+
+/** Returns how the hardware of a driven device is. KIJ_NO_DEVICE if the device isn't driven. It asks no hardware. */
+kij_result kij_show_driver(kij_till *till, const char *device, kij_driver_view *view);
 
 #ifdef __cplusplus
 }

@@ -1,5 +1,5 @@
 /* The devices' side of a till: inputs, work, the exchange of peripherals, and orders for devices of the host's. */
-#include "kij_internal.h"
+#include "kij_hardware.h"
 #include <string.h>
 
 static kij_result plain(int code) { return kij_internal_result(code, 0, KIJ_NO_CATEGORY); }
@@ -103,16 +103,32 @@ kij_result kij_work(kij_till *till, const char *device, kij_work_report *report)
     return result;
 }
 
+/* What the library's code means to who names a device. */
+static int code_of(uint32_t code) {
+    switch (code) {
+    case KIJOLVAR_OK: return KIJ_OK;
+    case KIJOLVAR_NO_MEMORY: return KIJ_NO_MEMORY;
+    case KIJOLVAR_NO_DEVICE: return KIJ_NO_DEVICE;
+    default: return KIJ_BAD_ANSWER;
+    }
+}
+
 kij_result kij_host(kij_till *till, const char *device) {
     kij_word name;
     int code = begin(till, device, &name);
     if (code != KIJ_OK) return plain(code);
     uint32_t found = kijolvar_host(till->inner, &till->inner.at, (const uint8_t *)name.text + 1, name.size - 1);
     kij_internal_leave(till);
-    return plain(found == KIJOLVAR_OK          ? KIJ_OK
-                 : found == KIJOLVAR_NO_MEMORY ? KIJ_NO_MEMORY
-                 : found == KIJOLVAR_NO_DEVICE ? KIJ_NO_DEVICE
-                                               : KIJ_BAD_ANSWER);
+    return plain(code_of(found));
+}
+
+kij_result kij_tear_off(kij_till *till, const char *device) {
+    kij_word name;
+    int code = begin(till, device, &name);
+    if (code != KIJ_OK) return plain(code);
+    uint32_t found = kijolvar_tear_off(till->inner, &till->inner.at, (const uint8_t *)name.text + 1, name.size - 1);
+    kij_internal_leave(till);
+    return plain(code_of(found));
 }
 
 /* Cuts the next word off a text. */
@@ -162,6 +178,7 @@ static bool is_order(char *text, kij_order *order) {
 /* Takes an order's line out, into the till's answer: the library's code. */
 static uint32_t take_order(kij_till *till) {
     size_t needed = 0;
+    if (kij_internal_kept_order(till)) return KIJOLVAR_ORDER;
     uint32_t code =
         kijolvar_next_order(till->inner, &till->inner.at, (uint8_t *)till->text, till->text_room - 1, &needed);
     if (code == KIJOLVAR_SHORT) {

@@ -25,6 +25,10 @@ struct kij_till {
     unsigned long names;
     /* Whether a call is under way; it is changed atomically. */
     int busy;
+    /* The devices that are driven (kij_hardware.h); null while none ever was. */
+    struct kij_drives *drives;
+    /* Whether lines of an earlier call are held, since there was no memory to go on with them. */
+    bool is_holding;
 };
 
 /* A word of a line. All but verbs begin with the space before them. There is room behind it, so that a fixed number of
@@ -150,6 +154,9 @@ kij_result kij_internal_call(kij_control *control, kij_verb verb, const kij_word
  * kij_code. */
 int kij_internal_settled(kij_till *till, uint32_t code, size_t *needed);
 
+/* Ends lines of an earlier call that are held: their orders failed, and nobody wants the answer. */
+void kij_internal_give_up(kij_till *till);
+
 /* Adds arguments to the line, which goes to `*at`: a code. Four that aren't bytes have room behind the words. */
 int kij_internal_add_arguments(kij_till *till, char **at, const kij_argument *arguments, size_t count);
 
@@ -158,6 +165,7 @@ int kij_internal_add_arguments(kij_till *till, char **at, const kij_argument *ar
 static inline int kij_internal_carry(kij_till *till, const char *lines, size_t size, bool is_one) {
     size_t needed = 0;
     int found = KIJ_OK;
+    if (till->is_holding) kij_internal_give_up(till);
     uint32_t code = kijolvar_carry_out(till->inner, &till->inner.at, (const uint8_t *)lines, size,
                                        (uint8_t *)till->text, till->text_room - 1, &needed);
     if (code != KIJOLVAR_OK) found = kij_internal_settled(till, code, &needed);

@@ -1,6 +1,6 @@
 /* Lines for the library, and what their answers say. A line is short, and so is the library's work on it: words are
    copied by a fixed number of bytes, and hex digits sixteen at a time where the processor can. */
-#include "kij_internal.h"
+#include "kij_hardware.h"
 #include <stdlib.h>
 #include <string.h>
 #ifdef __SSE2__
@@ -93,6 +93,7 @@ bool kij_internal_is_name(const char *name, kij_word *word) {
 }
 
 int kij_internal_settled(kij_till *till, uint32_t code, size_t *needed) {
+    if (till->drives != NULL) return kij_internal_served(till, code, needed);
     if (code == KIJOLVAR_ERRANDS && (code = kij_internal_settle(till)) == KIJOLVAR_OK)
         code = kijolvar_answer(till->inner, &till->inner.at, (uint8_t *)till->text, till->text_room - 1, needed);
     if (*needed >= till->text_room) {

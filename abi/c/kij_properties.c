@@ -99,8 +99,11 @@ static const kij_number_row own_codes[] = {
     {KIJ_NO_CATEGORY, KIJ_BAD_SPARE, "KIJ_BAD_SPARE", "There is no spare of the number, or it serves a device."},
     {KIJ_NO_CATEGORY, KIJ_UNKNOWN, "KIJ_UNKNOWN", "There is no device of the name that may have a peripheral."},
     {KIJ_NO_CATEGORY, KIJ_IN_USE, "KIJ_IN_USE", "The device has its peripheral, or a control has it open."},
-    {KIJ_NO_CATEGORY, KIJ_KIND_DIFFERS, "KIJ_KIND_DIFFERS", "The spare is of another kind than the device."},
+    {KIJ_NO_CATEGORY, KIJ_KIND_DIFFERS, "KIJ_KIND_DIFFERS",
+     "The spare, or the driver, is of another kind than the device."},
     {KIJ_NO_CATEGORY, KIJ_VACANT, "KIJ_VACANT", "The device has no peripheral to detach."},
+    {KIJ_NO_CATEGORY, KIJ_DRIVEN, "KIJ_DRIVEN", "The device has a driver already."},
+    {KIJ_NO_CATEGORY, KIJ_BAD_SETTINGS, "KIJ_BAD_SETTINGS", "A setting of the hardware is out of its range."},
 };
 
 /* The row of a number in a table, of a category if it isn't KIJ_NO_CATEGORY there; or null. */

@@ -1,5 +1,5 @@
 /* Tills and their controls. */
-#include "kij_internal.h"
+#include "kij_hardware.h"
 #include <stdio.h>
 #include <stdlib.h>
 #include <string.h>
@@ -55,6 +55,7 @@ kij_result kij_open(const char *profile, const char *totals, int flags, kij_till
 
 void kij_close(kij_till *till) {
     if (till == NULL) return;
+    kij_internal_end_drives(till);
     kijolvar_close(till->inner);
     close_file(till->file);
     free_till(till);

@@ -12,10 +12,14 @@
 
 enum { STACK = 128 * 1024, MOST = 96 * 1024, DEEP = 4 * 1024 * 1024, GUARD = 64 * 1024, PAINT = 0x5A };
 
-enum export { OPEN, OPEN_FILE, FORMAT_FILE, CARRY_OUT, ANSWER, NEXT_ERRAND, ERRAND_FAILED, HOST, NEXT_ORDER, CLOSE, EXPORTS };
+enum export {
+    OPEN, OPEN_FILE, FORMAT_FILE, CARRY_OUT, ANSWER, NEXT_ERRAND, ERRAND_FAILED, HOST, DRIVE, NEXT_ORDER, ORDER_BYTES,
+    ORDER_DONE, REPLIES, CLOSE, EXPORTS
+};
 
 static const char *const names[EXPORTS] = {"open", "open_file", "format_file", "carry_out", "answer", "next_errand",
-                                           "errand_failed", "host", "next_order", "close"};
+                                           "errand_failed", "host", "drive", "next_order", "order_bytes", "order_done",
+                                           "replies", "close"};
 
 static uint8_t file[KIJOLVAR_DISK_LENGTH], bytes[KIJOLVAR_DISK_LENGTH], text[1024 * 1024];
 static size_t most[EXPORTS];
@@ -96,6 +100,42 @@ static void day(const char *lines) {
     MEASURED(CLOSE, (kijolvar_close(till), 0));
 }
 
+/* The bytes of an order of each driven device, and a reply of the printer. */
+static void sends(void) {
+    static const char lines[] = "new d CashDrawer\nopen d d1\nset d DeviceEnabled true\nnew p LineDisplay\nopen p p1\n"
+                                "claim p 0\nset p DeviceEnabled true\nnew r POSPrinter\nopen r r1\nclaim r 0\n"
+                                "set r DeviceEnabled true\ninput r1 paper 100\n";
+    static const char *const orders[] = {"call d openDrawer\n", "call p displayText 414243444546 0\n",
+                                         "call r printNormal 2 41421b7c624343440a454647484950515253540a1b7c50\n"};
+    static const char *const devices[] = {"d1", "p1", "r1"};
+    static const uint8_t status[] = {0x3c, 0x48, 0x0f, 0};
+    static const kijolvar_wire_settings usual = {48, 0, 3, 500, 2, 25, 250, 1, 0};
+    kijolvar_till till = {NULL};
+    size_t needed = 0, used = 0, skipped = 0;
+    uint32_t code;
+    MEASURED(OPEN, kijolvar_open(NULL, 0, &till.at));
+    if (code != KIJOLVAR_OK) fails("a till with driven devices");
+    carries_out(&till, lines, sizeof lines - 1);
+    for (size_t place = 0; place < 3; place++) {
+        const uint8_t *line = (const uint8_t *)orders[place];
+        MEASURED(DRIVE, kijolvar_drive(till, &till.at, (const uint8_t *)devices[place], 2));
+        if (code != KIJOLVAR_OK) fails("a driven device");
+        MEASURED(CARRY_OUT, kijolvar_carry_out(till, &till.at, line, strlen(orders[place]), text, sizeof text, &needed));
+        if (code != KIJOLVAR_WAITS) fails("a line that waits");
+        MEASURED(ORDER_BYTES, kijolvar_order_bytes(till, &till.at, &usual, 1, 5, text, sizeof text, &needed));
+        if (code != KIJOLVAR_OK || needed == 0) fails("the bytes of an order");
+        MEASURED(NEXT_ORDER, kijolvar_next_order(till, &till.at, text, sizeof text, &needed));
+        if (code != KIJOLVAR_ORDER) fails("an order of a driven device");
+        MEASURED(ORDER_DONE, kijolvar_order_done(till, &till.at, 0, NULL, 0, text, sizeof text, &needed));
+        if (code != KIJOLVAR_OK) fails("a report");
+        if (place == 1) continue;
+        MEASURED(REPLIES, kijolvar_replies(till, &till.at, (const uint8_t *)devices[place], 2, &usual, 0, status,
+                                           sizeof status, &used, &skipped, text, sizeof text, &needed));
+        if (code != KIJOLVAR_OK || used != sizeof status || needed == 0) fails("a reply");
+    }
+    MEASURED(CLOSE, (kijolvar_close(till), 0));
+}
+
 /* Opens a till over a profile, by each call, and wants a code. */
 static void opens(const char *profile, uint32_t wanted) {
     const uint8_t *given = (const uint8_t *)profile;
@@ -150,6 +190,7 @@ static void *all(void *given) {
         free(lines);
     }
     begins();
+    sends();
     return NULL;
 }
 

@@ -1,3 +1,4 @@
+mod ConversationLemmas
 mod RunLemmas
 mod TextLemmas
 mod TrialLemmas

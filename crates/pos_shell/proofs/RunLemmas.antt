@@ -41,7 +41,7 @@ reads_more system them (other ∷ paths) [] path script are one = absurd are
 reads_more system them (other ∷ paths) (first ∷ scripts) path script (is, are) one = (is, reads_more system them paths scripts path script are one)
 
 -- lines and then more
-prints_join : (session : Session) (lines : List (List ℕ)) (steps : List (Request × Response)) (text : List ℕ) (mid : Session) (more : List (List ℕ))
+pub prints_join : (session : Session) (lines : List (List ℕ)) (steps : List (Request × Response)) (text : List ℕ) (mid : Session) (more : List (List ℕ))
     (further : List (Request × Response)) (rest : List ℕ) (after : Session) → LinesPrint session lines steps text mid
     → LinesPrint mid more further rest after → LinesPrint session (lines ++ more) (steps ++ further) (text ++ rest) after
 prints_join session [] steps text mid more further rest after (none, nothing, same) second = rw (none, nothing, ← same) second
@@ -56,7 +56,7 @@ prints_join session (line ∷ lines) steps text mid more further rest after (out
 )
 
 -- one more is at the end of what all are mapped to
-one_more : {A : Type 0} (f : Turn → List A) (turns : List Turn) (turn : Turn) → flat_map f (turns ++ turn ∷ []) ≡ flat_map f turns ++ f turn
+pub one_more : {A : Type 0} (f : Turn → List A) (turns : List Turn) (turn : Turn) → flat_map f (turns ++ turn ∷ []) ≡ flat_map f turns ++ f turn
 one_more f turns turn = flat_map-append f turns (turn ∷ []) ∙ ap (λ xs. flat_map f turns ++ xs) (append-nil (f turn))
 
 -- scripts, and then one more

@@ -1,6 +1,8 @@
+pub mod Conversation
 pub mod Differences
 pub mod Names
 pub mod Outputs
+pub mod ProfileRun
 pub mod Reasons
 pub mod Runs
 pub mod Scripts

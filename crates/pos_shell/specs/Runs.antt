@@ -13,8 +13,8 @@ use Rattle.pos_program.specs.MirroredFiles.{IsMirrored}
 use Rattle.pos_program.specs.declared.file_fault.FileFault.{FileFault}
 use Rattle.pos_program.specs.declared.file_system.FileSystem.{Ghosts as SystemGhosts}
 use Rattle.pos_program.specs.declared.named_files.NamedFiles.{Ghosts}
-use Rattle.pos_shell.specs.Outputs.{Output}
-use Rattle.pos_shell.specs.Scripts.{RunsScripts}
+use Rattle.pos_shell.specs.Outputs.{Streams}
+use Rattle.pos_shell.specs.ProfileRun.{Lines, RunsLines}
 use Rattle.pos_shell.specs.declared.runs.RunFault.{RunFault}
 use Rattle.pos_shell.specs.declared.runs.RunFault.TheVariants as run
 use Rattle.pos_shell.specs.declared.scripts.Script.{Script}
@@ -72,59 +72,68 @@ abbrev pub ended : Result (Unit {0}) TellFault → Result (Unit {0}) RunFault
 ended (Ok u) = Ok tt
 ended (Err why) = Err (run.Told why)
 
--- a run of scripts over totals in memory, on a disk without files
-pub record RunsFresh (bound : DiskGhosts Memory) (manner : Manner) (contents : Contents) (scripts : List Script)
-    (old new : Output) (result : Result (Unit {0}) RunFault) : Type 0 where
+-- a run of lines over totals in memory, on a disk without files
+pub record RunsFresh (bound : DiskGhosts Memory) (manner : Manner) (contents : Contents) (lines : Lines)
+    (old new : Streams) (result : Result (Unit {0}) RunFault) : Type 0 where
   pub disk : Memory
   pub after : Memory
   pub answer : Result (Unit {0}) TellFault
   pub empty : HasNoFiles (bound.state disk)
-  pub runs : RunsScripts bound manner contents scripts disk old new answer after
+  pub runs : RunsLines bound manner contents lines disk old new answer after
   pub ends : result ≡ ended answer
 
 -- likewise, or there was no memory for the disk
-abbrev pub RunsInMemory : DiskGhosts Memory → Manner → Contents → List Script → Output → Output
+abbrev pub RunsInMemory : DiskGhosts Memory → Manner → Contents → Lines → Streams → Streams
     → Result (Unit {0}) RunFault → Type 0
-RunsInMemory bound manner contents scripts old new result =
-    ((result ≡ Err without_memory) × (new ≡ old)) ⊎ RunsFresh bound manner contents scripts old new result
+RunsInMemory bound manner contents lines old new result =
+    ((result ≡ Err without_memory) × (new ≡ old)) ⊎ RunsFresh bound manner contents lines old new result
 
--- A run of scripts over the totals in a file. The calls of the file make the totals that are left.
+-- A run of lines over the totals in a file. The calls of the file make the totals that are left.
 pub record RunsOverTotals {B : Type 0} (below : FileGhosts B) (mirrors : DiskGhosts (Mirror (FileDisk B)))
-    (manner : Manner) (contents : Contents) (scripts : List Script) (totals : Mirror (FileDisk B)) (old new : Output)
+    (manner : Manner) (contents : Contents) (lines : Lines) (totals : Mirror (FileDisk B)) (old new : Streams)
     (result : Result (Unit {0}) RunFault) : Type 0 where
   pub after : Mirror (FileDisk B)
   pub answer : Result (Unit {0}) TellFault
-  pub runs : RunsScripts mirrors manner contents scripts totals old new answer after
+  pub runs : RunsLines mirrors manner contents lines totals old new answer after
   pub file : IsMirrored below.calls after
   pub ends : result ≡ ended answer
 
--- what running scripts over what opening a totals file gave comes to
+-- what running lines over what opening a totals file gave comes to
 abbrev pub RunsOpened : {B : Type 0} → FileGhosts B → DiskGhosts (Mirror (FileDisk B)) → Manner → Contents
-    → List Script → Bor (List ℕ) → Result (Mirror (FileDisk B)) FileFault → Output → Output
+    → Lines → Bor (List ℕ) → Result (Mirror (FileDisk B)) FileFault → Streams → Streams
     → Result (Unit {0}) RunFault → Type 0
-RunsOpened below mirrors manner contents scripts path (Ok totals) old new result =
-    RunsOverTotals below mirrors manner contents scripts totals old new result
-RunsOpened below mirrors manner contents scripts path (Err cause) old new result =
+RunsOpened below mirrors manner contents lines path (Ok totals) old new result =
+    RunsOverTotals below mirrors manner contents lines totals old new result
+RunsOpened below mirrors manner contents lines path (Err cause) old new result =
     (result ≡ Err (run.Totals path cause)) × (new ≡ old)
 
--- what running scripts over the totals in the file at a path comes to, or in memory
+-- what running lines over the totals in the file at a path comes to, or in memory
 abbrev pub RunsOver : {F B : Type 0} → Ghosts F B → FileGhosts B → DiskGhosts (Mirror (FileDisk B)) → DiskGhosts Memory
-    → F → Manner → Contents → List Script → Option (Bor (List ℕ)) → Output → Output → Result (Unit {0}) RunFault
+    → F → Manner → Contents → Lines → Option (Bor (List ℕ)) → Streams → Streams → Result (Unit {0}) RunFault
     → Type 0
-RunsOver files below mirrors memories them manner contents scripts None old new result =
-    RunsInMemory memories manner contents scripts old new result
-RunsOver {B = B} files below mirrors memories them manner contents scripts (Some path) old new result =
+RunsOver files below mirrors memories them manner contents lines None old new result =
+    RunsInMemory memories manner contents lines old new result
+RunsOver {B = B} files below mirrors memories them manner contents lines (Some path) old new result =
     (opened : Result (Mirror (FileDisk B)) FileFault) × files.gives_disk them path.now opened
-    × RunsOpened below mirrors manner contents scripts path opened old new result
+    × RunsOpened below mirrors manner contents lines path opened old new result
 
--- what becomes of scripts that were read, by what reading the profile gave
-abbrev pub RunsProfiled : (Contents → Type 0) → Result Contents RunFault → Output → Output
+-- what becomes of lines, by what reading the profile gave
+abbrev pub RunsProfiled : (Contents → Type 0) → Result Contents RunFault → Streams → Streams
     → Result (Unit {0}) RunFault → Type 0
 RunsProfiled RunsOf (Ok contents) old new result = RunsOf contents
 RunsProfiled RunsOf (Err why) old new result = (result ≡ Err why) × (new ≡ old)
 
+-- What running lines comes to, over the profile at a path, or the built-in one, and totals.
+abbrev pub RunsAll : {F B : Type 0} → Ghosts F B → FileGhosts B → DiskGhosts (Mirror (FileDisk B))
+    → DiskGhosts Memory → F → Manner → Lines → Option (Bor (List ℕ)) → Option (Bor (List ℕ)) → Streams → Streams
+    → Result (Unit {0}) RunFault → Type 0
+RunsAll files below mirrors memories them manner lines profile totals old new result =
+    (given : Result Contents RunFault) × GivesProfile files them profile given
+    × RunsProfiled (λ contents. RunsOver files below mirrors memories them manner contents lines totals old new result)
+    given old new result
+
 -- what becomes of scripts, by what reading them gave
-abbrev pub RunsRead : (List Script → Type 0) → Result (List Script) RunFault → Output → Output
+abbrev pub RunsRead : (List Script → Type 0) → Result (List Script) RunFault → Streams → Streams
     → Result (Unit {0}) RunFault → Type 0
 RunsRead RunsOf (Ok scripts) old new result = RunsOf scripts
 RunsRead RunsOf (Err why) old new result = (result ≡ Err why) × (new ≡ old)
@@ -132,9 +141,8 @@ RunsRead RunsOf (Err why) old new result = (result ≡ Err why) × (new ≡ old)
 -- What running the scripts at paths comes to, over a profile and totals.
 abbrev pub Runs : {F B S G : Type 0} → Ghosts F B → FileGhosts B → DiskGhosts (Mirror (FileDisk B))
     → DiskGhosts Memory → F → SystemGhosts S G → S → Manner → List (Bor (List ℕ)) → Option (Bor (List ℕ))
-    → Option (Bor (List ℕ)) → Output → Output → Result (Unit {0}) RunFault → Type 0
+    → Option (Bor (List ℕ)) → Streams → Streams → Result (Unit {0}) RunFault → Type 0
 Runs files below mirrors memories them system it manner paths profile totals old new result =
     (read : Result (List Script) RunFault) × ReadsEach system it paths read
-    × RunsRead (λ scripts. (given : Result Contents RunFault) × GivesProfile files them profile given
-    × RunsProfiled (λ contents. RunsOver files below mirrors memories them manner contents scripts totals old new
-    result) given old new result) read old new result
+    × RunsRead (λ scripts. RunsAll files below mirrors memories them manner (Some scripts) profile totals old new
+    result) read old new result

@@ -1,16 +1,8 @@
 -- What running scripts and telling their answers comes to (docs/reference/tool.md, "run").
 use Rattle.std.specs.Prelude.{◌≡◌, ◌⊎◌, ◌++◌, ◌∷◌, [], ℕ, List, Result, Ok, Err, flat_map, map}
 use Rattle.pos_streams.specs.Streams.{Appends}
-use Rattle.pos_disk.specs.declared.device.Disk.{Ghosts as DiskGhosts}
 use Rattle.pos_counter.specs.Steps.{Request, Response}
-use Rattle.pos_counter.specs.declared.counter.Counter.{Counter}
-use Rattle.pos_profile.specs.Entries.{Contents}
-use Rattle.pos_run.specs.Carried.{RunsThrough}
-use Rattle.pos_run.specs.Simulating.{AreMounted, IsSimulatedCounter, as_it_is, wrapped_devices}
-use Rattle.pos_run.specs.Spares.{spares_in}
-use Rattle.pos_run.specs.Transcript.{LinesPrint, Session, begun_session}
-use Rattle.pos_run.specs.declared.spares.Spares.{Spares}
-use Rattle.pos_run.specs.declared.wrapped.Wrapped.{Wrapped}
+use Rattle.pos_run.specs.Transcript.{LinesPrint, Session}
 use Rattle.pos_script.specs.Lines.{lines_of}
 use Rattle.pos_shell.specs.Outputs.{IsCutOff, IsWritten, Output}
 use Rattle.pos_shell.specs.Told.{told}
@@ -57,6 +49,7 @@ TellsText manner name text session steps old new (Err fault.Write) left =
     (answers : List ℕ) × LinesPrint session (lines_of text) steps answers left
     × IsCutOff old new (told manner name 1 (lines_of text) (lines_of answers))
 TellsText manner name text session steps old new (Err fault.NoMemory) left = new ≡ old
+TellsText manner name text session steps old new (Err fault.Read) left = ⊥
 
 -- Scripts were run from one session to another, and all that they were answered is told.
 pub record TellsTurns (manner : Manner) (turns : List Turn) (session : Session) (steps : List (Request × Response))
@@ -89,35 +82,3 @@ TellsScripts manner scripts session steps old new (Ok u) left =
     (turns : List Turn) × AreTurns scripts turns × TellsTurns manner turns session steps old new left
 TellsScripts manner scripts session steps old new (Err why) left =
     StopsAtScript manner scripts session steps old new why left
-
--- there was no memory to begin
-abbrev pub BeginsNothing : List (Request × Response) → Output → Output → Result (Unit {0}) TellFault → Type 0
-BeginsNothing steps old new result = (steps ≡ []) × (result ≡ Err fault.NoMemory) × (new ≡ old)
-
--- likewise, or the scripts were run
-abbrev pub TellsAll : Manner → List Script → Session → List (Request × Response) → Output → Output
-    → Result (Unit {0}) TellFault → Session → Type 0
-TellsAll manner scripts session steps old new result left =
-    BeginsNothing steps old new result ⊎ TellsScripts manner scripts session steps old new result left
-
--- A run of scripts over a counter that is simulated for a profile, over a disk. What all lines asked is one run, of
--- which a crash at any moment is in one of its steps. The disk that is left is that counter's.
-pub record RunsTold {D : Type 0} (bound : DiskGhosts D) (manner : Manner) (contents : Contents) (scripts : List Script)
-    (disk : D) (old new : Output) (result : Result (Unit {0}) TellFault) (after : D) : Type 0 where
-  pub counter : Counter D Wrapped
-  pub spares : Spares Wrapped
-  pub simulated : IsSimulatedCounter wrapped_devices contents disk counter spares
-  pub mounted : AreMounted as_it_is contents counter spares
-  pub left : Session
-  pub end : Counter D Wrapped
-  pub steps : List (Request × Response)
-  pub told : TellsAll manner scripts (begun_session (spares_in wrapped_devices spares)) steps old new result left
-  pub through : RunsThrough bound wrapped_devices counter steps end
-  pub disk_left : after ≡ end.totals.disk
-
--- likewise, or there was no memory to make the counter, and the disk is as it was
-abbrev pub RunsScripts : {D : Type 0} → DiskGhosts D → Manner → Contents → List Script → D → Output → Output
-    → Result (Unit {0}) TellFault → D → Type 0
-RunsScripts bound manner contents scripts disk old new result after =
-    ((result ≡ Err fault.NoMemory) × (new ≡ old) × (after ≡ disk))
-    ⊎ RunsTold bound manner contents scripts disk old new result after

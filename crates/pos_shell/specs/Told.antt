@@ -1,14 +1,19 @@
 -- What is told of a script's lines and their answers (docs/reference/tool.md, "run").
-use Rattle.std.specs.Prelude.{ℕ, ◌+◌, ◌++◌, ◌∷◌, List, [], bytes_eq, codes, decimal, if◌then◌else◌}
+use Rattle.std.specs.Prelude.{ℕ, ◌+◌, ◌++◌, ◌∷◌, Bool, false, List, [], bytes_eq, codes, decimal, if◌then◌else◌}
 use Rattle.std.specs.Str.{is_utf8}
 use Rattle.serde_json.specs.Data.{Data, null, number, unsigned, string, object, member, no_members}
 use Rattle.serde_json.specs.Written.{compact_text}
-use Rattle.pos_script.specs.Lines.{is_quiet, pieces}
+use Rattle.pos_script.specs.Lines.{is_quiet, pieces, words_of}
 use Rattle.pos_shell.specs.Names.{named, numbers_of}
 use Rattle.pos_shell.specs.Reasons.{reason}
 use Rattle.pos_shell.specs.declared.told.Form.{Form}
-use Rattle.pos_shell.specs.declared.told.Form.TheVariants.{Typed, Json}
+use Rattle.pos_shell.specs.declared.told.Form.TheVariants.{Typed, Numbered, Json}
 use Rattle.pos_shell.specs.declared.told.Manner.{Manner}
+
+-- the only one of some words is this one
+abbrev pub is_command : List ℕ → List (List ℕ) → Bool
+is_command word (only ∷ []) = bytes_eq only word
+is_command word words = false
 
 -- a text, if it is UTF-8
 abbrev pub text_data : List ℕ → Data
@@ -44,10 +49,16 @@ abbrev pub told_plain : Manner → List ℕ → ℕ → List ℕ → List ℕ �
 told_plain manner name place line answer = prefix manner.form name place
     ++ named manner.codes.now (numbers_of line answer) 0 (pieces 32 answer) ++ reason_text line answer ++ 10 ∷ []
 
+-- the answer to a line that was just typed: one that is `help` has the help
+abbrev pub told_typed : Manner → List ℕ → ℕ → List ℕ → List ℕ → List ℕ
+told_typed manner name place line answer =
+    if is_command (codes "help") (words_of line) then manner.help.now else told_plain manner name place line answer
+
 -- the answer to a line, in a form
 abbrev pub told_as : Form → Manner → List ℕ → ℕ → List ℕ → List ℕ → List ℕ
 told_as Json manner name place line answer = told_json name place line answer
-told_as other manner name place line answer = told_plain manner name place line answer
+told_as Typed manner name place line answer = told_typed manner name place line answer
+told_as Numbered manner name place line answer = told_plain manner name place line answer
 
 abbrev pub told_line : Manner → List ℕ → ℕ → List ℕ → List ℕ → List ℕ
 told_line manner name place line answer = told_as manner.form manner name place line answer

@@ -1,14 +1,17 @@
 //! Runs of scripts for people, and what each line of them is told with. docs/reference/tool.md.
 //!
-//! [`run_scripts`] runs [`Script`]s over a counter that is simulated for a profile, and tells their answers in a
-//! [`Manner`]: with the numbers of the lines, the names of codes, and the [`reason`] of each `bad line`.
+//! [`run`] runs scripts over a counter that is simulated for a profile, and [`run_typed`] what is typed, line by line.
+//! Both tell the answers in a [`Manner`]: with the numbers of the lines, the names of codes, and the [`reason`] of each
+//! `bad line`.
 //!
 //! The layer above relies on this: what is told is made of the answers of one run of the device machine, in which each
 //! line was carried out whole before the next.
 #![tactic(auto)]
 
+mod conversation;
 mod differences;
 mod names;
+mod profile_run;
 mod reasons;
 mod runs;
 mod scripts;
@@ -16,7 +19,7 @@ mod told;
 mod trials;
 
 pub use reasons::reason;
-pub use runs::{RunFault, profile_at, run};
-pub use scripts::{Script, TellFault, run_scripts};
+pub use runs::{RunFault, profile_at, run, run_typed};
+pub use scripts::TellFault;
 pub use told::{Form, Manner, write_text};
 pub use trials::{Trials, tally, try_scripts};

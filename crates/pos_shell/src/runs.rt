@@ -1,10 +1,12 @@
-//! Runs of scripts in files, over a profile and totals.
-ghost use Rattle.std.specs.Prelude.{◌≡◌};
-ghost use Rattle.pos_shell.specs.Outputs.{output_of};
-ghost use Rattle.pos_shell.specs.Runs.{GivesProfile, ReadsEach, Runs, RunsInMemory, RunsOver, RunsOverTotals, ended, path_of};
-ghost use Rattle.pos_shell.specs.Runs.{scripts_of};
+//! Runs of scripts in files, or of what is typed, over a profile and totals.
+ghost use Rattle.std.specs.Prelude.{◌≡◌, None};
+ghost use Rattle.pos_shell.specs.Outputs.{streams_of};
+ghost use Rattle.pos_shell.specs.ProfileRun.{lines_in};
+ghost use Rattle.pos_shell.specs.Runs.{GivesProfile, ReadsEach, Runs, RunsAll, RunsInMemory, RunsOver, RunsOverTotals, ended};
+ghost use Rattle.pos_shell.specs.Runs.{path_of, scripts_of};
 
-use crate::scripts::{Script, TellFault, run_scripts};
+use crate::profile_run::run_lines;
+use crate::scripts::{Script, TellFault};
 use crate::told::Manner;
 use pos_disk::{Disk, MemDisk};
 use pos_file::BlockFile;
@@ -13,7 +15,7 @@ use pos_profile::Profile;
 use pos_program::{
     FileFault, FileSystem, NamedFiles, ProfileFileFault, TotalsDisk, file_is_mirrored,
 };
-use pos_streams::Sink;
+use pos_streams::{Sink, Source};
 use std::alloc::Global;
 use std::io;
 
@@ -119,73 +121,100 @@ fn at_end<'a>(answer: Result<(), TellFault>) -> Result<(), RunFault<'a>>
     }
 }
 
-// Runs scripts over a profile and totals in memory.
-fn run_in_memory<'a, W: Sink>(
+// Runs lines over a profile and totals in memory.
+fn run_in_memory<'a, R: Source, W: Sink>(
     alloc: Global,
     manner: &Manner<'_>,
     profile: &Profile,
-    scripts: &[Script<'_>],
+    scripts: Option<&[Script<'_>]>,
+    reader: &mut R,
     writer: &mut W,
 ) -> Result<(), RunFault<'a>>
-    ensures { RunsInMemory ⟦<MemDisk as Disk>⟧ manner.now profile.now scripts.now
-        (output_of W.Sink writer.old) (output_of W.Sink writer.new) result }
+    ensures { RunsInMemory ⟦<MemDisk as Disk>⟧ manner.now profile.now (lines_in scripts.entry)
+        (streams_of R.Source reader.old W.Sink writer.old) (streams_of R.Source reader.new W.Sink writer.new) result }
 {
     let Ok(disk) = new_disk(alloc) else {
         return Err(RunFault::Told(TellFault::NoMemory));
     };
-    let (answer, _disk) = run_scripts(alloc, manner, profile, scripts, writer, disk);
+    let (answer, _disk) = run_lines(alloc, manner, profile, scripts, reader, writer, disk);
     at_end(answer)
 }
 
-// Runs scripts over a profile and the totals in a file, which is closed after the run.
-fn run_over_totals<'a, W: Sink, F: BlockFile + Drop>(
+// Runs lines over a profile and the totals in a file, which is closed after the run.
+fn run_over_totals<'a, R: Source, W: Sink, F: BlockFile + Drop>(
     alloc: Global,
     manner: &Manner<'_>,
     profile: &Profile,
-    scripts: &[Script<'_>],
+    scripts: Option<&[Script<'_>]>,
+    reader: &mut R,
     writer: &mut W,
     totals: TotalsDisk<F>,
 ) -> Result<(), RunFault<'a>>
-    ensures { RunsOverTotals ⟦<F as BlockFile>⟧ ⟦<TotalsDisk<F> as Disk>⟧ manner.now profile.now scripts.now totals
-        (output_of W.Sink writer.old) (output_of W.Sink writer.new) result }
+    ensures { RunsOverTotals ⟦<F as BlockFile>⟧ ⟦<TotalsDisk<F> as Disk>⟧ manner.now profile.now
+        (lines_in scripts.entry) totals (streams_of R.Source reader.old W.Sink writer.old)
+        (streams_of R.Source reader.new W.Sink writer.new) result }
 {
-    let (answer, after) = run_scripts(alloc, manner, profile, scripts, writer, totals);
+    let (answer, after) = run_lines(alloc, manner, profile, scripts, reader, writer, totals);
     file_is_mirrored(&after);
     at_end(answer)
 }
 
-// Runs scripts over a profile and the totals in the file at a path, or in memory.
-fn run_over<'a, F: NamedFiles, W: Sink>(
+// Runs lines over a profile and the totals in the file at a path, or in memory.
+fn run_over<'a, F: NamedFiles, R: Source, W: Sink>(
     alloc: Global,
     files: &F,
     manner: &Manner<'_>,
     profile: &Profile,
-    scripts: &[Script<'_>],
+    scripts: Option<&[Script<'_>]>,
+    reader: &mut R,
     writer: &mut W,
     path: Option<&'a str>,
 ) -> Result<(), RunFault<'a>>
     ensures { RunsOver F.NamedFiles ⟦<F::File as BlockFile>⟧ ⟦<TotalsDisk<F::File> as Disk>⟧ ⟦<MemDisk as Disk>⟧
-        files.now manner.now profile.now scripts.now path.entry
-        (output_of W.Sink writer.old) (output_of W.Sink writer.new) result }
+        files.now manner.now profile.now (lines_in scripts.entry) path.entry
+        (streams_of R.Source reader.old W.Sink writer.old) (streams_of R.Source reader.new W.Sink writer.new) result }
 {
     let Some(path) = path else {
-        return run_in_memory(alloc, manner, profile, scripts, writer);
+        return run_in_memory(alloc, manner, profile, scripts, reader, writer);
     };
     match files.open_disk(path) {
-        Ok(totals) => run_over_totals(alloc, manner, profile, scripts, writer, totals),
+        Ok(totals) => run_over_totals(alloc, manner, profile, scripts, reader, writer, totals),
         Err(cause) => Err(RunFault::Totals { path, cause }),
+    }
+}
+
+// Runs lines over the profile at a path, or the built-in one, and the totals in the file at a path, or in memory.
+fn run_all<'a, F: NamedFiles, R: Source, W: Sink>(
+    alloc: Global,
+    files: &F,
+    manner: &Manner<'_>,
+    scripts: Option<&[Script<'_>]>,
+    profile: Option<&'a str>,
+    totals: Option<&'a str>,
+    reader: &mut R,
+    writer: &mut W,
+) -> Result<(), RunFault<'a>>
+    ensures { RunsAll F.NamedFiles ⟦<F::File as BlockFile>⟧ ⟦<TotalsDisk<F::File> as Disk>⟧ ⟦<MemDisk as Disk>⟧
+        files.now manner.now (lines_in scripts.entry) profile.entry totals.entry
+        (streams_of R.Source reader.old W.Sink writer.old) (streams_of R.Source reader.new W.Sink writer.new) result }
+{
+    match profile_at(alloc, files, profile) {
+        Ok(profile) => run_over(
+            alloc, files, manner, &profile, scripts, reader, writer, totals,
+        ),
+        Err(fault) => Err(fault),
     }
 }
 
 /// Runs the scripts at paths, in order and over one counter: that of the profile at a path, or of the built-in one;
 /// with the totals in the file at a path, or in memory. It tells what each line is answered. All files are read before
-/// anything is run. docs/reference/tool.md, "run".
+/// anything is run. Nothing is read from the reader. docs/reference/tool.md, "run".
 ///
 /// # Errors
 ///
 /// `Script`, `Profile` or `Totals` for the first file that can't serve: nothing was run. `Told` if the run stopped, or
 /// if there was no memory to begin.
-pub fn run<'a, F: NamedFiles, S: FileSystem, W: Sink>(
+pub fn run<'a, F: NamedFiles, S: FileSystem, R: Source, W: Sink>(
     alloc: Global,
     files: &F,
     system: &S,
@@ -193,18 +222,41 @@ pub fn run<'a, F: NamedFiles, S: FileSystem, W: Sink>(
     paths: &[&'a str],
     profile: Option<&'a str>,
     totals: Option<&'a str>,
+    reader: &mut R,
     writer: &mut W,
 ) -> Result<(), RunFault<'a>>
     ensures { Runs F.NamedFiles ⟦<F::File as BlockFile>⟧ ⟦<TotalsDisk<F::File> as Disk>⟧ ⟦<MemDisk as Disk>⟧ files.now
         S.FileSystem system.now manner.now paths.entry.now profile.entry totals.entry
-        (output_of W.Sink writer.old) (output_of W.Sink writer.new) result }
+        (streams_of R.Source reader.old W.Sink writer.old) (streams_of R.Source reader.new W.Sink writer.new) result }
 {
     let scripts = match read_scripts(alloc, system, paths) {
         Ok(scripts) => scripts,
         Err(fault) => return Err(fault),
     };
-    match profile_at(alloc, files, profile) {
-        Ok(profile) => run_over(alloc, files, manner, &profile, &scripts, writer, totals),
-        Err(fault) => Err(fault),
-    }
+    let lines = Some(scripts.as_slice());
+    run_all(alloc, files, manner, lines, profile, totals, reader, writer)
+}
+
+/// Runs what is typed, over the same counter and totals as [`run`]. Before each line a prompt is written; each line is
+/// run and told before the next one is read. It goes on to the end of what is typed, or to a line `quit`.
+/// docs/reference/tool.md, "run".
+///
+/// # Errors
+///
+/// `Profile` or `Totals` for the first file that can't serve: nothing was read. `Told` if the run stopped, or if there
+/// was no memory to begin.
+pub fn run_typed<'a, F: NamedFiles, R: Source, W: Sink>(
+    alloc: Global,
+    files: &F,
+    manner: &Manner<'_>,
+    profile: Option<&'a str>,
+    totals: Option<&'a str>,
+    reader: &mut R,
+    writer: &mut W,
+) -> Result<(), RunFault<'a>>
+    ensures { RunsAll F.NamedFiles ⟦<F::File as BlockFile>⟧ ⟦<TotalsDisk<F::File> as Disk>⟧ ⟦<MemDisk as Disk>⟧
+        files.now manner.now None profile.entry totals.entry
+        (streams_of R.Source reader.old W.Sink writer.old) (streams_of R.Source reader.new W.Sink writer.new) result }
+{
+    run_all(alloc, files, manner, None, profile, totals, reader, writer)
 }

@@ -1,22 +1,18 @@
 //! Scripts that are run one after another over one counter, and what is told of them.
-ghost use Rattle.std.specs.Prelude.{◌≡◌, ◌⊎◌, Err, List};
+ghost use Rattle.std.specs.Prelude.{List};
 ghost use Rattle.pos_counter.specs.Counters.{IsCounterSound, IsRun};
 ghost use Rattle.pos_counter.specs.Steps.{Request, Response};
 ghost use Rattle.pos_run.specs.Carried.{session_of};
-ghost use Rattle.pos_run.specs.Names.{ControlNames};
-ghost use Rattle.pos_run.specs.Spares.{AreSparesSound, spares_in};
-ghost use Rattle.pos_run.specs.Transcript.{begun_session, session_with};
+ghost use Rattle.pos_run.specs.Spares.{AreSparesSound};
 ghost use Rattle.pos_shell.specs.Outputs.{output_of};
-ghost use Rattle.pos_shell.specs.Scripts.{RunsScripts, TellsAll, TellsScripts, TellsText};
-ghost use Rattle.pos_shell.specs.declared.scripts.TellFault.TheVariants.{NoMemory as WithoutMemory};
+ghost use Rattle.pos_shell.specs.Scripts.{TellsScripts, TellsText};
 
 use crate::told::{Manner, told, write_text};
 use pos_counter::Counter;
 use pos_disk::Disk;
-use pos_profile::Profile;
-use pos_run::{AsSimulated, Names, Spares, carry_out_lines, end_counter, simulate_profile};
+use pos_run::{Names, Spares, carry_out_lines};
 use pos_script::LineBuffer;
-use pos_service::{Ends, NoMemory, Peripheral};
+use pos_service::{Ends, Peripheral};
 use pos_streams::{MemorySink, Sink};
 use std::alloc::Global;
 use thiserror::Error;
@@ -30,6 +26,9 @@ pub enum TellFault {
     /// The output can't be written.
     #[error("the output can't be written")]
     Write,
+    /// What is typed can't be read, or has too many lines, or one that is too long.
+    #[error("what is typed can't be read")]
+    Read,
 }
 
 /// A script: its name, as it is told, and its text.
@@ -41,8 +40,12 @@ pub struct Script<'a> {
     pub text: Vec<u8>,
 }
 
-// Runs a script over a counter, and tells what its lines are answered.
-fn tell_text<W: Sink, D: Disk, P: Peripheral + Ends>(
+/// Runs a script over a counter, and tells what its lines are answered.
+///
+/// # Errors
+///
+/// `NoMemory` and `Write`.
+pub(crate) fn tell_text<W: Sink, D: Disk, P: Peripheral + Ends>(
     alloc: Global,
     manner: &Manner<'_>,
     name: &str,
@@ -75,8 +78,12 @@ fn tell_text<W: Sink, D: Disk, P: Peripheral + Ends>(
     }
 }
 
-// Runs scripts in order over a counter, and tells what their lines are answered.
-fn tell_scripts<W: Sink, D: Disk, P: Peripheral + Ends>(
+/// Runs scripts in order over a counter, and tells what their lines are answered.
+///
+/// # Errors
+///
+/// `NoMemory` and `Write`: later scripts weren't run.
+pub(crate) fn tell_scripts<W: Sink, D: Disk, P: Peripheral + Ends>(
     alloc: Global,
     manner: &Manner<'_>,
     scripts: &[Script<'_>],
@@ -112,67 +119,4 @@ fn tell_scripts<W: Sink, D: Disk, P: Peripheral + Ends>(
         }
     }
     Ok(())
-}
-
-// Runs scripts in order over a counter whose controls have no names yet, and tells what their lines are answered.
-fn tell_all<W: Sink, D: Disk, P: Peripheral + Ends>(
-    alloc: Global,
-    manner: &Manner<'_>,
-    scripts: &[Script<'_>],
-    writer: &mut W,
-    counter: &mut Counter<D, P>,
-    spares: &mut Spares<P>,
-) -> Result<(), TellFault>
-    requires sound { IsCounterSound P.Peripheral counter.old }
-    requires spares { AreSparesSound P.Peripheral spares.old }
-    ensures told { (steps : List (Request × Response)) × (names : ControlNames)
-        × IsRun D.Disk P.Peripheral counter.old steps counter.new
-        × TellsAll manner.now scripts.now (begun_session (spares_in P.Peripheral spares.old)) steps
-        (output_of W.Sink writer.old) (output_of W.Sink writer.new) result
-        (session_with names (spares_in P.Peripheral spares.new)) }
-    ensures sound { IsCounterSound P.Peripheral counter.new }
-    ensures spares { AreSparesSound P.Peripheral spares.new }
-{
-    let Ok(mut buffer) = LineBuffer::new(alloc) else {
-        return Err(TellFault::NoMemory);
-    };
-    let mut names = Names::new(alloc);
-    tell_scripts(
-        alloc,
-        manner,
-        scripts,
-        writer,
-        &mut buffer,
-        counter,
-        &mut names,
-        spares,
-    )
-}
-
-/// Runs scripts in order over a counter of a profile's devices and a disk, with the profile's spares, all simulated;
-/// and tells what their lines are answered, script by script. The controls of a script are there in the next ones.
-/// Returns how that ended, and the disk.
-///
-/// # Errors
-///
-/// `NoMemory` and `Write`: later lines weren't run.
-pub fn run_scripts<W: Sink, D: Disk>(
-    alloc: Global,
-    manner: &Manner<'_>,
-    profile: &Profile,
-    scripts: &[Script<'_>],
-    writer: &mut W,
-    disk: D,
-) -> (Result<(), TellFault>, D)
-    ensures { RunsScripts D.Disk manner.now profile.now scripts.now disk
-        (output_of W.Sink writer.old) (output_of W.Sink writer.new) result.0 result.1 }
-{
-    let (mut counter, mut spares) = match simulate_profile(alloc, profile, disk, &AsSimulated) {
-        Ok(made) => made,
-        Err((NoMemory, disk)) => return (Err(TellFault::NoMemory), disk),
-    };
-    let result = tell_all(alloc, manner, scripts, writer, &mut counter, &mut spares);
-    let disk = end_counter(counter);
-    spares.park_all();
-    (result, disk)
 }

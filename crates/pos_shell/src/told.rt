@@ -2,15 +2,16 @@
 ghost use Rattle.std.specs.Prelude.{◌≡◌, ◌++◌, IfOk, MatchOption, OnOk, false, true, MatchResult};
 ghost use Rattle.std.specs.Str.{is_utf8};
 ghost use Rattle.serde_json.specs.View.{view};
-ghost use Rattle.pos_script.specs.Lines.{lines_of};
-ghost use Rattle.pos_shell.specs.Told.{first, others, prefix, reason_data, reason_text, text_data, told, told_data, told_json, told_line, told_plain};
+ghost use Rattle.pos_script.specs.Lines.{lines_of, words_of};
+ghost use Rattle.pos_shell.specs.Told.{first, is_command, others, prefix, reason_data, reason_text, text_data, told, told_data, told_json};
+ghost use Rattle.pos_shell.specs.Told.{told_line, told_plain};
 ghost use Rattle.pos_shell.specs.Outputs.{IsCutOff, IsWritten, output_of};
 
 use crate::names::{numbers_of, put_named};
 use crate::reasons::reason;
 use itoa::Buffer;
 use pos_report::Code;
-use pos_script::{is_quiet_line, next_line, write_bytes};
+use pos_script::{is_quiet_line, next_line, next_word, write_bytes};
 use pos_service::words::is;
 use pos_streams::{Sink, WriteFault};
 use serde_json::{Value, json};
@@ -33,6 +34,8 @@ pub enum Form {
 pub struct Manner<'a> {
     /// The codes whose names are told with their numbers.
     pub codes: &'a [Code<'a>],
+    /// What is told of the line `help`, if it was just typed.
+    pub help: &'a str,
     /// The form.
     pub form: Form,
 }
@@ -55,6 +58,16 @@ fn text_value(alloc: Global, bytes: &[u8]) -> Result<Value, AllocError>
     match as_text(bytes) {
         Some(text) => Ok(Value::String(String::from_str(alloc, text)?)),
         None => Ok(Value::Null),
+    }
+}
+
+/// Returns whether a line has one word, which is this one.
+pub(crate) fn is_command(line: &[u8], word: &str) -> bool
+    ensures { result ≡ is_command word.now (words_of line.now) }
+{
+    match next_word(line) {
+        Some((only, rest)) => next_word(rest).is_none() && is(only, word),
+        None => false,
     }
 }
 
@@ -161,6 +174,9 @@ fn put_told(
 {
     if manner.form == Form::Json {
         return put_json(alloc, text, name, number, line, answer);
+    }
+    if manner.form == Form::Typed && is_command(line, "help") {
+        return text.extend_from_slice(manner.help.as_bytes());
     }
     put_plain(text, manner, name, number, line, answer)
 }

@@ -68,6 +68,7 @@ profile_status other = 4
 abbrev pub told_status : TellFault → ℕ
 told_status told.NoMemory = 6
 told_status told.Write = 5
+told_status told.Read = 4
 
 -- the status of a fault of a run
 abbrev pub run_status : RunFault → ℕ

@@ -1,5 +1,5 @@
 -- What the program does for its words, and how it ends (docs/reference/tool.md).
-use Rattle.std.specs.Prelude.{◌≡◌, ◌≢◌, ℕ, List, [], Option, Some, None, Result, Ok, Err, Vec, bytes_eq, codes}
+use Rattle.std.specs.Prelude.{◌≡◌, ◌≢◌, ℕ, Bool, List, [], Option, Some, None, Result, Ok, Err, Vec, bytes_eq, codes}
 use Rattle.std.specs.Prelude.{flat_map, if◌then◌else◌, map}
 use Rattle.pos_disk.specs.Memory.{Memory}
 use Rattle.pos_disk.specs.declared.device.Disk.{Ghosts as DiskGhosts}
@@ -18,7 +18,7 @@ use Rattle.pos_tool.specs.Copies.{BacksUp, Restores}
 use Rattle.pos_tool.specs.Differing.{TellsDifference}
 use Rattle.pos_tool.specs.Faults.{status_of}
 use Rattle.pos_tool.specs.Making.{Loads, Salvages}
-use Rattle.pos_shell.specs.Outputs.{Output}
+use Rattle.pos_shell.specs.Outputs.{Output, Streams}
 use Rattle.pos_tool.specs.Scripts.{EndsRun, EndsTest}
 use Rattle.pos_tool.specs.Telling.{EndsAtFile, Prints, TellsFile}
 use Rattle.pos_report.specs.Texts.{explained}
@@ -77,7 +77,7 @@ PrintsPage shell None old new other = ⊥
 abbrev pub Completes : Pages → List ℕ → Output → Output → Result Finding Fault → Type 0
 Completes pages shell old new result = PrintsPage shell (page_of pages shell) old new result
 
--- what it does for a task, over these files and pages, by how its output stood before, and after
+-- what it does for a task that reads no lines, over these files and pages, by how its output stood before, and after
 abbrev pub Does : {F B S G : Type 0} → Ghosts F B → FileGhosts B → DiskGhosts (Mirror (FileDisk B))
     → DiskGhosts Memory → F → SystemGhosts S G → FolderGhosts S → FileGhosts G → S → Pages → Task → Output → Output
     → Result Finding Fault → Type 0
@@ -103,8 +103,7 @@ Does files below mirrors memories them system folder under it pages (Load text f
     Loads system folder under.calls it text.now file.now result × (new ≡ old)
 Does files below mirrors memories them system folder under it pages (Salvage file to) old new result =
     Salvages system folder under.calls it file.now to.now old new result
-Does files below mirrors memories them system folder under it pages (Run scripts profile totals json) old new result =
-    EndsRun files below mirrors memories them system it pages.codes scripts.items profile totals json old new result
+Does files below mirrors memories them system folder under it pages (Run scripts profile totals json) old new result = ⊥
 Does files below mirrors memories them system folder under it pages (Test scripts profile) old new result =
     EndsTest files them system it memories scripts.items profile old new result
 Does files below mirrors memories them system folder under it pages (Completions shell) old new result =
@@ -112,19 +111,31 @@ Does files below mirrors memories them system folder under it pages (Completions
 Does files below mirrors memories them system folder under it pages Man old new result =
     Prints pages.man.now old new result
 
+-- what it does for any task; but for a run that is typed it reads nothing from its input
+abbrev pub DoesTask : {F B S G : Type 0} → Ghosts F B → FileGhosts B → DiskGhosts (Mirror (FileDisk B))
+    → DiskGhosts Memory → F → SystemGhosts S G → FolderGhosts S → FileGhosts G → S → Pages → Bool → Task → Streams
+    → Streams → Result Finding Fault → Type 0
+DoesTask files below mirrors memories them system folder under it pages is_terminal (Run scripts profile totals json)
+    old new result = EndsRun files below mirrors memories them system it pages.codes pages.lines_help scripts.items
+    profile totals json is_terminal old new result
+DoesTask files below mirrors memories them system folder under it pages is_terminal task old new result =
+    (new.taken ≡ old.taken)
+    × Does files below mirrors memories them system folder under it pages task old.output new.output result
+
 -- what it does for what the words ask for: nothing where they ask for nothing
-abbrev pub DoesChosen : (Task → Output → Output → Result Finding Fault → Type 0) → Result Task WordsFault → Output
-    → Output → Result Finding Fault → Type 0
-DoesChosen DoesTask (Ok task) old new result = DoesTask task old new result
-DoesChosen DoesTask (Err why) old new result = (result ≡ Err (fault.Words why)) × (new ≡ old)
+abbrev pub DoesChosen : (Task → Streams → Streams → Result Finding Fault → Type 0) → Result Task WordsFault → Streams
+    → Streams → Result Finding Fault → Type 0
+DoesChosen DoesIt (Ok task) old new result = DoesIt task old new result
+DoesChosen DoesIt (Err why) old new result = (result ≡ Err (fault.Words why)) × (new ≡ old)
 
 -- what it does for words
 abbrev pub DoesAsAsked : {F B S G : Type 0} → Ghosts F B → FileGhosts B → DiskGhosts (Mirror (FileDisk B))
-    → DiskGhosts Memory → F → SystemGhosts S G → FolderGhosts S → FileGhosts G → S → Pages → List (List ℕ) → Output
-    → Output → Result Finding Fault → Type 0
-DoesAsAsked files below mirrors memories them system folder under it pages words old new result =
+    → DiskGhosts Memory → F → SystemGhosts S G → FolderGhosts S → FileGhosts G → S → Pages → Bool → List (List ℕ)
+    → Streams → Streams → Result Finding Fault → Type 0
+DoesAsAsked files below mirrors memories them system folder under it pages is_terminal words old new result =
     (chosen : Result Task WordsFault) × Chooses words chosen
-    × DoesChosen (Does files below mirrors memories them system folder under it pages) chosen old new result
+    × DoesChosen (DoesTask files below mirrors memories them system folder under it pages is_terminal) chosen old new
+    result
 
 -- why words that couldn't be read ask for nothing
 abbrev pub fault_of_unread : ChoiceFault → WordsFault
@@ -132,19 +143,19 @@ fault_of_unread unread.NoMemory = words.NoMemory
 fault_of_unread other = words.NotUtf8
 
 -- what it does for words that were read, or not
-abbrev pub DoesAsRead : {T A : Type 0} → (List (List ℕ) → Output → Output → Result Finding Fault → Type 0)
-    → (T → List ℕ) → Result (Vec T A) ChoiceFault → Output → Output → Result Finding Fault → Type 0
+abbrev pub DoesAsRead : {T A : Type 0} → (List (List ℕ) → Streams → Streams → Result Finding Fault → Type 0)
+    → (T → List ℕ) → Result (Vec T A) ChoiceFault → Streams → Streams → Result Finding Fault → Type 0
 DoesAsRead DoesWords text (Ok words) old new result = DoesWords (map text words.items) old new result
 DoesAsRead DoesWords text (Err why) old new result =
     (result ≡ Err (fault.Words (fault_of_unread why))) × (new ≡ old)
 
--- The whole program, by its words, its files, the file system that they are in, its pages, how its output stood before
--- and after, and the status that it ends with.
+-- The whole program, by its words, its files, the file system that they are in, its pages, whether its input is a
+-- terminal, how its input and its output stood before and after, and the status that it ends with.
 pub record Performs {F B S G T A : Type 0} (files : Ghosts F B) (below : FileGhosts B)
     (mirrors : DiskGhosts (Mirror (FileDisk B))) (memories : DiskGhosts Memory) (them : F) (system : SystemGhosts S G)
-    (folder : FolderGhosts S) (under : FileGhosts G) (it : S) (pages : Pages) (text : T → List ℕ)
-    (words : Result (Vec T A) ChoiceFault) (old new : Output) (ended : ℕ) : Type 0 where
+    (folder : FolderGhosts S) (under : FileGhosts G) (it : S) (pages : Pages) (is_terminal : Bool)
+    (text : T → List ℕ) (words : Result (Vec T A) ChoiceFault) (old new : Streams) (ended : ℕ) : Type 0 where
   pub outcome : Result Finding Fault
-  pub done : DoesAsRead (DoesAsAsked files below mirrors memories them system folder under it pages) text words old new
-      outcome
+  pub done : DoesAsRead (DoesAsAsked files below mirrors memories them system folder under it pages is_terminal) text
+      words old new outcome
   pub ends : ended ≡ status_of outcome

@@ -1,5 +1,5 @@
 -- What running and trying scripts comes to, to the program (docs/reference/tool.md, "run" and "test").
-use Rattle.std.specs.Prelude.{◌≡◌, ℕ, Bool, true, false, List, Option, Result, Ok, Err, ◌==◌, if◌then◌else◌}
+use Rattle.std.specs.Prelude.{◌≡◌, ◌∷◌, [], ℕ, Bool, true, false, List, Option, None, Result, Ok, Err, ◌==◌, bytes_eq, codes, if◌then◌else◌}
 use Rattle.std.specs.Borrow.{Bor}
 use Rattle.pos_disk.specs.Memory.{Memory}
 use Rattle.pos_disk.specs.declared.device.Disk.{Ghosts as DiskGhosts}
@@ -12,15 +12,20 @@ use Rattle.pos_program.specs.declared.named_files.NamedFiles.{Ghosts}
 use Rattle.pos_report.specs.declared.codes.Code.{Code}
 use Rattle.pos_report.specs.declared.question.Finding.{Finding}
 use Rattle.pos_report.specs.declared.question.Finding.TheVariants.{Good, Nothing}
-use Rattle.pos_shell.specs.Outputs.{IsCutOff, IsWritten, Output}
-use Rattle.pos_shell.specs.Runs.{GivesProfile, Runs}
+use Rattle.pos_shell.specs.Outputs.{IsCutOff, IsWritten, Output, Streams}
+use Rattle.pos_shell.specs.Runs.{GivesProfile, Runs, RunsAll}
 use Rattle.pos_shell.specs.Trials.{TriesEach, tally}
 use Rattle.pos_shell.specs.declared.runs.RunFault.{RunFault}
 use Rattle.pos_shell.specs.declared.told.Form.{Form}
-use Rattle.pos_shell.specs.declared.told.Form.TheVariants.{Json, Numbered}
+use Rattle.pos_shell.specs.declared.told.Form.TheVariants.{Json, Numbered, Typed}
 use Rattle.pos_shell.specs.declared.trials.Trials.{Trials}
 use Rattle.pos_tool.specs.declared.fault.Fault.{Fault}
 use Rattle.pos_tool.specs.declared.fault.Fault.TheVariants as fault
+
+-- the lines of a run are typed: the input is a terminal, no script is named, and a person reads the answers
+abbrev pub is_typed : List (Bor (List ℕ)) → Bool → Bool → Bool
+is_typed (path ∷ []) false true = bytes_eq path.now (codes "-")
+is_typed paths json is_terminal = false
 
 -- how the answers of scripts are told
 abbrev pub form_of : Bool → Form
@@ -32,14 +37,26 @@ abbrev pub run_finding : Result (Unit {0}) RunFault → Result Finding Fault
 run_finding (Ok u) = Ok Good
 run_finding (Err why) = Err (fault.Run why)
 
--- it runs the scripts at paths, over a profile and totals, and prints what each line is answered
+-- it runs what is typed, or the scripts at paths, over a profile and totals, and tells what each line is answered
+abbrev pub RunsAsked : {F B S G : Type 0} → Ghosts F B → FileGhosts B → DiskGhosts (Mirror (FileDisk B))
+    → DiskGhosts Memory → F → SystemGhosts S G → S → Bor (List Code) → Bor (List ℕ) → List (Bor (List ℕ))
+    → Option (Bor (List ℕ)) → Option (Bor (List ℕ)) → Bool → Bool → Streams → Streams → Result (Unit {0}) RunFault
+    → Type 0
+RunsAsked files below mirrors memories them system it known help paths profile totals json true old new answer =
+    RunsAll files below mirrors memories them (record { codes = known; help = help; form = Typed }) None profile totals
+    old new answer
+RunsAsked files below mirrors memories them system it known help paths profile totals json false old new answer =
+    Runs files below mirrors memories them system it (record { codes = known; help = help; form = form_of json }) paths
+    profile totals old new answer
+
+-- likewise, and the program is answered
 abbrev pub EndsRun : {F B S G : Type 0} → Ghosts F B → FileGhosts B → DiskGhosts (Mirror (FileDisk B))
-    → DiskGhosts Memory → F → SystemGhosts S G → S → Bor (List Code) → List (Bor (List ℕ)) → Option (Bor (List ℕ))
-    → Option (Bor (List ℕ)) → Bool → Output → Output → Result Finding Fault → Type 0
-EndsRun files below mirrors memories them system it known paths profile totals json old new result =
+    → DiskGhosts Memory → F → SystemGhosts S G → S → Bor (List Code) → Bor (List ℕ) → List (Bor (List ℕ))
+    → Option (Bor (List ℕ)) → Option (Bor (List ℕ)) → Bool → Bool → Streams → Streams → Result Finding Fault → Type 0
+EndsRun files below mirrors memories them system it known help paths profile totals json is_terminal old new result =
     (answer : Result (Unit {0}) RunFault)
-    × Runs files below mirrors memories them system it (record { codes = known; form = form_of json }) paths profile
-    totals old new answer
+    × RunsAsked files below mirrors memories them system it known help paths profile totals json
+    (is_typed paths json is_terminal) old new answer
     × (result ≡ run_finding answer)
 
 -- what is found where so many scripts don't print what is wanted

@@ -161,6 +161,7 @@ fn told_status(cause: &TellFault) -> u8
     match cause {
         TellFault::NoMemory => 6,
         TellFault::Write => 5,
+        TellFault::Read => 4,
     }
 }
 
@@ -270,6 +271,7 @@ fn hint_of_run(fault: &RunFault<'_>) -> &'static str {
         RunFault::Totals { cause, .. } => hint_of_file(cause),
         RunFault::Told(TellFault::NoMemory) => "free memory; the lines that were told are done",
         RunFault::Told(TellFault::Write) => "check the space that is free where the output goes",
+        RunFault::Told(TellFault::Read) => "put the lines into a script; the lines before are done",
     }
 }
 

@@ -6,6 +6,26 @@ pub(crate) const VERSION: &str = "0.1.0";
 /// What `version` prints.
 pub(crate) const VERSION_LINE: &str = "kijolvar 0.1.0\n";
 
+/// What the line `help` prints, if it is typed at a terminal.
+pub(crate) const LINES_HELP: &str = "\
+  new CONTROL CATEGORY           make a control: new a CashDrawer
+  open CONTROL DEVICE            open it at a device of the profile: open a d1
+  claim CONTROL TIMEOUT          claim the device, for so many milliseconds
+  set CONTROL PROPERTY VALUE     set a property: set a DeviceEnabled true
+  get CONTROL PROPERTY           print a property
+  call CONTROL METHOD ..         call a method of the standard
+  deliver CONTROL [retry|clear|continue]
+                                 deliver the next event, and answer an ErrorEvent
+  release CONTROL, close CONTROL
+  input DEVICE ..                something happens at a device: input d1 opened
+  show DEVICE                    print what a device shows
+  work DEVICE                    a device does its next work
+  attach DEVICE SPARE, detach DEVICE
+  help, quit                     print this, end
+
+docs/reference/console.md has what each line prints.
+";
+
 /// What `help` prints.
 pub(crate) const HELP: &str = "\
 kijolvar: checks, prints, makes and copies totals files, and runs scripts
@@ -25,7 +45,8 @@ usage: kijolvar COMMAND ..
   load TEXT FILE           make FILE of what dump printed
   salvage FILE TO          make a sound TO of what can be had of a damaged FILE
   run [SCRIPT ..] [--profile P] [--totals FILE] [--json]
-                           run scripts (or standard input), and print what each line is answered
+                           run scripts (or standard input), and print what each line is answered;
+                           at a terminal, run each line that is typed
   test SCRIPT .. [--profile P]
                            run each script, and print how its answers differ from SCRIPT.stdout
   explain CODE             what a code means, and what to do: 106, E_ILLEGAL

@@ -17,26 +17,32 @@ mod program;
 mod scripts;
 mod whole;
 
-use help::{HELP, VERSION, VERSION_LINE};
+use help::{HELP, LINES_HELP, VERSION, VERSION_LINE};
 use pages::{BASH, FISH, MAN, ZSH};
 use pos_program::{SystemFiles, read_words};
 use pos_report::CODES;
-use pos_streams::WriterSink;
+use pos_streams::{ReaderSource, WriterSink};
 use program::{Pages, perform};
+use std::io::IsTerminal;
 use std::process::ExitCode;
 
 fn main(rt: HostRuntime) -> ExitCode {
+    let is_terminal = rt.stdin().is_terminal();
+    let mut reader = ReaderSource::new(rt.stdin());
     let mut writer = WriterSink::new(rt.stdout());
     let words = read_words(&rt);
     perform(
         &SystemFiles::of(&rt),
         &rt,
+        &mut reader,
+        is_terminal,
         &mut writer,
         &Pages {
             help: HELP,
             version: VERSION,
             version_line: VERSION_LINE,
             codes: &CODES,
+            lines_help: LINES_HELP,
             man: MAN,
             bash: BASH,
             zsh: ZSH,

@@ -136,7 +136,11 @@ Makes a sound file of what can be had of a damaged one, and prints what was lost
 Runs scripts in order over one counter, and prints what each line is answered, after the number of the line. Without a
 script, or for
 .BR \- ,
-it is standard input. Without a profile the built\-in one serves; without a totals file totals in memory.
+it is standard input; at a terminal each line is run and answered as it is typed, to the line
+.B quit
+or Ctrl\-D, and
+.B help
+prints the lines. Without a profile the built\-in one serves; without a totals file totals in memory.
 .TP
 .BI test " SCRIPT .. [\-\-profile P]"
 Runs each script over a counter of its own, and prints how its answers differ from those in the file SCRIPT.stdout.

@@ -2,8 +2,8 @@
 ghost use Rattle.std.specs.Prelude.{◌≡◌, map};
 ghost use Rattle.std.specs.Process.{exit_status};
 ghost use Rattle.pos_tool.specs.Faults.{status_of};
-ghost use Rattle.pos_shell.specs.Outputs.{output_of};
-ghost use Rattle.pos_tool.specs.Program.{Completes, Does, DoesAsAsked, EndsAt, Explains, Performs};
+ghost use Rattle.pos_shell.specs.Outputs.{output_of, streams_of};
+ghost use Rattle.pos_tool.specs.Program.{Completes, DoesAsAsked, DoesTask, EndsAt, Explains, Performs};
 ghost use Rattle.pos_tool.specs.Program.{fault_of_unread};
 
 use crate::answers::{print, tell_difference, tell_file};
@@ -18,7 +18,7 @@ use pos_program::{
     ChoiceFault, FileFault, FileSystem, NamedFiles, TotalsDisk, format_file, migrate_file,
 };
 use pos_report::{Code, Finding, explained};
-use pos_streams::Sink;
+use pos_streams::{Sink, Source};
 use std::alloc::Global;
 use std::convert::AsStr;
 use std::io::Eprint;
@@ -35,6 +35,8 @@ pub struct Pages<'a> {
     pub version_line: &'a str,
     /// The codes.
     pub codes: &'a [Code<'a>],
+    /// The help for lines that are typed.
+    pub lines_help: &'a str,
     /// The man page.
     pub man: &'a str,
     /// What completes the words of bash.
@@ -94,16 +96,18 @@ fn complete<'a, W: Sink>(
 }
 
 // Does what the words of the command line chose.
-fn carry_out<'a, F: NamedFiles, S: FileSystem + Folder + AllocGlobal, W: Sink>(
+fn carry_out<'a, F: NamedFiles, S: FileSystem + Folder + AllocGlobal, R: Source, W: Sink>(
     files: &F,
     system: &S,
+    reader: &mut R,
+    is_terminal: bool,
     writer: &mut W,
     pages: &Pages<'_>,
     task: Task<'a>,
 ) -> Result<Finding, Fault<'a>>
-    ensures { Does F.NamedFiles ⟦<F::File as BlockFile>⟧ ⟦<TotalsDisk<F::File> as Disk>⟧ ⟦<MemDisk as Disk>⟧ files.now
-        S.FileSystem S.Folder ⟦<S::File as BlockFile>⟧ system.now pages.now task.entry
-        (output_of W.Sink writer.old) (output_of W.Sink writer.new) result }
+    ensures { DoesTask F.NamedFiles ⟦<F::File as BlockFile>⟧ ⟦<TotalsDisk<F::File> as Disk>⟧ ⟦<MemDisk as Disk>⟧
+        files.now S.FileSystem S.Folder ⟦<S::File as BlockFile>⟧ system.now pages.now is_terminal task.entry
+        (streams_of R.Source reader.old W.Sink writer.old) (streams_of R.Source reader.new W.Sink writer.new) result }
 {
     let alloc = system.alloc();
     match task {
@@ -130,8 +134,11 @@ fn carry_out<'a, F: NamedFiles, S: FileSystem + Folder + AllocGlobal, W: Sink>(
         } => run_paths(
             files,
             system,
+            reader,
+            is_terminal,
             writer,
             pages.codes,
+            pages.lines_help,
             &scripts,
             profile,
             totals,
@@ -144,20 +151,29 @@ fn carry_out<'a, F: NamedFiles, S: FileSystem + Folder + AllocGlobal, W: Sink>(
 }
 
 // Does what the words of the command line ask for.
-fn carry_out_words<'a, F: NamedFiles, S: FileSystem + Folder + AllocGlobal, T: AsStr, W: Sink>(
+fn carry_out_words<
+    'a,
+    F: NamedFiles,
+    S: FileSystem + Folder + AllocGlobal,
+    T: AsStr,
+    R: Source,
+    W: Sink,
+>(
     files: &F,
     system: &S,
+    reader: &mut R,
+    is_terminal: bool,
     writer: &mut W,
     pages: &Pages<'a>,
     words: &'a [T],
 ) -> Result<Finding, Fault<'a>>
     ensures { DoesAsAsked F.NamedFiles ⟦<F::File as BlockFile>⟧ ⟦<TotalsDisk<F::File> as Disk>⟧ ⟦<MemDisk as Disk>⟧
         files.now
-        S.FileSystem S.Folder ⟦<S::File as BlockFile>⟧ system.now pages.now (map T.text words.entry.now)
-        (output_of W.Sink writer.old) (output_of W.Sink writer.new) result }
+        S.FileSystem S.Folder ⟦<S::File as BlockFile>⟧ system.now pages.now is_terminal (map T.text words.entry.now)
+        (streams_of R.Source reader.old W.Sink writer.old) (streams_of R.Source reader.new W.Sink writer.new) result }
 {
     match choice(system.alloc(), words, pages.version) {
-        Ok(task) => carry_out(files, system, writer, pages, task),
+        Ok(task) => carry_out(files, system, reader, is_terminal, writer, pages, task),
         Err(fault) => Err(Fault::Words(fault)),
     }
 }
@@ -183,28 +199,33 @@ fn fault_of_unread(fault: ChoiceFault) -> WordsFault
     }
 }
 
-/// The program, over the files that its words name, the file system that they are in, which also takes a fault, and an
-/// output. It does what the words ask for, if they could be read, and ends with the status of what became of it.
-/// docs/reference/tool.md.
+/// The program, over the files that its words name, the file system that they are in, which also takes a fault, an
+/// input, which may be a terminal, and an output. It does what the words ask for, if they could be read, and ends with
+/// the status of what became of it. docs/reference/tool.md.
 pub fn perform<
     F: NamedFiles,
     S: FileSystem + Folder + Eprint + AllocGlobal,
     T: AsStr + Drop,
+    R: Source,
     W: Sink,
 >(
     files: &F,
     system: &S,
+    reader: &mut R,
+    is_terminal: bool,
     writer: &mut W,
     pages: &Pages<'_>,
     words: Result<Vec<T>, ChoiceFault>,
 ) -> ExitCode
     ensures { Performs F.NamedFiles ⟦<F::File as BlockFile>⟧ ⟦<TotalsDisk<F::File> as Disk>⟧ ⟦<MemDisk as Disk>⟧
-        files.now S.FileSystem S.Folder ⟦<S::File as BlockFile>⟧ system.now pages.now T.text words
-        (output_of W.Sink writer.old) (output_of W.Sink writer.new) (exit_status result) }
+        files.now S.FileSystem S.Folder ⟦<S::File as BlockFile>⟧ system.now pages.now is_terminal T.text words
+        (streams_of R.Source reader.old W.Sink writer.old) (streams_of R.Source reader.new W.Sink writer.new)
+        (exit_status result) }
 {
     match words {
         Ok(words) => {
-            let outcome = carry_out_words(files, system, writer, pages, words.as_slice());
+            let words = words.as_slice();
+            let outcome = carry_out_words(files, system, reader, is_terminal, writer, pages, words);
             end(system, outcome)
         }
         Err(fault) => end(system, Err(Fault::Words(fault_of_unread(fault)))),

@@ -64,11 +64,15 @@ pub enum Cause {
     NoDevice,
     /// A setting of the hardware is out of its range.
     BadSettings,
+    /// No order is out, or it has no bytes.
+    NoOrder,
+    /// The device has a driver already.
+    Driven,
     /// The profile has no device of the name that may have a peripheral.
     Unknown,
     /// The device has its peripheral, or a control has the device open.
     InUse,
-    /// The spare is of another kind than the device.
+    /// The spare, or the driver, is of another kind than the device.
     KindDiffers,
     /// No peripheral is attached to the device.
     Vacant,
@@ -85,6 +89,10 @@ impl Error {
     /// (`"Till::open"`).
     pub fn call(&self) -> &'static str {
         self.call
+    }
+
+    pub(crate) fn into_cause(self) -> Cause {
+        self.cause
     }
 
     /// Returns why it failed.
@@ -139,9 +147,11 @@ impl fmt::Display for Cause {
             Cause::BadSpare => "there is no spare of the number, or it serves a device",
             Cause::NoDevice => "there is no device of the name that has orders, or replies",
             Cause::BadSettings => "a setting of the hardware is out of its range",
+            Cause::NoOrder => "no order is out, or it has no bytes",
+            Cause::Driven => "the device has a driver already",
             Cause::Unknown => "there is no device of the name that may have a peripheral",
             Cause::InUse => "the device has its peripheral, or a control has it open",
-            Cause::KindDiffers => "the spare is of another kind than the device",
+            Cause::KindDiffers => "the spare, or the driver, is of another kind than the device",
             Cause::Vacant => "no peripheral is attached to the device",
             Cause::ActorEnded => "the thread of the actor has ended",
         };

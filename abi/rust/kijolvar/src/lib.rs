@@ -42,6 +42,12 @@
 //! # Ok::<(), kijolvar::Error>(())
 //! ```
 //!
+//! # Hardware
+//!
+//! All devices are simulated at first. [`Till::drive`] has a driver carry out the orders of one: [`EscPosPrinter`]
+//! and its drawer, [`SerialDisplay`], [`WedgeScanner`], or a [`Driver`] of your own. [`Till::run_devices`] is their
+//! loop.
+//!
 //! # Threads
 //!
 //! A till may be moved to another thread, and is used by one thread at a time. An [`Actor`] has a till for several
@@ -52,9 +58,13 @@ mod control;
 #[rustfmt::skip]
 mod controls;
 mod devices;
+mod drivers;
+mod drives;
 mod error;
 mod event;
 mod line;
+mod links;
+mod ports;
 #[rustfmt::skip]
 mod property;
 mod questions;
@@ -70,8 +80,14 @@ pub use actor::Actor;
 pub use control::{Control, Key};
 pub use controls::{CashDrawer, HardTotals, LineDisplay, PosPrinter, Scanner};
 pub use devices::{Order, Work};
+pub use drivers::{
+    Cutter, DisplaySettings, Driver, DriverTill, EscPosDrawer, EscPosPrinter, EscPosSettings, OrderEnd, Protocol, Scan,
+    SerialDisplay, WedgeScanner,
+};
+pub use drives::DriverState;
 pub use error::{Cause, Error};
 pub use event::{ErrorEvent, Event, Events, StatusUpdate};
+pub use ports::{Flow, Parity, Port, SerialSettings};
 pub use property::{Property, PropertyType, Value};
 pub use questions::{check, devices, files, migrate, ProfileDevice, ProfileMistake, TotalsContents};
 pub use till::{Till, BUILT_PROFILE};

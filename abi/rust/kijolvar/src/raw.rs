@@ -83,6 +83,18 @@ extern "C" {
         needed: *mut usize,
     ) -> u32;
     pub(crate) fn kijolvar_host(till: Raw, out: *mut *mut c_void, name: *const u8, name_len: usize) -> u32;
+    pub(crate) fn kijolvar_drive(till: Raw, out: *mut *mut c_void, name: *const u8, name_len: usize) -> u32;
+    pub(crate) fn kijolvar_tear_off(till: Raw, out: *mut *mut c_void, name: *const u8, name_len: usize) -> u32;
+    pub(crate) fn kijolvar_order_done(
+        till: Raw,
+        out: *mut *mut c_void,
+        outcome: u32,
+        inputs: *const u8,
+        inputs_len: usize,
+        text: *mut u8,
+        text_len: usize,
+        needed: *mut usize,
+    ) -> u32;
     pub(crate) fn kijolvar_next_order(
         till: Raw,
         out: *mut *mut c_void,
@@ -90,8 +102,6 @@ extern "C" {
         text_len: usize,
         needed: *mut usize,
     ) -> u32;
-    // No device is driven by this crate yet, so nothing asks for the bytes of an order.
-    #[allow(dead_code)]
     pub(crate) fn kijolvar_order_bytes(
         till: Raw,
         out: *mut *mut c_void,

@@ -1,5 +1,7 @@
 //! A till: the library's, its totals, and its controls.
 use crate::devices::{Order, Work};
+use crate::drivers::Driver;
+use crate::drives::{DriverState, Drives};
 use crate::error::{Cause, Error};
 use crate::event::{Event, Events};
 use crate::line::{is_name, value_of, Answer, Line};
@@ -15,6 +17,7 @@ use std::fmt;
 use std::fs::File;
 use std::os::unix::fs::FileExt;
 use std::sync::atomic::{AtomicU64, Ordering};
+use std::time::Duration;
 
 /// The text of the built profile: the drawer `d1`, the scanner `s1`, the display `p1` of 2 rows of 4 columns, the
 /// printer `r1` of 8 characters a line with 5 lines of paper, the totals `t1`, and a spare drawer.
@@ -33,12 +36,13 @@ struct Entry {
 
 /// What a till has.
 pub(crate) struct Inner {
-    at: Raw,
+    pub(crate) at: Raw,
     totals: Option<File>,
     errand: Vec<u8>,
-    text: Vec<u8>,
+    pub(crate) text: Vec<u8>,
     controls: Vec<Entry>,
     names: u64,
+    pub(crate) drives: Drives,
 }
 
 /// What the library's code means to who opens a till of a profile.
@@ -56,7 +60,8 @@ pub(crate) fn opening_cause(code: u32, profile: &str) -> Cause {
 
 impl Inner {
     fn new(at: *mut c_void, totals: Option<File>, errand: Vec<u8>) -> Inner {
-        Inner { at: Raw(at), totals, errand, text: vec![0; 256], controls: Vec::new(), names: 0 }
+        let drives = Drives::default();
+        Inner { at: Raw(at), totals, errand, text: vec![0; 256], controls: Vec::new(), names: 0, drives }
     }
 
     /// A till with totals in memory.
@@ -117,21 +122,28 @@ impl Inner {
     }
 
     /// The answer to the lines that were given last, and its code.
-    fn answer(&mut self, needed: &mut usize) -> u32 {
+    pub(crate) fn answer(&mut self, needed: &mut usize) -> u32 {
         let (till, out) = (self.at, &mut self.at.0);
         // SAFETY: the pointer is the one that was written last, and the buffers are apart.
         unsafe { kijolvar_answer(till, out, self.text.as_mut_ptr(), self.text.len(), needed) }
     }
 
     /// Carries out lines: the text of their answers, once what they changed is in the file.
-    fn carry_out(&mut self, lines: &[u8]) -> Result<String, Cause> {
+    pub(crate) fn carry_out(&mut self, lines: &[u8]) -> Result<String, Cause> {
         let mut needed = 0;
+        if self.drives.is_holding {
+            self.give_up_held();
+        }
         let (till, out) = (self.at, &mut self.at.0);
         // SAFETY: the pointer is the one that was written last, and the buffers are apart.
         let mut code = unsafe {
             let (text, room) = (self.text.as_mut_ptr(), self.text.len());
             kijolvar_carry_out(till, out, lines.as_ptr(), lines.len(), text, room, &mut needed)
         };
+        if code != library::OK && !self.drives.is_empty() {
+            let text = self.served(code, needed)?;
+            return String::from_utf8(text).map_err(|fault| Cause::BadAnswer(fault.to_string()));
+        }
         if code == library::ERRANDS {
             self.settle()?;
             code = self.answer(&mut needed);
@@ -151,7 +163,7 @@ impl Inner {
     }
 
     /// Carries out one line: its answer.
-    fn ask(&mut self, line: &Line) -> Result<String, Cause> {
+    pub(crate) fn ask(&mut self, line: &Line) -> Result<String, Cause> {
         let mut text = self.carry_out(line.text()?.as_bytes())?;
         text.truncate(text.trim_end_matches('\n').len());
         Ok(text)
@@ -219,6 +231,14 @@ impl Inner {
 
     /// Takes out the oldest order of the host's devices: its line.
     fn next_order(&mut self) -> Result<Option<String>, Cause> {
+        match self.drives.hosted_order() {
+            Some(line) => Ok(Some(line)),
+            None => self.taken_out(),
+        }
+    }
+
+    /// Takes out the oldest order that the library has: its line.
+    pub(crate) fn taken_out(&mut self) -> Result<Option<String>, Cause> {
         let mut needed = 0;
         loop {
             let (till, out) = (self.at, &mut self.at.0);
@@ -228,13 +248,14 @@ impl Inner {
                 library::SHORT => self.text.resize(needed, 0),
                 library::ORDER => return Ok(Some(String::from_utf8_lossy(&self.text[..needed]).into_owned())),
                 library::OK => return Ok(None),
+                library::NO_MEMORY => return Err(Cause::NoMemory),
                 _ => return Err(Cause::DiskFailed),
             }
         }
     }
 
     /// Reads the first reply of what a printer sent.
-    fn reply(
+    pub(crate) fn reply(
         &mut self,
         device: &[u8],
         settings: &WireSettings,
@@ -605,6 +626,18 @@ impl Till {
         }
     }
 
+    /// Takes the printed paper of a device away: a printer shows no line and no cut then, only the line that has
+    /// begun. A till keeps all that a printer prints, so do it now and then for a printer of which you have the
+    /// hardware. A till does it by itself for a printer that has a driver, after each 500 orders.
+    ///
+    /// # Errors
+    ///
+    /// [`Cause::NoDevice`], [`Cause::NoMemory`].
+    pub fn tear_off(&self, device: &str) -> Result<(), Error> {
+        let done = self.inner.borrow_mut().tear_off(device);
+        done.map_err(|cause| Error::new("tear_off", cause))
+    }
+
     /// Takes out the oldest order of the devices that you have. Take them out after each call.
     ///
     /// # Errors
@@ -626,8 +659,45 @@ impl Till {
         Order::read(&line).map(Some).ok_or_else(|| failed(Cause::BadAnswer(line)))
     }
 
-    /// Reads bytes that a printer sent, up to the end of its first reply, for its device or the drawer on its connector.
-    /// Call it again with the bytes that are left, until the reply has no lines. This changes nothing of the till.
+    /// Has a driver carry out the orders of a device from now on. A call that orders something returns once the
+    /// device has done it. If it hasn't, the call is refused with E_EXTENDED (the cover is open, the paper is at its
+    /// end), E_OFFLINE, or E_FAILURE if the device gives no reason.
+    ///
+    /// Hardware that isn't there is no error: the device is off until [`Till::run_devices`] finds it.
+    ///
+    /// # Errors
+    ///
+    /// [`Cause::BadDevice`], [`Cause::KindDiffers`], [`Cause::Driven`], [`Cause::BadSettings`]; [`Cause::NoDevice`]
+    /// if it can't be driven, as one with `flaky`; [`Cause::NoMemory`].
+    pub fn drive(&self, device: &str, driver: impl Driver + 'static) -> Result<(), Error> {
+        let done = self.inner.borrow_mut().drive(device, Box::new(driver));
+        done.map_err(|cause| Error::new("drive", cause))
+    }
+
+    /// Does what the driven devices need: tells the till what they say of themselves and what was scanned, opens lost
+    /// ports again, and prints output that waits (AsyncMode). Call it regularly, and then deliver events. It waits as
+    /// long as this until there is something to do; printing may take longer. Returns whether anything was done.
+    ///
+    /// # Errors
+    ///
+    /// [`Cause::BadInput`] if a device can't be as its hardware says, [`Cause::NoMemory`], [`Cause::DiskFailed`].
+    pub fn run_devices(&self, timeout: Duration) -> Result<bool, Error> {
+        let done = self.inner.borrow_mut().run_devices(timeout);
+        done.map_err(|cause| Error::new("run_devices", cause))
+    }
+
+    /// Returns how the hardware of a driven device is. It asks no hardware.
+    ///
+    /// # Errors
+    ///
+    /// [`Cause::NoDevice`] if the device isn't driven.
+    pub fn driver_state(&self, device: &str) -> Result<DriverState, Error> {
+        self.inner.borrow().driver_state(device).map_err(|cause| Error::new("driver_state", cause))
+    }
+
+    /// Reads bytes that a printer sent, up to the end of its first reply, for its device or the drawer on its
+    /// connector. Call it again with the bytes that are left, until the reply has no lines. This changes nothing of
+    /// the till.
     ///
     /// # Errors
     ///

@@ -1,7 +1,7 @@
 use Rattle.std.proofs.Common.{inr}
 use Rattle.pos_run.proofs.RunLemmas.{runs_through}
 use Rattle.pos_run.specs.Simulating.{wrapped_devices}
-use Rattle.pos_shell.proofs.scripts.run_scripts.Goals as goal
+use Rattle.pos_shell.proofs.profile_run.run_lines.Goals as goal
 
 pub returns : goal.returns
 returns g c =

@@ -1,0 +1,842 @@
+/* The drivers of a till: receipt printers with their drawers, customer displays and scanners. Orders are answered
+   once the devices have done them, or haven't. */
+#include "kij_hardware.h"
+#include <poll.h>
+#include <stddef.h>
+#include <stdio.h>
+#include <stdlib.h>
+#include <string.h>
+
+static kij_result plain(int code) { return kij_internal_result(code, 0, KIJ_NO_CATEGORY); }
+
+/* How long a lost port may take to open while other devices wait, how long a drawer may take to open, and a time before
+   all others, in milliseconds. */
+static const int64_t quickly = 250, settle = 1000, never = -1000000000;
+
+/* The longest code of a scanner, how many ports are waited for at once, and of how many orders of a printer the till
+   keeps the paper. */
+enum { LONGEST_CODE = 4096, MOST_PORTS = 64, KEPT_ORDERS = 500 };
+
+/* The drive of the device of a name, which is written behind a space; or null. */
+static kij_drive *drive_of(const kij_drives *drives, const char *name, size_t size) {
+    kij_drive *drive = drives == NULL ? NULL : drives->first;
+    while (drive != NULL && (drive->name.size - 1 != size || memcmp(drive->name.text + 1, name, size) != 0))
+        drive = drive->next;
+    return drive;
+}
+
+static kij_port *port_of(kij_drive *drive) { return drive->link != NULL ? &drive->link->port : &drive->port; }
+
+static bool is_online(kij_drive *drive) {
+    return drive->link != NULL ? kij_internal_link_is_online(drive->link) : kij_internal_port_is_open(&drive->port);
+}
+
+/* ---- Inputs ---- */
+
+/* Adds a line: whether there is memory. */
+static bool add_line(kij_buffer *lines, const kij_drive *drive, const char *words) {
+    return kij_internal_buffer_add(lines, "input", 5) &&
+           kij_internal_buffer_add(lines, drive->name.text, drive->name.size) &&
+           kij_internal_buffer_add(lines, words, strlen(words)) && kij_internal_buffer_add(lines, "\n", 1);
+}
+
+/* Whether one of the lines, from a place on, says the same of the same thing as a line does: its third word. */
+static bool has_input(const kij_buffer *lines, size_t from, const char *line, size_t front) {
+    for (size_t at = from; at < lines->size;) {
+        const char *end = (const char *)memchr(lines->bytes + at, '\n', lines->size - at);
+        size_t size = (size_t)(end - (lines->bytes + at));
+        if (size >= front && memcmp(lines->bytes + at, line, front) == 0) return true;
+        at += size + 1;
+    }
+    return false;
+}
+
+/* Adds the inputs of a reply, so far as none of them is there. Whether there is memory. */
+static bool add_inputs(kij_buffer *lines, size_t from, const char *text) {
+    for (const char *line = text; *line != 0;) {
+        size_t size = strcspn(line, "\n") + 1;
+        size_t front = strcspn(line, " ") + 1;
+        front += strcspn(line + front, " ") + 1;
+        front += strcspn(line + front, " \n");
+        if (strncmp(line, "input ", 6) == 0 && !has_input(lines, from, line, front) &&
+            !kij_internal_buffer_add(lines, line, size))
+            return false;
+        line += size;
+    }
+    return true;
+}
+
+/* Removes the input that the drawer is closed, while it may be on its way. */
+static void settle_drawer(kij_drive *drive, kij_buffer *lines, size_t from) {
+    char closed[40];
+    size_t size = (size_t)snprintf(closed, sizeof closed, "input%s closed\n", drive->name.text);
+    bool is_closed = has_input(lines, from, closed, size - 1);
+    bool is_open = !is_closed && drive->link->statuses > drive->statuses;
+    if (drive->kicked_at < 0) return;
+    if (is_open || kij_internal_now() - drive->kicked_at >= settle) drive->kicked_at = -1;
+    /* It is the last one. */
+    else if (is_closed) lines->size -= size;
+}
+
+/* Adds what a printer's line has heard last of a printer or its drawer. Whether there is memory. */
+static bool add_told(kij_till *till, kij_drive *drive, kij_buffer *lines) {
+    char text[256];
+    size_t from = lines->size;
+    kij_link *link = drive->link;
+    for (size_t place = 0; place < link->told_count; place++)
+        if (kij_internal_reply(till, &drive->name, &drive->wire, &link->told[place], text, sizeof text) &&
+            !add_inputs(lines, from, text))
+            return false;
+    if (drive->category == KIJ_CASH_DRAWER) settle_drawer(drive, lines, from);
+    if (drive->category == KIJ_POS_PRINTER && !drive->is_known && link->told_count > 0) {
+        drive->is_known = true;
+        snprintf(text, sizeof text, " paper %u", (unsigned)drive->wire.lines);
+        if (link->signs.paper == KIJ_PAPER_GOOD) return add_line(lines, drive, text);
+    }
+    return true;
+}
+
+/* Writes what has happened at a device as lines of inputs: one that is back is on first. Whether there is memory. */
+static bool write_inputs(kij_till *till, kij_drive *drive, kij_buffer *lines) {
+    char on[40];
+    lines->size = 0;
+    if (!is_online(drive)) {
+        bool was_on = drive->is_on;
+        drive->is_on = false;
+        return !was_on || add_line(lines, drive, " power off");
+    }
+    if (!drive->is_on && drive->link == NULL && !add_line(lines, drive, " power on")) return false;
+    if (drive->link != NULL && !add_told(till, drive, lines)) return false;
+    size_t size = (size_t)snprintf(on, sizeof on, "input%s power on\n", drive->name.text);
+    if (!drive->is_on && !has_input(lines, 0, on, size - 1)) {
+        /* No status has come yet, or it was the paper's alone. */
+        if (!kij_internal_buffer_add(lines, on, size)) return false;
+        memmove(lines->bytes + size, lines->bytes, lines->size - size);
+        memcpy(lines->bytes, on, size);
+    }
+    drive->is_on = true;
+    return true;
+}
+
+/* Swaps the till's room for answers with the spare one. */
+static void swap_rooms(kij_till *till) {
+    kij_buffer *spare = &till->drives->spare;
+    char *text = till->text;
+    size_t room = till->text_room, size = till->text_size;
+    till->text = spare->bytes;
+    till->text_room = spare->room;
+    till->text_size = spare->size;
+    spare->bytes = text;
+    spare->room = room;
+    spare->size = size;
+}
+
+/* What the answers to inputs say. */
+static int inputs_code(const char *answers) {
+    while (strncmp(answers, "ok\n", 3) == 0) answers += 3;
+    if (*answers == 0) return KIJ_OK;
+    return strncmp(answers, "memory", 6) == 0 ? KIJ_NO_MEMORY : KIJ_BAD_INPUT;
+}
+
+static int hand_in_of(kij_till *till, kij_drive *drive, bool *is_any) {
+    kij_buffer *inputs = &till->drives->inputs;
+    bool was_on = drive->is_on, was_known = drive->is_known;
+    /* Without memory it is taken away the next time. */
+    if (drive->orders >= KEPT_ORDERS &&
+        kijolvar_tear_off(till->inner, &till->inner.at, (const uint8_t *)drive->name.text + 1, drive->name.size - 1) ==
+            KIJOLVAR_OK)
+        drive->orders = 0;
+    if (!write_inputs(till, drive, inputs)) return KIJ_NO_MEMORY;
+    if (inputs->size == 0) return KIJ_OK;
+    int code = kij_internal_carry_out(till, inputs->bytes, inputs->size);
+    if (code == KIJ_OK) code = inputs_code(till->text);
+    if (code == KIJ_OK) *is_any = true;
+    if (code == KIJ_NO_MEMORY) {
+        drive->is_on = was_on;
+        drive->is_known = was_known;
+    }
+    return code;
+}
+
+int kij_internal_hand_in(kij_till *till, bool *is_any) {
+    kij_drives *drives = till->drives;
+    int code = KIJ_OK;
+    if (drives->is_handing_in) return code;
+    if (!kij_internal_buffer_room(&drives->spare, 256)) return KIJ_NO_MEMORY;
+    drives->is_handing_in = true;
+    swap_rooms(till);
+    for (kij_drive *drive = drives->first; drive != NULL && code == KIJ_OK; drive = drive->next)
+        code = hand_in_of(till, drive, is_any);
+    swap_rooms(till);
+    drives->is_handing_in = false;
+    return code;
+}
+
+/* ---- Orders ---- */
+
+/* Shows an order: whether its bytes are out. */
+static bool show(kij_till *till, kij_drive *drive) {
+    kij_buffer *bytes = &till->drives->order;
+    kij_port *port = &drive->port;
+    int64_t end = kij_internal_now() + drive->timeout;
+    size_t sent = 0, count = 0;
+    bool can_read, can_write;
+    if (kij_internal_order_bytes(till, &drive->wire, drive->is_new, 65538, bytes) != KIJOLVAR_OK) return false;
+    while (sent < bytes->size) {
+        int64_t left = end - kij_internal_now();
+        if (left <= 0) break;
+        kij_internal_port_wait(port, true, left, &can_read, &can_write);
+        if (can_read && !kij_internal_port_read(port, drive->got, sizeof drive->got, &count)) return false;
+        if (can_write && !kij_internal_port_write(port, bytes->bytes + sent, bytes->size - sent, &count)) return false;
+        if (can_write) sent += count;
+        else if (can_read && count == 0) kij_internal_sleep(1);
+    }
+    drive->is_new = false;
+    if (sent == bytes->size && kij_internal_port_drained(port, end)) return true;
+    /* The display has a part of it. */
+    kij_internal_port_close(port);
+    return false;
+}
+
+static bool carry_out(kij_till *till, kij_drive *drive) {
+    if (!is_online(drive)) return false;
+    if (drive->category == KIJ_LINE_DISPLAY) return show(till, drive);
+    uint64_t statuses = drive->link->statuses;
+    bool is_printer = drive->category == KIJ_POS_PRINTER;
+    bool is_done = kij_internal_link_carry_out(drive->link, &drive->wire, is_printer);
+    if (is_done && is_printer) drive->orders++;
+    if (is_done && !is_printer) {
+        drive->kicked_at = kij_internal_now();
+        drive->statuses = statuses;
+    }
+    return is_done;
+}
+
+/* Takes out the order for which a line waits, and its device. Those of hosted devices before it are kept. A code of the
+   library: KIJOLVAR_ORDER if there is one. */
+static uint32_t take_order(kij_till *till, kij_drive **drive) {
+    kij_drives *drives = till->drives;
+    kij_buffer *hosted = &drives->hosted;
+    for (;;) {
+        size_t needed = 0;
+        uint32_t code = kijolvar_next_order(till->inner, &till->inner.at, NULL, 0, &needed);
+        if (code != KIJOLVAR_SHORT) return code == KIJOLVAR_OK ? (uint32_t)KIJOLVAR_NO_ORDER : code;
+        /* There is memory before it is taken out. */
+        if (!kij_internal_buffer_room(hosted, hosted->size + needed + 1)) return KIJOLVAR_NO_MEMORY;
+        char *line = hosted->bytes + hosted->size;
+        code = kijolvar_next_order(till->inner, &till->inner.at, (uint8_t *)line, needed, &needed);
+        if (code != KIJOLVAR_ORDER) return code;
+        const char *end = (const char *)memchr(line, ' ', needed);
+        *drive = drive_of(drives, line, end == NULL ? needed : (size_t)(end - line));
+        if (*drive != NULL) return code;
+        line[needed] = '\n';
+        hosted->size += needed + 1;
+    }
+}
+
+bool kij_internal_kept_order(kij_till *till) {
+    kij_buffer *hosted = till->drives == NULL ? NULL : &till->drives->hosted;
+    if (hosted == NULL || hosted->size == 0) return false;
+    size_t size = (size_t)((const char *)memchr(hosted->bytes, '\n', hosted->size) - hosted->bytes);
+    if (!kij_internal_text(till, size + 1)) return false;
+    memcpy(till->text, hosted->bytes, size);
+    till->text[size] = 0;
+    hosted->size -= size + 1;
+    memmove(hosted->bytes, hosted->bytes + size + 1, hosted->size);
+    return true;
+}
+
+/* ---- Lines that wait ---- */
+
+/* Does the errands, and makes a longer room, until the answer is in the till. Without memory for it, it is lost. */
+static uint32_t settled(kij_till *till, uint32_t code, size_t *needed, bool *is_lost) {
+    while (code == KIJOLVAR_ERRANDS || code == KIJOLVAR_SHORT) {
+        if (code == KIJOLVAR_ERRANDS) {
+            if ((code = kij_internal_settle(till)) != KIJOLVAR_OK) return code;
+        } else if (!kij_internal_text(till, *needed + 1)) {
+            /* The front of the answer stays; the code of the answer is known without it. */
+            *is_lost = true;
+            *needed = 0;
+            size_t all = 0;
+            code = kijolvar_answer(till->inner, &till->inner.at, (uint8_t *)till->text, till->text_room - 1, &all);
+            return code == KIJOLVAR_SHORT ? (uint32_t)KIJOLVAR_CUT : code;
+        }
+        code = kijolvar_answer(till->inner, &till->inner.at, (uint8_t *)till->text, till->text_room - 1, needed);
+    }
+    return code;
+}
+
+/* Has the order that waits carried out. A code of the library: KIJOLVAR_ORDER if it is reported. */
+static uint32_t serve(kij_till *till, bool is_wanted, kij_report *made) {
+    kij_drive *drive = NULL;
+    uint32_t code = take_order(till, &drive);
+    /* An order that was taken out before, and wasn't reported, is no more. */
+    if (code != KIJOLVAR_ORDER && code != KIJOLVAR_NO_ORDER) return code;
+    memset(made, 0, sizeof *made);
+    made->is_made = true;
+    till->drives->inputs.size = 0;
+    if (drive == NULL || !is_wanted) return KIJOLVAR_ORDER;
+    till->drives->has_served = true;
+    made->is_done = carry_out(till, drive);
+    /* Without memory for the inputs nobody knows why it isn't done. */
+    made->has_inputs = !made->is_done && write_inputs(till, drive, &till->drives->inputs);
+    return KIJOLVAR_ORDER;
+}
+
+static uint32_t tell(kij_till *till, const kij_report *made, size_t *needed) {
+    const kij_buffer *inputs = &till->drives->inputs;
+    return kijolvar_order_done(till->inner, &till->inner.at, made->is_done ? 0 : 1, (const uint8_t *)inputs->bytes,
+                               made->has_inputs ? inputs->size : 0, (uint8_t *)till->text, till->text_room - 1, needed);
+}
+
+/* Keeps a part of the answer, without the answers to the inputs of a report, which are first. */
+static bool keep(kij_till *till, const kij_report *made, size_t needed) {
+    const kij_buffer *inputs = &till->drives->inputs;
+    size_t from = 0;
+    for (size_t at = 0; made->has_inputs && at < inputs->size; at++) {
+        if (inputs->bytes[at] != '\n') continue;
+        const char *end = (const char *)memchr(till->text + from, '\n', needed - from);
+        if (end != NULL) from = (size_t)(end - till->text) + 1;
+    }
+    return kij_internal_buffer_add(&till->drives->answer, till->text + from, needed - from);
+}
+
+/* Ends without memory: some lines are held, or none is. What was printed is reported the next time, and the call has no
+   answer; if nothing was, nothing was done. */
+static uint32_t run_out(kij_till *till, bool is_holding, const kij_report *made, bool is_any_done) {
+    till->is_holding = is_holding;
+    if (is_holding && made->is_made && made->is_done) till->drives->unreported = *made;
+    return is_any_done ? KIJOLVAR_CUT : KIJOLVAR_NO_MEMORY;
+}
+
+/* Has the orders carried out for which lines wait, until none is left: the library's code. The answer is in the
+   drives. */
+static uint32_t finish(kij_till *till, uint32_t code, size_t *needed, bool is_wanted, bool *is_lost) {
+    kij_report made = till->drives->unreported;
+    int tries = 0;
+    bool is_any_done = made.is_done, is_told = false;
+    memset(&till->drives->unreported, 0, sizeof made);
+    for (;;) {
+        bool is_taken = true;
+        code = settled(till, code, needed, is_lost);
+        if (code == KIJOLVAR_NO_MEMORY) {
+            /* Lines are held. If they wait, the report wasn't taken. If this is said again, it was, and they go on. */
+            code = kijolvar_answer(till->inner, &till->inner.at, (uint8_t *)till->text, till->text_room - 1, needed);
+            code = settled(till, code, needed, is_lost);
+            is_taken = code == KIJOLVAR_NO_MEMORY;
+            if (is_taken) memset(&made, 0, sizeof made);
+            if (code == KIJOLVAR_OK || ++tries == 3) return run_out(till, code != KIJOLVAR_OK, &made, is_any_done);
+        }
+        if (code != KIJOLVAR_OK && code != KIJOLVAR_WAITS && code != KIJOLVAR_NO_MEMORY) {
+            if (code == KIJOLVAR_CUT && !keep(till, &made, *needed)) *is_lost = true;
+            return code;
+        }
+        if (is_taken) {
+            if (!keep(till, &made, *needed)) *is_lost = true;
+            if (is_told) memset(&made, 0, sizeof made);
+        }
+        if (code == KIJOLVAR_OK) return code;
+        if (code == KIJOLVAR_WAITS && !made.is_made) {
+            uint32_t served = serve(till, is_wanted, &made);
+            if (served == KIJOLVAR_NO_MEMORY) return run_out(till, true, &made, is_any_done);
+            if (served != KIJOLVAR_ORDER) return served;
+            is_any_done |= made.is_done;
+        }
+        code = tell(till, &made, needed);
+        is_told = true;
+    }
+}
+
+/* Swaps the answer that was kept into the till, with a 0 byte behind it: how many bytes it has. */
+static size_t take_answer(kij_till *till, bool *is_lost) {
+    kij_buffer *answer = &till->drives->answer;
+    if (!kij_internal_buffer_room(answer, answer->size + 1)) {
+        *is_lost = true;
+        return 0;
+    }
+    char *text = till->text;
+    size_t room = till->text_room, size = answer->size;
+    till->text = answer->bytes;
+    till->text_room = answer->room;
+    answer->bytes = text;
+    answer->room = room;
+    answer->size = 0;
+    return size;
+}
+
+int kij_internal_served(kij_till *till, uint32_t code, size_t *needed) {
+    bool is_lost = false, is_any = false;
+    till->drives->answer.size = 0;
+    code = finish(till, code, needed, true, &is_lost);
+    *needed = take_answer(till, &is_lost);
+    till->text[*needed] = 0;
+    till->text_size = *needed;
+    if (till->drives->has_served) {
+        till->drives->has_served = false;
+        /* What isn't handed in now is the next time. */
+        if (code == KIJOLVAR_OK) (void)kij_internal_hand_in(till, &is_any);
+    }
+    switch (code) {
+    case KIJOLVAR_OK: return is_lost ? KIJ_NO_ANSWER : KIJ_OK;
+    case KIJOLVAR_CUT: return KIJ_NO_ANSWER;
+    case KIJOLVAR_NO_MEMORY: return KIJ_NO_MEMORY;
+    case KIJOLVAR_DISK_FAILED: return KIJ_DISK_FAILED;
+    default: return KIJ_BAD_ANSWER;
+    }
+}
+
+void kij_internal_give_up(kij_till *till) {
+    bool is_lost = false;
+    size_t needed = 0;
+    till->drives->answer.size = 0;
+    till->is_holding = false;
+    uint32_t code = kijolvar_answer(till->inner, &till->inner.at, (uint8_t *)till->text, till->text_room - 1, &needed);
+    finish(till, code, &needed, false, &is_lost);
+}
+
+/* ---- Scanners ---- */
+
+/* The type of a code by its AIM identifier, which is behind its bracket; 501 is SCAN_SDT_OTHER. */
+static int type_of(const uint8_t *name) {
+    static const struct {
+        char letter;
+        char digit;
+        int type;
+    } types[] = {
+        {'E', '4', 103}, {'o', '1', 121}, {'o', '2', 122}, {'A', 0, 108}, {'C', 0, 110}, {'E', 0, 104},
+        {'F', 0, 107},   {'G', 0, 109},   {'I', 0, 106},   {'L', 0, 201}, {'Q', 0, 204}, {'S', 0, 105},
+        {'U', 0, 202},   {'d', 0, 203},   {'e', 0, 131},   {'z', 0, 206},
+    };
+    for (size_t place = 0; place < sizeof types / sizeof types[0]; place++)
+        if (types[place].letter == (char)name[0] && (types[place].digit == 0 || types[place].digit == (char)name[1]))
+            return types[place].type;
+    return 501;
+}
+
+/* Tells the till of the code that has come: a code of enum kij_code. */
+static int scan(kij_till *till, kij_drive *drive, bool *is_any) {
+    static const kij_word word = KIJ_WORD(" scan");
+    kij_argument arguments[3];
+    char *value;
+    size_t size = drive->begun_size;
+    bool has_name = size > 3 && drive->begun[0] == ']';
+    drive->begun_size = 0;
+    /* What is longer than any code is noise. */
+    if (size == 0 || size > LONGEST_CODE) return KIJ_OK;
+    arguments[0] = kij_internal_number(has_name ? type_of(drive->begun + 1) : drive->type);
+    arguments[1] = kij_internal_bytes(drive->begun, size);
+    arguments[2] = kij_internal_bytes(drive->begun + (has_name ? 3 : 0), size - (has_name ? 3 : 0));
+    int code = kij_internal_run(till, KIJ_VERB_INPUT, &drive->name, &word, arguments, 3);
+    *is_any = true;
+    return code == KIJ_OK ? kij_internal_answer(till, KIJ_NO_CATEGORY, &value).code : code;
+}
+
+static void add_byte(kij_drive *drive, uint8_t byte) {
+    if (drive->begun_size < LONGEST_CODE) drive->begun[drive->begun_size] = byte;
+    if (drive->begun_size <= LONGEST_CODE) drive->begun_size++;
+}
+
+enum { FIRST_KEY = 2, KEY_COUNT = 56, EVENT_SIZE = 24 };
+
+/* The characters of the keys of the layout US from number 2 on, without and with shift; a 0 byte is no character. */
+static const char key_characters[2][KEY_COUNT + 1] = {
+    "1234567890-=\0\0qwertyuiop[]\0\0asdfghjkl;'`\0\\zxcvbnm,./\0\0\0 ",
+    "!@#$%^&*()_+\0\0QWERTYUIOP{}\0\0ASDFGHJKL:\"~\0|ZXCVBNM<>?\0\0\0 ",
+};
+
+/* A key event of Linux: the time, a type, the key and whether it is down. Whether a code has ended. */
+static bool take_key(kij_drive *drive, const uint8_t *event) {
+    uint16_t type, key;
+    int32_t value;
+    memcpy(&type, event + EVENT_SIZE - 8, sizeof type);
+    memcpy(&key, event + EVENT_SIZE - 6, sizeof key);
+    memcpy(&value, event + EVENT_SIZE - 4, sizeof value);
+    if (type != 1) return false;
+    if (key == 42 || key == 54) drive->is_shifted = value != 0;
+    else if ((key == 28 || key == 96) && value != 0) return true;
+    else if (key >= FIRST_KEY && key < FIRST_KEY + KEY_COUNT && value != 0) {
+        char found = key_characters[drive->is_shifted][key - FIRST_KEY];
+        if (found != 0) add_byte(drive, (uint8_t)found);
+    }
+    return false;
+}
+
+/* Reads what a scanner has sent: a code of enum kij_code. */
+static int scans(kij_till *till, kij_drive *drive, bool *is_any) {
+    kij_port *port = &drive->port;
+    bool can_read, can_write;
+    int code = KIJ_OK;
+    while (code == KIJ_OK && kij_internal_port_is_open(port)) {
+        size_t room = sizeof drive->got - drive->got_size, count = 0, at = 0;
+        kij_internal_port_wait(port, false, 0, &can_read, &can_write);
+        if (!can_read || !kij_internal_port_read(port, drive->got + drive->got_size, room, &count) || count == 0) break;
+        drive->got_size += count;
+        if (port->kind == KIJ_PORT_KEYS) {
+            for (; code == KIJ_OK && at + EVENT_SIZE <= drive->got_size; at += EVENT_SIZE)
+                if (take_key(drive, drive->got + at)) code = scan(till, drive, is_any);
+        } else {
+            for (; code == KIJ_OK && at < drive->got_size; at++) {
+                if (drive->got[at] == '\r' || drive->got[at] == '\n') code = scan(till, drive, is_any);
+                else add_byte(drive, drive->got[at]);
+            }
+        }
+        drive->got_size -= at;
+        memmove(drive->got, drive->got + at, drive->got_size);
+    }
+    return code;
+}
+
+/* ---- The loop ---- */
+
+/* Opens the port of a display or a scanner, unless that was tried just now. */
+static void connect_port(kij_drive *drive, int64_t time) {
+    if (kij_internal_port_is_open(&drive->port) || kij_internal_now() - drive->tried_at < drive->pause) return;
+    kij_internal_port_open(&drive->port, time);
+    drive->tried_at = kij_internal_now();
+    drive->is_new = true;
+    drive->begun_size = drive->got_size = 0;
+    drive->is_shifted = false;
+}
+
+/* Reads what a device has said, and looks for one that was lost, without waiting. */
+static void look(kij_drive *drive) {
+    size_t count = 0;
+    bool can_read = true, can_write, is_kept = true;
+    if (drive->link != NULL) {
+        if (drive->has_link) kij_internal_link_poll(drive->link);
+        return;
+    }
+    connect_port(drive, quickly);
+    /* What a display says is of no use. */
+    while (drive->category == KIJ_LINE_DISPLAY && is_kept && kij_internal_port_is_open(&drive->port)) {
+        kij_internal_port_wait(&drive->port, false, 0, &can_read, &can_write);
+        if (!can_read) return;
+        is_kept = kij_internal_port_read(&drive->port, drive->got, sizeof drive->got, &count);
+        if (count == 0) return;
+    }
+}
+
+/* Works off the output that waits for a printer, until nothing waits or a request fails: a code of enum kij_code. */
+static int work(kij_till *till, kij_drive *drive, bool *is_any) {
+    char *value;
+    for (;;) {
+        int code = kij_internal_run(till, KIJ_VERB_WORK, &drive->name, NULL, NULL, 0);
+        if (code != KIJ_OK) return code;
+        if (strcmp(till->text, "idle") == 0) return KIJ_OK;
+        bool is_done = strncmp(till->text, "done ", 5) == 0;
+        if (!is_done && strncmp(till->text, "failed ", 7) != 0)
+            return kij_internal_answer(till, KIJ_NO_CATEGORY, &value).code;
+        *is_any = true;
+        if (!is_done) return KIJ_OK;
+    }
+}
+
+static int run_round(kij_till *till, bool *is_any) {
+    kij_drive *first = till->drives->first;
+    for (kij_drive *drive = first; drive != NULL; drive = drive->next) look(drive);
+    int code = kij_internal_hand_in(till, is_any);
+    for (kij_drive *drive = first; drive != NULL && code == KIJ_OK; drive = drive->next)
+        if (drive->category == KIJ_SCANNER) code = scans(till, drive, is_any);
+    for (kij_drive *drive = first; drive != NULL && code == KIJ_OK; drive = drive->next)
+        if (drive->category == KIJ_POS_PRINTER) code = work(till, drive, is_any);
+    return code;
+}
+
+/* Waits until a device says something. */
+static void wait_for_any(const kij_drives *drives, int64_t time) {
+    struct pollfd waiting[MOST_PORTS];
+    nfds_t count = 0;
+    for (kij_drive *drive = drives->first; drive != NULL && count < MOST_PORTS; drive = drive->next) {
+        const kij_port *port = port_of(drive);
+        if (drive->link != NULL && !drive->has_link) continue;
+        if (!kij_internal_port_is_open(port)) continue;
+        waiting[count].fd = port->file;
+        waiting[count].events = POLLIN;
+        waiting[count++].revents = 0;
+    }
+    poll(waiting, count, (int)time);
+}
+
+kij_result kij_run_devices(kij_till *till, int timeout, bool *is_any) {
+    bool found = false;
+    int64_t end = kij_internal_now() + timeout;
+    if (timeout < 0) return plain(KIJ_BAD_ARGUMENT);
+    int code = kij_internal_enter(till);
+    if (code != KIJ_OK) return plain(code);
+    while (code == KIJ_OK && till->drives != NULL) {
+        code = run_round(till, &found);
+        int64_t left = end - kij_internal_now();
+        if (code != KIJ_OK || found || left <= 0) break;
+        wait_for_any(till->drives, left < 100 ? left : 100);
+    }
+    kij_internal_leave(till);
+    if (is_any != NULL && code == KIJ_OK) *is_any = found;
+    return plain(code);
+}
+
+kij_result kij_show_driver(kij_till *till, const char *device, kij_driver_view *view) {
+    kij_word name;
+    if (view == NULL || !kij_internal_is_name(device, &name)) return plain(KIJ_BAD_ARGUMENT);
+    int code = kij_internal_enter(till);
+    if (code != KIJ_OK) return plain(code);
+    kij_drive *drive = drive_of(till->drives, name.text + 1, name.size - 1);
+    if (drive != NULL) {
+        view->is_online = is_online(drive);
+        view->port_error = port_of(drive)->error;
+        view->late_orders = drive->link != NULL ? drive->link->late : 0;
+    }
+    kij_internal_leave(till);
+    return plain(drive == NULL ? KIJ_NO_DEVICE : KIJ_OK);
+}
+
+/* ---- Beginning and end ---- */
+
+/* What a device is, by what `show` prints of it. */
+static int category_of(kij_till *till, const kij_word *name, kij_category *category) {
+    char *value;
+    int code = kij_internal_run(till, KIJ_VERB_SHOW, name, NULL, NULL, 0);
+    if (code == KIJ_OK) code = kij_internal_answer(till, KIJ_NO_CATEGORY, &value).code;
+    if (code != KIJ_OK) return code;
+    value = till->text + (strcmp(till->text, "ok") == 0 ? 2 : 3);
+    size_t size = strcspn(value, " ");
+    bool is_hinged = strncmp(value, "open", size) == 0 || strncmp(value, "closed", size) == 0;
+    if (*value == 0) *category = KIJ_SCANNER;
+    else if (is_hinged) *category = value[size] == 0 ? KIJ_CASH_DRAWER : KIJ_POS_PRINTER;
+    else *category = KIJ_LINE_DISPLAY;
+    return KIJ_OK;
+}
+
+static void free_drive(kij_drive *drive) {
+    kij_internal_port_close(&drive->port);
+    if (drive->link != NULL && drive->has_link) kij_internal_link_end(drive->link);
+    free(drive->begun);
+    free(drive);
+}
+
+/* Makes a drive of a device that can have one: a code of enum kij_code. */
+static int make_drive(kij_till *till, const char *device, kij_category category, kij_drive **drive) {
+    kij_word name;
+    kij_category found = KIJ_NO_CATEGORY;
+    if (!kij_internal_is_name(device, &name)) return KIJ_BAD_ARGUMENT;
+    if (till->drives == NULL) till->drives = (kij_drives *)calloc(1, sizeof *till->drives);
+    if (till->drives == NULL) return KIJ_NO_MEMORY;
+    if (drive_of(till->drives, name.text + 1, name.size - 1) != NULL) return KIJ_DRIVEN;
+    int code = category_of(till, &name, &found);
+    if (code != KIJ_OK) return code;
+    if (found != category) return KIJ_KIND_DIFFERS;
+    kij_drive *made = (kij_drive *)calloc(1, sizeof *made);
+    if (made == NULL) return KIJ_NO_MEMORY;
+    made->category = category;
+    made->name = name;
+    made->is_on = true;
+    made->kicked_at = -1;
+    made->tried_at = never;
+    made->port.file = -1;
+    *drive = made;
+    return KIJ_OK;
+}
+
+/* Whether the settings fit the device, which is a printer or a drawer: a code of enum kij_code. */
+static int settings_code(kij_till *till, const kij_drive *drive) {
+    size_t used = 0, skipped = 0, needed = 0;
+    switch (kijolvar_replies(till->inner, &till->inner.at, (const uint8_t *)drive->name.text + 1, drive->name.size - 1,
+                             &drive->wire, 0, NULL, 0, &used, &skipped, NULL, 0, &needed)) {
+    case KIJOLVAR_OK: return KIJ_OK;
+    case KIJOLVAR_NO_MEMORY: return KIJ_NO_MEMORY;
+    case KIJOLVAR_BAD_SETTINGS: return KIJ_BAD_SETTINGS;
+    default: return KIJ_NO_DEVICE;
+    }
+}
+
+/* Makes the orders of a device wait from now on: a code of enum kij_code. */
+static int begin_drive(kij_till *till, const kij_drive *drive) {
+    switch (kijolvar_drive(till->inner, &till->inner.at, (const uint8_t *)drive->name.text + 1, drive->name.size - 1)) {
+    case KIJOLVAR_OK: return KIJ_OK;
+    case KIJOLVAR_NO_MEMORY: return KIJ_NO_MEMORY;
+    default: return KIJ_NO_DEVICE;
+    }
+}
+
+/* Adds a drive behind the others. */
+static void add_drive(kij_drives *drives, kij_drive *drive) {
+    kij_drive **last = &drives->first;
+    while (*last != NULL) last = &(*last)->next;
+    *last = drive;
+}
+
+/* Copies a port's name, which is to stay behind a record of this size: the record, cleared, or null. */
+static void *with_name(size_t size, const char *name, const char **copy) {
+    size_t length = strlen(name) + 1;
+    char *made = (char *)calloc(1, size + length);
+    if (made == NULL) return NULL;
+    memcpy(made + size, name, length);
+    *copy = made + size;
+    return made;
+}
+
+void kij_internal_end_drives(kij_till *till) {
+    kij_drives *drives = till->drives;
+    if (drives == NULL) return;
+    while (drives->first != NULL) {
+        kij_drive *next = drives->first->next;
+        free_drive(drives->first);
+        drives->first = next;
+    }
+    free(drives->inputs.bytes);
+    free(drives->answer.bytes);
+    free(drives->spare.bytes);
+    free(drives->order.bytes);
+    free(drives->hosted.bytes);
+    free(drives);
+    till->drives = NULL;
+}
+
+static bool is_range(int number, int least, int most) { return number >= least && number <= most; }
+
+/* Takes over the settings of a printer, so far as they aren't the library's to check. */
+static int wire_of(const kij_escpos_settings *settings, kijolvar_wire_settings *wire) {
+    if (!is_range(settings->width, 0, INT32_MAX) || !is_range(settings->feed, 0, 255) ||
+        !is_range(settings->on, 0, 255) || !is_range(settings->off, 0, 255) || !is_range(settings->lines, 0, 100000) ||
+        !is_range(settings->timeout, 1, INT32_MAX) || !is_range(settings->pause, 0, INT32_MAX) ||
+        !kij_internal_is_serial(&settings->serial))
+        return KIJ_BAD_SETTINGS;
+    memset(wire, 0, sizeof *wire);
+    wire->width = settings->width == 0 ? UINT32_MAX : (uint32_t)settings->width;
+    wire->cutter = (uint32_t)settings->cutter;
+    wire->feed = (uint32_t)settings->feed;
+    wire->lines = (uint32_t)settings->lines;
+    wire->pin = (uint32_t)settings->pin;
+    wire->on = (uint32_t)settings->on;
+    wire->off = (uint32_t)settings->off;
+    wire->open_is_high = settings->is_open_high;
+    return KIJ_OK;
+}
+
+/* Makes the line of a printer: whether there is memory. */
+static bool make_link(kij_till *till, kij_drive *printer, const char *port, const kij_escpos_settings *settings) {
+    const char *name = NULL;
+    kij_link *link = (kij_link *)with_name(sizeof *link, port, &name);
+    if (link == NULL) return false;
+    link->till = till;
+    kij_internal_port(&link->port, name, &settings->serial, false);
+    link->timeout = settings->timeout;
+    link->pause = settings->pause;
+    link->is_asked = settings->is_asked;
+    link->name = &printer->name;
+    link->wire = &printer->wire;
+    printer->link = link;
+    printer->has_link = true;
+    return true;
+}
+
+/* Opens a printer and its drawer: a code of enum kij_code. What was made is written in any case. */
+static int open_printer(kij_till *till, const char *device, const char *port, const kij_escpos_settings *settings,
+                        kij_drive **printer, kij_drive **drawer) {
+    kijolvar_wire_settings wire;
+    int code = wire_of(settings, &wire);
+    if (code == KIJ_OK) code = make_drive(till, device, KIJ_POS_PRINTER, printer);
+    if (code != KIJ_OK) return code;
+    (*printer)->wire = wire;
+    code = settings_code(till, *printer);
+    if (code == KIJ_OK && !make_link(till, *printer, port, settings)) code = KIJ_NO_MEMORY;
+    if (code == KIJ_OK && settings->drawer != NULL) {
+        code = make_drive(till, settings->drawer, KIJ_CASH_DRAWER, drawer);
+        if (code != KIJ_OK) return code;
+        (*drawer)->wire = wire;
+        (*drawer)->link = (*printer)->link;
+        code = settings_code(till, *drawer);
+    }
+    if (code != KIJ_OK) return code;
+    kij_internal_link_start((*printer)->link);
+    if (*drawer != NULL) code = begin_drive(till, *drawer);
+    return code == KIJ_OK ? begin_drive(till, *printer) : code;
+}
+
+kij_result kij_escpos_printer_open(kij_till *till, const char *device, const char *port,
+                                   const kij_escpos_settings *settings) {
+    static const kij_escpos_settings usual = KIJ_ESCPOS_SETTINGS;
+    kij_drive *printer = NULL, *drawer = NULL;
+    bool is_any = false;
+    if (port == NULL) return plain(KIJ_BAD_ARGUMENT);
+    int code = kij_internal_enter(till);
+    if (code != KIJ_OK) return plain(code);
+    code = open_printer(till, device, port, settings == NULL ? &usual : settings, &printer, &drawer);
+    if (code == KIJ_OK) {
+        add_drive(till->drives, printer);
+        if (drawer != NULL) add_drive(till->drives, drawer);
+        /* What isn't handed in now is the next time. */
+        (void)kij_internal_hand_in(till, &is_any);
+    } else {
+        if (drawer != NULL) free_drive(drawer);
+        if (printer != NULL) free_drive(printer);
+    }
+    kij_internal_leave(till);
+    return plain(code);
+}
+
+/* Opens a display or a scanner, whose drive is made with its port's name behind it. */
+static int open_port(kij_till *till, kij_drive *drive, const char *port, const kij_serial_settings *serial,
+                     bool has_keys) {
+    bool is_any = false;
+    const char *name = NULL;
+    /* The name is kept with the room for codes. */
+    drive->begun = (uint8_t *)with_name(LONGEST_CODE, port, &name);
+    int code = drive->begun == NULL ? KIJ_NO_MEMORY : KIJ_OK;
+    if (code == KIJ_OK) {
+        kij_internal_port(&drive->port, name, serial, has_keys);
+        connect_port(drive, drive->timeout);
+    }
+    if (code == KIJ_OK && drive->category != KIJ_SCANNER) code = begin_drive(till, drive);
+    if (code != KIJ_OK) {
+        free_drive(drive);
+        return code;
+    }
+    add_drive(till->drives, drive);
+    /* What isn't handed in now is the next time. */
+    (void)kij_internal_hand_in(till, &is_any);
+    return code;
+}
+
+kij_result kij_serial_display_open(kij_till *till, const char *device, const char *port,
+                                   const kij_display_settings *settings) {
+    static const kij_display_settings usual = KIJ_DISPLAY_SETTINGS;
+    kij_drive *drive = NULL;
+    if (settings == NULL) settings = &usual;
+    if (port == NULL) return plain(KIJ_BAD_ARGUMENT);
+    if (!is_range((int)settings->protocol, KIJ_CD5220, KIJ_ESCPOS) || !is_range(settings->timeout, 1, INT32_MAX) ||
+        !is_range(settings->pause, 0, INT32_MAX) || !kij_internal_is_serial(&settings->serial))
+        return plain(KIJ_BAD_SETTINGS);
+    int code = kij_internal_enter(till);
+    if (code != KIJ_OK) return plain(code);
+    code = make_drive(till, device, KIJ_LINE_DISPLAY, &drive);
+    if (code == KIJ_OK) {
+        drive->wire.protocol = (uint32_t)settings->protocol;
+        drive->timeout = settings->timeout;
+        drive->pause = settings->pause;
+        code = open_port(till, drive, port, &settings->serial, false);
+    }
+    kij_internal_leave(till);
+    return plain(code);
+}
+
+kij_result kij_wedge_scanner_open(kij_till *till, const char *device, const char *port,
+                                  const kij_scanner_settings *settings) {
+    static const kij_scanner_settings usual = KIJ_SCANNER_SETTINGS;
+    kij_drive *drive = NULL;
+    if (settings == NULL) settings = &usual;
+    if (port == NULL) return plain(KIJ_BAD_ARGUMENT);
+    if (!is_range(settings->type, 0, 999) || !is_range(settings->pause, 0, INT32_MAX) ||
+        !kij_internal_is_serial(&settings->serial))
+        return plain(KIJ_BAD_SETTINGS);
+    int code = kij_internal_enter(till);
+    if (code != KIJ_OK) return plain(code);
+    code = make_drive(till, device, KIJ_SCANNER, &drive);
+    if (code == KIJ_OK) {
+        drive->type = settings->type;
+        drive->timeout = quickly;
+        drive->pause = settings->pause;
+        code = open_port(till, drive, port, &settings->serial, settings->has_keys);
+    }
+    kij_internal_leave(till);
+    return plain(code);
+}

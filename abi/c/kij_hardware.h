@@ -1,0 +1,289 @@
+/* What the drivers of a till share: ports, the line to a printer, and the devices that are driven. */
+#ifndef KIJ_HARDWARE_H
+#define KIJ_HARDWARE_H
+
+#include "kij_internal.h"
+
+/* A text or bytes that grow. */
+typedef struct kij_buffer {
+    char *bytes;
+    size_t room;
+    size_t size;
+} kij_buffer;
+
+typedef enum kij_port_kind { KIJ_PORT_FILE, KIJ_PORT_SERIAL, KIJ_PORT_TCP, KIJ_PORT_KEYS } kij_port_kind;
+
+/* A port. Its name stays as long as it does. */
+typedef struct kij_port {
+    kij_port_kind kind;
+    const char *name;
+    kij_serial_settings serial;
+    /* The open file, or -1. */
+    int file;
+    /* How often it was opened. */
+    unsigned turns;
+    /* Whether reading no bytes means that it is lost. */
+    bool ends_empty;
+    /* Why it couldn't be opened or was lost the last time. */
+    int error;
+} kij_port;
+
+/* An order on its way to the paper, piece by piece: a line, a cut or a pulse. One without any is one empty piece, so
+   that the printer is asked. Places are in its bytes. */
+typedef struct kij_job {
+    uint64_t id;
+    kij_buffer data;
+    /* Up to where it was sent, and is printed as far as is known. */
+    size_t sent;
+    size_t done;
+    bool is_all_sent;
+    bool is_done;
+    /* Pieces were lost, and later ones may have been printed. */
+    bool is_torn;
+    /* Whether it is for the paper, where the same order mustn't be twice. */
+    bool is_once;
+} kij_job;
+
+/* Bytes that were sent, or are being sent, and that the printer hasn't acknowledged. */
+typedef struct kij_parcel {
+    uint32_t number;
+    /* The port's turn in which they were sent. */
+    unsigned turn;
+    /* The job, or 0, and which of its bytes they are. */
+    uint64_t job;
+    size_t from;
+    size_t to;
+    bool is_last;
+    bool is_torn;
+    /* Whether they are for the paper. */
+    bool is_once;
+    /* Where they begin in all that was ever put out. */
+    uint64_t place;
+} kij_parcel;
+
+/* A reply that tells how the printer is, and what was asked. */
+typedef struct kij_told {
+    uint8_t bytes[8];
+    size_t size;
+    uint32_t asked;
+} kij_told;
+
+typedef enum kij_paper { KIJ_PAPER_UNKNOWN, KIJ_PAPER_GOOD, KIJ_PAPER_NEAR, KIJ_PAPER_EMPTY } kij_paper;
+
+/* What a printer says of itself. */
+typedef struct kij_signs {
+    bool is_offline;
+    bool is_cover_open;
+    bool has_fault;
+    bool is_pin_high;
+    kij_paper paper;
+} kij_signs;
+
+/* How many parcels may be due, how many of them an order may have, and how many bytes are read at once. */
+enum { KIJ_DUE_ROOM = 64, KIJ_DUE_OF_JOB = 32, KIJ_READ_ROOM = 1024, KIJ_CONTROL_ROOM = 128, KIJ_END_ROOM = 16 };
+
+/* The line to a printer, which acknowledges in order what it has printed. */
+typedef struct kij_link {
+    kij_till *till;
+    kij_port port;
+    int64_t timeout;
+    int64_t pause;
+    /* Whether it says nothing by itself: it is asked. Its acknowledgements have no number. */
+    bool is_asked;
+    /* The device and the settings by which its replies are read. */
+    const kij_word *name;
+    const kijolvar_wire_settings *wire;
+    /* The order that failed last, or is out; a pulse for the drawer; the bytes of an order; and what is sent now. */
+    kij_job paper;
+    kij_job pulse;
+    kij_job *posting;
+    bool has_job;
+    uint64_t jobs;
+    kij_buffer fresh;
+    uint8_t end[KIJ_END_ROOM];
+    size_t end_size;
+    uint32_t number;
+    kij_parcel due[KIJ_DUE_ROOM];
+    size_t due_count;
+    /* What goes out, what of it has, and what goes out next that nothing acknowledges. */
+    kij_buffer out;
+    size_t out_sent;
+    uint64_t put_out;
+    uint8_t control[KIJ_CONTROL_ROOM];
+    size_t control_size;
+    /* What has come. */
+    uint8_t got[KIJ_READ_ROOM];
+    size_t got_size;
+    kij_told told[3];
+    size_t told_count;
+    kij_signs signs;
+    uint64_t statuses;
+    uint64_t late;
+    bool is_there;
+    bool has_answered;
+    bool was_silent;
+    bool is_refreshing;
+    bool was_asked;
+    int64_t asked_at;
+    int64_t heard_at;
+    int64_t tried_at;
+    int64_t refreshed_at;
+    /* Of one that is asked: the question that is out, when it was put, and what was heard of 1, 2 and 4. */
+    uint32_t question;
+    bool is_asking;
+    int64_t questioned_at;
+    kij_told heard[3];
+    kij_signs hearing;
+    unsigned rounds;
+} kij_link;
+
+/* A driven device. */
+typedef struct kij_drive {
+    struct kij_drive *next;
+    kij_category category;
+    kij_word name;
+    kijolvar_wire_settings wire;
+    /* Whether the till takes it as switched on. */
+    bool is_on;
+    /* A printer, and its drawer: the line, and whether this device has it. */
+    kij_link *link;
+    bool has_link;
+    /* A printer: whether its first status has come, and how many orders it has done since its paper was taken away. */
+    bool is_known;
+    unsigned orders;
+    /* A drawer: when it got its pulse, or -1, and how many statuses had come. */
+    int64_t kicked_at;
+    uint64_t statuses;
+    /* A display and a scanner. */
+    kij_port port;
+    int64_t timeout;
+    int64_t pause;
+    int64_t tried_at;
+    bool is_new;
+    /* A scanner: what of a code has come, of key events, and whether the shift key is down. */
+    int type;
+    bool is_shifted;
+    uint8_t *begun;
+    size_t begun_size;
+    uint8_t got[64];
+    size_t got_size;
+} kij_drive;
+
+/* A report of an order. */
+typedef struct kij_report {
+    bool is_made;
+    bool is_done;
+    /* Its inputs are in the till's drives, unless there are none. */
+    bool has_inputs;
+} kij_report;
+
+/* The driven devices of a till. */
+typedef struct kij_drives {
+    kij_drive *first;
+    /* What was printed, and couldn't be reported for want of memory. */
+    kij_report unreported;
+    /* The inputs of a report, the answer to lines so far, a spare room for answers, the bytes of an order, and orders
+       of hosted devices that came before one of a driven device. */
+    kij_buffer inputs;
+    kij_buffer answer;
+    kij_buffer spare;
+    kij_buffer order;
+    kij_buffer hosted;
+    bool is_handing_in;
+    bool has_served;
+} kij_drives;
+
+#ifdef __GNUC__
+#pragma GCC visibility push(hidden)
+#endif
+
+/* kij_ports.c */
+
+/* Makes room for so many bytes in all; those that are there stay. Whether there is memory. */
+bool kij_internal_buffer_room(kij_buffer *buffer, size_t room);
+
+/* Adds bytes: whether there is memory. */
+bool kij_internal_buffer_add(kij_buffer *buffer, const void *bytes, size_t size);
+
+/* Milliseconds of a clock that goes on. */
+int64_t kij_internal_now(void);
+
+/* Waits for so many milliseconds. */
+void kij_internal_sleep(int64_t time);
+
+/* Whether these are settings of a serial line. */
+bool kij_internal_is_serial(const kij_serial_settings *serial);
+
+/* Makes a port of a name, which isn't open. */
+void kij_internal_port(kij_port *port, const char *name, const kij_serial_settings *serial, bool has_keys);
+
+/* Whether bytes are lost only if the port is lost too. A serial line stays when the device goes off. */
+static inline bool kij_internal_is_reliable(const kij_port *port) { return port->kind != KIJ_PORT_SERIAL; }
+
+static inline bool kij_internal_port_is_open(const kij_port *port) { return port->file >= 0; }
+
+/* Opens a port that isn't open, in so many milliseconds: whether it is open. */
+bool kij_internal_port_open(kij_port *port, int64_t time);
+
+void kij_internal_port_close(kij_port *port);
+
+/* Waits until bytes can be read, or written if that is asked, at most so many milliseconds. */
+void kij_internal_port_wait(const kij_port *port, bool is_writing, int64_t time, bool *can_read, bool *can_write);
+
+/* Reads what has come, which may be nothing. False if the port was lost: it is closed then. */
+bool kij_internal_port_read(kij_port *port, void *bytes, size_t room, size_t *count);
+
+/* Writes what there is room for. False if the port was lost: it is closed then. */
+bool kij_internal_port_write(kij_port *port, const void *bytes, size_t size, size_t *count);
+
+/* Whether all that was written has left this machine before a time. */
+bool kij_internal_port_drained(kij_port *port, int64_t end);
+
+/* kij_links.c */
+
+/* Begins a line: opens the port, and waits for the printer's first status as long as for an order. */
+void kij_internal_link_start(kij_link *link);
+
+/* Sends the order that is out: whether the printer acknowledged it within the timeout. If an order failed and the next
+   one is the same, only what wasn't printed is sent again, unless it isn't `is_once`. */
+bool kij_internal_link_carry_out(kij_link *link, const kijolvar_wire_settings *wire, bool is_once);
+
+/* Reads what has come and sends what is left, without waiting. A port that was lost is opened again. */
+void kij_internal_link_poll(kij_link *link);
+
+/* Whether the port is open and the printer answers. */
+bool kij_internal_link_is_online(const kij_link *link);
+
+/* Writes the lines of a reply into a text with a 0 byte at the end, and how many bytes it used. False if the library
+   can't. */
+bool kij_internal_reply(kij_till *till, const kij_word *name, const kijolvar_wire_settings *wire, const kij_told *told,
+                        char *text, size_t room);
+
+/* Writes the bytes of the order that is out: the library's code. */
+uint32_t kij_internal_order_bytes(kij_till *till, const kijolvar_wire_settings *wire, bool is_new, uint32_t end,
+                                  kij_buffer *bytes);
+
+/* Closes the port, and frees what the line has. */
+void kij_internal_link_end(kij_link *link);
+
+/* kij_drives.c */
+
+/* What is left to do where a driven till's call isn't done: a code of enum kij_code, and the answer is in the till. */
+int kij_internal_served(kij_till *till, uint32_t code, size_t *needed);
+
+/* Tells the till what has happened at the devices, in a call that has begun: a code of enum kij_code. The till's answer
+   stays. */
+int kij_internal_hand_in(kij_till *till, bool *is_any);
+
+/* Takes the oldest order of a hosted device that came before one of a driven device into the till's text: whether there
+   was one. */
+bool kij_internal_kept_order(kij_till *till);
+
+/* Frees the drivers of a till, and closes their ports. */
+void kij_internal_end_drives(kij_till *till);
+
+#ifdef __GNUC__
+#pragma GCC visibility pop
+#endif
+
+#endif

@@ -1,0 +1,674 @@
+/* The line to a receipt printer: what is sent, what has been acknowledged, and what the printer says of itself. The
+   bytes of orders and the meaning of replies are the library's. */
+#include "kij_hardware.h"
+#include <stdio.h>
+#include <stdlib.h>
+#include <string.h>
+#include <unistd.h>
+
+/* What is sent while no order is out. Zero bytes do nothing, and end a command that an earlier connection has begun. */
+static const char started[] = "\0\0\0\0\0\0\0\0\0\0\0\0\x1b@\x1d"
+                              "a\xff";
+static const char asked_started[] = "\0\0\0\0\0\0\0\0\0\0\0\0\x1b@\x1d"
+                                    "a\0";
+static const size_t start_size = sizeof started - 1, refresh_size = 3;
+
+enum {
+    /* What asks for the paper in order (GS r 1) in place of a job's number, and how many numbers there are. */
+    PAPER_IN_ORDER = 65536,
+    NUMBERS = 65536,
+    /* How many bytes ask for an acknowledgement: GS ( H, or GS r. */
+    JOB_SIZE = 11,
+    QUESTION_SIZE = 3,
+    /* What the library has to know was asked: DLE EOT 1, and GS r 1. */
+    ASKED_NOW = 1,
+    ASKED_PAPER = 5,
+    /* How much goes out at once. */
+    ENOUGH = 2048
+};
+
+/* How long a lost port may take to open while other devices wait, how often a printer is asked, in milliseconds, and
+   a time before all others. */
+static const int64_t quickly = 250, often = 100, never = -1000000000;
+
+static inline int64_t least(int64_t one, int64_t other) { return one < other ? one : other; }
+
+bool kij_internal_link_is_online(const kij_link *link) {
+    return kij_internal_port_is_open(&link->port) && link->is_there;
+}
+
+/* Whether the printer has said that it prints nothing now, and why. */
+static bool is_stopped(const kij_link *link) {
+    const kij_signs *signs = &link->signs;
+    return link->told_count > 0 && signs->is_offline &&
+           (signs->is_cover_open || signs->has_fault || signs->paper == KIJ_PAPER_EMPTY);
+}
+
+/* Puts bytes that nothing acknowledges out next. If there is no room, the printer takes nothing. */
+static void put(kij_link *link, const void *bytes, size_t size) {
+    if (link->control_size + size > sizeof link->control) return;
+    memcpy(link->control + link->control_size, bytes, size);
+    link->control_size += size;
+}
+
+static void put_start(kij_link *link) { put(link, link->is_asked ? asked_started : started, start_size); }
+
+static void put_refresh(kij_link *link) {
+    if (!link->is_asked) put(link, started + start_size - refresh_size, refresh_size);
+}
+
+static bool is_idle(const kij_link *link) { return link->out_sent == link->out.size && link->control_size == 0; }
+
+/* Puts a question of DLE EOT. */
+static void put_question(kij_link *link, uint32_t question) {
+    const uint8_t bytes[3] = {0x10, 0x04, (uint8_t)question};
+    link->question = question;
+    put(link, bytes, sizeof bytes);
+}
+
+/* Asks a printer that says nothing by itself how it is: the printer, why it is offline, the paper, one after another.
+   */
+static void ask_on(kij_link *link) {
+    int64_t now = kij_internal_now();
+    if (!link->is_asked || !is_idle(link)) return;
+    if (now - link->questioned_at < (link->is_asking ? link->timeout : often)) return;
+    link->questioned_at = now;
+    link->is_asking = true;
+    put_question(link, 1);
+}
+
+/* Asks whether the printer is there. */
+static void ask(kij_link *link) {
+    link->asked_at = kij_internal_now();
+    link->was_asked = true;
+    if (link->is_asked) ask_on(link);
+    else put_question(link, ASKED_NOW);
+}
+
+/* ---- Jobs and parcels ---- */
+
+/* The job of a number that is still known, or null. */
+static kij_job *job_of(kij_link *link, uint64_t id) {
+    if (id != 0 && link->has_job && link->paper.id == id) return &link->paper;
+    return id != 0 && link->pulse.id == id ? &link->pulse : NULL;
+}
+
+static size_t due_of(const kij_link *link, const kij_job *job) {
+    size_t count = 0;
+    for (size_t place = 0; place < link->due_count; place++) count += link->due[place].job == job->id;
+    return count;
+}
+
+static bool is_due(const kij_link *link, const kij_job *job) { return due_of(link, job) > 0; }
+
+static void remove_due(kij_link *link, size_t place) {
+    link->due_count--;
+    memmove(link->due + place, link->due + place + 1, (link->due_count - place) * sizeof link->due[0]);
+}
+
+/* Forgets what is due of orders that nobody asks for any more, where there is no room. What an acknowledgement says
+   of the others stays the same. */
+static void make_room(kij_link *link) {
+    for (size_t place = 0; link->due_count == KIJ_DUE_ROOM && place < KIJ_DUE_ROOM;) {
+        if (job_of(link, link->due[place].job) != &link->paper) remove_due(link, place);
+        else place++;
+    }
+}
+
+/* Puts bytes and the question for their acknowledgement out. Whether there is memory. */
+static bool send_parcel(kij_link *link, const char *bytes, size_t size, kij_job *job) {
+    uint8_t end[KIJ_END_ROOM];
+    size_t before = link->out.size;
+    link->number = (link->number + 1) % NUMBERS;
+    memcpy(end, link->end, sizeof end);
+    /* The library's question has the number in its last four bytes, a digit of sixteen in each. */
+    for (size_t digit = 0; !link->is_asked && digit < 4; digit++)
+        end[JOB_SIZE - 1 - digit] = (uint8_t)(0x40 | ((link->number >> (4 * digit)) & 15));
+    if (!kij_internal_buffer_add(&link->out, bytes, size) ||
+        !kij_internal_buffer_add(&link->out, end, link->end_size)) {
+        link->out.size = before;
+        return false;
+    }
+    make_room(link);
+    kij_parcel *parcel = &link->due[link->due_count++];
+    memset(parcel, 0, sizeof *parcel);
+    parcel->number = link->number;
+    parcel->turn = link->port.turns;
+    parcel->place = link->put_out;
+    link->put_out += link->out.size - before;
+    if (job != NULL) {
+        parcel->job = job->id;
+        parcel->from = job->sent;
+        parcel->to = job->sent + size;
+        parcel->is_last = parcel->to == job->data.size;
+        parcel->is_once = job->is_once && job->data.size > 0;
+    }
+    return true;
+}
+
+/* Where the piece of an order ends that begins here: behind a line feed, a pulse, a feed or a cut. */
+static size_t piece_end(const kij_buffer *data, size_t at) {
+    const uint8_t *bytes = (const uint8_t *)data->bytes;
+    while (at < data->size) {
+        uint8_t first = bytes[at], second = at + 1 < data->size ? bytes[at + 1] : 0;
+        size_t size = 1;
+        bool is_end = first == '\n';
+        if (first == 0x1b) {
+            is_end = second == 'p' || second == 'd';
+            size = second == 'p' ? 5 : 3;
+        } else if (first == 0x1d) {
+            is_end = true;
+            size = at + 2 < data->size && (bytes[at + 2] == 'A' || bytes[at + 2] == 'B') ? 4 : 3;
+        }
+        at += size;
+        if (is_end) break;
+    }
+    return at < data->size ? at : data->size;
+}
+
+/* Puts out what comes next, once nothing is left of what went out before: what nothing acknowledges, and then pieces of
+   the order. */
+static void fill(kij_link *link) {
+    kij_job *job = link->posting;
+    if (link->out_sent < link->out.size) return;
+    link->out.size = link->out_sent = 0;
+    if (link->control_size > 0 && kij_internal_buffer_add(&link->out, link->control, link->control_size)) {
+        link->put_out += link->control_size;
+        link->control_size = 0;
+    }
+    while (job != NULL && !job->is_all_sent && link->out.size < ENOUGH && due_of(link, job) < KIJ_DUE_OF_JOB) {
+        size_t end = piece_end(&job->data, job->sent);
+        if (!send_parcel(link, job->data.bytes + job->sent, end - job->sent, job)) return;
+        job->sent = end;
+        job->is_all_sent = end == job->data.size;
+    }
+}
+
+/* Takes back what hasn't begun to go out. */
+static void drop(kij_link *link) {
+    uint64_t begun = link->put_out - (link->out.size - link->out_sent);
+    while (link->due_count > 0 && link->due[link->due_count - 1].place >= begun) {
+        kij_parcel *last = &link->due[link->due_count - 1];
+        if (last->turn != link->port.turns) return;
+        kij_job *job = job_of(link, last->job);
+        if (job != NULL) {
+            job->sent = last->from;
+            job->is_all_sent = false;
+        }
+        link->out.size -= (size_t)(link->put_out - last->place);
+        link->put_out = last->place;
+        link->due_count--;
+    }
+}
+
+/* Bytes of a parcel's order were lost. */
+static void tear(kij_link *link, const kij_parcel *parcel) {
+    kij_job *job = job_of(link, parcel->job);
+    uint64_t id = parcel->job;
+    if (job != NULL) job->is_torn = true;
+    for (size_t place = 0; place < link->due_count; place++)
+        if (link->due[place].job == id) link->due[place].is_torn = true;
+}
+
+/* What a parcel is of is printed. */
+static void print(kij_link *link, const kij_parcel *parcel) {
+    kij_job *job = job_of(link, parcel->job);
+    if (job != NULL) {
+        if (parcel->to > job->done) job->done = parcel->to;
+        if (parcel->is_last) job->is_done = true;
+    } else if (parcel->is_last && parcel->is_once) link->late++;
+}
+
+/* Everything up to the parcel at this place is printed or lost. */
+static void acknowledge(kij_link *link, size_t last) {
+    unsigned turn = link->due[last].turn;
+    for (size_t left = last + 1; left > 0; left--) {
+        kij_parcel parcel = link->due[0];
+        kij_job *job = job_of(link, parcel.job);
+        /* Bytes are lost only together with the port, if it is a reliable one. */
+        bool is_sure = left == 1 || (kij_internal_is_reliable(&link->port) && parcel.turn == turn);
+        remove_due(link, 0);
+        if (parcel.job == 0) continue;
+        if (is_sure && !parcel.is_torn && (job == NULL || !job->is_torn)) print(link, &parcel);
+        else tear(link, &parcel);
+    }
+}
+
+/* A job is acknowledged, if one of the number is due. */
+static void acknowledge_number(kij_link *link, uint32_t number) {
+    for (size_t place = 0; place < link->due_count; place++) {
+        if (link->due[place].number == number) {
+            acknowledge(link, place);
+            return;
+        }
+    }
+}
+
+/* ---- What comes ---- */
+
+bool kij_internal_reply(kij_till *till, const kij_word *name, const kijolvar_wire_settings *wire, const kij_told *told,
+                        char *text, size_t room) {
+    const uint8_t *device = (const uint8_t *)name->text + 1;
+    size_t used = 0, skipped = 0, needed = 0;
+    uint32_t code = kijolvar_replies(till->inner, &till->inner.at, device, name->size - 1, wire, told->asked,
+                                     told->bytes, told->size, &used, &skipped, (uint8_t *)text, room - 1, &needed);
+    text[code == KIJOLVAR_OK ? needed : 0] = 0;
+    return code == KIJOLVAR_OK;
+}
+
+uint32_t kij_internal_order_bytes(kij_till *till, const kijolvar_wire_settings *wire, bool is_new, uint32_t end,
+                                  kij_buffer *bytes) {
+    size_t needed = 0;
+    uint32_t code = kijolvar_order_bytes(till->inner, &till->inner.at, wire, is_new, end, (uint8_t *)bytes->bytes,
+                                         bytes->room, &needed);
+    if (code == KIJOLVAR_SHORT) {
+        if (!kij_internal_buffer_room(bytes, needed)) return KIJOLVAR_NO_MEMORY;
+        code = kijolvar_order_bytes(till->inner, &till->inner.at, wire, is_new, end, (uint8_t *)bytes->bytes,
+                                    bytes->room, &needed);
+    }
+    bytes->size = code == KIJOLVAR_OK ? needed : 0;
+    return code;
+}
+
+/* Takes what a `status` line says of one thing. Whether it says anything. */
+static bool says(const char *line, const char *word, const char *value) {
+    char both[32];
+    snprintf(both, sizeof both, " %s %s", word, value);
+    const char *found = strstr(line, both);
+    return found != NULL && strchr(" \n", found[strlen(both)]) != NULL;
+}
+
+/* Takes over what a `status` line says. */
+static void hear(kij_signs *signs, const char *line) {
+    if (says(line, "pin", "high")) signs->is_pin_high = true;
+    if (says(line, "pin", "low")) signs->is_pin_high = false;
+    if (says(line, "offline", "yes")) signs->is_offline = true;
+    if (says(line, "offline", "no")) signs->is_offline = false;
+    if (says(line, "cover", "open")) signs->is_cover_open = true;
+    if (says(line, "cover", "closed")) signs->is_cover_open = false;
+    if (says(line, "fault", "yes")) signs->has_fault = true;
+    if (says(line, "fault", "no")) signs->has_fault = false;
+    if (says(line, "paper", "good")) signs->paper = KIJ_PAPER_GOOD;
+    if (says(line, "paper", "near")) signs->paper = KIJ_PAPER_NEAR;
+    if (says(line, "paper", "empty")) signs->paper = KIJ_PAPER_EMPTY;
+}
+
+/* The printer answers again. It may have been off, if the port stays then, and says no status by itself. */
+static void come_back(kij_link *link) {
+    if (!kij_internal_is_reliable(&link->port)) put_start(link);
+    else if (link->has_answered) put_refresh(link);
+    link->is_there = link->has_answered = true;
+    link->was_silent = false;
+}
+
+/* The printer has answered something. */
+static void answered(kij_link *link) {
+    link->was_asked = false;
+    link->heard_at = kij_internal_now();
+    if (link->was_silent || !link->is_there) come_back(link);
+}
+
+/* The last line of a reply, which says what it is. */
+static const char *last_line(const char *text) {
+    const char *line = text;
+    for (const char *at = text; *at != 0; at++)
+        if (*at == '\n' && at[1] != 0) line = at + 1;
+    return line;
+}
+
+/* A reply of a printer that says by itself how it is. Its automatic status alone tells of cover and paper at once. */
+static void take_reply(kij_link *link, const char *text, const kij_told *told) {
+    const char *line = last_line(text);
+    answered(link);
+    if (strncmp(line, "job ", 4) == 0) {
+        acknowledge_number(link, (uint32_t)strtoul(line + 4, NULL, 10));
+    } else if (strncmp(line, "status", 6) == 0 && strstr(line, " cover ") != NULL && strstr(line, " paper ") != NULL) {
+        hear(&link->signs, line);
+        link->told[0] = *told;
+        link->told_count = 1;
+        link->is_refreshing = false;
+        link->statuses++;
+    }
+}
+
+/* Puts the replies to the three questions together to what an automatic status would say. */
+static void compose(kij_link *link) {
+    if (link->told_count == 0 || memcmp(&link->hearing, &link->signs, sizeof link->signs) != 0) {
+        memcpy(&link->signs, &link->hearing, sizeof link->signs);
+        memcpy(link->told, link->heard, sizeof link->told);
+        link->told_count = 3;
+        link->statuses++;
+    }
+}
+
+/* A reply of a printer that is asked, which is a byte. */
+static void take_answer(kij_link *link, const char *text, const kij_told *told) {
+    answered(link);
+    if (told->asked == ASKED_PAPER) {
+        acknowledge(link, 0);
+        return;
+    }
+    link->is_asking = false;
+    link->heard[link->question / 2] = *told;
+    hear(&link->hearing, last_line(text));
+    if (link->question != 4) {
+        link->is_asking = true;
+        put_question(link, 2 * link->question);
+        return;
+    }
+    link->rounds++;
+    compose(link);
+}
+
+/* Reads a byte as the answer to the question that is out, or as an acknowledgement. */
+static void take_byte(kij_link *link, uint8_t byte) {
+    char text[256];
+    for (int round = link->is_asking ? 0 : 1; round < 2; round++) {
+        kij_told told;
+        memset(&told, 0, sizeof told);
+        if (round == 1 && link->due_count == 0) return;
+        told.bytes[0] = byte;
+        told.size = 1;
+        told.asked = round == 0 ? link->question : (uint32_t)ASKED_PAPER;
+        if (kij_internal_reply(link->till, link->name, link->wire, &told, text, sizeof text) && *text != 0) {
+            take_answer(link, text, &told);
+            return;
+        }
+    }
+}
+
+/* Reads the first reply in what has come, and forgets the bytes that it used: whether any were used. */
+static bool take_first(kij_link *link) {
+    char text[256];
+    kij_till *till = link->till;
+    size_t used = 0, skipped = 0, needed = 0;
+    const uint8_t *device = (const uint8_t *)link->name->text + 1;
+    uint32_t asked = link->was_asked ? ASKED_NOW : 0;
+    uint32_t code =
+        kijolvar_replies(till->inner, &till->inner.at, device, link->name->size - 1, link->wire, asked, link->got,
+                         link->got_size, &used, &skipped, (uint8_t *)text, sizeof text - 1, &needed);
+    if (code != KIJOLVAR_OK || used == 0) return false;
+    text[needed] = 0;
+    if (needed > 0) {
+        kij_told told;
+        memset(&told, 0, sizeof told);
+        told.asked = asked;
+        /* What isn't the reply was skipped before it. */
+        told.size = used - skipped < sizeof told.bytes ? used - skipped : sizeof told.bytes;
+        memcpy(told.bytes, link->got + used - told.size, told.size);
+        link->got_size -= used;
+        memmove(link->got, link->got + used, link->got_size);
+        take_reply(link, text, &told);
+        return true;
+    }
+    link->got_size -= used;
+    memmove(link->got, link->got + used, link->got_size);
+    return true;
+}
+
+/* Reads once: false if the port was lost. Whether anything came is written. */
+static bool read_some(kij_link *link, bool *is_any) {
+    size_t count = 0;
+    /* Bytes that the library couldn't read for so long are no reply. */
+    if (link->got_size == sizeof link->got) link->got_size = 0;
+    if (!kij_internal_port_read(&link->port, link->got + link->got_size, sizeof link->got - link->got_size, &count))
+        return false;
+    *is_any = count > 0;
+    if (link->is_asked) {
+        for (size_t place = 0; place < count; place++) take_byte(link, link->got[place]);
+    } else {
+        link->got_size += count;
+        while (link->got_size > 0 && take_first(link)) continue;
+    }
+    return true;
+}
+
+/* Reads what has come: false if the port was lost. */
+static bool receive(kij_link *link) {
+    bool can_read, can_write, is_any;
+    do {
+        is_any = false;
+        kij_internal_port_wait(&link->port, false, 0, &can_read, &can_write);
+        if (can_read && !read_some(link, &is_any)) return false;
+    } while (is_any);
+    return true;
+}
+
+/* Sends what there is room for: false if the port was lost. */
+static bool write_some(kij_link *link) {
+    size_t count = 0;
+    const char *bytes = link->out.bytes + link->out_sent;
+    bool is_kept = kij_internal_port_write(&link->port, bytes, link->out.size - link->out_sent, &count);
+    link->out_sent += count;
+    return is_kept;
+}
+
+/* What is waited for. */
+typedef bool (*is_reached)(const kij_link *link, const kij_job *job);
+
+static bool is_printed(const kij_link *link, const kij_job *job) {
+    return job->is_done || job->is_torn || is_stopped(link);
+}
+
+static bool is_settled(const kij_link *link, const kij_job *job) {
+    return job->is_done || !is_due(link, job) || is_stopped(link);
+}
+
+static bool is_none_due(const kij_link *link, const kij_job *job) {
+    (void)job;
+    return link->due_count == 0 || is_stopped(link);
+}
+
+static bool is_known(const kij_link *link, const kij_job *job) {
+    (void)job;
+    return link->told_count > 0;
+}
+
+/* Sends and reads until something is so, or the time is over: false if the port was lost. */
+static bool pump(kij_link *link, is_reached reached, const kij_job *job, int64_t end) {
+    while (!reached(link, job)) {
+        bool can_read, can_write, is_any = false;
+        int64_t left = end - kij_internal_now();
+        if (left <= 0) return true;
+        ask_on(link);
+        fill(link);
+        kij_internal_port_wait(&link->port, link->out_sent < link->out.size, least(left, often), &can_read,
+                               &can_write);
+        if (can_read && !read_some(link, &is_any)) return false;
+        if (can_write && !write_some(link)) return false;
+        if (can_read && !is_any && !can_write) kij_internal_sleep(least(left, often));
+    }
+    return true;
+}
+
+/* ---- The port ---- */
+
+/* What is due is lost. */
+static void lose_due(kij_link *link) {
+    for (size_t place = 0; place < link->due_count; place++) {
+        kij_job *job = job_of(link, link->due[place].job);
+        if (job != NULL) job->is_torn = true;
+    }
+    link->due_count = 0;
+}
+
+static void forget(kij_link *link) {
+    drop(link);
+    link->out.size = link->out_sent = link->control_size = link->got_size = 0;
+    link->is_there = link->has_answered = link->was_silent = link->is_refreshing = link->was_asked = false;
+    link->told_count = 0;
+    memset(&link->signs, 0, sizeof link->signs);
+    if (!link->is_asked) return;
+    /* Acknowledgements without a number can't be told from those of another connection. */
+    lose_due(link);
+    memset(&link->hearing, 0, sizeof link->hearing);
+    link->is_asking = false;
+    link->questioned_at = never;
+}
+
+/* The port was lost, with what wasn't sent. What was sent may still be acknowledged over the next one. */
+static void lose(kij_link *link) {
+    kij_internal_port_close(&link->port);
+    forget(link);
+}
+
+static void connect_port(kij_link *link, int64_t time) {
+    bool is_open = kij_internal_port_open(&link->port, time);
+    link->tried_at = kij_internal_now();
+    if (!is_open) return;
+    forget(link);
+    put_start(link);
+    ask(link);
+}
+
+void kij_internal_link_start(kij_link *link) {
+    int64_t end = kij_internal_now() + link->timeout;
+    link->end_size = link->is_asked ? QUESTION_SIZE : JOB_SIZE;
+    link->tried_at = link->refreshed_at = link->questioned_at = link->heard_at = never;
+    /* A printer may still acknowledge jobs of a host that has ended. Those shouldn't have the numbers of these. */
+    link->number = ((uint32_t)kij_internal_now() ^ (uint32_t)getpid() * 2654435761u >> 8) % NUMBERS;
+    connect_port(link, link->timeout);
+    if (kij_internal_port_is_open(&link->port) && !pump(link, is_known, NULL, end)) lose(link);
+}
+
+/* Asks a printer that has said nothing for a time, and one that says that it can't print, for more. */
+static void look_after(kij_link *link) {
+    int64_t now = kij_internal_now();
+    bool is_late = link->was_asked && now - link->asked_at > link->timeout;
+    if (is_late) {
+        link->is_there = false;
+        link->told_count = 0;
+        memset(&link->signs, 0, sizeof link->signs);
+    }
+    bool is_heard = link->is_there && now - link->heard_at <= link->timeout;
+    if (!is_heard && (!link->was_asked || is_late) && is_idle(link)) ask(link);
+    if (is_stopped(link) && !link->is_refreshing && now - link->refreshed_at > link->pause && is_idle(link)) {
+        link->is_refreshing = true;
+        link->refreshed_at = now;
+        put_refresh(link);
+    }
+    ask_on(link);
+}
+
+void kij_internal_link_poll(kij_link *link) {
+    bool can_read, can_write;
+    if (!kij_internal_port_is_open(&link->port)) {
+        if (kij_internal_now() - link->tried_at >= link->pause)
+            connect_port(link, least(link->timeout, quickly));
+        return;
+    }
+    bool is_kept = receive(link);
+    if (is_kept) {
+        look_after(link);
+        fill(link);
+        if (link->out_sent < link->out.size) {
+            kij_internal_port_wait(&link->port, true, 0, &can_read, &can_write);
+            if (can_write) is_kept = write_some(link);
+        }
+    }
+    if (!is_kept) lose(link);
+}
+
+/* ---- Orders ---- */
+
+/* Waits for acknowledgements that are late, where they can be lost. They are if none comes for the whole time, although
+   the printer says that it can print. False if the port was lost. */
+static bool give_up(kij_link *link, int64_t end) {
+    size_t count = link->due_count;
+    unsigned rounds = link->rounds;
+    if (!link->is_asked || kij_internal_is_reliable(&link->port) || count == 0) return true;
+    if (!pump(link, is_none_due, NULL, end)) return false;
+    if (link->due_count == count && link->rounds > rounds + 1 && !is_stopped(link)) lose_due(link);
+    return true;
+}
+
+/* Makes a job of the bytes of the order that is out. */
+static void begin(kij_link *link, kij_job *job, bool is_once) {
+    kij_buffer before = job->data;
+    memset(job, 0, sizeof *job);
+    job->id = ++link->jobs;
+    job->data = link->fresh;
+    job->is_once = is_once;
+    link->fresh = before;
+}
+
+/* Asks for an acknowledgement of all that was sent before. */
+static void put_marker(kij_link *link) {
+    /* One that nobody has answered yet is of no use any more. */
+    if (link->due_count > 0 && link->due[link->due_count - 1].job == 0) link->due_count--;
+    send_parcel(link, NULL, 0, NULL);
+}
+
+/* The job of the order that is out: the one that failed if it is the same, and how far that one has come. Null if the
+   port was lost. */
+static kij_job *take_up(kij_link *link, bool is_once, int64_t end) {
+    kij_job *job = is_once ? &link->paper : &link->pulse;
+    if (!give_up(link, end)) return NULL;
+    bool is_same = is_once && link->has_job && job->data.size == link->fresh.size &&
+                   (job->data.size == 0 || memcmp(job->data.bytes, link->fresh.bytes, job->data.size) == 0);
+    if (!is_same) {
+        /* It was printed after it had failed, and isn't asked for again. */
+        if (is_once && link->has_job && job->is_done && job->data.size > 0) link->late++;
+        begin(link, job, is_once);
+        link->has_job |= is_once;
+        return job;
+    }
+    if (is_due(link, job)) {
+        /* What was sent before is printed or lost once this is acknowledged. */
+        put_marker(link);
+        if (!pump(link, is_settled, job, end)) return NULL;
+    }
+    if (!is_due(link, job)) {
+        /* Some of it was lost, and the printer may have begun a line. */
+        if (job->sent > job->done) put_start(link);
+        job->sent = job->done;
+        job->is_all_sent = job->is_done;
+        job->is_torn = false;
+    }
+    return job;
+}
+
+/* Sends the order, as far as it wasn't: false if the port was lost. */
+static bool post(kij_link *link, kij_job *job, int64_t end) {
+    if (job->is_done || is_stopped(link) || is_due(link, job)) return true;
+    link->posting = job;
+    fill(link);
+    bool is_kept = link->out_sent == link->out.size || write_some(link);
+    is_kept = is_kept && pump(link, is_printed, job, end);
+    link->posting = NULL;
+    return is_kept;
+}
+
+bool kij_internal_link_carry_out(kij_link *link, const kijolvar_wire_settings *wire, bool is_once) {
+    int64_t end = kij_internal_now() + link->timeout;
+    if (!kij_internal_link_is_online(link)) return false;
+    uint32_t code = kij_internal_order_bytes(link->till, wire, false, link->is_asked ? (uint32_t)PAPER_IN_ORDER : 0,
+                                             &link->fresh);
+    if (code != KIJOLVAR_OK || link->fresh.size < link->end_size) return false;
+    link->fresh.size -= link->end_size;
+    memcpy(link->end, link->fresh.bytes + link->fresh.size, link->end_size);
+    kij_job *job = receive(link) ? take_up(link, is_once, end) : NULL;
+    if (job == NULL || !post(link, job, end)) {
+        lose(link);
+        return false;
+    }
+    if (job->is_done) {
+        if (is_once) link->has_job = false;
+        return true;
+    }
+    drop(link);
+    if (!is_stopped(link)) {
+        link->was_silent = true;
+        ask(link);
+    }
+    return false;
+}
+
+void kij_internal_link_end(kij_link *link) {
+    kij_internal_port_close(&link->port);
+    free(link->paper.data.bytes);
+    free(link->pulse.data.bytes);
+    free(link->fresh.bytes);
+    free(link->out.bytes);
+    free(link);
+}

@@ -1,0 +1,253 @@
+/* The ports of devices: a file such as /dev/usb/lp0, a serial line such as /dev/ttyUSB0, a TCP port, or the key
+   events of a keyboard. No call waits longer than it is told. */
+#ifndef _GNU_SOURCE
+#define _GNU_SOURCE
+#endif
+#include "kij_hardware.h"
+#include <errno.h>
+#include <fcntl.h>
+#include <limits.h>
+#include <linux/input.h>
+#include <netdb.h>
+#include <netinet/in.h>
+#include <netinet/tcp.h>
+#include <poll.h>
+#include <stdio.h>
+#include <stdlib.h>
+#include <string.h>
+#include <sys/ioctl.h>
+#include <sys/socket.h>
+#include <sys/stat.h>
+#include <termios.h>
+#include <time.h>
+#include <unistd.h>
+
+bool kij_internal_buffer_room(kij_buffer *buffer, size_t room) {
+    if (room <= buffer->room) return true;
+    size_t wanted = room + room / 2 + 64;
+    char *grown = (char *)realloc(buffer->bytes, wanted);
+    if (grown == NULL) return false;
+    buffer->bytes = grown;
+    buffer->room = wanted;
+    return true;
+}
+
+bool kij_internal_buffer_add(kij_buffer *buffer, const void *bytes, size_t size) {
+    if (!kij_internal_buffer_room(buffer, buffer->size + size)) return false;
+    if (size > 0) memcpy(buffer->bytes + buffer->size, bytes, size);
+    buffer->size += size;
+    return true;
+}
+
+int64_t kij_internal_now(void) {
+    struct timespec now;
+    clock_gettime(CLOCK_MONOTONIC, &now);
+    return (int64_t)now.tv_sec * 1000 + now.tv_nsec / 1000000;
+}
+
+void kij_internal_sleep(int64_t time) {
+    struct timespec left;
+    left.tv_sec = (time_t)(time / 1000);
+    left.tv_nsec = (long)(time % 1000 * 1000000);
+    nanosleep(&left, NULL);
+}
+
+/* The number by which a speed is set, or 0. */
+static speed_t speed_of(int speed) {
+    static const struct {
+        int speed;
+        speed_t number;
+    } speeds[] = {
+        {1200, B1200},   {2400, B2400},   {4800, B4800},     {9600, B9600},     {19200, B19200},
+        {38400, B38400}, {57600, B57600}, {115200, B115200}, {230400, B230400},
+    };
+    for (size_t place = 0; place < sizeof speeds / sizeof speeds[0]; place++)
+        if (speeds[place].speed == speed) return speeds[place].number;
+    return 0;
+}
+
+bool kij_internal_is_serial(const kij_serial_settings *serial) {
+    return speed_of(serial->speed) != 0 && (serial->bits == 7 || serial->bits == 8) &&
+           (serial->stops == 1 || serial->stops == 2) && serial->parity <= KIJ_PARITY_ODD &&
+           serial->flow <= KIJ_FLOW_XON_XOFF;
+}
+
+static bool begins_with(const char *text, const char *front) { return strncmp(text, front, strlen(front)) == 0; }
+
+/* Whether a path is a serial line by its name, or is a link to one. */
+static bool is_line_name(const char *path) {
+    char found[PATH_MAX];
+    if (begins_with(path, "/dev/tty") || begins_with(path, "/dev/serial/")) return true;
+    return realpath(path, found) != NULL && begins_with(found, "/dev/tty");
+}
+
+void kij_internal_port(kij_port *port, const char *name, const kij_serial_settings *serial, bool has_keys) {
+    memset(port, 0, sizeof *port);
+    port->name = name;
+    port->serial = *serial;
+    port->file = -1;
+    if (begins_with(name, "tcp:")) port->kind = KIJ_PORT_TCP;
+    else if (has_keys || begins_with(name, "/dev/input/")) port->kind = KIJ_PORT_KEYS;
+    else port->kind = serial->is_serial || is_line_name(name) ? KIJ_PORT_SERIAL : KIJ_PORT_FILE;
+}
+
+/* Sets up a terminal line, so that bytes pass as they are: 0 or errno. */
+static int set_up(int file, const kij_serial_settings *serial) {
+    struct termios found;
+    if (tcgetattr(file, &found) != 0) return errno;
+    found.c_iflag = found.c_oflag = found.c_lflag = 0;
+    found.c_cflag = (found.c_cflag & ~(tcflag_t)(CSIZE | PARENB)) | CS8 | CREAD | CLOCAL;
+    found.c_cc[VMIN] = 1;
+    found.c_cc[VTIME] = 0;
+    if (serial != NULL) {
+        found.c_cflag &= ~(tcflag_t)(CSIZE | PARENB | PARODD | CSTOPB | CRTSCTS);
+        found.c_cflag |= serial->bits == 8 ? CS8 : CS7;
+        if (serial->parity != KIJ_PARITY_NONE) found.c_cflag |= PARENB;
+        if (serial->parity == KIJ_PARITY_ODD) found.c_cflag |= PARODD;
+        if (serial->stops == 2) found.c_cflag |= CSTOPB;
+        if (serial->flow == KIJ_FLOW_RTS_CTS) found.c_cflag |= CRTSCTS;
+        if (serial->flow == KIJ_FLOW_XON_XOFF) found.c_iflag |= IXON | IXOFF;
+        cfsetispeed(&found, speed_of(serial->speed));
+        cfsetospeed(&found, speed_of(serial->speed));
+    }
+    if (tcsetattr(file, TCSANOW, &found) != 0) return errno;
+    return serial == NULL || tcflush(file, TCIOFLUSH) == 0 ? 0 : errno;
+}
+
+/* Sets up a device that was opened: 0 or errno. */
+static int prepare(kij_port *port, int file) {
+    struct stat found;
+    if (fstat(file, &found) != 0) return errno;
+    if (port->kind == KIJ_PORT_KEYS) {
+        /* A pipe or a terminal has no keys to keep from other programs. */
+        if (S_ISCHR(found.st_mode) && ioctl(file, EVIOCGRAB, 1) != 0 && errno != ENOTTY && errno != EINVAL)
+            return errno;
+        port->ends_empty = true;
+        return isatty(file) ? set_up(file, NULL) : 0;
+    }
+    if (S_ISREG(found.st_mode)) return ENODEV;
+    /* A printer on USB may send packets with nothing in them. */
+    port->ends_empty = isatty(file) != 0;
+    if (!port->ends_empty) return 0;
+    return set_up(file, port->kind == KIJ_PORT_SERIAL ? &port->serial : NULL);
+}
+
+/* Opens a device file: 0 or errno. */
+static int open_file(kij_port *port, int *file) {
+    int way = port->kind == KIJ_PORT_KEYS ? O_RDONLY : O_RDWR;
+    *file = open(port->name, way | O_NONBLOCK | O_NOCTTY | O_CLOEXEC);
+    if (*file < 0) return errno;
+    int why = prepare(port, *file);
+    if (why != 0) close(*file);
+    return why;
+}
+
+/* Reads tcp:HOST, tcp:HOST:PORT, and both with // behind the first colon. */
+static bool is_address(const char *name, char *host, size_t host_room, char *service, size_t service_room) {
+    const char *from = name + strlen("tcp:");
+    if (begins_with(from, "//")) from += 2;
+    const char *colon = strrchr(from, ':');
+    size_t size = colon == NULL ? strlen(from) : (size_t)(colon - from);
+    if (size == 0 || size >= host_room) return false;
+    memcpy(host, from, size);
+    host[size] = 0;
+    int written = snprintf(service, service_room, "%s", colon == NULL ? "9100" : colon + 1);
+    return written > 0 && (size_t)written < service_room;
+}
+
+/* Waits for a connection that was begun, until a time: 0 or errno. */
+static int finish(int file, int64_t end) {
+    struct pollfd waiting = {file, POLLOUT, 0};
+    int why = 0;
+    socklen_t size = sizeof why;
+    int64_t left = end - kij_internal_now();
+    if (poll(&waiting, 1, (int)(left < 1 ? 1 : left)) <= 0) return ETIMEDOUT;
+    if (getsockopt(file, SOL_SOCKET, SO_ERROR, &why, &size) != 0) return errno;
+    return why;
+}
+
+/* Connects to an address: 0 or errno. */
+static int join(const struct addrinfo *address, int64_t end, int *file) {
+    int one = 1;
+    *file = socket(address->ai_family, address->ai_socktype | SOCK_NONBLOCK | SOCK_CLOEXEC, address->ai_protocol);
+    if (*file < 0) return errno;
+    int why = connect(*file, address->ai_addr, address->ai_addrlen) == 0 ? 0 : errno;
+    if (why == EINPROGRESS) why = finish(*file, end);
+    if (why == 0 && (setsockopt(*file, IPPROTO_TCP, TCP_NODELAY, &one, sizeof one) != 0 ||
+                     setsockopt(*file, SOL_SOCKET, SO_KEEPALIVE, &one, sizeof one) != 0))
+        why = errno;
+    if (why != 0) close(*file);
+    return why;
+}
+
+/* Opens a TCP port: 0 or errno. */
+static int open_tcp(kij_port *port, int64_t end, int *file) {
+    char host[256], service[16];
+    struct addrinfo wanted, *found = NULL;
+    if (!is_address(port->name, host, sizeof host, service, sizeof service)) return EINVAL;
+    memset(&wanted, 0, sizeof wanted);
+    wanted.ai_socktype = SOCK_STREAM;
+    wanted.ai_flags = AI_NUMERICSERV;
+    if (getaddrinfo(host, service, &wanted, &found) != 0) return EHOSTUNREACH;
+    int why = EHOSTUNREACH;
+    for (const struct addrinfo *address = found; address != NULL && why != 0; address = address->ai_next)
+        why = join(address, end, file);
+    freeaddrinfo(found);
+    port->ends_empty = true;
+    return why;
+}
+
+bool kij_internal_port_open(kij_port *port, int64_t time) {
+    int file = -1;
+    if (port->file >= 0) return true;
+    int why = port->kind == KIJ_PORT_TCP ? open_tcp(port, kij_internal_now() + time, &file) : open_file(port, &file);
+    if (why != 0) {
+        port->error = why;
+        return false;
+    }
+    port->file = file;
+    port->turns++;
+    return true;
+}
+
+void kij_internal_port_close(kij_port *port) {
+    if (port->file >= 0) close(port->file);
+    port->file = -1;
+}
+
+void kij_internal_port_wait(const kij_port *port, bool is_writing, int64_t time, bool *can_read, bool *can_write) {
+    struct pollfd waiting = {port->file, (short)(POLLIN | (is_writing ? POLLOUT : 0)), 0};
+    bool is_ready = poll(&waiting, 1, (int)(time < 0 ? 0 : time)) > 0;
+    *can_read = is_ready && (waiting.revents & (POLLIN | POLLHUP | POLLERR | POLLNVAL)) != 0;
+    *can_write = is_ready && (waiting.revents & POLLOUT) != 0;
+}
+
+/* What reading or writing came to: false if the port was lost. */
+static bool is_kept(kij_port *port, ssize_t found, bool is_end, size_t *count) {
+    *count = found > 0 ? (size_t)found : 0;
+    if (found > 0 || (found == 0 && !is_end)) return true;
+    if (found < 0 && (errno == EAGAIN || errno == EWOULDBLOCK || errno == EINTR)) return true;
+    port->error = found < 0 ? errno : EPIPE;
+    kij_internal_port_close(port);
+    return false;
+}
+
+bool kij_internal_port_read(kij_port *port, void *bytes, size_t room, size_t *count) {
+    return is_kept(port, read(port->file, bytes, room), port->ends_empty, count);
+}
+
+bool kij_internal_port_write(kij_port *port, const void *bytes, size_t size, size_t *count) {
+    ssize_t found = port->kind == KIJ_PORT_TCP ? send(port->file, bytes, size, MSG_NOSIGNAL)
+                                               : write(port->file, bytes, size);
+    return is_kept(port, found, false, count);
+}
+
+bool kij_internal_port_drained(kij_port *port, int64_t end) {
+    int left = 0;
+    if (port->kind != KIJ_PORT_SERIAL) return true;
+    while (ioctl(port->file, TIOCOUTQ, &left) == 0 && left > 0) {
+        if (kij_internal_now() >= end) return false;
+        kij_internal_sleep(1);
+    }
+    return true;
+}

@@ -1,0 +1,709 @@
+//! Drivers: they move bytes between a till and the devices on its ports. A driver of your own implements [`Driver`].
+use crate::devices::Order;
+use crate::error::{Cause, Error};
+use crate::links::{is_over, Link, Told, QUICKLY};
+use crate::ports::{Cable, Port};
+use crate::standard::Category;
+use crate::till::Inner;
+use crate::wire::{Asked, PrinterReply, WireSettings};
+use std::os::fd::RawFd;
+use std::sync::{Arc, Mutex, MutexGuard};
+use std::time::{Duration, Instant};
+
+/// How long a drawer may take to open. If its sensor still says closed then, it is.
+const SETTLE: Duration = Duration::from_secs(1);
+/// The most lines that a printer's device counts.
+const MOST_LINES: u32 = 100_000;
+/// The longest code of a scanner.
+const LONGEST_CODE: usize = 4096;
+
+/// What a printer is asked behind the bytes of an order.
+#[derive(Debug, Clone, Copy, PartialEq, Eq)]
+pub enum OrderEnd {
+    /// Nothing.
+    Nothing,
+    /// The acknowledgement of a job of this number (GS ( H).
+    Job(u16),
+    /// Its paper, once the order is printed (GS r 1).
+    Paper,
+    /// The drawer's pin, once the order is printed (GS r 2).
+    Drawer,
+}
+
+/// What a driver may ask of its till while it carries out an order or looks at its device. Neither call changes
+/// anything.
+pub struct DriverTill<'t> {
+    pub(crate) inner: &'t mut Inner,
+}
+
+impl DriverTill<'_> {
+    /// Returns the bytes of the order that is out, for a printer or a display. With `is_new` they begin a connection.
+    ///
+    /// # Errors
+    ///
+    /// [`Cause::NoOrder`] if no order is out, or it has no bytes; [`Cause::BadSettings`], [`Cause::NoMemory`].
+    pub fn order_bytes(&mut self, settings: &WireSettings, is_new: bool, end: OrderEnd) -> Result<Vec<u8>, Error> {
+        let end = match end {
+            OrderEnd::Job(number) => u32::from(number),
+            OrderEnd::Paper => 65_536,
+            OrderEnd::Drawer => 65_537,
+            OrderEnd::Nothing => 65_538,
+        };
+        self.inner.order_bytes(settings, is_new, end).map_err(|cause| Error::new("order_bytes", cause))
+    }
+
+    /// Reads bytes that a printer sent, as [`Till::reply`](crate::Till::reply) does.
+    ///
+    /// # Errors
+    ///
+    /// [`Cause::NoDevice`], [`Cause::BadSettings`], [`Cause::NoMemory`].
+    pub fn reply(
+        &mut self,
+        device: &str,
+        settings: &WireSettings,
+        asked: Asked,
+        bytes: &[u8],
+    ) -> Result<PrinterReply, Error> {
+        let found = self.inner.reply(device.as_bytes(), settings, asked, bytes);
+        found.map_err(|cause| Error::new("reply", cause))
+    }
+}
+
+/// A code that a scanner has read.
+#[derive(Debug, Clone, PartialEq, Eq)]
+pub struct Scan {
+    /// Its type (ScanDataType), 0 if it isn't known.
+    pub kind: u64,
+    /// All that came, without the terminator.
+    pub data: Vec<u8>,
+    /// The code alone.
+    pub label: Vec<u8>,
+}
+
+/// What a till asks of a driver ([`Till::drive`](crate::Till::drive)).
+///
+/// ```
+/// use kijolvar::standard::{Category, DisplayAttribute};
+/// use kijolvar::{Driver, DriverTill, Order, Till, Totals, BUILT_PROFILE};
+///
+/// struct Screen;
+///
+/// impl Driver for Screen {
+///     fn category(&self) -> Category {
+///         Category::LineDisplay
+///     }
+///
+///     fn carry_out(&mut self, _: &mut DriverTill<'_>, order: &Order) -> bool {
+///         println!("{order:?}");
+///         true
+///     }
+/// }
+///
+/// let till = Till::open(BUILT_PROFILE, Totals::Memory)?;
+/// till.drive("p1", Screen)?;
+/// till.line_display("p1")?.enabled()?.display_text("4.50", DisplayAttribute::Normal)?;
+/// # Ok::<(), kijolvar::Error>(())
+/// ```
+pub trait Driver: Send {
+    /// Returns the category of the devices that it is for.
+    fn category(&self) -> Category;
+
+    /// Begins. Hardware that isn't there is no error: `poll` looks for it.
+    ///
+    /// # Errors
+    ///
+    /// Why the device can't have this driver, as the till said it.
+    fn start(&mut self, till: &mut DriverTill<'_>, device: &str) -> Result<(), Error> {
+        let _ = (till, device);
+        Ok(())
+    }
+
+    /// Returns whether the device is there. If not, the till takes it as switched off.
+    fn is_online(&self) -> bool {
+        true
+    }
+
+    /// Carries out an order, and returns whether the device has done it. It must return in a bounded time.
+    fn carry_out(&mut self, till: &mut DriverTill<'_>, order: &Order) -> bool {
+        let _ = (till, order);
+        false
+    }
+
+    /// Returns what has happened at the device since the last call, as the words of an `input` line after the device's
+    /// name: `cover open`, `paper 0`. The till asks after an order that wasn't done, which it then answers accordingly.
+    fn happened(&mut self, till: &mut DriverTill<'_>) -> Vec<String> {
+        let _ = till;
+        Vec::new()
+    }
+
+    /// Reads what the device has said, and looks for one that was lost, without waiting.
+    fn poll(&mut self, till: &mut DriverTill<'_>) {
+        let _ = till;
+    }
+
+    /// Returns the codes that were read since the last call.
+    fn scans(&mut self) -> Vec<Scan> {
+        Vec::new()
+    }
+
+    /// Returns the file descriptor at which something may come.
+    fn file(&self) -> Option<RawFd> {
+        None
+    }
+
+    /// Returns how many orders were printed after they had failed, and weren't asked for again.
+    fn late_orders(&self) -> u64 {
+        0
+    }
+}
+
+/// What a printer's cutter does.
+#[derive(Debug, Clone, Copy, PartialEq, Eq, Default)]
+pub enum Cutter {
+    /// Full cuts and partial ones.
+    #[default]
+    Both = 0,
+    /// Full cuts alone.
+    Full = 1,
+    /// Partial cuts alone.
+    Partial = 2,
+    /// There is none: the paper is fed in place of a cut.
+    Absent = 3,
+}
+
+/// A receipt printer with ESC/POS, and the drawer on its connector.
+#[derive(Debug, Clone, PartialEq, Eq)]
+pub struct EscPosSettings {
+    /// How many characters the printer prints on a line; as many as the device's lines have if it is None.
+    pub width: Option<u32>,
+    /// What its cutter does.
+    pub cutter: Cutter,
+    /// How far paper is fed before a cut, in dots; in lines if there is no cutter.
+    pub feed: u8,
+    /// The pin of the drawer connector, 2 or 5.
+    pub pin: u8,
+    /// How long the pulse for the drawer lasts, and the pause after it, in 2 ms.
+    pub pulse: (u8, u8),
+    /// Whether the drawer is open when pin 3 of its connector is high.
+    pub is_open_high: bool,
+    /// How many lines the till counts with when the sensors see enough paper: more than where its device is near the
+    /// end, at most 100,000.
+    pub lines: u32,
+    /// Whether the printer says nothing by itself, and doesn't know GS ( H. Then it is asked for its status (DLE
+    /// EOT), and whether an order is printed (GS r).
+    pub is_asked: bool,
+    /// How long an order may take.
+    pub timeout: Duration,
+    /// How long to wait before a lost port is tried again.
+    pub pause: Duration,
+}
+
+impl Default for EscPosSettings {
+    fn default() -> EscPosSettings {
+        EscPosSettings {
+            width: None,
+            cutter: Cutter::Both,
+            feed: 3,
+            pin: 2,
+            pulse: (25, 250),
+            is_open_high: true,
+            lines: MOST_LINES,
+            is_asked: false,
+            timeout: Duration::from_secs(5),
+            pause: Duration::from_secs(1),
+        }
+    }
+}
+
+impl EscPosSettings {
+    fn wire(&self) -> WireSettings {
+        WireSettings {
+            width: self.width.unwrap_or(u32::MAX),
+            cutter: self.cutter as u32,
+            feed: self.feed.into(),
+            lines: self.lines,
+            pin: self.pin.into(),
+            on: self.pulse.0.into(),
+            off: self.pulse.1.into(),
+            open_is_high: self.is_open_high.into(),
+            protocol: 0,
+        }
+    }
+}
+
+/// A printer's line, which its drawer has too.
+type SharedLink = Arc<Mutex<Link>>;
+
+fn lock(link: &SharedLink) -> MutexGuard<'_, Link> {
+    link.lock().unwrap_or_else(|held| held.into_inner())
+}
+
+/// What a printer has said last, as the words of inputs of a device, so far as it shows something else.
+fn words_of(told: &[Told], till: &mut DriverTill<'_>, device: &str, settings: &WireSettings) -> Vec<String> {
+    let mut words: Vec<String> = Vec::new();
+    let front = format!("input {device} ");
+    for told in told {
+        let Ok(reply) = till.reply(device, settings, told.asked, &told.bytes) else { continue };
+        for input in reply.lines.iter().filter_map(|line| line.strip_prefix(&front)) {
+            let first = |words: &str| words.split(' ').next().map(str::to_string);
+            if !words.iter().any(|other| first(other) == first(input)) {
+                words.push(input.to_string());
+            }
+        }
+    }
+    words
+}
+
+/// Checks that the settings fit a printer or a drawer, and its line.
+fn check(till: &mut DriverTill<'_>, device: &str, settings: &WireSettings, port: &Port) -> Result<(), Error> {
+    if !port.is_sound() || settings.lines > MOST_LINES {
+        return Err(Error::new("drive", Cause::BadSettings));
+    }
+    till.reply(device, settings, Asked::Nothing, &[]).map(|_| ())
+}
+
+/// A receipt printer with ESC/POS.
+///
+/// An order counts as done once the printer has acknowledged it (GS ( H). If an order failed and the next one is the
+/// same, as a retry is, only the lines and cuts that the printer hasn't acknowledged are sent again.
+///
+/// ```no_run
+/// use kijolvar::{EscPosPrinter, EscPosSettings, Till, Totals, BUILT_PROFILE};
+///
+/// let till = Till::open(BUILT_PROFILE, Totals::Memory)?;
+/// let printer = EscPosPrinter::open("/dev/usb/lp0", EscPosSettings::default());
+/// let drawer = printer.drawer();
+/// till.drive("r1", printer)?;
+/// till.drive("d1", drawer)?;
+/// # Ok::<(), kijolvar::Error>(())
+/// ```
+#[derive(Debug)]
+pub struct EscPosPrinter {
+    link: SharedLink,
+    device: String,
+    settings: WireSettings,
+    is_known: bool,
+}
+
+impl EscPosPrinter {
+    /// Returns a driver for the printer at a port, which opens it once it drives a device.
+    pub fn open(port: impl Into<Port>, settings: EscPosSettings) -> EscPosPrinter {
+        let link = Link::new(port.into(), settings.timeout, settings.pause, settings.is_asked);
+        let link = Arc::new(Mutex::new(link));
+        EscPosPrinter { link, device: String::new(), settings: settings.wire(), is_known: false }
+    }
+
+    /// Returns a driver for the drawer on the printer's connector, whether or not the till drives the printer too.
+    pub fn drawer(&self) -> EscPosDrawer {
+        let link = Arc::clone(&self.link);
+        EscPosDrawer { link, device: String::new(), settings: self.settings, kicked: None }
+    }
+}
+
+/// Begins a printer's line for one of its devices.
+fn start(link: &SharedLink, till: &mut DriverTill<'_>, device: &str, settings: &WireSettings) -> Result<(), Error> {
+    let mut link = lock(link);
+    check(till, device, settings, &link.cable.port)?;
+    if !link.is_begun {
+        (link.device, link.settings) = (device.to_string(), *settings);
+    }
+    link.start(till);
+    Ok(())
+}
+
+impl Driver for EscPosPrinter {
+    fn category(&self) -> Category {
+        Category::PosPrinter
+    }
+
+    fn start(&mut self, till: &mut DriverTill<'_>, device: &str) -> Result<(), Error> {
+        self.device = device.to_string();
+        start(&self.link, till, device, &self.settings)
+    }
+
+    fn is_online(&self) -> bool {
+        lock(&self.link).is_online()
+    }
+
+    fn carry_out(&mut self, till: &mut DriverTill<'_>, _: &Order) -> bool {
+        lock(&self.link).carry_out(till, &self.settings, true)
+    }
+
+    fn happened(&mut self, till: &mut DriverTill<'_>) -> Vec<String> {
+        let link = lock(&self.link);
+        let mut words = words_of(&link.told, till, &self.device, &self.settings);
+        if !self.is_known && !link.told.is_empty() {
+            self.is_known = true;
+            if link.has_paper() {
+                words.push(format!("paper {}", self.settings.lines));
+            }
+        }
+        words
+    }
+
+    fn poll(&mut self, till: &mut DriverTill<'_>) {
+        lock(&self.link).poll(till);
+    }
+
+    fn file(&self) -> Option<RawFd> {
+        lock(&self.link).cable.file()
+    }
+
+    fn late_orders(&self) -> u64 {
+        lock(&self.link).late
+    }
+}
+
+/// The drawer on a receipt printer's connector ([`EscPosPrinter::drawer`]).
+#[derive(Debug)]
+pub struct EscPosDrawer {
+    link: SharedLink,
+    device: String,
+    settings: WireSettings,
+    /// When it got its pulse, and how many statuses had come.
+    kicked: Option<(Instant, u64)>,
+}
+
+impl Driver for EscPosDrawer {
+    fn category(&self) -> Category {
+        Category::CashDrawer
+    }
+
+    fn start(&mut self, till: &mut DriverTill<'_>, device: &str) -> Result<(), Error> {
+        self.device = device.to_string();
+        start(&self.link, till, device, &self.settings)
+    }
+
+    fn is_online(&self) -> bool {
+        lock(&self.link).is_online()
+    }
+
+    fn carry_out(&mut self, till: &mut DriverTill<'_>, _: &Order) -> bool {
+        let mut link = lock(&self.link);
+        let statuses = link.statuses;
+        let is_done = link.carry_out(till, &self.settings, false);
+        if is_done {
+            self.kicked = Some((Instant::now(), statuses));
+        }
+        is_done
+    }
+
+    fn happened(&mut self, till: &mut DriverTill<'_>) -> Vec<String> {
+        let link = lock(&self.link);
+        let mut words = words_of(&link.told, till, &self.device, &self.settings);
+        if let Some((at, statuses)) = self.kicked {
+            // The drawer may be on its way: a status that says closed is from before.
+            let is_open = link.statuses > statuses && words.iter().all(|words| words != "closed");
+            if is_open || at.elapsed() >= SETTLE {
+                self.kicked = None;
+            } else {
+                words.retain(|words| words != "closed");
+            }
+        }
+        words
+    }
+
+    fn poll(&mut self, till: &mut DriverTill<'_>) {
+        lock(&self.link).poll(till);
+    }
+
+    fn file(&self) -> Option<RawFd> {
+        lock(&self.link).cable.file()
+    }
+}
+
+/// What a display understands.
+#[derive(Debug, Clone, Copy, PartialEq, Eq, Default)]
+#[allow(missing_docs)]
+pub enum Protocol {
+    #[default]
+    Cd5220 = 0,
+    EscPos = 1,
+}
+
+/// A customer display.
+#[derive(Debug, Clone, PartialEq, Eq)]
+pub struct DisplaySettings {
+    /// What it understands.
+    pub protocol: Protocol,
+    /// How long an order may take.
+    pub timeout: Duration,
+    /// How long to wait before a lost port is tried again.
+    pub pause: Duration,
+}
+
+impl Default for DisplaySettings {
+    fn default() -> DisplaySettings {
+        let (timeout, pause) = (Duration::from_secs(2), Duration::from_secs(1));
+        DisplaySettings { protocol: Protocol::Cd5220, timeout, pause }
+    }
+}
+
+/// A port that is opened again after it was lost, once a pause is over.
+#[derive(Debug)]
+struct Reopened {
+    cable: Cable,
+    pause: Duration,
+    tried_at: Option<Instant>,
+}
+
+impl Reopened {
+    fn new(port: Port, pause: Duration) -> Reopened {
+        Reopened { cable: Cable::new(port), pause, tried_at: None }
+    }
+
+    /// Opens the port, unless it is open or that was tried just now. Returns whether it was opened.
+    fn open(&mut self, time: Duration) -> bool {
+        if self.cable.is_open() || !is_over(self.tried_at, self.pause) {
+            return false;
+        }
+        let is_open = self.cable.open(time);
+        self.tried_at = Some(Instant::now());
+        is_open
+    }
+
+    /// Reads what has come.
+    fn read(&mut self) -> Vec<u8> {
+        let mut found = Vec::new();
+        let mut room = [0; 1024];
+        while self.cable.wait(false, Duration::ZERO).reading {
+            match self.cable.read(&mut room) {
+                Ok(count) if count > 0 => found.extend_from_slice(&room[..count]),
+                _ => break,
+            }
+        }
+        found
+    }
+}
+
+/// A customer display with CD5220 or ESC/POS. It shows characters: blinking and reverse ones as normal ones.
+///
+/// A display answers nothing, so an order counts as done once its bytes have left this machine. A display that was lost
+/// shows all its rows again with the next order.
+#[derive(Debug)]
+pub struct SerialDisplay {
+    port: Reopened,
+    settings: WireSettings,
+    timeout: Duration,
+    is_new: bool,
+}
+
+impl SerialDisplay {
+    /// Returns a driver for the display at a port, which opens it once it drives a device.
+    pub fn open(port: impl Into<Port>, settings: DisplaySettings) -> SerialDisplay {
+        let wire = WireSettings { protocol: settings.protocol as u32, ..WireSettings::default() };
+        let port = Reopened::new(port.into(), settings.pause);
+        SerialDisplay { port, settings: wire, timeout: settings.timeout, is_new: true }
+    }
+
+    fn shows(&mut self, bytes: &[u8], end: Instant) -> bool {
+        let mut sent = 0;
+        while sent < bytes.len() {
+            let left = end.saturating_duration_since(Instant::now());
+            if left.is_zero() {
+                return false;
+            }
+            let ready = self.port.cable.wait(true, left);
+            let found = if ready.reading { self.port.read().len() } else { 0 };
+            if ready.writing {
+                let Ok(count) = self.port.cable.write(&bytes[sent..]) else { return false };
+                sent += count;
+            } else if ready.reading && found == 0 {
+                std::thread::sleep(Duration::from_millis(1));
+            }
+            if !self.port.cable.is_open() {
+                return false;
+            }
+        }
+        self.port.cable.is_drained(end)
+    }
+}
+
+impl Driver for SerialDisplay {
+    fn category(&self) -> Category {
+        Category::LineDisplay
+    }
+
+    fn start(&mut self, _: &mut DriverTill<'_>, _: &str) -> Result<(), Error> {
+        if !self.port.cable.port.is_sound() {
+            return Err(Error::new("drive", Cause::BadSettings));
+        }
+        self.port.open(self.timeout);
+        Ok(())
+    }
+
+    fn is_online(&self) -> bool {
+        self.port.cable.is_open()
+    }
+
+    fn carry_out(&mut self, till: &mut DriverTill<'_>, _: &Order) -> bool {
+        let end = Instant::now() + self.timeout;
+        let Ok(bytes) = till.order_bytes(&self.settings, self.is_new, OrderEnd::Nothing) else { return false };
+        let is_done = self.shows(&bytes, end);
+        self.is_new = !is_done;
+        if !is_done {
+            // The display has a part of it.
+            self.port.cable.close();
+        }
+        is_done
+    }
+
+    fn poll(&mut self, _: &mut DriverTill<'_>) {
+        self.is_new |= self.port.open(QUICKLY);
+        // What a display says is of no use.
+        self.port.read();
+    }
+
+    fn file(&self) -> Option<RawFd> {
+        self.port.cable.file()
+    }
+}
+
+/// A scanner that sends each code with a terminator (CR, LF or both), or types it as a keyboard of the layout US.
+///
+/// An AIM identifier in front of a code, such as `]E0`, says which type it has; ScanDataLabel is the code without it.
+#[derive(Debug)]
+pub struct WedgeScanner {
+    port: Reopened,
+    kind: u64,
+    begun: Vec<u8>,
+    /// What of a key event has come, and whether the shift key is down.
+    events: Vec<u8>,
+    is_shifted: bool,
+    found: Vec<Scan>,
+}
+
+impl WedgeScanner {
+    /// Returns a driver for the scanner at a port, /dev/input/.. for a keyboard wedge. It opens it once it drives a
+    /// device, and looks for it each second after it was lost.
+    pub fn open(device: impl Into<Port>) -> WedgeScanner {
+        let port = Reopened::new(device.into(), Duration::from_secs(1));
+        WedgeScanner { port, kind: 0, begun: Vec::new(), events: Vec::new(), is_shifted: false, found: Vec::new() }
+    }
+
+    /// Makes this the type of a code without an identifier (ScanDataType), which is 0 (SCAN_SDT_UNKNOWN) otherwise.
+    pub fn with_kind(self, kind: u64) -> WedgeScanner {
+        WedgeScanner { kind, ..self }
+    }
+
+    /// Makes this how long to wait before a lost port is tried again.
+    pub fn with_pause(mut self, pause: Duration) -> WedgeScanner {
+        self.port.pause = pause;
+        self
+    }
+
+    fn end_code(&mut self) {
+        let data = std::mem::take(&mut self.begun);
+        // What is longer than any code is noise.
+        if !(1..=LONGEST_CODE).contains(&data.len()) {
+            return;
+        }
+        let (kind, front) = match &data[..] {
+            [b']', letter, digit, _, ..] => (kind_of(*letter, *digit), 3),
+            _ => (self.kind, 0),
+        };
+        let label = data[front..].to_vec();
+        self.found.push(Scan { kind, data, label });
+    }
+
+    fn add(&mut self, byte: u8) {
+        if self.begun.len() <= LONGEST_CODE {
+            self.begun.push(byte);
+        }
+    }
+
+    /// Takes key events of Linux: the time, a type, the key and whether it is down.
+    fn take_events(&mut self, bytes: &[u8]) {
+        const SIZE: usize = 24;
+        self.events.extend_from_slice(bytes);
+        let whole = self.events.len() / SIZE * SIZE;
+        let events: Vec<u8> = self.events.drain(..whole).collect();
+        for event in events.chunks(SIZE) {
+            let kind = u16::from_ne_bytes([event[16], event[17]]);
+            let key = usize::from(u16::from_ne_bytes([event[18], event[19]]));
+            let is_down = event[20..] != [0; 4];
+            match key {
+                _ if kind != 1 => {}
+                42 | 54 => self.is_shifted = is_down,
+                28 | 96 if is_down => self.end_code(),
+                _ if is_down => {
+                    let keys = if self.is_shifted { SHIFT_KEYS } else { PLAIN_KEYS };
+                    if let Some(byte) = key.checked_sub(2).and_then(|key| keys.get(key)).filter(|byte| **byte != 0) {
+                        self.add(*byte);
+                    }
+                }
+                _ => {}
+            }
+        }
+    }
+}
+
+/// The characters of the keys of the layout US from number 2 on, without and with shift; 0 is no character.
+const PLAIN_KEYS: &[u8] = b"1234567890-=\0\0qwertyuiop[]\0\0asdfghjkl;'`\0\\zxcvbnm,./\0\0\0 ";
+const SHIFT_KEYS: &[u8] = b"!@#$%^&*()_+\0\0QWERTYUIOP{}\0\0ASDFGHJKL:\"~\0|ZXCVBNM<>?\0\0\0 ";
+
+/// The type of a code by its AIM identifier; 501 is SCAN_SDT_OTHER.
+fn kind_of(letter: u8, digit: u8) -> u64 {
+    match (letter, digit) {
+        (b'E', b'4') => 103,
+        (b'o', b'1') => 121,
+        (b'o', b'2') => 122,
+        (b'A', _) => 108,
+        (b'C', _) => 110,
+        (b'E', _) => 104,
+        (b'F', _) => 107,
+        (b'G', _) => 109,
+        (b'I', _) => 106,
+        (b'L', _) => 201,
+        (b'Q', _) => 204,
+        (b'S', _) => 105,
+        (b'U', _) => 202,
+        (b'd', _) => 203,
+        (b'e', _) => 131,
+        (b'z', _) => 206,
+        _ => 501,
+    }
+}
+
+impl Driver for WedgeScanner {
+    fn category(&self) -> Category {
+        Category::Scanner
+    }
+
+    fn start(&mut self, till: &mut DriverTill<'_>, _: &str) -> Result<(), Error> {
+        if !self.port.cable.port.is_sound() {
+            return Err(Error::new("drive", Cause::BadSettings));
+        }
+        self.poll(till);
+        Ok(())
+    }
+
+    fn is_online(&self) -> bool {
+        self.port.cable.is_open()
+    }
+
+    fn poll(&mut self, _: &mut DriverTill<'_>) {
+        if self.port.open(QUICKLY) {
+            (self.begun, self.events, self.is_shifted) = (Vec::new(), Vec::new(), false);
+        }
+        let bytes = self.port.read();
+        if matches!(self.port.cable.port, Port::Keys(_)) {
+            self.take_events(&bytes);
+            return;
+        }
+        for byte in bytes {
+            match byte {
+                b'\r' | b'\n' => self.end_code(),
+                _ => self.add(byte),
+            }
+        }
+    }
+
+    fn scans(&mut self) -> Vec<Scan> {
+        std::mem::take(&mut self.found)
+    }
+
+    fn file(&self) -> Option<RawFd> {
+        self.port.cable.file()
+    }
+}

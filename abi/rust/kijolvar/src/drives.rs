@@ -1,0 +1,402 @@
+//! The devices that a till drives: orders are answered once their drivers have carried them out.
+use crate::devices::{Order, Work};
+use crate::drivers::{Driver, DriverTill, Scan};
+use crate::error::Cause;
+use crate::line::{is_name, value_of, Line};
+use crate::ports::wait_for_any;
+use crate::raw::*;
+use crate::standard::{library, Category};
+use crate::till::Inner;
+use std::collections::VecDeque;
+use std::time::{Duration, Instant};
+
+/// How the hardware of a driven device is ([`Till::driver_state`](crate::Till::driver_state)).
+#[derive(Debug, Clone, Copy, PartialEq, Eq)]
+#[non_exhaustive]
+pub struct DriverState {
+    /// Whether its port is open, and a printer answers.
+    pub is_online: bool,
+    /// How many orders a printer has printed after they had failed, and weren't asked for again. It had got them
+    /// before it stopped, and there is no command that takes them back.
+    pub late_orders: u64,
+}
+
+/// A device and its driver.
+struct Drive {
+    name: String,
+    category: Category,
+    /// Whether the till takes the device as switched on.
+    is_on: bool,
+    /// How many orders it has done since its paper was taken away.
+    orders: u32,
+    driver: Box<dyn Driver>,
+}
+
+impl Drive {
+    /// What has happened at the device, as lines of inputs. One that is back is on first.
+    fn inputs(&mut self, inner: &mut Inner) -> Vec<String> {
+        let line = |words: &str| format!("input {} {words}", self.name);
+        if !self.driver.is_online() {
+            let was_on = std::mem::replace(&mut self.is_on, false);
+            return if was_on { vec![line("power off")] } else { Vec::new() };
+        }
+        let mut lines: Vec<String> =
+            self.driver.happened(&mut DriverTill { inner }).iter().map(|words| line(words)).collect();
+        let on = line("power on");
+        if !self.is_on && !lines.contains(&on) {
+            lines.insert(0, on);
+        }
+        self.is_on = true;
+        lines
+    }
+}
+
+/// What a till has of its drivers.
+#[derive(Default)]
+pub(crate) struct Drives {
+    list: Vec<Drive>,
+    /// Orders of hosted devices that came before one of a driven device.
+    hosted: VecDeque<String>,
+    /// Whether lines of an earlier call are held, since there was no memory to go on with them.
+    pub(crate) is_holding: bool,
+    /// What was printed, and couldn't be reported for want of memory.
+    unreported: Option<Report>,
+    has_served: bool,
+    is_handing_in: bool,
+}
+
+impl Drives {
+    pub(crate) fn is_empty(&self) -> bool {
+        self.list.is_empty()
+    }
+
+    pub(crate) fn hosted_order(&mut self) -> Option<String> {
+        self.hosted.pop_front()
+    }
+}
+
+/// Of how many orders of a printer the till keeps the paper.
+const KEPT_ORDERS: u32 = 500;
+
+/// How often a call that found no memory is made again.
+const TRIES: u32 = 3;
+
+/// A report of an order: whether it is done, and what happened at the device if it isn't.
+struct Report {
+    is_done: bool,
+    inputs: Vec<String>,
+}
+
+impl Report {
+    fn not_done() -> Report {
+        Report { is_done: false, inputs: Vec::new() }
+    }
+}
+
+impl Inner {
+    /// Does something with the drives, which aren't in the till meanwhile.
+    fn with_drives<R>(&mut self, deed: impl FnOnce(&mut Inner, &mut Vec<Drive>) -> R) -> R {
+        let mut list = std::mem::take(&mut self.drives.list);
+        let done = deed(self, &mut list);
+        self.drives.list = list;
+        done
+    }
+
+    /// The bytes of the order that is out.
+    pub(crate) fn order_bytes(
+        &mut self,
+        settings: &crate::wire::WireSettings,
+        is_new: bool,
+        end: u32,
+    ) -> Result<Vec<u8>, Cause> {
+        let mut bytes = vec![0; 256];
+        loop {
+            let mut needed = 0;
+            let (till, out) = (self.at, &mut self.at.0);
+            // SAFETY: the pointer is the one that was written last, and the buffers are apart.
+            let code = unsafe {
+                let (room, at) = (bytes.len(), bytes.as_mut_ptr());
+                kijolvar_order_bytes(till, out, settings, is_new.into(), end, at, room, &mut needed)
+            };
+            match code {
+                library::OK => {
+                    bytes.truncate(needed);
+                    return Ok(bytes);
+                }
+                library::SHORT => bytes.resize(needed, 0),
+                library::NO_ORDER => return Err(Cause::NoOrder),
+                library::BAD_SETTINGS => return Err(Cause::BadSettings),
+                _ => return Err(Cause::NoMemory),
+            }
+        }
+    }
+
+    /// Does the errands, and makes a longer room, until the answer is in the till.
+    fn settled(&mut self, mut code: u32, needed: &mut usize) -> Result<u32, Cause> {
+        while matches!(code, library::ERRANDS | library::SHORT) {
+            if code == library::ERRANDS {
+                self.settle()?;
+            } else {
+                self.text.resize(*needed, 0);
+            }
+            code = self.answer(needed);
+        }
+        Ok(code)
+    }
+
+    /// The whole answer to lines, by the code of the call that began with them. The orders for which lines wait are
+    /// carried out meanwhile, or reported as failed if nobody wants the answer.
+    fn finish(&mut self, mut code: u32, mut needed: usize, is_wanted: bool) -> Result<Vec<u8>, Cause> {
+        let (mut parts, mut tries, mut is_told) = (Vec::new(), 0, false);
+        let mut report = self.drives.unreported.take();
+        let mut is_any_done = report.is_some();
+        loop {
+            code = self.settled(code, &mut needed)?;
+            let mut is_taken = true;
+            if code == library::NO_MEMORY {
+                // Lines are held. If they wait, the report wasn't taken. If this is said again, it was, and they go on.
+                code = self.answer(&mut needed);
+                code = self.settled(code, &mut needed)?;
+                tries += 1;
+                is_taken = code == library::NO_MEMORY;
+                if is_taken {
+                    report = None;
+                }
+                if code == library::OK || tries == TRIES {
+                    self.drives.is_holding = code != library::OK;
+                    // What was printed is reported the next time, and the call has no answer.
+                    self.drives.unreported = report.filter(|report| report.is_done);
+                    return Err(if is_any_done { Cause::NoAnswer } else { Cause::NoMemory });
+                }
+            }
+            match code {
+                library::OK | library::WAITS | library::NO_MEMORY => {}
+                library::CUT => return Err(Cause::NoAnswer),
+                _ => return Err(Cause::DiskFailed),
+            }
+            if is_taken {
+                let count = report.as_ref().map_or(0, |report| report.inputs.len());
+                if is_told {
+                    report = None;
+                }
+                // The answers of the inputs are first.
+                let text = self.text[..needed].split_inclusive(|byte| *byte == b'\n').skip(count);
+                parts.extend(text.flatten());
+            }
+            if code == library::OK {
+                return Ok(parts);
+            }
+            if code == library::NO_MEMORY {
+                report = Some(Report::not_done());
+            }
+            let made = match report.take() {
+                Some(report) => report,
+                None => self.serve(is_wanted)?,
+            };
+            is_any_done |= made.is_done;
+            code = self.tell(&made, &mut needed);
+            is_told = true;
+            report = Some(made);
+        }
+    }
+
+    fn tell(&mut self, report: &Report, needed: &mut usize) -> u32 {
+        let inputs: String = report.inputs.iter().flat_map(|line| [line, "\n"]).collect();
+        let (till, out) = (self.at, &mut self.at.0);
+        // SAFETY: the pointer is the one that was written last, and the buffers are apart.
+        unsafe {
+            let (text, room) = (self.text.as_mut_ptr(), self.text.len());
+            let outcome = u32::from(!report.is_done);
+            kijolvar_order_done(till, out, outcome, inputs.as_ptr(), inputs.len(), text, room, needed)
+        }
+    }
+
+    /// Takes out the order for which a line waits. Those of hosted devices before it are kept.
+    fn driven_order(&mut self) -> Result<Option<String>, Cause> {
+        while let Some(line) = self.taken_out()? {
+            let name = line.split(' ').next().unwrap_or("");
+            if self.drives.list.iter().any(|drive| drive.name == name) {
+                return Ok(Some(line));
+            }
+            self.drives.hosted.push_back(line);
+        }
+        Ok(None)
+    }
+
+    /// Has the order that waits carried out.
+    fn serve(&mut self, is_wanted: bool) -> Result<Report, Cause> {
+        let found = self.driven_order().inspect_err(|_| self.drives.is_holding = true)?;
+        // An order that was taken out before, and wasn't reported, is no more.
+        let (Some(line), true) = (found, is_wanted) else { return Ok(Report::not_done()) };
+        self.drives.has_served = true;
+        let Some(order) = Order::read(&line) else { return Ok(Report::not_done()) };
+        let name = line.split(' ').next().unwrap_or("").to_string();
+        Ok(self.with_drives(|inner, list| {
+            let Some(drive) = list.iter_mut().find(|drive| drive.name == name) else { return Report::not_done() };
+            if drive.driver.is_online() && drive.driver.carry_out(&mut DriverTill { inner }, &order) {
+                drive.orders += 1;
+                return Report { is_done: true, inputs: Vec::new() };
+            }
+            Report { is_done: false, inputs: drive.inputs(inner) }
+        }))
+    }
+
+    /// What is left to do where a driven till's call isn't done: the whole answer.
+    pub(crate) fn served(&mut self, code: u32, needed: usize) -> Result<Vec<u8>, Cause> {
+        let found = self.finish(code, needed, true)?;
+        if std::mem::take(&mut self.drives.has_served) {
+            // What isn't handed in now is the next time.
+            let _ = self.hand_in();
+        }
+        Ok(found)
+    }
+
+    /// Ends lines of an earlier call that are held: their orders failed, and nobody wants the answer.
+    pub(crate) fn give_up_held(&mut self) {
+        self.drives.is_holding = false;
+        let mut needed = 0;
+        let code = self.answer(&mut needed);
+        let _ = self.finish(code, needed, false);
+    }
+
+    /// Tells the till what has happened at the devices, and returns whether anything has.
+    pub(crate) fn hand_in(&mut self) -> Result<bool, Cause> {
+        if std::mem::replace(&mut self.drives.is_handing_in, true) {
+            return Ok(false);
+        }
+        let found = self.hand_in_all();
+        self.drives.is_handing_in = false;
+        found
+    }
+
+    fn hand_in_all(&mut self) -> Result<bool, Cause> {
+        let mut is_any = false;
+        for place in 0..self.drives.list.len() {
+            let drive = &self.drives.list[place];
+            if drive.category == Category::PosPrinter && drive.orders >= KEPT_ORDERS {
+                let name = drive.name.clone();
+                self.tear_off(&name)?;
+                self.drives.list[place].orders = 0;
+            }
+            let inputs = self.with_drives(|inner, list| list[place].inputs(inner));
+            if inputs.is_empty() {
+                continue;
+            }
+            let lines: String = inputs.iter().flat_map(|line| [line, "\n"]).collect();
+            for answer in self.carry_out(lines.as_bytes())?.lines() {
+                value_of(answer, None)?;
+            }
+            is_any = true;
+        }
+        Ok(is_any)
+    }
+
+    /// Takes the printed paper of a device away.
+    pub(crate) fn tear_off(&mut self, device: &str) -> Result<(), Cause> {
+        let till = self.at;
+        // SAFETY: the pointer is the one that was written last, and the name is lent for the call.
+        match unsafe { kijolvar_tear_off(till, &mut self.at.0, device.as_ptr(), device.len()) } {
+            library::OK => Ok(()),
+            library::NO_DEVICE => Err(Cause::NoDevice),
+            _ => Err(Cause::NoMemory),
+        }
+    }
+
+    /// What a device is, by what `show` prints of it.
+    fn category_of(&mut self, device: &str) -> Result<Category, Cause> {
+        let text = self.ask(&Line::new("show").name(device))?;
+        let words: Vec<&str> = value_of(&text, None)?.split(' ').collect();
+        Ok(match words[..] {
+            [""] => Category::Scanner,
+            ["open" | "closed"] => Category::CashDrawer,
+            ["open" | "closed", ..] => Category::PosPrinter,
+            _ => Category::LineDisplay,
+        })
+    }
+
+    /// Has a driver carry out the orders of a device from now on.
+    pub(crate) fn drive(&mut self, device: &str, driver: Box<dyn Driver>) -> Result<(), Cause> {
+        if !is_name(device) {
+            return Err(Cause::BadArgument);
+        }
+        if self.drives.list.iter().any(|drive| drive.name == device) {
+            return Err(Cause::Driven);
+        }
+        let category = self.category_of(device)?;
+        if category != driver.category() {
+            return Err(Cause::KindDiffers);
+        }
+        let mut drive = Drive { name: device.to_string(), category, is_on: true, orders: 0, driver };
+        drive.driver.start(&mut DriverTill { inner: self }, device).map_err(|error| error.into_cause())?;
+        if category != Category::Scanner {
+            let till = self.at;
+            // SAFETY: the pointer is the one that was written last, and the name is lent for the call.
+            match unsafe { kijolvar_drive(till, &mut self.at.0, device.as_ptr(), device.len()) } {
+                library::OK => {}
+                library::NO_MEMORY => return Err(Cause::NoMemory),
+                _ => return Err(Cause::NoDevice),
+            }
+        }
+        self.drives.list.push(drive);
+        // What isn't handed in now is the next time.
+        let _ = self.hand_in();
+        Ok(())
+    }
+
+    pub(crate) fn driver_state(&self, device: &str) -> Result<DriverState, Cause> {
+        let drive = self.drives.list.iter().find(|drive| drive.name == device).ok_or(Cause::NoDevice)?;
+        Ok(DriverState { is_online: drive.driver.is_online(), late_orders: drive.driver.late_orders() })
+    }
+
+    /// Does what the devices need, and waits for something to do as long as it may. Returns whether anything was done.
+    pub(crate) fn run_devices(&mut self, timeout: Duration) -> Result<bool, Cause> {
+        let end = Instant::now() + timeout;
+        loop {
+            if self.drives.is_empty() || self.run_round()? {
+                return Ok(!self.drives.is_empty());
+            }
+            let left = end.saturating_duration_since(Instant::now());
+            if left.is_zero() {
+                return Ok(false);
+            }
+            let mut files: Vec<_> = self.drives.list.iter().filter_map(|drive| drive.driver.file()).collect();
+            files.dedup();
+            wait_for_any(&files, left.min(Duration::from_millis(100)));
+        }
+    }
+
+    fn run_round(&mut self) -> Result<bool, Cause> {
+        let mut scans: Vec<(String, Scan)> = Vec::new();
+        self.with_drives(|inner, list| {
+            for drive in list {
+                drive.driver.poll(&mut DriverTill { inner });
+                scans.extend(drive.driver.scans().into_iter().map(|scan| (drive.name.clone(), scan)));
+            }
+        });
+        let mut is_any = self.hand_in()? || !scans.is_empty();
+        for (device, scan) in scans {
+            let line = Line::new("input").name(&device).word("scan").number(scan.kind);
+            value_of(&self.ask(&line.bytes(&scan.data).bytes(&scan.label))?, None)?;
+        }
+        for place in 0..self.drives.list.len() {
+            let drive = &self.drives.list[place];
+            if drive.category == Category::PosPrinter {
+                let line = Line::new("work").name(&drive.name);
+                is_any |= self.work_off(&line)?;
+            }
+        }
+        Ok(is_any)
+    }
+
+    /// Works off the output that waits, until nothing waits or a request fails. Returns whether there was any.
+    fn work_off(&mut self, line: &Line) -> Result<bool, Cause> {
+        let mut is_any = false;
+        loop {
+            match Work::read(&self.ask(line)?)? {
+                Work::Idle => return Ok(is_any),
+                Work::Done { .. } => is_any = true,
+                Work::Failed { .. } => return Ok(true),
+            }
+        }
+    }
+}

@@ -1,0 +1,816 @@
+//! The line to a receipt printer: what is sent, what has been acknowledged, and what the printer says of itself. The
+//! bytes of orders and the meaning of replies are the library's.
+use crate::drivers::{DriverTill, OrderEnd};
+use crate::ports::{Cable, Lost, Port};
+use crate::wire::{Asked, WireSettings};
+use std::collections::VecDeque;
+use std::time::{Duration, Instant, SystemTime, UNIX_EPOCH};
+
+/// What is sent while no order is out. Zero bytes do nothing, and end a command that an earlier connection has begun.
+const START: &[u8] = b"\0\0\0\0\0\0\0\0\0\0\0\0\x1b@\x1da\xff";
+const ASKED_START: &[u8] = b"\0\0\0\0\0\0\0\0\0\0\0\0\x1b@\x1da\0";
+const REFRESH: &[u8] = b"\x1da\xff";
+/// How many bytes ask for an acknowledgement: GS ( H, or GS r.
+const JOB_SIZE: usize = 11;
+const QUESTION_SIZE: usize = 3;
+/// How much goes out at once, how many pieces of an order may be due, and how many bytes of no use are kept.
+const ENOUGH: usize = 2048;
+const DUE_OF_JOB: usize = 32;
+const MOST_KEPT: usize = 1024;
+/// How long a lost port may take to open while other devices wait, and how often a printer is asked.
+pub(crate) const QUICKLY: Duration = Duration::from_millis(250);
+const OFTEN: Duration = Duration::from_millis(100);
+
+/// The questions of DLE EOT that are asked one after the other: the printer, why it is offline, its paper.
+const QUESTIONS: [Asked; 3] = [Asked::Printer, Asked::OfflineCause, Asked::Paper];
+
+/// A reply that tells how the printer is, and what was asked.
+#[derive(Debug, Clone)]
+pub(crate) struct Told {
+    pub(crate) bytes: Vec<u8>,
+    pub(crate) asked: Asked,
+}
+
+#[derive(Debug, Clone, Copy, PartialEq, Eq, Default)]
+enum Paper {
+    #[default]
+    Unknown,
+    Good,
+    Near,
+    Empty,
+}
+
+/// What a printer says of itself.
+#[derive(Debug, Clone, Copy, PartialEq, Eq, Default)]
+struct Signs {
+    is_offline: bool,
+    is_cover_open: bool,
+    has_fault: bool,
+    is_pin_high: bool,
+    paper: Paper,
+}
+
+impl Signs {
+    /// Takes over what a `status` line says.
+    fn hear(&mut self, line: &str) {
+        let words: Vec<&str> = line.split(' ').collect();
+        for pair in words[1..].chunks(2) {
+            match pair {
+                ["pin", level] => self.is_pin_high = *level == "high",
+                ["offline", answer] => self.is_offline = *answer == "yes",
+                ["cover", state] => self.is_cover_open = *state == "open",
+                ["fault", answer] => self.has_fault = *answer == "yes",
+                ["paper", "good"] => self.paper = Paper::Good,
+                ["paper", "near"] => self.paper = Paper::Near,
+                ["paper", "empty"] => self.paper = Paper::Empty,
+                _ => {}
+            }
+        }
+    }
+}
+
+/// An order on its way to the paper, piece by piece: a line, a cut or a pulse. One without any is one empty piece, so
+/// that the printer is asked. Places are in its bytes.
+#[derive(Debug, Default)]
+struct Job {
+    number: u64,
+    bytes: Vec<u8>,
+    /// Up to where it was sent, and is printed as far as is known.
+    sent: usize,
+    done: usize,
+    is_all_sent: bool,
+    is_done: bool,
+    /// Pieces were lost, and later ones may have been printed.
+    is_torn: bool,
+    /// Whether it is for the paper, where the same order mustn't be twice.
+    is_once: bool,
+}
+
+/// Bytes that were sent, or are being sent, and that the printer hasn't acknowledged.
+#[derive(Debug)]
+struct Parcel {
+    number: u16,
+    /// The port's turn in which they were sent.
+    turn: u32,
+    /// The job, or 0, and which of its bytes they are.
+    job: u64,
+    from: usize,
+    to: usize,
+    is_last: bool,
+    is_torn: bool,
+    /// Whether they are for the paper.
+    is_once: bool,
+    /// Where they begin in all that was ever put out.
+    place: u64,
+}
+
+/// What is waited for.
+#[derive(Debug, Clone, Copy, PartialEq, Eq)]
+enum Until {
+    /// The order is printed or torn, or the printer has stopped.
+    Printed,
+    /// The order is printed, or nothing of it is due any more, or the printer has stopped.
+    Settled,
+    /// Nothing is due, or the printer has stopped.
+    NoneDue,
+    /// The first status has come.
+    Known,
+}
+
+/// The line to a printer, which acknowledges in order what it has printed.
+#[derive(Debug)]
+pub(crate) struct Link {
+    pub(crate) cable: Cable,
+    timeout: Duration,
+    pause: Duration,
+    /// Whether it says nothing by itself: it is asked. Its acknowledgements have no number.
+    is_asked: bool,
+    /// The device and the settings by which its replies are read.
+    pub(crate) device: String,
+    pub(crate) settings: WireSettings,
+    pub(crate) is_begun: bool,
+    /// The order that failed last, or is out; and a pulse for the drawer.
+    paper: Option<Job>,
+    pulse: Option<Job>,
+    jobs: u64,
+    end: Vec<u8>,
+    number: u16,
+    due: VecDeque<Parcel>,
+    /// What goes out, what of it has, and what goes out next that nothing acknowledges.
+    out: Vec<u8>,
+    out_sent: usize,
+    put_out: u64,
+    control: Vec<u8>,
+    /// What has come.
+    got: Vec<u8>,
+    pub(crate) told: Vec<Told>,
+    signs: Signs,
+    pub(crate) statuses: u64,
+    pub(crate) late: u64,
+    is_there: bool,
+    has_answered: bool,
+    was_silent: bool,
+    is_refreshing: bool,
+    asked_at: Option<Instant>,
+    heard_at: Option<Instant>,
+    tried_at: Option<Instant>,
+    refreshed_at: Option<Instant>,
+    /// Of one that is asked: the question that is out, when it was put, and what was heard.
+    question: usize,
+    is_asking: bool,
+    questioned_at: Option<Instant>,
+    heard: Vec<Told>,
+    hearing: Signs,
+    rounds: u32,
+}
+
+/// Whether a time is over, which begins at an instant; it is if that never was.
+pub(crate) fn is_over(since: Option<Instant>, time: Duration) -> bool {
+    since.is_none_or(|since| since.elapsed() >= time)
+}
+
+/// A number of a job. A printer may still acknowledge jobs of a host that has ended, which shouldn't have the numbers
+/// of these.
+fn first_number() -> u16 {
+    let now = SystemTime::now().duration_since(UNIX_EPOCH).unwrap_or_default();
+    (now.subsec_nanos() >> 8) as u16
+}
+
+impl Link {
+    pub(crate) fn new(port: Port, timeout: Duration, pause: Duration, is_asked: bool) -> Link {
+        Link {
+            cable: Cable::new(port),
+            timeout,
+            pause,
+            is_asked,
+            device: String::new(),
+            settings: WireSettings::default(),
+            is_begun: false,
+            paper: None,
+            pulse: None,
+            jobs: 0,
+            end: Vec::new(),
+            number: first_number(),
+            due: VecDeque::new(),
+            out: Vec::new(),
+            out_sent: 0,
+            put_out: 0,
+            control: Vec::new(),
+            got: Vec::new(),
+            told: Vec::new(),
+            signs: Signs::default(),
+            statuses: 0,
+            late: 0,
+            is_there: false,
+            has_answered: false,
+            was_silent: false,
+            is_refreshing: false,
+            asked_at: None,
+            heard_at: None,
+            tried_at: None,
+            refreshed_at: None,
+            question: 0,
+            is_asking: false,
+            questioned_at: None,
+            heard: Vec::new(),
+            hearing: Signs::default(),
+            rounds: 0,
+        }
+    }
+
+    /// Whether the port is open and the printer answers.
+    pub(crate) fn is_online(&self) -> bool {
+        self.cable.is_open() && self.is_there
+    }
+
+    /// Whether the printer's sensors see enough paper.
+    pub(crate) fn has_paper(&self) -> bool {
+        self.signs.paper == Paper::Good
+    }
+
+    /// Whether the printer has said that it prints nothing now, and why.
+    fn is_stopped(&self) -> bool {
+        let signs = &self.signs;
+        let has_cause = signs.is_cover_open || signs.has_fault || signs.paper == Paper::Empty;
+        !self.told.is_empty() && signs.is_offline && has_cause
+    }
+
+    fn put_start(&mut self) {
+        self.control.extend_from_slice(if self.is_asked { ASKED_START } else { START });
+    }
+
+    fn put_refresh(&mut self) {
+        if !self.is_asked {
+            self.control.extend_from_slice(REFRESH);
+        }
+    }
+
+    fn is_idle(&self) -> bool {
+        self.out_sent == self.out.len() && self.control.is_empty()
+    }
+
+    /// Puts a question of DLE EOT.
+    fn put_question(&mut self, question: usize) {
+        self.question = question;
+        self.control.extend_from_slice(&[0x10, 0x04, QUESTIONS[question] as u8]);
+    }
+
+    /// Asks a printer that says nothing by itself how it is.
+    fn ask_on(&mut self) {
+        let time = if self.is_asking { self.timeout } else { OFTEN };
+        if self.is_asked && self.is_idle() && is_over(self.questioned_at, time) {
+            self.questioned_at = Some(Instant::now());
+            self.is_asking = true;
+            self.put_question(0);
+        }
+    }
+
+    /// Asks whether the printer is there.
+    fn ask(&mut self) {
+        self.asked_at = Some(Instant::now());
+        if self.is_asked {
+            self.ask_on();
+        } else {
+            self.put_question(0);
+        }
+    }
+
+    // Jobs and parcels.
+
+    /// The job of a number, if it is still known.
+    fn job_of(&mut self, number: u64) -> Option<&mut Job> {
+        [&mut self.paper, &mut self.pulse].into_iter().flatten().find(|job| job.number == number)
+    }
+
+    fn due_of(&self, number: u64) -> usize {
+        self.due.iter().filter(|parcel| parcel.job == number).count()
+    }
+
+    /// The job of the order that is out.
+    fn current(&mut self, is_once: bool) -> &mut Job {
+        let job = if is_once { &mut self.paper } else { &mut self.pulse };
+        job.get_or_insert_default()
+    }
+
+    /// Puts bytes and the question for their acknowledgement out.
+    fn send(&mut self, bytes: &[u8], mut parcel: Parcel) {
+        self.number = self.number.wrapping_add(1);
+        (parcel.number, parcel.turn, parcel.place) = (self.number, self.cable.turns, self.put_out);
+        let begun = self.out.len();
+        self.out.extend_from_slice(bytes);
+        self.out.extend_from_slice(&self.end);
+        if !self.is_asked {
+            // The library's question has the number in its last four bytes, a digit of sixteen in each.
+            let digits = self.out.len() - 4;
+            for place in 0..4 {
+                self.out[digits + place] = 0x40 | (self.number >> (12 - 4 * place) & 15) as u8;
+            }
+        }
+        self.put_out += (self.out.len() - begun) as u64;
+        self.due.push_back(parcel);
+    }
+
+    /// Puts out what comes next, once nothing is left of what went out before: what nothing acknowledges, and then
+    /// pieces of the order that is posted.
+    fn fill(&mut self, posting: Option<bool>) {
+        if self.out_sent < self.out.len() {
+            return;
+        }
+        self.out.clear();
+        self.out_sent = 0;
+        self.put_out += self.control.len() as u64;
+        self.out.append(&mut self.control);
+        let Some(is_once) = posting else { return };
+        while self.out.len() < ENOUGH {
+            let number = self.current(is_once).number;
+            if self.current(is_once).is_all_sent || self.due_of(number) >= DUE_OF_JOB {
+                return;
+            }
+            let job = self.current(is_once);
+            let (from, to) = (job.sent, piece_end(&job.bytes, job.sent));
+            let piece = job.bytes[from..to].to_vec();
+            (job.sent, job.is_all_sent) = (to, to == job.bytes.len());
+            let (is_last, is_once) = (job.is_all_sent, job.is_once && !job.bytes.is_empty());
+            let parcel =
+                Parcel { number: 0, turn: 0, job: number, from, to, is_last, is_torn: false, is_once, place: 0 };
+            self.send(&piece, parcel);
+        }
+    }
+
+    /// Takes back what hasn't begun to go out.
+    fn take_back(&mut self) {
+        let begun = self.put_out - (self.out.len() - self.out_sent) as u64;
+        while let Some(last) = self.due.back() {
+            if last.place < begun || last.turn != self.cable.turns {
+                return;
+            }
+            let (job, from, place) = (last.job, last.from, last.place);
+            if let Some(job) = self.job_of(job) {
+                (job.sent, job.is_all_sent) = (from, false);
+            }
+            self.out.truncate(self.out.len() - (self.put_out - place) as usize);
+            self.put_out = place;
+            self.due.pop_back();
+        }
+    }
+
+    /// Everything up to the parcel at this place is printed or lost.
+    fn acknowledge(&mut self, last: usize) {
+        let turn = self.due[last].turn;
+        for place in 0..=last {
+            let Some(parcel) = self.due.pop_front() else { return };
+            if parcel.job == 0 {
+                continue;
+            }
+            // Bytes are lost only together with the port, if it is a reliable one.
+            let is_sure = place == last || self.cable.port.is_reliable() && parcel.turn == turn;
+            if is_sure && !parcel.is_torn && !self.job_of(parcel.job).is_some_and(|job| job.is_torn) {
+                self.print(&parcel);
+            } else {
+                self.tear(parcel.job);
+            }
+        }
+    }
+
+    /// What a parcel is of is printed.
+    fn print(&mut self, parcel: &Parcel) {
+        if let Some(job) = self.job_of(parcel.job) {
+            job.done = job.done.max(parcel.to);
+            job.is_done |= parcel.is_last;
+        } else if parcel.is_last && parcel.is_once {
+            self.late += 1;
+        }
+    }
+
+    /// Bytes of an order were lost.
+    fn tear(&mut self, number: u64) {
+        if let Some(job) = self.job_of(number) {
+            job.is_torn = true;
+        }
+        for parcel in self.due.iter_mut().filter(|parcel| parcel.job == number) {
+            parcel.is_torn = true;
+        }
+    }
+
+    // What comes.
+
+    /// The printer answers again. It may have been off, if the port stays then, and says no status by itself.
+    fn come_back(&mut self) {
+        if !self.cable.port.is_reliable() {
+            self.put_start();
+        } else if self.has_answered {
+            self.put_refresh();
+        }
+        (self.is_there, self.has_answered, self.was_silent) = (true, true, false);
+    }
+
+    /// The printer has answered something.
+    fn answered(&mut self) {
+        self.asked_at = None;
+        self.heard_at = Some(Instant::now());
+        if self.was_silent || !self.is_there {
+            self.come_back();
+        }
+    }
+
+    /// A reply of a printer that says by itself how it is. Its automatic status alone tells of cover and paper at once.
+    fn take_reply(&mut self, line: &str, told: Told) {
+        self.answered();
+        if let Some(number) = line.strip_prefix("job ") {
+            let number = number.parse().ok();
+            if let Some(place) = self.due.iter().position(|parcel| Some(parcel.number) == number) {
+                self.acknowledge(place);
+            }
+        } else if line.starts_with("status") && line.contains(" cover ") && line.contains(" paper ") {
+            self.signs.hear(line);
+            self.told = vec![told];
+            self.is_refreshing = false;
+            self.statuses += 1;
+        }
+    }
+
+    /// A reply of a printer that is asked, which is a byte.
+    fn take_answer(&mut self, line: &str, told: Told) {
+        self.answered();
+        if told.asked == Asked::PaperInOrder {
+            self.acknowledge(0);
+            return;
+        }
+        self.is_asking = false;
+        if self.question == 0 {
+            self.heard.clear();
+        }
+        self.heard.push(told);
+        self.hearing.hear(line);
+        if self.question + 1 < QUESTIONS.len() {
+            self.is_asking = true;
+            self.put_question(self.question + 1);
+            return;
+        }
+        self.rounds += 1;
+        // Together they say what an automatic status would.
+        if self.told.is_empty() || self.hearing != self.signs {
+            (self.signs, self.told) = (self.hearing, self.heard.clone());
+            self.statuses += 1;
+        }
+    }
+
+    /// Reads a byte as the answer to the question that is out, or as an acknowledgement.
+    fn take_byte(&mut self, till: &mut DriverTill<'_>, byte: u8) {
+        let question = self.is_asking.then_some(QUESTIONS[self.question]);
+        let due = (!self.due.is_empty()).then_some(Asked::PaperInOrder);
+        for asked in [question, due].into_iter().flatten() {
+            let Ok(reply) = till.reply(&self.device, &self.settings, asked, &[byte]) else { return };
+            if let Some(line) = reply.lines.last() {
+                self.take_answer(line, Told { bytes: vec![byte], asked });
+                return;
+            }
+        }
+    }
+
+    /// Reads the first reply in what has come, and forgets the bytes that it used. Returns whether any were used.
+    fn take_first(&mut self, till: &mut DriverTill<'_>) -> bool {
+        let asked = if self.asked_at.is_some() { Asked::Printer } else { Asked::Nothing };
+        let Ok(reply) = till.reply(&self.device, &self.settings, asked, &self.got) else { return false };
+        if reply.used == 0 || reply.used > self.got.len() {
+            return false;
+        }
+        let used: Vec<u8> = self.got.drain(..reply.used).collect();
+        if let Some(line) = reply.lines.last() {
+            // What isn't the reply was skipped before it.
+            self.take_reply(line, Told { bytes: used[reply.skipped.min(used.len())..].to_vec(), asked });
+        }
+        true
+    }
+
+    /// Reads once, and returns whether anything came.
+    fn read_some(&mut self, till: &mut DriverTill<'_>) -> Result<bool, Lost> {
+        let mut room = [0; MOST_KEPT];
+        let count = self.cable.read(&mut room)?;
+        if self.is_asked {
+            for byte in &room[..count] {
+                self.take_byte(till, *byte);
+            }
+        } else {
+            // Bytes that the library couldn't read for so long are no reply.
+            if self.got.len() >= MOST_KEPT {
+                self.got.clear();
+            }
+            self.got.extend_from_slice(&room[..count]);
+            while !self.got.is_empty() && self.take_first(till) {}
+        }
+        Ok(count > 0)
+    }
+
+    /// Reads what has come.
+    fn receive(&mut self, till: &mut DriverTill<'_>) -> Result<(), Lost> {
+        while self.cable.wait(false, Duration::ZERO).reading && self.read_some(till)? {}
+        Ok(())
+    }
+
+    /// Sends what there is room for.
+    fn write_some(&mut self) -> Result<(), Lost> {
+        self.out_sent += self.cable.write(&self.out[self.out_sent..])?;
+        Ok(())
+    }
+
+    fn is_reached(&mut self, until: Until) -> bool {
+        let is_stopped = self.is_stopped();
+        let job = self.paper.as_ref().filter(|job| job.is_once);
+        match until {
+            Until::Printed => is_stopped || job.is_some_and(|job| job.is_done || job.is_torn),
+            Until::Settled => is_stopped || job.is_some_and(|job| job.is_done || self.due_of(job.number) == 0),
+            Until::NoneDue => is_stopped || self.due.is_empty(),
+            Until::Known => !self.told.is_empty(),
+        }
+    }
+
+    /// Whether a pulse has gone, or is torn.
+    fn is_pulsed(&self) -> bool {
+        self.is_stopped() || self.pulse.as_ref().is_some_and(|job| job.is_done || job.is_torn)
+    }
+
+    /// Sends and reads until something is so, or the time is over. What is posted is the paper's order, or a pulse.
+    fn pump(
+        &mut self,
+        till: &mut DriverTill<'_>,
+        until: Until,
+        posting: Option<bool>,
+        end: Instant,
+    ) -> Result<(), Lost> {
+        while !(if posting == Some(false) { self.is_pulsed() } else { self.is_reached(until) }) {
+            let left = end.saturating_duration_since(Instant::now());
+            if left.is_zero() {
+                return Ok(());
+            }
+            self.ask_on();
+            self.fill(posting);
+            let ready = self.cable.wait(self.out_sent < self.out.len(), left.min(OFTEN));
+            let is_any = ready.reading && self.read_some(till)?;
+            if ready.writing {
+                self.write_some()?;
+            } else if ready.reading && !is_any {
+                std::thread::sleep(left.min(OFTEN));
+            }
+        }
+        Ok(())
+    }
+
+    // The port.
+
+    /// What is due is lost.
+    fn lose_due(&mut self) {
+        for parcel in std::mem::take(&mut self.due) {
+            if let Some(job) = self.job_of(parcel.job) {
+                job.is_torn = true;
+            }
+        }
+    }
+
+    fn forget(&mut self) {
+        self.take_back();
+        self.out.clear();
+        self.out_sent = 0;
+        self.control.clear();
+        self.got.clear();
+        (self.is_there, self.has_answered, self.was_silent, self.is_refreshing) = (false, false, false, false);
+        self.asked_at = None;
+        self.told.clear();
+        self.signs = Signs::default();
+        if self.is_asked {
+            // Acknowledgements without a number can't be told from those of another connection.
+            self.lose_due();
+            self.hearing = Signs::default();
+            self.is_asking = false;
+            self.questioned_at = None;
+        }
+    }
+
+    /// The port was lost, with what wasn't sent. What was sent may still be acknowledged over the next one.
+    fn lose(&mut self) {
+        self.cable.close();
+        self.forget();
+    }
+
+    fn connect(&mut self, time: Duration) {
+        let is_open = self.cable.open(time);
+        self.tried_at = Some(Instant::now());
+        if is_open {
+            self.forget();
+            self.put_start();
+            self.ask();
+        }
+    }
+
+    /// Opens the port, and waits for the printer's first status as long as for an order; unless that was done already.
+    pub(crate) fn start(&mut self, till: &mut DriverTill<'_>) {
+        if std::mem::replace(&mut self.is_begun, true) {
+            return;
+        }
+        let end = Instant::now() + self.timeout;
+        self.connect(self.timeout);
+        if self.cable.is_open() && self.pump(till, Until::Known, None, end).is_err() {
+            self.lose();
+        }
+    }
+
+    /// Asks a printer that has said nothing for a time, and one that says that it can't print, for more.
+    fn look_after(&mut self) {
+        let is_late = self.asked_at.is_some_and(|asked_at| asked_at.elapsed() > self.timeout);
+        if is_late {
+            self.is_there = false;
+            self.told.clear();
+            self.signs = Signs::default();
+        }
+        let is_heard = self.is_there && !is_over(self.heard_at, self.timeout);
+        if !is_heard && (self.asked_at.is_none() || is_late) && self.is_idle() {
+            self.ask();
+        }
+        if self.is_stopped() && !self.is_refreshing && is_over(self.refreshed_at, self.pause) && self.is_idle() {
+            self.is_refreshing = true;
+            self.refreshed_at = Some(Instant::now());
+            self.put_refresh();
+        }
+        self.ask_on();
+    }
+
+    fn look(&mut self, till: &mut DriverTill<'_>) -> Result<(), Lost> {
+        self.receive(till)?;
+        self.look_after();
+        self.fill(None);
+        if self.out_sent < self.out.len() && self.cable.wait(true, Duration::ZERO).writing {
+            self.write_some()?;
+        }
+        Ok(())
+    }
+
+    /// Reads what has come and sends what is left, without waiting. A port that was lost is opened again.
+    pub(crate) fn poll(&mut self, till: &mut DriverTill<'_>) {
+        if !self.cable.is_open() {
+            if is_over(self.tried_at, self.pause) {
+                self.connect(self.timeout.min(QUICKLY));
+            }
+        } else if self.look(till).is_err() {
+            self.lose();
+        }
+    }
+
+    // Orders.
+
+    /// Waits for acknowledgements that are late, where they can be lost. They are if none comes for the whole time,
+    /// although the printer says that it can print.
+    fn give_up(&mut self, till: &mut DriverTill<'_>, end: Instant) -> Result<(), Lost> {
+        let (count, rounds) = (self.due.len(), self.rounds);
+        if !self.is_asked || self.cable.port.is_reliable() || count == 0 {
+            return Ok(());
+        }
+        self.pump(till, Until::NoneDue, None, end)?;
+        if self.due.len() == count && self.rounds > rounds + 1 && !self.is_stopped() {
+            self.lose_due();
+        }
+        Ok(())
+    }
+
+    fn new_job(&mut self, bytes: Vec<u8>, is_once: bool) -> Job {
+        self.jobs += 1;
+        Job { number: self.jobs, bytes, is_once, ..Job::default() }
+    }
+
+    /// Asks for an acknowledgement of all that was sent before.
+    fn put_marker(&mut self) {
+        // One that nobody has answered yet is of no use any more.
+        if self.due.back().is_some_and(|last| last.job == 0) {
+            self.due.pop_back();
+        }
+        let parcel = Parcel {
+            number: 0,
+            turn: 0,
+            job: 0,
+            from: 0,
+            to: 0,
+            is_last: false,
+            is_torn: false,
+            is_once: false,
+            place: 0,
+        };
+        self.send(&[], parcel);
+    }
+
+    /// Takes up the order that is out: the one that failed if it is the same, where that one has come to.
+    fn take_up(&mut self, till: &mut DriverTill<'_>, bytes: Vec<u8>, is_once: bool, end: Instant) -> Result<(), Lost> {
+        self.give_up(till, end)?;
+        if !is_once {
+            self.pulse = Some(self.new_job(bytes, false));
+            return Ok(());
+        }
+        let number = match &self.paper {
+            Some(job) if job.bytes == bytes => job.number,
+            other => {
+                // It was printed after it had failed, and isn't asked for again.
+                self.late += u64::from(other.as_ref().is_some_and(|job| job.is_done && !job.bytes.is_empty()));
+                self.paper = Some(self.new_job(bytes, true));
+                return Ok(());
+            }
+        };
+        if self.due_of(number) > 0 {
+            // What was sent before is printed or lost once this is acknowledged.
+            self.put_marker();
+            self.pump(till, Until::Settled, None, end)?;
+        }
+        if self.due_of(number) == 0 {
+            if self.current(true).sent > self.current(true).done {
+                // Some of it was lost, and the printer may have begun a line.
+                self.put_start();
+            }
+            let job = self.current(true);
+            (job.sent, job.is_all_sent, job.is_torn) = (job.done, job.is_done, false);
+        }
+        Ok(())
+    }
+
+    /// Sends the order, as far as it wasn't.
+    fn post(&mut self, till: &mut DriverTill<'_>, is_once: bool, end: Instant) -> Result<(), Lost> {
+        let (number, is_done) = (self.current(is_once).number, self.current(is_once).is_done);
+        if is_done || self.is_stopped() || self.due_of(number) > 0 {
+            return Ok(());
+        }
+        self.fill(Some(is_once));
+        if self.out_sent < self.out.len() {
+            self.write_some()?;
+        }
+        self.pump(till, Until::Printed, Some(is_once), end)
+    }
+
+    /// Sends the order that is out, and returns whether the printer acknowledged it within the timeout. If an order
+    /// failed and the next one is the same, only what wasn't printed is sent again, unless it isn't `is_once`.
+    pub(crate) fn carry_out(&mut self, till: &mut DriverTill<'_>, settings: &WireSettings, is_once: bool) -> bool {
+        let end = Instant::now() + self.timeout;
+        let size = if self.is_asked { QUESTION_SIZE } else { JOB_SIZE };
+        let asked = if self.is_asked { OrderEnd::Paper } else { OrderEnd::Job(0) };
+        if !self.is_online() {
+            return false;
+        }
+        let Ok(mut bytes) = till.order_bytes(settings, false, asked) else { return false };
+        if bytes.len() < size {
+            return false;
+        }
+        self.end = bytes.split_off(bytes.len() - size);
+        let done = self
+            .receive(till)
+            .and_then(|()| self.take_up(till, bytes, is_once, end))
+            .and_then(|()| self.post(till, is_once, end));
+        if done.is_err() {
+            self.lose();
+            return false;
+        }
+        if self.current(is_once).is_done {
+            if is_once {
+                self.paper = None;
+            }
+            return true;
+        }
+        self.take_back();
+        if !self.is_stopped() {
+            self.was_silent = true;
+            self.ask();
+        }
+        false
+    }
+}
+
+/// Where the piece of an order ends that begins here: behind a line feed, a pulse, a feed or a cut.
+fn piece_end(bytes: &[u8], mut at: usize) -> usize {
+    while at < bytes.len() {
+        let byte = |place: usize| bytes.get(at + place).copied();
+        let (size, is_end) = match (bytes[at], byte(1)) {
+            (b'\n', _) => (1, true),
+            (0x1b, Some(b'p')) => (5, true),
+            (0x1b, Some(b'd')) => (3, true),
+            (0x1b, _) => (3, false),
+            (0x1d, _) => (if matches!(byte(2), Some(b'A' | b'B')) { 4 } else { 3 }, true),
+            _ => (1, false),
+        };
+        at += size;
+        if is_end {
+            break;
+        }
+    }
+    at.min(bytes.len())
+}
+
+#[cfg(test)]
+mod tests {
+    use super::piece_end;
+
+    #[test]
+    fn pieces_end_behind_their_commands() {
+        let order = b"\x1ba\x0aOne\n\x1ba\x02\x1bE\x01T\x1bE\0wo\n\x1dVA\n\x1bp\0\n\n\x1bd\n\x1dV\0rest";
+        let (mut ends, mut at) = (Vec::new(), 0);
+        while at < order.len() {
+            at = piece_end(order, at);
+            ends.push(at);
+        }
+        assert_eq!(ends, [7, 20, 24, 29, 32, 35, 39]);
+        assert_eq!(piece_end(b"\x1b", 0), 1);
+    }
+}

@@ -1,0 +1,451 @@
+//! The ports of devices: a file such as /dev/usb/lp0, a serial line such as /dev/ttyUSB0, a TCP port, or the key
+//! events of a keyboard. No call waits longer than it is told.
+use std::ffi::{c_int, c_short, c_ulong, c_void};
+use std::fs::{File, OpenOptions};
+use std::io::{self, ErrorKind, Read, Write};
+use std::net::{TcpStream, ToSocketAddrs};
+use std::os::fd::{AsRawFd, RawFd};
+use std::os::unix::fs::{FileTypeExt, OpenOptionsExt};
+use std::path::{Path, PathBuf};
+use std::time::{Duration, Instant};
+
+/// The parity of a serial line.
+#[derive(Debug, Clone, Copy, PartialEq, Eq, Default)]
+#[allow(missing_docs)]
+pub enum Parity {
+    #[default]
+    None,
+    Even,
+    Odd,
+}
+
+/// How a device on a serial line says that it can take no more.
+#[derive(Debug, Clone, Copy, PartialEq, Eq, Default)]
+pub enum Flow {
+    /// It says nothing.
+    None,
+    /// By the lines RTS and CTS.
+    #[default]
+    RtsCts,
+    /// By the characters XON and XOFF.
+    XonXoff,
+}
+
+/// How a serial line is set up. The default is 9,600 bits per second, 8 bits, 1 stop bit, no parity, RTS/CTS.
+#[derive(Debug, Clone, Copy, PartialEq, Eq)]
+pub struct SerialSettings {
+    /// Bits per second, as the device is set up: 1,200 to 230,400.
+    pub speed: u32,
+    /// The bits of a byte, 7 or 8.
+    pub bits: u8,
+    /// The stop bits behind it, 1 or 2.
+    pub stops: u8,
+    /// Its parity.
+    pub parity: Parity,
+    /// How the device says that it can take no more.
+    pub flow: Flow,
+}
+
+impl Default for SerialSettings {
+    fn default() -> SerialSettings {
+        SerialSettings { speed: 9600, bits: 8, stops: 1, parity: Parity::None, flow: Flow::RtsCts }
+    }
+}
+
+/// Where a device is. A text is a port too ([`Port::of`]).
+#[derive(Debug, Clone, PartialEq, Eq)]
+#[non_exhaustive]
+pub enum Port {
+    /// A device file that takes bytes as they are, such as /dev/usb/lp0.
+    File(PathBuf),
+    /// A serial line, such as /dev/ttyUSB0.
+    Serial(PathBuf, SerialSettings),
+    /// A TCP port: the host, and the number.
+    Tcp(String, u16),
+    /// The key events of a keyboard, which no other program gets meanwhile.
+    Keys(PathBuf),
+}
+
+impl Port {
+    /// Returns the port of a name: `tcp:HOST` or `tcp:HOST:PORT` (9100 if there is none), or the path of a device file.
+    ///
+    /// A path of /dev/tty.. or /dev/serial/.. is a serial line by [`SerialSettings::default`], and one of
+    /// /dev/input/.. a keyboard.
+    ///
+    /// ```
+    /// use kijolvar::Port;
+    ///
+    /// assert_eq!(Port::of("tcp:192.168.1.9"), Port::Tcp("192.168.1.9".to_string(), 9100));
+    /// assert_eq!(Port::of("/dev/usb/lp0"), Port::File("/dev/usb/lp0".into()));
+    /// ```
+    pub fn of(name: &str) -> Port {
+        if let Some(address) = name.strip_prefix("tcp:") {
+            let address = address.strip_prefix("//").unwrap_or(address);
+            let number = address.rsplit_once(':').and_then(|(host, port)| Some((host, port.parse().ok()?)));
+            let (host, port) = number.unwrap_or((address, 9100));
+            return Port::Tcp(host.to_string(), port);
+        }
+        let is_line = |path: &Path| path.to_string_lossy().starts_with("/dev/tty");
+        let is_link = std::fs::canonicalize(name).is_ok_and(|path| is_line(&path));
+        if is_line(Path::new(name)) || name.starts_with("/dev/serial/") || is_link {
+            Port::Serial(name.into(), SerialSettings::default())
+        } else if name.starts_with("/dev/input/") {
+            Port::Keys(name.into())
+        } else {
+            Port::File(name.into())
+        }
+    }
+
+    /// Returns whether bytes are lost only if the port is lost too. A serial line stays when the device goes off.
+    pub(crate) fn is_reliable(&self) -> bool {
+        !matches!(self, Port::Serial(..))
+    }
+
+    /// Whether the settings of a serial line can be set.
+    pub(crate) fn is_sound(&self) -> bool {
+        match self {
+            Port::Serial(_, settings) => {
+                speed_of(settings.speed).is_some() && matches!(settings.bits, 7 | 8) && matches!(settings.stops, 1 | 2)
+            }
+            _ => true,
+        }
+    }
+}
+
+impl From<&str> for Port {
+    fn from(name: &str) -> Port {
+        Port::of(name)
+    }
+}
+
+impl From<String> for Port {
+    fn from(name: String) -> Port {
+        Port::of(&name)
+    }
+}
+
+impl From<&Path> for Port {
+    fn from(path: &Path) -> Port {
+        Port::of(&path.to_string_lossy())
+    }
+}
+
+/// What is waited for at a file, and what has happened there.
+#[repr(C)]
+struct Waiting {
+    file: RawFd,
+    events: c_short,
+    found: c_short,
+}
+
+/// The settings of a terminal line, as Linux has them on x86-64.
+#[repr(C)]
+struct Line {
+    input: u32,
+    output: u32,
+    control: u32,
+    local: u32,
+    discipline: u8,
+    characters: [u8; 32],
+    input_speed: u32,
+    output_speed: u32,
+}
+
+extern "C" {
+    fn poll(files: *mut Waiting, count: c_ulong, milliseconds: c_int) -> c_int;
+    fn tcgetattr(file: c_int, line: *mut Line) -> c_int;
+    fn tcsetattr(file: c_int, when: c_int, line: *const Line) -> c_int;
+    fn tcflush(file: c_int, which: c_int) -> c_int;
+    fn cfsetspeed(line: *mut Line, speed: u32) -> c_int;
+    fn ioctl(file: c_int, request: c_ulong, ...) -> c_int;
+    fn setsockopt(file: c_int, level: c_int, name: c_int, value: *const c_void, size: u32) -> c_int;
+}
+
+// Linux's numbers on x86-64.
+const POLLIN: c_short = 1;
+const POLLOUT: c_short = 4;
+const POLLERR_HUP_NVAL: c_short = 0x38;
+const O_NONBLOCK: c_int = 0o4000;
+const O_NOCTTY: c_int = 0o400;
+const TCIOFLUSH: c_int = 2;
+const TIOCOUTQ: c_ulong = 0x5411;
+const EVIOCGRAB: c_ulong = 0x4004_4590;
+const SOL_SOCKET: c_int = 1;
+const SO_KEEPALIVE: c_int = 9;
+const ENODEV: c_int = 19;
+const EINVAL: c_int = 22;
+const ENOTTY: c_int = 25;
+const IXON_IXOFF: u32 = 0o12000;
+const CSIZE: u32 = 0o60;
+const CS7: u32 = 0o40;
+const CS8: u32 = 0o60;
+const CSTOPB: u32 = 0o100;
+const CREAD: u32 = 0o200;
+const PARENB: u32 = 0o400;
+const PARODD: u32 = 0o1000;
+const CLOCAL: u32 = 0o4000;
+const CRTSCTS: u32 = 0o20_000_000_000;
+const VTIME: usize = 5;
+const VMIN: usize = 6;
+
+/// The number by which a speed is set.
+fn speed_of(speed: u32) -> Option<u32> {
+    let speeds = [1200, 2400, 4800, 9600, 19_200, 38_400];
+    let faster = [57_600, 115_200, 230_400];
+    let place = |of: &[u32]| of.iter().position(|one| *one == speed).map(|place| place as u32);
+    // 1,800 is between the first two.
+    let number = |place: u32| if place == 0 { 9 } else { place + 10 };
+    place(&speeds).map(number).or_else(|| place(&faster).map(|place| 0o10001 + place))
+}
+
+/// Sets up a terminal line, so that bytes pass as they are.
+fn set_up(file: RawFd, settings: Option<&SerialSettings>) -> io::Result<()> {
+    let mut line = Line {
+        input: 0,
+        output: 0,
+        control: 0,
+        local: 0,
+        discipline: 0,
+        characters: [0; 32],
+        input_speed: 0,
+        output_speed: 0,
+    };
+    // SAFETY: the file is open, and the line is lent for the call.
+    if unsafe { tcgetattr(file, &mut line) } != 0 {
+        return Err(io::Error::last_os_error());
+    }
+    (line.input, line.output, line.local) = (0, 0, 0);
+    line.control = line.control & !(CSIZE | PARENB) | CS8 | CREAD | CLOCAL;
+    (line.characters[VMIN], line.characters[VTIME]) = (1, 0);
+    if let Some(settings) = settings {
+        line.control &= !(CSIZE | PARENB | PARODD | CSTOPB | CRTSCTS);
+        line.control |= if settings.bits == 8 { CS8 } else { CS7 };
+        line.control |= match settings.parity {
+            Parity::None => 0,
+            Parity::Even => PARENB,
+            Parity::Odd => PARENB | PARODD,
+        };
+        line.control |= if settings.stops == 2 { CSTOPB } else { 0 };
+        line.control |= if settings.flow == Flow::RtsCts { CRTSCTS } else { 0 };
+        line.input |= if settings.flow == Flow::XonXoff { IXON_IXOFF } else { 0 };
+        let speed = speed_of(settings.speed).ok_or(ErrorKind::InvalidInput)?;
+        // SAFETY: the line is lent for the call.
+        unsafe { cfsetspeed(&mut line, speed) };
+    }
+    // SAFETY: the file is open, and the line is lent for the call.
+    if unsafe { tcsetattr(file, 0, &line) } != 0 || settings.is_some() && unsafe { tcflush(file, TCIOFLUSH) } != 0 {
+        return Err(io::Error::last_os_error());
+    }
+    Ok(())
+}
+
+/// Whether a file is a terminal line.
+fn is_line(file: &File) -> bool {
+    use std::io::IsTerminal;
+    file.is_terminal()
+}
+
+/// Which of reading and writing is possible.
+#[derive(Debug, Clone, Copy, PartialEq, Eq)]
+pub(crate) struct Ready {
+    pub(crate) reading: bool,
+    pub(crate) writing: bool,
+}
+
+/// Waits until something can be read at one of the files, or written if that is asked, at most so long.
+fn wait(waiting: &mut [Waiting], time: Duration) -> bool {
+    // A part of a millisecond is a whole one.
+    let milliseconds = time.as_micros().div_ceil(1000).min(60_000) as c_int;
+    // SAFETY: the files are lent for the call.
+    unsafe { poll(waiting.as_mut_ptr(), waiting.len() as c_ulong, milliseconds) > 0 }
+}
+
+/// Waits until something can be read at one of the files, at most so long.
+pub(crate) fn wait_for_any(files: &[RawFd], time: Duration) {
+    let mut waiting: Vec<Waiting> =
+        files.iter().map(|file| Waiting { file: *file, events: POLLIN, found: 0 }).collect();
+    wait(&mut waiting, time);
+}
+
+/// What a port is while it is open.
+#[derive(Debug)]
+enum Stream {
+    File(File),
+    Tcp(TcpStream),
+}
+
+/// A port that is opened when it is needed, and again after it was lost.
+#[derive(Debug)]
+pub(crate) struct Cable {
+    pub(crate) port: Port,
+    stream: Option<Stream>,
+    /// How often it was opened.
+    pub(crate) turns: u32,
+    /// Whether reading no bytes means that it is lost.
+    ends_empty: bool,
+    /// Why it couldn't be opened or was lost the last time.
+    pub(crate) fault: Option<io::Error>,
+}
+
+/// The port was lost. It is closed then.
+#[derive(Debug)]
+pub(crate) struct Lost;
+
+impl Cable {
+    pub(crate) fn new(port: Port) -> Cable {
+        Cable { port, stream: None, turns: 0, ends_empty: true, fault: None }
+    }
+
+    pub(crate) fn is_open(&self) -> bool {
+        self.stream.is_some()
+    }
+
+    pub(crate) fn file(&self) -> Option<RawFd> {
+        match &self.stream {
+            Some(Stream::File(file)) => Some(file.as_raw_fd()),
+            Some(Stream::Tcp(stream)) => Some(stream.as_raw_fd()),
+            None => None,
+        }
+    }
+
+    /// Opens the port, unless it is open. Returns whether it is.
+    pub(crate) fn open(&mut self, time: Duration) -> bool {
+        if self.stream.is_some() {
+            return true;
+        }
+        let opened = match &self.port {
+            Port::Tcp(host, port) => open_tcp(host, *port, time).map(|stream| (Stream::Tcp(stream), true)),
+            Port::Keys(path) => open_keys(path).map(|file| (Stream::File(file), true)),
+            Port::File(path) => open_file(path, None),
+            Port::Serial(path, settings) => open_file(path, Some(settings)),
+        };
+        match opened {
+            Ok((stream, ends_empty)) => {
+                (self.stream, self.ends_empty) = (Some(stream), ends_empty);
+                self.turns += 1;
+            }
+            Err(fault) => self.fault = Some(fault),
+        }
+        self.stream.is_some()
+    }
+
+    pub(crate) fn close(&mut self) {
+        self.stream = None;
+    }
+
+    /// Waits until bytes can be read, or written if that is asked, at most so long.
+    pub(crate) fn wait(&self, is_writing: bool, time: Duration) -> Ready {
+        let Some(file) = self.file() else { return Ready { reading: false, writing: false } };
+        let events = POLLIN | if is_writing { POLLOUT } else { 0 };
+        let mut waiting = [Waiting { file, events, found: 0 }];
+        let found = if wait(&mut waiting, time) { waiting[0].found } else { 0 };
+        Ready { reading: found & (POLLIN | POLLERR_HUP_NVAL) != 0, writing: found & POLLOUT != 0 }
+    }
+
+    /// What reading or writing came to: how many bytes it was.
+    fn kept(&mut self, done: io::Result<usize>, is_reading: bool) -> Result<usize, Lost> {
+        let fault = match done {
+            Ok(0) if is_reading && self.ends_empty => ErrorKind::UnexpectedEof.into(),
+            Ok(count) => return Ok(count),
+            Err(fault) if matches!(fault.kind(), ErrorKind::WouldBlock | ErrorKind::Interrupted) => return Ok(0),
+            Err(fault) => fault,
+        };
+        self.fault = Some(fault);
+        self.close();
+        Err(Lost)
+    }
+
+    /// Reads what has come, which may be nothing.
+    pub(crate) fn read(&mut self, room: &mut [u8]) -> Result<usize, Lost> {
+        let done = match &mut self.stream {
+            Some(Stream::File(file)) => file.read(room),
+            Some(Stream::Tcp(stream)) => stream.read(room),
+            None => return Err(Lost),
+        };
+        self.kept(done, true)
+    }
+
+    /// Writes what there is room for.
+    pub(crate) fn write(&mut self, bytes: &[u8]) -> Result<usize, Lost> {
+        let done = match &mut self.stream {
+            Some(Stream::File(file)) => file.write(bytes),
+            Some(Stream::Tcp(stream)) => stream.write(bytes),
+            None => return Err(Lost),
+        };
+        self.kept(done, false)
+    }
+
+    /// Returns whether all that was written has left this machine before a time.
+    pub(crate) fn is_drained(&self, end: Instant) -> bool {
+        let (Port::Serial(..), Some(file)) = (&self.port, self.file()) else { return true };
+        loop {
+            let mut left: c_int = 0;
+            // SAFETY: the file is open, and the number is lent for the call.
+            if unsafe { ioctl(file, TIOCOUTQ, &mut left as *mut c_int) } != 0 || left == 0 {
+                return true;
+            }
+            if Instant::now() >= end {
+                return false;
+            }
+            std::thread::sleep(Duration::from_millis(1));
+        }
+    }
+}
+
+/// Opens a device file, and says whether reading no bytes means that it is lost.
+fn open_file(path: &Path, settings: Option<&SerialSettings>) -> io::Result<(Stream, bool)> {
+    let file = OpenOptions::new().read(true).write(true).custom_flags(O_NONBLOCK | O_NOCTTY).open(path)?;
+    if file.metadata()?.is_file() {
+        return Err(io::Error::from_raw_os_error(ENODEV));
+    }
+    // A printer on USB may send packets with nothing in them.
+    let ends_empty = is_line(&file);
+    if ends_empty {
+        set_up(file.as_raw_fd(), settings)?;
+    }
+    Ok((Stream::File(file), ends_empty))
+}
+
+/// Opens a keyboard's events, which other programs don't see meanwhile.
+fn open_keys(path: &Path) -> io::Result<File> {
+    let file = OpenOptions::new().read(true).custom_flags(O_NONBLOCK | O_NOCTTY).open(path)?;
+    if is_line(&file) {
+        set_up(file.as_raw_fd(), None)?;
+    }
+    // SAFETY: the file is open.
+    if file.metadata()?.file_type().is_char_device() && unsafe { ioctl(file.as_raw_fd(), EVIOCGRAB, 1 as c_int) } != 0 {
+        let fault = io::Error::last_os_error();
+        // A pipe or a terminal has no keys to keep from other programs.
+        if !matches!(fault.raw_os_error(), Some(ENOTTY | EINVAL)) {
+            return Err(fault);
+        }
+    }
+    Ok(file)
+}
+
+/// Connects to a TCP port.
+fn open_tcp(host: &str, port: u16, time: Duration) -> io::Result<TcpStream> {
+    let end = Instant::now() + time;
+    let mut fault: io::Error = ErrorKind::AddrNotAvailable.into();
+    for address in (host, port).to_socket_addrs()? {
+        let left = end.saturating_duration_since(Instant::now()).max(Duration::from_millis(1));
+        match TcpStream::connect_timeout(&address, left) {
+            Ok(stream) => {
+                let one: c_int = 1;
+                // SAFETY: the socket is open, and the number is lent for the call.
+                let kept = unsafe {
+                    let value = &one as *const c_int as *const c_void;
+                    setsockopt(stream.as_raw_fd(), SOL_SOCKET, SO_KEEPALIVE, value, size_of::<c_int>() as u32)
+                };
+                if kept != 0 {
+                    return Err(io::Error::last_os_error());
+                }
+                stream.set_nodelay(true)?;
+                stream.set_nonblocking(true)?;
+                return Ok(stream);
+            }
+            Err(found) => fault = found,
+        }
+    }
+    Err(fault)
+}

@@ -1,0 +1,66 @@
+-- What a run over a counter of a profile comes to: of scripts, or of what is typed (docs/reference/tool.md, "run").
+use Rattle.std.specs.Prelude.{◌≡◌, ◌⊎◌, [], List, Option, Some, None, Result, Err, option_map}
+use Rattle.std.specs.Borrow.{Bor}
+use Rattle.pos_disk.specs.declared.device.Disk.{Ghosts as DiskGhosts}
+use Rattle.pos_counter.specs.Steps.{Request, Response}
+use Rattle.pos_counter.specs.declared.counter.Counter.{Counter}
+use Rattle.pos_profile.specs.Entries.{Contents}
+use Rattle.pos_run.specs.Carried.{RunsThrough}
+use Rattle.pos_run.specs.Simulating.{AreMounted, IsSimulatedCounter, as_it_is, wrapped_devices}
+use Rattle.pos_run.specs.Spares.{spares_in}
+use Rattle.pos_run.specs.Transcript.{Session, begun_session}
+use Rattle.pos_run.specs.declared.spares.Spares.{Spares}
+use Rattle.pos_run.specs.declared.wrapped.Wrapped.{Wrapped}
+use Rattle.pos_shell.specs.Conversation.{Converses}
+use Rattle.pos_shell.specs.Outputs.{Streams}
+use Rattle.pos_shell.specs.Scripts.{TellsScripts}
+use Rattle.pos_shell.specs.declared.scripts.Script.{Script}
+use Rattle.pos_shell.specs.declared.scripts.TellFault.{TellFault}
+use Rattle.pos_shell.specs.declared.scripts.TellFault.TheVariants as fault
+use Rattle.pos_shell.specs.declared.told.Manner.{Manner}
+
+-- scripts that were read; none if the lines are typed
+abbrev pub Lines : Type 0
+Lines = Option (List Script)
+
+abbrev pub lines_in : Option (Bor (List Script)) → Lines
+lines_in = option_map (λ scripts. scripts.now)
+
+-- scripts are run and told, and nothing is read; or what is typed is
+abbrev pub TellsLines : Manner → Lines → Session → List (Request × Response) → Streams → Streams
+    → Result (Unit {0}) TellFault → Session → Type 0
+TellsLines manner (Some scripts) session steps old new result left = (new.taken ≡ old.taken)
+    × TellsScripts manner scripts session steps old.output new.output result left
+TellsLines manner None session steps old new result left = Converses manner session steps old new result left
+
+-- there was no memory to begin
+abbrev pub BeginsNothing : List (Request × Response) → Streams → Streams → Result (Unit {0}) TellFault → Type 0
+BeginsNothing steps old new result = (steps ≡ []) × (result ≡ Err fault.NoMemory) × (new ≡ old)
+
+-- likewise, or the lines were run
+abbrev pub TellsAll : Manner → Lines → Session → List (Request × Response) → Streams → Streams
+    → Result (Unit {0}) TellFault → Session → Type 0
+TellsAll manner lines session steps old new result left =
+    BeginsNothing steps old new result ⊎ TellsLines manner lines session steps old new result left
+
+-- A run of lines over a counter that is simulated for a profile, over a disk. What all lines asked is one run, of
+-- which a crash at any moment is in one of its steps. The disk that is left is that counter's.
+pub record RunsTold {D : Type 0} (bound : DiskGhosts D) (manner : Manner) (contents : Contents) (lines : Lines)
+    (disk : D) (old new : Streams) (result : Result (Unit {0}) TellFault) (after : D) : Type 0 where
+  pub counter : Counter D Wrapped
+  pub spares : Spares Wrapped
+  pub simulated : IsSimulatedCounter wrapped_devices contents disk counter spares
+  pub mounted : AreMounted as_it_is contents counter spares
+  pub left : Session
+  pub end : Counter D Wrapped
+  pub steps : List (Request × Response)
+  pub told : TellsAll manner lines (begun_session (spares_in wrapped_devices spares)) steps old new result left
+  pub through : RunsThrough bound wrapped_devices counter steps end
+  pub disk_left : after ≡ end.totals.disk
+
+-- likewise, or there was no memory to make the counter, and the disk is as it was
+abbrev pub RunsLines : {D : Type 0} → DiskGhosts D → Manner → Contents → Lines → D → Streams → Streams
+    → Result (Unit {0}) TellFault → D → Type 0
+RunsLines bound manner contents lines disk old new result after =
+    ((result ≡ Err fault.NoMemory) × (new ≡ old) × (after ≡ disk))
+    ⊎ RunsTold bound manner contents lines disk old new result after

@@ -1,0 +1,600 @@
+"""Tries the drivers of a typed layer over emulated devices (tests/emulator), by a host program in its language.
+
+Usage: native.py NAME HOST [--faults N] [--seed N] [--only WORD] [--slack SECONDS]
+
+HOST is the program that tests/native/host.c says the commands of. N random faults are tried, by default 100, from a
+seed. --only tries what has the word in its name; --slack is how much later than its timeout a call may return. The
+last line is 'N passed, M failed'.
+"""
+import argparse
+import contextlib
+import pathlib
+import random
+import subprocess
+import sys
+import tempfile
+import time
+
+TOP = pathlib.Path(__file__).resolve().parent.parent
+sys.path.insert(0, str(TOP / "tests"))
+
+from emulator import Cut, Display, Line, Printer, PtyCable, Scanner, TcpCable
+
+WORK = pathlib.Path(tempfile.mkdtemp())
+PROFILE = """
+[[device]]
+name = "r1"
+category = "POSPrinter"
+chars = 42
+lines = 1000
+near = 20
+[[device]]
+name = "d1"
+category = "CashDrawer"
+[[device]]
+name = "d2"
+category = "CashDrawer"
+[[device]]
+name = "p1"
+category = "LineDisplay"
+rows = 2
+columns = 20
+[[device]]
+name = "s1"
+category = "Scanner"
+[[device]]
+name = "t1"
+category = "HardTotals"
+"""
+# How long an order may take where something happens meanwhile, and where nothing does, on a machine that is busy, in
+# milliseconds; and how long is waited for what has to happen, in seconds.
+TIMEOUT, AMPLE, PATIENCE = 800, 10_000, 30
+passed = failed = made = 0
+
+
+def told(name, wanted, found):
+    """Whether two values are the same."""
+    global passed, failed
+    if wanted == found:
+        passed += 1
+    else:
+        failed += 1
+        print(f"failed: {name}\n  wanted: {wanted!r}\n  found:  {found!r}", flush=True)
+
+
+def cable(kind="usb"):
+    """A new cable: "usb" hangs up with the device, a serial line doesn't, "tcp" is a network printer's."""
+    global made
+    made += 1
+    return TcpCable() if kind == "tcp" else PtyCable(WORK / f"port-{made}", hangs_up="serial" not in kind)
+
+
+def until(condition, seconds=PATIENCE):
+    """Whether something becomes so."""
+    end = time.monotonic() + seconds
+    while not condition():
+        if time.monotonic() > end:
+            return False
+        time.sleep(0.001)
+    return True
+
+
+class Host:
+    """A program with a till."""
+
+    def __init__(self, stack, profile=PROFILE, *totals):
+        path = WORK / "profile"
+        path.write_text(profile)
+        pipes = {"stdin": subprocess.PIPE, "stdout": subprocess.PIPE, "text": True, "bufsize": 1}
+        self.program = subprocess.Popen([WORDS.host, path, *totals], **pipes)
+        stack.callback(self.close)
+
+    def ask(self, command):
+        """Gives a command, and returns its answer."""
+        self.program.stdin.write(command + "\n")
+        self.program.stdin.flush()
+        answer = self.program.stdout.readline()
+        assert answer, f"the host has ended at: {command[:80]}"
+        return answer.rstrip("\n")
+
+    def lines(self, *lines):
+        """Carries out lines, and returns their answers."""
+        return self.ask("lines " + ";".join(lines)).split(";")[:-1]
+
+    def line(self, line):
+        """Carries out one line, and returns its answer."""
+        return self.lines(line)[0]
+
+    def close(self):
+        self.program.stdin.close()
+        told("the host ends well", 0, self.program.wait())
+        self.program.stdout.close()
+
+
+TEXT = b"First line\n\x1b|cA\x1b|bCSecond line\n\x1b|N\x1b|rAThird line\n"
+PRINTED = [("left", b"First line"), ("center", b"Second line"), ("right", b"Third line")]
+TROUBLES = {
+    "the cover is opened": (lambda device: device.cover(True), lambda device: device.cover(False), "err 114 201"),
+    "the paper runs out": (lambda device: device.load(0), lambda device: device.load(1000), "err 114 203"),
+    "the plug is pulled": (Printer.pull_plug, Printer.plug_in, "err 108"),
+    "the printer falls silent": (Printer.hang, lambda device: device.hang(False), "err 111"),
+}
+
+
+class Shop:
+    """A host whose printer is emulated, and may be in trouble. One of the kind "asked" is simpler, on "usb"."""
+
+    def __init__(self, stack, kind="usb", words="", lines=1000, is_claimed=True, timeout=TIMEOUT):
+        self.device = stack.enter_context(Printer(cable(kind), lines=lines, is_simple="asked" in kind))
+        self.host = Host(stack)
+        words += " asked" * ("asked" in kind) + " serial 115200" * ("serial" in kind)
+        opened = f"printer r1 {self.device.path} timeout {timeout} pause 10 lines 1000 {words}"
+        told("the printer is opened", "ok", self.host.ask(opened))
+        if is_claimed:
+            lines = ("new r POSPrinter", "open r r1", "claim r 0", "set r DeviceEnabled true")
+            told("the printer is enabled", ["ok"] * 4, self.host.lines(*lines))
+
+    def print(self, data):
+        return self.host.line(f"call r printNormal 2 {data.hex()}")
+
+    def settle(self):
+        """Waits until the till knows that the printer is well."""
+        def is_well():
+            self.host.ask("run 0")
+            return (self.host.ask("state r1").startswith("online") and self.host.line("get r CoverOpen") == "ok false"
+                    and self.host.line("get r RecEmpty") == "ok false")
+        return until(is_well)
+
+    def paper(self):
+        """What is printed, without what the plug was pulled at: no driver can know whether that was printed."""
+        self.device.wait(lambda: self.device.is_idle)
+        items = [item for at, item in enumerate(self.device.receipt()) if at not in self.device.doubts]
+        return [(item.alignment, item.characters) if isinstance(item, Line) else item for item in items]
+
+    def late(self):
+        return self.host.ask("state r1").split()[1]
+
+
+def try_plain():
+    """Orders by lines and by a typed call, asynchronous output, and lines around orders."""
+    for kind in ("usb", "tcp", "serial", "asked"):
+        with contextlib.ExitStack() as stack:
+            shop = Shop(stack, kind, timeout=AMPLE)
+            told(f"an order over {kind}", "ok", shop.print(TEXT))
+            told(f"a cut over {kind}", "ok", shop.host.line("call r cutPaper 100"))
+            told(f"the paper over {kind}", [*PRINTED, Cut(True, 3)], shop.paper())
+            told(f"text without a line's end over {kind}", "ok", shop.print(b"Begun"))
+            told(f"its end over {kind}", "ok", shop.print(b"\n"))
+            told(f"the state over {kind}", "online 0", shop.host.ask("state r1"))
+    with contextlib.ExitStack() as stack:
+        shop = Shop(stack, is_claimed=False, timeout=AMPLE)
+        told("a typed call", "ok", shop.host.ask(f"print {TEXT.hex()}"))
+        told("the paper of a typed call", PRINTED, shop.paper())
+        shop.device.cover(True)
+        told("the cover is open", "E_EXTENDED 201", shop.host.ask(f"print {TEXT.hex()}"))
+    with contextlib.ExitStack() as stack:
+        shop = Shop(stack, timeout=AMPLE)
+        shop.device.load(21)
+        told("the paper is good", "ok false", shop.host.line("get r RecNearEnd"))
+        told("the paper is near its end", ["ok", "ok true"],
+             [shop.print(b"Line\n"), shop.host.line("get r RecNearEnd")])
+    with contextlib.ExitStack() as stack:
+        shop = Shop(stack, timeout=AMPLE)
+        lines = ("get r State", "call r printNormal 2 410a", "get r State", "call r printNormal 2 420a",
+                 "call r cutPaper 100", "get r CoverOpen")
+        told("lines around orders", ["ok 2", "ok", "ok 2", "ok", "ok", "ok false"], shop.host.lines(*lines))
+        told("their paper", [("left", b"A"), ("left", b"B"), Cut(True, 3)], shop.paper())
+        shop.device.after(20, lambda: shop.device.cover(True))
+        lines = ("call r printNormal 2 430a", "call r printNormal 2 440a", "get r CoverOpen")
+        told("lines around an order that fails", ["ok", "err 114 201", "ok true"], shop.host.lines(*lines))
+        shop.device.cover(False)
+        told("it ends", True, shop.settle())
+        told("the order again", "ok", shop.print(b"D\n"))
+        told("the paper then", [b"C", b"D"], [item[1] for item in shop.paper()[-2:]])
+        text = b"".join(b"Line %d\n" % number for number in range(200))
+        told("a long order", "ok", shop.print(text))
+        told("its paper", text.split(b"\n")[:-1], [item[1] for item in shop.paper()[-200:]])
+
+
+def try_troubles():
+    """Trouble during an order: the answer is never ok, and a retry prints once."""
+    for kind in ("usb", "tcp", "serial", "asked"):
+        for trouble, (deed, undo, wanted) in TROUBLES.items():
+            # A serial line doesn't tell that the device is off: the order fails, and later ones find it off.
+            found_as = "err 111" if kind == "serial" and wanted == "err 108" else wanted
+            for place in (3, 30, 50):
+                name = f"{trouble} after {place} bytes, over {kind}"
+                with contextlib.ExitStack() as stack:
+                    shop = Shop(stack, kind)
+                    shop.device.after(place, lambda: deed(shop.device))
+                    began = time.monotonic()
+                    told(f"{name}: the answer", found_as, shop.print(TEXT))
+                    told(f"{name}: in time", True, time.monotonic() - began < TIMEOUT / 1000 + WORDS.slack)
+                    told(f"{name}: still", "err", shop.print(TEXT)[:3])
+                    undo(shop.device)
+                    told(f"{name}: it ends", True, shop.settle())
+                    told(f"{name}: again", True, until(lambda: shop.print(TEXT) == "ok"))
+                    told(f"{name}: the paper", PRINTED, shop.paper())
+                    told(f"{name}: nothing else", "0", shop.late())
+
+
+def events_of(host):
+    """The events of the printer, without those of its status."""
+    events = []
+    while (event := host.line("deliver r")) != "none":
+        if not event.startswith("event StatusUpdateEvent"):
+            events.append(event)
+    return events
+
+
+def try_asynchronous():
+    """Trouble during output that waits: an ErrorEvent, and a retry prints once."""
+    for trouble, (deed, undo, wanted) in TROUBLES.items():
+        name = f"{trouble} during waiting output"
+        with contextlib.ExitStack() as stack:
+            shop = Shop(stack)
+            told(f"{name}: accepted", ["ok", "ok"],
+                 shop.host.lines("set r AsyncMode true", f"call r printNormal 2 {TEXT.hex()}"))
+            told(f"{name}: nothing is printed yet", [], shop.paper())
+            shop.device.after(30, lambda: deed(shop.device))
+            told(f"{name}: something was done", "true", shop.host.ask("run 0"))
+            code = (wanted[4:] + " 0").split()[:2]
+            told(f"{name}: the event", [f"event ErrorEvent {code[0]} {code[1]} 1"], events_of(shop.host))
+            undo(shop.device)
+            events = []
+
+            def is_complete():
+                shop.host.ask("run 10")
+                events.extend(events_of(shop.host))
+                return "event OutputCompleteEvent 1" in events
+            told(f"{name}: a retry is complete", True, until(is_complete))
+            told(f"{name}: the paper", PRINTED, shop.paper())
+
+
+def try_tear_off():
+    """The till keeps the paper of at most 500 orders of a printer that has a driver, and what it prints stays right."""
+    with contextlib.ExitStack() as stack:
+        shop = Shop(stack, lines=100_000, timeout=AMPLE)
+        for number in range(0, 520, 20):
+            lines = [f"call r printNormal 2 {(b'%d' % one).hex()}0a" for one in range(number, number + 20)]
+            told(f"orders from {number} on", ["ok"] * 20, shop.host.lines(*lines))
+        told("the paper of all orders", [b"%d" % number for number in range(520)], [item[1] for item in shop.paper()])
+        kept = len(shop.host.line("show r1").split()) - 4
+        told("the paper that the till keeps", True, 20 <= kept <= 40)
+        told("its paper is taken away", "ok", shop.host.ask("tear r1"))
+        told("none is left", 4, len(shop.host.line("show r1").split()))
+        told("a device that isn't there", "KIJ_NO_DEVICE", shop.host.ask("tear r9"))
+
+
+def try_absent():
+    """A printer that is off at first, one that is silent all the time, and one that comes back as another."""
+    with contextlib.ExitStack() as stack:
+        host = Host(stack)
+        path = cable().path
+        told("no printer", "ok", host.ask(f"printer r1 {path} timeout {TIMEOUT} pause 10"))
+        told("it is off", "offline 0", host.ask("state r1"))
+        host.lines("new r POSPrinter", "open r r1", "claim r 0", "set r DeviceEnabled true")
+        told("an order of it", "err 108", host.line("call r printNormal 2 410a"))
+        device = stack.enter_context(Printer(PtyCable(path)))
+        told("it is found", True, until(lambda: host.ask("run 10") and host.ask("state r1") == "online 0"))
+        host.ask("run 10")
+        told("the order again", "ok", host.line("call r printNormal 2 410a"))
+        told("it is printed", 1, len(device.receipt()))
+    with contextlib.ExitStack() as stack:
+        device = stack.enter_context(Printer(cable()))
+        device.hang()
+        host = Host(stack)
+        began = time.monotonic()
+        told("a silent printer", "ok", host.ask(f"printer r1 {device.path} timeout {TIMEOUT} pause 10"))
+        told("it takes its timeout", True, time.monotonic() - began < TIMEOUT / 1000 + WORDS.slack)
+        told("it is taken as off", "offline 0", host.ask("state r1"))
+
+
+def try_garbage():
+    """Bytes that are no replies, in any place, and answers that are lost."""
+    for kind in ("usb", "tcp"):
+        with contextlib.ExitStack() as stack:
+            shop = Shop(stack, kind)
+            shop.device.garbage(bytes(range(256)) * 20)
+            shop.device.after(10, lambda: shop.device.garbage(b"7\"@@@"))
+            told(f"garbage over {kind}", "ok", shop.print(TEXT))
+            shop.device.mute()
+            told(f"lost answers over {kind}", "err 111", shop.print(b"Once\n"))
+            shop.device.mute(False)
+            told(f"they come again over {kind}", True, shop.settle())
+            told(f"the order again over {kind}", "ok", shop.print(b"Once\n"))
+            told(f"its paper over {kind}", [*PRINTED, ("left", b"Once")], shop.paper())
+
+
+def try_late():
+    """An order that is printed after it had failed, and isn't asked for again."""
+    with contextlib.ExitStack() as stack:
+        shop = Shop(stack)
+        shop.device.hang()
+        told("an order of a silent printer", "err 111", shop.print(b"Late\n"))
+        shop.device.hang(False)
+        told("it is printed", True, until(lambda: len(shop.device.receipt()) == 1))
+        time.sleep(0.05)
+        told("it answers again", True, shop.settle())
+        told("another order", "ok", shop.print(b"Other\n"))
+        told("both are printed", [("left", b"Late"), ("left", b"Other")], shop.paper())
+        told("one was late", "1", shop.late())
+        shop.device.hang()
+        told("a second order of a silent printer", "err 111", shop.print(b"Later\n"))
+        told("and a third", "err", shop.print(b"Third\n")[:3])
+        shop.device.hang(False)
+        told("it answers at last", True, shop.settle())
+        told("the third again", "ok", shop.print(b"Third\n"))
+        told("all are printed", [b"Late", b"Other", b"Later", b"Third"], [item[1] for item in shop.paper()])
+        told("two were late", "2", shop.late())
+
+
+def try_drawer():
+    """The drawer on the printer's connector: its pulse, its sensor, and what the printer's trouble is for it."""
+    for kind in ("usb", "asked"):
+        with contextlib.ExitStack() as stack:
+            shop = Shop(stack, kind, "drawer d1", timeout=AMPLE)
+            host = shop.host
+            lines = ("new d CashDrawer", "open d d1", "set d DeviceEnabled true")
+            told(f"the drawer over {kind}", ["ok"] * 3, host.lines(*lines))
+            told(f"it is closed over {kind}", "ok false", host.line("get d DrawerOpened"))
+            told(f"it is opened over {kind}", "ok", host.line("call d openDrawer"))
+            told(f"its pulse over {kind}", [(2, 25, 250)], shop.device.pulses)
+            told(f"it is open over {kind}", "ok true", host.line("get d DrawerOpened"))
+            shop.device.drawer(False)
+            told(f"it is closed by hand over {kind}", True,
+                 until(lambda: host.ask("run 10") and host.line("get d DrawerOpened") == "ok false"))
+            shop.device.cover(True)
+            told(f"the cover is open over {kind}", True,
+                 until(lambda: host.ask("run 10") and host.line("get r CoverOpen") == "ok true"))
+            told(f"its order over {kind}", "err 111", host.line("call d openDrawer"))
+            shop.device.pull_plug()
+            told(f"the plug is pulled over {kind}", True,
+                 until(lambda: host.ask("run 10") and host.ask("state d1").startswith("offline")))
+            told(f"its order then over {kind}", "err 108", host.line("call d openDrawer"))
+
+
+def try_display():
+    """A display shows what its orders say, also after it was lost."""
+    for protocol in ("cd5220", "escpos"):
+        with contextlib.ExitStack() as stack:
+            device = stack.enter_context(Display(cable(), protocol=protocol))
+            host = Host(stack)
+            word = "escpos" if protocol == "escpos" else ""
+            told(f"{protocol}: opened", "ok", host.ask(f"display p1 {device.path} {word} pause 10"))
+            host.lines("new p LineDisplay", "open p p1", "claim p 0", "set p DeviceEnabled true")
+
+            def shows(text, name):
+                told(f"{protocol}: {name}", "ok", host.line(f"call p displayTextAt 0 0 {text.hex()} 0"))
+                told(f"{protocol}: {name} is shown", True, until(lambda: device.shows().startswith(text), 2))
+            told(f"{protocol}: a text below", "ok", host.line("call p displayTextAt 1 0 5468616e6b73 0"))
+            shows(b"Total 4.50", "a text")
+            device.pull_plug()
+            told(f"{protocol}: it is lost", True,
+                 until(lambda: host.ask("run 10") and host.ask("state p1").startswith("offline")))
+            told(f"{protocol}: an order then", "err 108", host.line("call p displayTextAt 1 0 41 0"))
+            device.plug_in()
+            told(f"{protocol}: it is found", True,
+                 until(lambda: host.ask("run 10") and host.ask("state p1").startswith("online")))
+            shows(b"Total 9.00", "a text again")
+            told(f"{protocol}: all of it", b"Total 9.00".ljust(20) + b"Thanks".ljust(20), device.shows())
+
+
+def try_scanner():
+    """A scanner on a line and as a keyboard, with identifiers, noise, and a plug that is pulled."""
+    for kind in ("lines", "keys"):
+        with contextlib.ExitStack() as stack:
+            device = stack.enter_context(Scanner(cable()))
+            host = Host(stack)
+            opened = f"scanner s1 {device.path} {'keys' if kind == 'keys' else ''} pause 10"
+            told(f"{kind}: opened", "ok", host.ask(opened))
+            host.lines("new s Scanner", "open s s1", "claim s 0", "set s DeviceEnabled true",
+                       "set s DecodeData true", "set s DataEventEnabled true")
+            send = device.types if kind == "keys" else device.scan
+
+            def scanned(code, wanted):
+                send(code)
+                told(f"{kind}: {code} comes", True, until(lambda: host.ask("run 10") == "true"))
+                told(f"{kind}: {code}", ["event DataEvent 0", *wanted, "ok"],
+                     host.lines("deliver s", "get s ScanDataType", "get s ScanData", "get s ScanDataLabel",
+                                "set s DataEventEnabled true"))
+            scanned(b"4006381333931", ["ok 0", "ok " + b"4006381333931".hex(), "ok " + b"4006381333931".hex()])
+            scanned(b"]E04006381333931", ["ok 104", "ok " + b"]E04006381333931".hex(), "ok " + b"4006381333931".hex()])
+            scanned(b"]E496385074", ["ok 103", "ok " + b"]E496385074".hex(), "ok " + b"96385074".hex()])
+            scanned(b"]C1Ab-{1}~ x", ["ok 110", "ok " + b"]C1Ab-{1}~ x".hex(), "ok " + b"Ab-{1}~ x".hex()])
+            device.pull_plug()
+            told(f"{kind}: it is lost", True,
+                 until(lambda: host.ask("run 10") and host.ask("state s1").startswith("offline")))
+            device.plug_in()
+            told(f"{kind}: it is found", True,
+                 until(lambda: host.ask("run 10") and host.ask("state s1").startswith("online")))
+            scanned(b"123", ["ok 0", "ok 313233", "ok 313233"])
+            if kind == "lines":
+                device.garbage(b"x" * 10_000 + b"\r\n")
+                scanned(b"456", ["ok 0", "ok 343536", "ok 343536"])
+
+
+def try_refusals():
+    """What can't be opened."""
+    with contextlib.ExitStack() as stack:
+        host = Host(stack)
+        port = cable().path
+        told("no such device", "KIJ_BAD_DEVICE", host.ask(f"printer r9 {port}"))
+        told("another kind", "KIJ_KIND_DIFFERS", host.ask(f"printer d1 {port}"))
+        told("another kind of drawer", "KIJ_KIND_DIFFERS", host.ask(f"printer r1 {port} drawer p1"))
+        told("a display that is a printer", "KIJ_KIND_DIFFERS", host.ask(f"display r1 {port}"))
+        told("a scanner that is a display", "KIJ_KIND_DIFFERS", host.ask(f"scanner p1 {port}"))
+        told("a narrow printer", "KIJ_BAD_SETTINGS", host.ask(f"printer r1 {port} width 41"))
+        told("a short roll", "KIJ_BAD_SETTINGS", host.ask(f"printer r1 {port} lines 20"))
+        told("too long a roll", "KIJ_BAD_SETTINGS", host.ask(f"printer r1 {port} lines 100001"))
+        told("no speed of a line", "KIJ_BAD_SETTINGS", host.ask(f"printer r1 {port} serial 9601"))
+        told("none is driven", "KIJ_NO_DEVICE", host.ask("state r1"))
+        told("a port that isn't there", "ok", host.ask(f"printer r1 {port} timeout 100 drawer d1"))
+        told("a second driver", "KIJ_DRIVEN", host.ask(f"printer r1 {port}"))
+        told("a second driver of the drawer", "KIJ_DRIVEN", host.ask(f"printer r1 {port} drawer d1"))
+        told("a file is no port", "ok", host.ask(f"display p1 {WORK / 'profile'}"))
+        told("it is off", "offline 0", host.ask("state p1"))
+        told("nothing to do", "false", until(lambda: host.ask("run 0") == "false") and host.ask("run 20"))
+
+
+def try_hosted():
+    """Orders of a hosted device that come before one of a driven device stay."""
+    with contextlib.ExitStack() as stack:
+        shop = Shop(stack, timeout=AMPLE)
+        told("hosted", "ok", shop.host.ask("host d2"))
+        shop.host.lines("new d CashDrawer", "open d d2", "set d DeviceEnabled true")
+        told("orders of both", ["ok"] * 3,
+             shop.host.lines("call d openDrawer", "call r printNormal 2 410a", "call r printNormal 2 420a"))
+        told("the hosted one", ["d2", "none"], [shop.host.ask("order"), shop.host.ask("order")])
+
+
+def try_own():
+    """A driver of the host's own, where the layer takes one."""
+    with contextlib.ExitStack() as stack:
+        host = Host(stack)
+        if host.ask("own d2 1") != "ok":
+            return
+        host.lines("new d CashDrawer", "open d d2", "set d DeviceEnabled true")
+        told("an order of the host's own driver", "ok", host.line("call d openDrawer"))
+        told("one that it can't do", "err 111", host.line("call d openDrawer"))
+        told("it is there", "online 0", host.ask("state d2"))
+        told("another kind", "KIJ_KIND_DIFFERS", host.ask("own p1 1"))
+
+
+def try_errands():
+    """Lines that wait between lines that change the totals in a file."""
+    path = WORK / "errands"
+    with contextlib.ExitStack() as stack:
+        device = stack.enter_context(Printer(cable()))
+        host = Host(stack, PROFILE, path)
+        told("the printer", "ok", host.ask(f"printer r1 {device.path} timeout {AMPLE} pause 10"))
+        host.lines("new r POSPrinter", "open r r1", "claim r 0", "set r DeviceEnabled true", "new t HardTotals",
+                   "open t t1", "set t DeviceEnabled true", "call t create 434f554e54 1 false")
+        lines = ("call t write 1 0 05", "call r printNormal 2 410a", "call t write 1 0 06",
+                 "call r printNormal 2 420a", "call t read 1 0 1")
+        told("totals and orders", ["ok"] * 4 + ["ok 06"], host.lines(*lines))
+        told("both are printed", 2, len(device.receipt()))
+    with contextlib.ExitStack() as stack:
+        host = Host(stack, PROFILE, path)
+        host.lines("new t HardTotals", "open t t1", "set t DeviceEnabled true")
+        told("the totals stay", "ok 06", host.line("call t read 1 0 1"))
+
+
+def try_memory():
+    """Want of memory at each allocation of an order in turn: what is answered ok is printed, and nothing is twice."""
+    with contextlib.ExitStack() as stack:
+        host = Host(stack)
+        if host.ask("memory 0") != "ok":
+            return
+        device = stack.enter_context(Printer(cable(), lines=100_000))
+        host.ask(f"printer r1 {device.path} timeout 100 pause 10")
+        host.lines("new r POSPrinter", "open r r1", "claim r 0", "set r DeviceEnabled true")
+        wanted, count, refused = [], 0, 0
+        while count - refused < 20 and count < 500:
+            count += 1
+            line = b"Line %d " % count + b"x" * min(count, 25)
+            host.ask(f"memory {count}")
+            answer = host.ask(f"lines call r printNormal 2 {line.hex()}0a")
+            host.ask("memory 0")
+            refused = count if answer != "ok;" else refused
+            # What has no answer was carried out.
+            end = time.monotonic() + PATIENCE
+            while answer not in ("ok;", "KIJ_NO_ANSWER") and time.monotonic() < end:
+                host.ask("run 0")
+                answer = host.ask(f"lines call r printNormal 2 {line.hex()}0a")
+            wanted.append(line)
+        told("want of memory ends", True, 0 < refused < 480)
+        told("want of memory: the paper", wanted, [item.characters for item in device.receipt()])
+        told("want of memory: the till's paper", str(100_000 - len(wanted)), host.line("show r1").split()[2])
+        told("want of memory: nothing is held", "ok", host.line("call r printNormal 2 410a"))
+        print(f"{WORDS.name}: memory was refused at up to {refused} allocations", flush=True)
+
+
+# ---- random faults
+
+# The kinds of printers, and what they must not meet: answers that are asked for have no number, and on a serial line
+# nobody can tell an answer that was lost from bytes that were.
+KINDS = {"usb": (), "tcp": (), "serial": ("lost answers",), "asked": ("lost answers", "garbage"),
+         "asked serial": ("lost answers", "garbage")}
+
+
+def random_trouble(device, chance, unless):
+    """Some trouble: its name, what it does, and what ends it."""
+    noise = bytes(chance.randrange(256) for _ in range(chance.randrange(1, 20)))
+    troubles = {
+        "none": (lambda: None, lambda: None),
+        "cover": (lambda: device.cover(True), lambda: device.cover(False)),
+        "paper": (lambda: device.load(chance.choice([0, 1])), lambda: device.load(100_000)),
+        "plug": (device.pull_plug, device.plug_in),
+        "silence": (device.hang, lambda: device.hang(False)),
+        "lost answers": (device.mute, lambda: device.mute(False)),
+        "garbage": (lambda: device.garbage(noise), lambda: None),
+        "slow": (lambda: device.slow(chance.choice([0.01, 0.3])), lambda: device.slow(0)),
+        "jam": (lambda: device.breaks(True), lambda: device.breaks(False)),
+    }
+    name = chance.choice([name for name in troubles if name not in unless])
+    return name, *troubles[name]
+
+
+def random_round(shop, chance, number, unless):
+    """An order, trouble during it, and retries until it is printed. Returns the order's lines and the trouble."""
+    device = shop.device
+    lines = [b"%06d of %d" % (number, place) for place in range(chance.randrange(1, 5))]
+    text = b"".join(b"\x1b|%bA%b\n" % (chance.choice([b"c", b"r"]), line) for line in lines)
+    name, deed, undo = random_trouble(device, chance, unless)
+    device.clear_triggers()
+    device.after(chance.randrange(1, 40 * len(lines)), deed)
+    is_printed = shop.print(text) == "ok"
+    left, end = chance.randrange(3), time.monotonic() + PATIENCE
+    while not is_printed:
+        if left == 0:
+            device.clear_triggers()
+            undo()
+        left -= 1
+        shop.host.ask("run 10")
+        is_printed = shop.print(text) == "ok"
+        if time.monotonic() > end:
+            told(f"round {number}: {name} ends", True, False)
+            break
+    device.clear_triggers()
+    undo()
+    told(f"round {number}: {name}", True, shop.settle())
+    return lines, name
+
+
+def try_random():
+    """Random trouble: each order that was answered ok is on the paper once, in order, and nothing else is."""
+    for kind, unless in KINDS.items():
+        chance, counts, wanted = random.Random(WORDS.seed), {}, []
+        with contextlib.ExitStack() as stack:
+            shop = Shop(stack, kind, lines=100_000)
+            for number in range(WORDS.faults // len(KINDS)):
+                lines, trouble = random_round(shop, chance, number, unless)
+                wanted += lines
+                counts[trouble] = counts.get(trouble, 0) + 1
+            told(f"random faults over {kind}: the paper", wanted, [item[1] for item in shop.paper()])
+            told(f"random faults over {kind}: no late order", "0", shop.late())
+            print(f"{WORDS.name}, {WORDS.faults // len(KINDS)} random faults over {kind}: {counts}", flush=True)
+
+
+def main():
+    for name, one in list(globals().items()):
+        if name.startswith("try_") and WORDS.only in name:
+            try:
+                one()
+            except AssertionError as fault:
+                told(f"{name} ends well", None, str(fault))
+    print(f"{passed} passed, {failed} failed")
+    sys.exit(failed != 0)
+
+
+if __name__ == "__main__":
+    reader = argparse.ArgumentParser(description=__doc__, formatter_class=argparse.RawDescriptionHelpFormatter)
+    reader.add_argument("name")
+    reader.add_argument("host")
+    reader.add_argument("--faults", type=int, default=100)
+    reader.add_argument("--seed", type=int, default=1)
+    reader.add_argument("--only", default="")
+    reader.add_argument("--slack", type=float, default=1.5)
+    WORDS = reader.parse_args()
+    main()

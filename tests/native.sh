@@ -1,0 +1,130 @@
+#!/usr/bin/env bash
+# Tries the drivers of the typed layers of C and Rust over an emulated printer, drawer, display and scanner
+# (tests/native.py says what): the layer of C as it is, and under the address and the undefined behaviour sanitizer;
+# the crate of Rust. valgrind looks for what the layer of C forgets, and tests/native/cost.c says what an order costs. It
+# installs nothing, and a missing tool is a failure that names its package.
+# Usage: tests/native.sh [WORD ..]. The words are those of tests/native.py: --faults N (100 random faults by default),
+# --seed N, --only WORD. KIJOLVAR_ARCHIVE names a library in place of the one that rt lib builds. Its last line is
+# 'N passed, M failed'.
+set -u
+top=$(cd "$(dirname "$0")/.." && pwd)
+abi=$top/abi
+here=$top/tests/native
+work=$(mktemp -d)
+trap 'rm -rf "$work"' EXIT
+export PYTHONDONTWRITEBYTECODE=1
+passed=0
+failed=0
+
+# told NAME WANTED FOUND: whether two texts are the same
+told() {
+  if [ "$2" = "$3" ]; then
+    passed=$((passed + 1))
+  else
+    failed=$((failed + 1))
+    printf 'failed: %s\n  wanted: %s\n  found:  %s\n' "$1" "$2" "$3"
+  fi
+}
+
+# runs NAME COMMAND ..: whether a command ends well
+runs() {
+  local name=$1 status
+  shift
+  "$@" > "$work/said" 2>&1
+  status=$?
+  told "$name" 0 "$status"
+  [ "$status" -eq 0 ] || tail -n 12 "$work/said"
+}
+
+# needs TOOL PACKAGE: whether a tool is there
+needs() {
+  if ! command -v "$1" > /dev/null; then
+    echo "failed: $1 is missing: install $2"
+    failed=$((failed + 1))
+  fi
+}
+
+[ -n "${KIJOLVAR_ARCHIVE:-}" ] || needs rt "the Rattle kit"
+needs gcc "the Debian package gcc"
+needs g++ "the Debian package g++"
+needs ar "the Debian package binutils"
+needs cargo "Rust 1.89 or later with cargo (rustup)"
+needs cargo-clippy "clippy (rustup component add clippy)"
+needs python3 "the Debian package python3"
+needs valgrind "the Debian package valgrind"
+if [ "$failed" -gt 0 ]; then
+  echo "$passed passed, $failed failed"
+  exit 1
+fi
+
+# tries NAME HOST WORD ..: begins what tests/native.py does with a host. Most of it is waiting, so several run at a time
+names=()
+tries() {
+  names+=("$1")
+  python3 -W error -W ignore::ResourceWarning "$top/tests/native.py" "$@" > "$work/tried-${#names[@]}" 2>&1 &
+}
+
+# collects: waits for what was begun, and adds up its checks
+collects() {
+  local number line
+  wait
+  for number in "${!names[@]}"; do
+    line=$(tail -n 1 "$work/tried-$((number + 1))")
+    if [[ $line =~ ^([0-9]+)\ passed,\ ([0-9]+)\ failed$ ]]; then
+      passed=$((passed + BASH_REMATCH[1]))
+      failed=$((failed + BASH_REMATCH[2]))
+      head -n -1 "$work/tried-$((number + 1))"
+      echo "${names[number]}: $line"
+    else
+      told "${names[number]}: the tests end" "N passed, M failed" "$(tail -n 12 "$work/tried-$((number + 1))")"
+    fi
+  done
+}
+
+[ -n "${KIJOLVAR_ARCHIVE:-}" ] || (cd "$top/crates/kijolvar" && rt lib > "$work/said" 2>&1)
+told "the library" 0 "$?"
+runs "the archive" env CFLAGS="-Werror" "$abi/build.sh" "$work"
+strict=(-Wall -Wextra -Werror -pedantic -I "$abi" -I "$abi/c")
+runs "the heap is built" gcc -O1 -c -o "$work/heap.o" "$abi/heap.c"
+bare=("$work/heap.o" "${KIJOLVAR_ARCHIVE:-$top/crates/kijolvar/out/libkijolvar.a}" -lpthread)
+
+runs "the host in C is built" gcc -std=c99 "${strict[@]}" -O1 -g -o "$work/host" "$here/host.c" "$work/libkijolvar.a"
+runs "the host in C is built with sanitizers" gcc -std=c99 "${strict[@]}" -O1 -g -fsanitize=address,undefined \
+  -fno-sanitize-recover -o "$work/checked" "$here/host.c" "$abi"/c/kij_*.c "${bare[@]}"
+runs "the host in C is built with a heap" gcc -std=c99 "${strict[@]}" -O1 -g -DHOST_HAS_HEAP -o "$work/heap" \
+  "$here/host.c" "$work/libkijolvar.a" -Wl,--wrap=malloc,--wrap=calloc,--wrap=realloc
+runs "what measures the cost is built" gcc -std=c99 "${strict[@]}" -O2 -o "$work/cost" "$here/cost.c" \
+  "$work/libkijolvar.a"
+runs "the host in C++17 is built" g++ -std=c++17 "${strict[@]}" -O1 -x c++ "$here/host.c" "$abi"/c/kij_*.c -x none \
+  -o "$work/plus" "${bare[@]}"
+cat > "$work/watched" <<END
+#!/bin/sh
+exec valgrind -q --error-exitcode=99 --undef-value-errors=no --leak-check=full --sim-hints=lax-ioctls "$work/host" "\$@"
+END
+chmod +x "$work/watched"
+
+export KIJOLVAR_LIB=$work CARGO_TARGET_DIR=$work/target CARGO_NET_OFFLINE=true
+runs "clippy, the host in Rust" cargo clippy -q --offline --manifest-path "$here/rust/Cargo.toml" -- -D warnings
+runs "the host in Rust is built" cargo build -q --offline --release --manifest-path "$here/rust/Cargo.toml"
+
+tries "C" "$work/host" "$@"
+tries "C with sanitizers" "$work/checked" "$@"
+for word in plain display scanner drawer; do
+  tries "C, watched: $word" "$work/watched" --slack 8 "$@" --only "$word"
+done
+tries "C, want of memory" "$work/heap" "$@" --only memory
+tries "C++" "$work/plus" "$@" --only plain
+tries "Rust" "$work/target/release/host" "$@"
+collects
+
+# nothing else of this runs meanwhile
+coproc emulator { python3 "$top/tests/emulator" printer --path "$work/port" --lines 100000; }
+to_emulator=${emulator[1]}
+read -r port <&"${emulator[0]}"
+"$work/cost" "$port"
+told "an order in C costs at most 1.3 times a bare round trip" 0 "$?"
+exec {to_emulator}>&-
+wait
+
+echo "$passed passed, $failed failed"
+[ "$failed" -eq 0 ]

@@ -1,0 +1,147 @@
+//! A host in Rust for tests/native.py: a till whose devices have drivers. tests/native/host.c says which commands it
+//! reads, and how it answers them.
+use kijolvar::standard::{Category, PrinterStation};
+use kijolvar::{
+    Cause, DisplaySettings, Driver, DriverTill, Error, EscPosPrinter, EscPosSettings, Flow, Order, Port, PosPrinter,
+    Protocol, SerialDisplay, SerialSettings, Till, Totals, WedgeScanner,
+};
+use std::io::{BufRead, Write};
+use std::time::Duration;
+
+/// The words behind a command's verb, of which some are keys with a value.
+struct Words<'l>(Vec<&'l str>);
+
+impl Words<'_> {
+    fn has(&self, key: &str) -> bool {
+        self.0.contains(&key)
+    }
+
+    fn value(&self, key: &str) -> Option<&str> {
+        let place = self.0.iter().position(|word| *word == key)?;
+        self.0.get(place + 1).copied()
+    }
+
+    fn number(&self, key: &str) -> Option<u32> {
+        self.value(key)?.parse().ok()
+    }
+
+    fn time(&self, key: &str, usual: Duration) -> Duration {
+        self.number(key).map_or(usual, |number| Duration::from_millis(number.into()))
+    }
+}
+
+fn open_printer(till: &Till, words: &Words) -> Result<String, Error> {
+    let usual = EscPosSettings::default();
+    let settings = EscPosSettings {
+        width: words.number("width"),
+        lines: words.number("lines").unwrap_or(usual.lines),
+        is_asked: words.has("asked"),
+        timeout: words.time("timeout", usual.timeout),
+        pause: words.time("pause", usual.pause),
+        ..usual
+    };
+    let port = match words.number("serial") {
+        Some(speed) => {
+            Port::Serial(words.0[1].into(), SerialSettings { speed, flow: Flow::None, ..SerialSettings::default() })
+        }
+        None => Port::of(words.0[1]),
+    };
+    let printer = EscPosPrinter::open(port, settings);
+    if let Some(name) = words.value("drawer") {
+        till.drive(name, printer.drawer())?;
+    }
+    till.drive(words.0[0], printer)?;
+    Ok("ok".to_string())
+}
+
+fn open_display(till: &Till, words: &Words) -> Result<String, Error> {
+    let usual = DisplaySettings::default();
+    let protocol = if words.has("escpos") { Protocol::EscPos } else { Protocol::Cd5220 };
+    let (timeout, pause) = (words.time("timeout", usual.timeout), words.time("pause", usual.pause));
+    till.drive(words.0[0], SerialDisplay::open(words.0[1], DisplaySettings { protocol, timeout, pause }))?;
+    Ok("ok".to_string())
+}
+
+fn open_scanner(till: &Till, words: &Words) -> Result<String, Error> {
+    let port = if words.has("keys") { Port::Keys(words.0[1].into()) } else { Port::of(words.0[1]) };
+    let pause = words.time("pause", Duration::from_secs(1));
+    till.drive(words.0[0], WedgeScanner::open(port).with_pause(pause))?;
+    Ok("ok".to_string())
+}
+
+/// A driver of the host's own, whose device takes this many orders.
+struct Own(u32);
+
+impl Driver for Own {
+    fn category(&self) -> Category {
+        Category::CashDrawer
+    }
+
+    fn carry_out(&mut self, _: &mut DriverTill<'_>, order: &Order) -> bool {
+        let is_done = self.0 > 0 && matches!(order, Order::OpenDrawer { .. });
+        self.0 = self.0.saturating_sub(1);
+        is_done
+    }
+}
+
+/// Prints bytes by a typed call, over a control that the first one makes.
+fn print<'t>(till: &'t Till, printer: &mut Option<PosPrinter<'t>>, digits: &str) -> Result<String, Error> {
+    let digit = |place: usize| u8::from_str_radix(&digits[place..place + 2], 16).unwrap();
+    let bytes: Vec<u8> = (0..digits.len()).step_by(2).map(digit).collect();
+    if printer.is_none() {
+        *printer = Some(till.pos_printer("r1")?.enabled()?);
+    }
+    printer.as_ref().unwrap().print_normal(PrinterStation::Receipt, &bytes)?;
+    Ok("ok".to_string())
+}
+
+fn obey<'t>(till: &'t Till, printer: &mut Option<PosPrinter<'t>>, line: &str) -> Result<String, Error> {
+    let (verb, rest) = line.split_once(' ').unwrap_or((line, ""));
+    let words = Words(rest.split(' ').filter(|word| !word.is_empty()).collect());
+    match verb {
+        "printer" => open_printer(till, &words),
+        "display" => open_display(till, &words),
+        "scanner" => open_scanner(till, &words),
+        "own" => till.drive(words.0[0], Own(words.0[1].parse().unwrap())).map(|()| "ok".to_string()),
+        "run" => till.run_devices(Duration::from_millis(words.0[0].parse().unwrap())).map(|is_any| is_any.to_string()),
+        "state" => till
+            .driver_state(words.0[0])
+            .map(|state| format!("{} {}", if state.is_online { "online" } else { "offline" }, state.late_orders)),
+        "lines" => till.carry_out(rest.replace(';', "\n")).map(|answers| answers.replace('\n', ";")),
+        "print" => print(till, printer, rest),
+        "host" => till.host(rest).map(|()| "ok".to_string()),
+        "tear" => till.tear_off(rest).map(|()| "ok".to_string()),
+        "order" => till.next_order().map(|order| match order {
+            Some(Order::OpenDrawer { device }) => device,
+            _ => "none".to_string(),
+        }),
+        _ => Ok("not understood".to_string()),
+    }
+}
+
+/// A refusal, by the names of C.
+fn refusal(error: &Error) -> String {
+    match error.cause() {
+        Cause::Extended(extended) => format!("E_EXTENDED {}", extended.number()),
+        Cause::Code(code) => format!("{code:?}"),
+        Cause::BadDevice => "KIJ_BAD_DEVICE".to_string(),
+        Cause::KindDiffers => "KIJ_KIND_DIFFERS".to_string(),
+        Cause::BadSettings => "KIJ_BAD_SETTINGS".to_string(),
+        Cause::NoDevice => "KIJ_NO_DEVICE".to_string(),
+        Cause::Driven => "KIJ_DRIVEN".to_string(),
+        _ => error.to_string(),
+    }
+}
+
+fn main() {
+    let words: Vec<String> = std::env::args().collect();
+    let profile = std::fs::read_to_string(&words[1]).expect("a profile");
+    let totals = words.get(2).map_or(Totals::Memory, Totals::create);
+    let till = Till::open(&profile, totals).expect("a till");
+    let mut printer = None;
+    let mut out = std::io::stdout().lock();
+    for line in std::io::stdin().lock().lines() {
+        let answer = obey(&till, &mut printer, &line.expect("a line")).unwrap_or_else(|error| refusal(&error));
+        writeln!(out, "{answer}").and_then(|()| out.flush()).expect("somebody who listens");
+    }
+}
