@@ -116,16 +116,17 @@ static int set_up(int file, const kij_serial_settings *serial) {
 
 /* Sets up a device that was opened: 0 or errno. */
 static int prepare(kij_port *port, int file) {
-    struct stat found;
-    if (fstat(file, &found) != 0) return errno;
+    /* fstat would need glibc 2.33. */
+    struct statx found;
+    if (statx(file, "", AT_EMPTY_PATH, STATX_TYPE, &found) != 0) return errno;
     if (port->kind == KIJ_PORT_KEYS) {
         /* A pipe or a terminal has no keys to keep from other programs. */
-        if (S_ISCHR(found.st_mode) && ioctl(file, EVIOCGRAB, 1) != 0 && errno != ENOTTY && errno != EINVAL)
+        if (S_ISCHR(found.stx_mode) && ioctl(file, EVIOCGRAB, 1) != 0 && errno != ENOTTY && errno != EINVAL)
             return errno;
         port->ends_empty = true;
         return isatty(file) ? set_up(file, NULL) : 0;
     }
-    if (S_ISREG(found.st_mode)) return ENODEV;
+    if (S_ISREG(found.stx_mode)) return ENODEV;
     /* A printer on USB may send packets with nothing in them. */
     port->ends_empty = isatty(file) != 0;
     if (!port->ends_empty) return 0;
