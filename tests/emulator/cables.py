@@ -38,7 +38,7 @@ class PtyCable:
         os.close(self._master)
         self._master = self._slave = None
 
-    def settle(self, seconds=0.5):
+    def settle(self, seconds=3.0):
         """Waits until the host has read what was sent, as it would over a wire, but not longer than this."""
         end, quiet = time.monotonic() + seconds, 0
         while self._slave is not None and time.monotonic() < end and quiet < 5:
