@@ -4,6 +4,7 @@ ghost use Rattle.pos_service.specs.Peripherals.{Asked, order_fits};
 ghost use Rattle.pos_drive.specs.Courses.{settled_course};
 ghost use Rattle.pos_drive.specs.DrivenPeripherals.{Answers, Keeps, Passes, PutsOff, driven_of, driven_state, has_order};
 
+use crate::awaits::Awaits;
 use crate::courses::{Course, Progress};
 use crate::hosted::Hosted;
 use crate::order_copies::copy_order;
@@ -149,7 +150,7 @@ impl<P: Preview> Peripheral for Driven<P> {
     }
 }
 
-impl<P: Preview + Tears> Hosted for Driven<P> {
+impl<P: Preview> Awaits for Driven<P> {
     ghost course = { λ driven. driven.course };
 
     fn progress(&self) -> Progress {
@@ -160,6 +161,13 @@ impl<P: Preview + Tears> Hosted for Driven<P> {
         self.course.waiting()
     }
 
+    fn settle(&mut self) {
+        let course = self.exchange(Course::Ready);
+        self.course = course.settled();
+    }
+}
+
+impl<P: Preview + Tears> Hosted for Driven<P> {
     fn drive(&mut self) {
         let course = self.exchange(Course::Ready);
         self.course = course.driven();
@@ -173,11 +181,6 @@ impl<P: Preview + Tears> Hosted for Driven<P> {
     fn report(&mut self, is_done: bool) {
         let course = self.exchange(Course::Ready);
         self.course = course.reported(is_done);
-    }
-
-    fn settle(&mut self) {
-        let course = self.exchange(Course::Ready);
-        self.course = course.settled();
     }
 
     fn tear_off(&mut self) -> Result<(), NoMemory> {
