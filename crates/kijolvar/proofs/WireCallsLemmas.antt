@@ -7,6 +7,7 @@ use Rattle.pos_service.specs.Peripherals.{order_fits}
 use Rattle.pos_drive.specs.Courses.{order_in}
 use Rattle.pos_drive.specs.declared.courses.Course.{Course}
 use Rattle.pos_wire.specs.Orders.{HasNoBytes}
+use Rattle.pos_wire.specs.Settings.{settings_fit}
 use Rattle.pos_wire.specs.declared.settings.WireSettings.{WireSettings}
 use Rattle.pos_run.specs.Simulating.{wrapped_state}
 use Rattle.pos_counter.specs.Hosts.{pending_peripheral}
@@ -19,11 +20,11 @@ use Rattle.kijolvar.specs.WireCalls.{AnswersOrderBytes}
 -- the order that is pending has no bytes
 pub tells_no_order : (hosts : Device → Course) (till : Kept) (settings : WireSettings) (is_new behind : ℕ) (before : List ℕ) (needed : ℕ)
     (name : List ℕ) (device : Device) (given : Order) → Some (name, device) ≡ pending_peripheral hosts (slots_in till.counter.devices)
-    → Some given ≡ order_in (hosts device)
+    → Some given ≡ order_in (hosts device) → settings_fit (wrapped_state device.driven.twin).kind settings ≡ true
     → (order_fits (wrapped_state device.driven.twin).kind given ≡ true → HasNoBytes (not (is_new == 0)) (wrapped_state device.driven.twin) given)
     → AnswersOrderBytes hosts till settings is_new behind before before needed needed no_order
-tells_no_order hosts till settings is_new behind before needed name device given found waits none =
+tells_no_order hosts till settings is_new behind before needed name device given found waits fit none =
     rw (← found) (rw (← waits) (inr (record {
-      why = inr (inr (refl, none));
+      why = inr (inr (refl, fit, none));
       tells = record { text_stays = refl; needed_stays = refl; code_told = refl };
     })))

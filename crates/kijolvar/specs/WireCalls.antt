@@ -72,7 +72,8 @@ pub record TellsBytes (settings : WireSettings) (is_new : Bool) (behind : JobEnd
 abbrev pub IsNoBytesCode : WireSettings → Bool → PeripheralState → Order → (code : ℕ) → Type 0
 IsNoBytesCode settings is_new state given code = (code ≡ no_memory)
     ⊎ ((code ≡ bad_settings) × (settings_fit state.kind settings ≡ false))
-    ⊎ ((code ≡ no_order) × (order_fits state.kind given ≡ true → HasNoBytes is_new state given))
+    ⊎ ((code ≡ no_order) × (settings_fit state.kind settings ≡ true)
+    × (order_fits state.kind given ≡ true → HasNoBytes is_new state given))
 
 -- Nothing is written, for this cause.
 pub record TellsNoBytes (settings : WireSettings) (is_new : Bool) (state : PeripheralState) (given : Order)

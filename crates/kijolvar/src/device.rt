@@ -3,7 +3,7 @@ ghost use Rattle.std.specs.Prelude.{◌≡◌};
 ghost use Rattle.kijolvar.specs.Orders.{device_state, mounts_device};
 
 use crate::tray::{Post, Tray};
-use pos_drive::{Driven, Hosted, Progress};
+use pos_drive::{Awaits, Driven, Hosted, Progress};
 use pos_profile::Entry;
 use pos_run::{Mount, Wrapped};
 use pos_service::{
@@ -70,7 +70,7 @@ impl Peripheral for Device {
     }
 }
 
-impl Hosted for Device {
+impl Awaits for Device {
     ghost use Rattle.kijolvar.specs.Orders.{device_course};
 
     ghost course = { device_course };
@@ -83,6 +83,12 @@ impl Hosted for Device {
         self.driven.waiting()
     }
 
+    fn settle(&mut self) {
+        self.driven.settle();
+    }
+}
+
+impl Hosted for Device {
     fn drive(&mut self) {
         self.driven.drive();
     }
@@ -93,10 +99,6 @@ impl Hosted for Device {
 
     fn report(&mut self, is_done: bool) {
         self.driven.report(is_done);
-    }
-
-    fn settle(&mut self) {
-        self.driven.settle();
     }
 
     fn tear_off(&mut self) -> Result<(), NoMemory> {

@@ -13,7 +13,7 @@ use crate::held_lines::{insert_behind_first, split_lines};
 use crate::kept::Kept;
 use crate::till_disk::TillDisk;
 use pos_disk::Disk;
-use pos_drive::{Hosted, Progress};
+use pos_drive::{Awaits, Progress};
 use pos_run::{Held, carry_on, carry_out_lines};
 use pos_script::LineBuffer;
 use pos_service::Peripheral;
@@ -68,7 +68,7 @@ impl Kept {
     fn go_on(&mut self, alloc: Global, buffer: &mut LineBuffer)
         requires told { self.old.told ≡ false }
         requires sound { IsTillSound ⟦<Device as Peripheral>⟧ self.old }
-        ensures go_on { GoesOn ⟦<TillDisk as Disk>⟧ ⟦<Device as Hosted>⟧.course ⟦<Device as Peripheral>⟧
+        ensures go_on { GoesOn ⟦<TillDisk as Disk>⟧ ⟦<Device as Awaits>⟧.course ⟦<Device as Peripheral>⟧
             self.old.counter (session_in ⟦<Device as Peripheral>⟧ self.old) (given_to self.old.answer)
             self.old.held.items self.new }
         ensures rest { KeepsRest self.old self.new }
@@ -100,7 +100,7 @@ impl Kept {
         text: &[u8],
     ) -> Result<(), u32>
         requires { IsTillSound ⟦<Device as Peripheral>⟧ self.old }
-        ensures carries { MatchResult result (λ u. CarriesOutDriven ⟦<TillDisk as Disk>⟧ ⟦<Device as Hosted>⟧.course
+        ensures carries { MatchResult result (λ u. CarriesOutDriven ⟦<TillDisk as Disk>⟧ ⟦<Device as Awaits>⟧.course
             ⟦<Device as Peripheral>⟧ self.old text.now self.new) (λ why. (why ≡ no_memory) × (self.new ≡ self.old)) }
         ensures sound { IsTillSound ⟦<Device as Peripheral>⟧ self.new }
     {
@@ -126,7 +126,7 @@ impl Kept {
         inputs: &[u8],
     ) -> Result<(), u32>
         requires { IsTillSound ⟦<Device as Peripheral>⟧ self.old }
-        ensures takes { MatchResult result (λ u. TakesDone ⟦<TillDisk as Disk>⟧ ⟦<Device as Hosted>⟧.course
+        ensures takes { MatchResult result (λ u. TakesDone ⟦<TillDisk as Disk>⟧ ⟦<Device as Awaits>⟧.course
             ⟦<Device as Peripheral>⟧ self.old inputs.now self.new) (λ why. (why ≡ no_memory) × (self.new ≡ self.old)) }
         ensures sound { IsTillSound ⟦<Device as Peripheral>⟧ self.new }
     {
@@ -146,8 +146,8 @@ impl Kept {
     /// on, and then the others. If memory runs out for what an input prints, none of them does.
     fn take_failure(&mut self, alloc: Global, buffer: &mut LineBuffer, inputs: &[u8])
         requires { IsTillSound ⟦<Device as Peripheral>⟧ self.old }
-        ensures takes { TakesFailure ⟦<TillDisk as Disk>⟧ ⟦<Device as Hosted>⟧.course ⟦<Device as Peripheral>⟧ self.old
-            inputs.now self.new ⊎ CutsInputs ⟦<TillDisk as Disk>⟧ ⟦<Device as Hosted>⟧.course ⟦<Device as Peripheral>⟧
+        ensures takes { TakesFailure ⟦<TillDisk as Disk>⟧ ⟦<Device as Awaits>⟧.course ⟦<Device as Peripheral>⟧ self.old
+            inputs.now self.new ⊎ CutsInputs ⟦<TillDisk as Disk>⟧ ⟦<Device as Awaits>⟧.course ⟦<Device as Peripheral>⟧
             self.old inputs.now self.new }
         ensures sound { IsTillSound ⟦<Device as Peripheral>⟧ self.new }
     {
@@ -184,7 +184,7 @@ impl Kept {
         inputs: &[u8],
     ) -> Result<(), u32>
         requires { IsTillSound ⟦<Device as Peripheral>⟧ self.old }
-        ensures takes { TakesReport ⟦<TillDisk as Disk>⟧ ⟦<Device as Hosted>⟧.course ⟦<Device as Peripheral>⟧ self.old
+        ensures takes { TakesReport ⟦<TillDisk as Disk>⟧ ⟦<Device as Awaits>⟧.course ⟦<Device as Peripheral>⟧ self.old
             outcome inputs.now result self.new }
         ensures sound { IsTillSound ⟦<Device as Peripheral>⟧ self.new }
     {

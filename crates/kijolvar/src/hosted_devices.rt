@@ -11,7 +11,7 @@ use crate::kept::Kept;
 use crate::orders::{order_line, tell_order};
 use crate::till_disk::Settlement;
 use crate::tray::Tray;
-use pos_drive::{Hosted, Progress};
+use pos_drive::{Awaits, Progress};
 use pos_profile::{Entry, Profile};
 use pos_service::Peripheral;
 use std::alloc::Global;
@@ -69,7 +69,7 @@ fn may_be_driven(entries: &[Entry], name: &[u8]) -> bool
 /// NO_DEVICE if no device of the name may be driven, or nothing serves it. Then nothing changes.
 pub(crate) fn drive_device(kept: &mut Kept, name: &[u8]) -> u32
     requires { IsTillSound ⟦<Device as Peripheral>⟧ kept.old }
-    ensures drives { Drives ⟦<Device as Hosted>⟧.course ⟦<Device as Peripheral>⟧ kept.old name.now result kept.new }
+    ensures drives { Drives ⟦<Device as Awaits>⟧.course ⟦<Device as Peripheral>⟧ kept.old name.now result kept.new }
     ensures sound { IsTillSound ⟦<Device as Peripheral>⟧ kept.new }
 {
     if !may_be_driven(kept.profile.devices(), name) {
@@ -99,7 +99,7 @@ fn refill(orders: &mut VecDeque<Vec<u8>>, tray: &Tray)
 /// SHORT if `text` has less room, and NO_MEMORY if memory ran out for the line. Then the host doesn't have the order.
 fn give_driven(kept: &mut Kept, alloc: Global, text: &mut [u8], needed: &mut usize) -> u32
     requires { IsTillSound ⟦<Device as Peripheral>⟧ kept.old }
-    ensures gives { GivesDriven ⟦<Device as Hosted>⟧.course ⟦<Device as Peripheral>⟧ kept.old text.old text.new
+    ensures gives { GivesDriven ⟦<Device as Awaits>⟧.course ⟦<Device as Peripheral>⟧ kept.old text.old text.new
         needed.old needed.new result kept.new }
     ensures orders { kept.new.orders ≡ kept.old.orders }
     ensures sound { IsTillSound ⟦<Device as Peripheral>⟧ kept.new }
@@ -133,7 +133,7 @@ fn give_driven(kept: &mut Kept, alloc: Global, text: &mut [u8], needed: &mut usi
 /// NO_MEMORY if memory ran out for the line of a driven device. Then nothing is written.
 fn tell_next(kept: &mut Kept, tray: &Tray, text: &mut [u8], needed: &mut usize) -> u32
     requires { IsTillSound ⟦<Device as Peripheral>⟧ kept.old }
-    ensures hands_out { HandsOut ⟦<Device as Hosted>⟧.course ⟦<Device as Peripheral>⟧ kept.old text.old text.new
+    ensures hands_out { HandsOut ⟦<Device as Awaits>⟧.course ⟦<Device as Peripheral>⟧ kept.old text.old text.new
         needed.old needed.new result kept.new }
     ensures sound { IsTillSound ⟦<Device as Peripheral>⟧ kept.new }
 {
@@ -152,7 +152,7 @@ fn tell_next(kept: &mut Kept, tray: &Tray, text: &mut [u8], needed: &mut usize) 
 /// - NO_MEMORY if memory ran out for the line of a driven device. Then nothing is written.
 pub(crate) fn next_order(kept: &mut Kept, tray: &Tray, text: &mut [u8], needed: &mut usize) -> u32
     requires { IsTillSound ⟦<Device as Peripheral>⟧ kept.old }
-    ensures next { NextOrder ⟦<Device as Hosted>⟧.course ⟦<Device as Peripheral>⟧ kept.old text.old text.new
+    ensures next { NextOrder ⟦<Device as Awaits>⟧.course ⟦<Device as Peripheral>⟧ kept.old text.old text.new
         needed.old needed.new result kept.new }
     ensures sound { IsTillSound ⟦<Device as Peripheral>⟧ kept.new }
 {

@@ -65,7 +65,7 @@ use device_texts::devices_text;
 use disk::{SIZE, format_in_file, move_in_file};
 use mistakes::tell_mistake;
 use pos_disk::Disk;
-use pos_drive::Hosted;
+use pos_drive::Awaits;
 use pos_image::new_disk;
 use pos_profile::{Profile, ProfileFault};
 use pos_service::{NoMemory, Peripheral};
@@ -357,7 +357,7 @@ pub extern "C" fn kijolvar_survey(
 
 /// Carries out lines and writes their answer, if no errand is left and none failed.
 fn serve(session: &mut Session, lines: &[u8], text: &mut [u8], needed: &mut usize) -> u32
-    ensures { Answers ⟦<TillDisk as Disk>⟧ ⟦<Device as Hosted>⟧.course ⟦<Device as Peripheral>⟧ session.old lines.now
+    ensures { Answers ⟦<TillDisk as Disk>⟧ ⟦<Device as Awaits>⟧.course ⟦<Device as Peripheral>⟧ session.old lines.now
         text.old text.new needed.old needed.new result session.new }
 {
     match session.settlement() {
@@ -404,7 +404,7 @@ pub extern "C" fn kijolvar_carry_out(
     text: &mut [u8],
     needed: &mut usize,
 ) -> u32
-    ensures { MatchOption out.new.left ⊥ (Answers ⟦<TillDisk as Disk>⟧ ⟦<Device as Hosted>⟧.course
+    ensures { MatchOption out.new.left ⊥ (Answers ⟦<TillDisk as Disk>⟧ ⟦<Device as Awaits>⟧.course
         ⟦<Device as Peripheral>⟧ till.session lines.now text.old text.new needed.old needed.new result) }
 {
     let mut session = take(till);
@@ -510,7 +510,7 @@ pub extern "C" fn kijolvar_host(till: Till, out: &mut Slot, name: &[u8]) -> u32
 #[unsafe(no_mangle)]
 pub extern "C" fn kijolvar_drive(till: Till, out: &mut Slot, name: &[u8]) -> u32
     ensures { MatchOption out.new.left ⊥
-        (Drives ⟦<Device as Hosted>⟧.course ⟦<Device as Peripheral>⟧ till.session name.now result) }
+        (Drives ⟦<Device as Awaits>⟧.course ⟦<Device as Peripheral>⟧ till.session name.now result) }
 {
     let mut session = take(till);
     let code = session.drive(name);
@@ -537,7 +537,7 @@ pub extern "C" fn kijolvar_next_order(
     text: &mut [u8],
     needed: &mut usize,
 ) -> u32
-    ensures { MatchOption out.new.left ⊥ (NextOrder ⟦<Device as Hosted>⟧.course ⟦<Device as Peripheral>⟧ till.session
+    ensures { MatchOption out.new.left ⊥ (NextOrder ⟦<Device as Awaits>⟧.course ⟦<Device as Peripheral>⟧ till.session
         text.old text.new needed.old needed.new result) }
 {
     let mut session = take(till);
@@ -571,7 +571,7 @@ pub extern "C" fn kijolvar_order_done(
     text: &mut [u8],
     needed: &mut usize,
 ) -> u32
-    ensures { MatchOption out.new.left ⊥ (AnswersReport ⟦<TillDisk as Disk>⟧ ⟦<Device as Hosted>⟧.course
+    ensures { MatchOption out.new.left ⊥ (AnswersReport ⟦<TillDisk as Disk>⟧ ⟦<Device as Awaits>⟧.course
         ⟦<Device as Peripheral>⟧ till.session outcome inputs.now text.old text.new needed.old needed.new result) }
 {
     let mut session = take(till);
@@ -592,7 +592,7 @@ pub extern "C" fn kijolvar_order_done(
 #[unsafe(no_mangle)]
 pub extern "C" fn kijolvar_tear_off(till: Till, out: &mut Slot, name: &[u8]) -> u32
     ensures { MatchOption out.new.left ⊥
-        (TearsOff ⟦<Device as Hosted>⟧.course ⟦<Device as Peripheral>⟧ till.session name.now result) }
+        (TearsOff ⟦<Device as Awaits>⟧.course ⟦<Device as Peripheral>⟧ till.session name.now result) }
 {
     let mut session = take(till);
     let code = session.tear_off(name);
@@ -629,7 +629,7 @@ pub extern "C" fn kijolvar_order_bytes(
     needed: &mut usize,
 ) -> u32
     ensures till { out.new.left ≡ Some till.session }
-    ensures bytes { AnswersOrderBytes ⟦<Device as Hosted>⟧.course till.session settings.now is_new end bytes.old
+    ensures bytes { AnswersOrderBytes ⟦<Device as Awaits>⟧.course till.session settings.now is_new end bytes.old
         bytes.new needed.old needed.new result }
 {
     let session = take(till);

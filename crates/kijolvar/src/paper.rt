@@ -6,7 +6,7 @@ ghost use Rattle.kijolvar.specs.Paper.{TearsOff, torn_code};
 use crate::codes::{NO_DEVICE, NO_MEMORY, OK};
 use crate::device::Device;
 use crate::kept::Kept;
-use pos_drive::Hosted;
+use pos_drive::Awaits;
 use pos_service::{NoMemory, Peripheral};
 
 /// Returns the code by whether there was a device, and whether there was memory.
@@ -27,7 +27,7 @@ fn torn_code(outcome: Result<bool, NoMemory>) -> u32
 /// NO_DEVICE if no device has the name or nothing serves it, and NO_MEMORY if memory ran out. Then nothing changes.
 pub(crate) fn tear_off(kept: &mut Kept, name: &[u8]) -> u32
     requires { IsTillSound ⟦<Device as Peripheral>⟧ kept.old }
-    ensures tears { TearsOff ⟦<Device as Hosted>⟧.course ⟦<Device as Peripheral>⟧ kept.old name.now result kept.new }
+    ensures tears { TearsOff ⟦<Device as Awaits>⟧.course ⟦<Device as Peripheral>⟧ kept.old name.now result kept.new }
     ensures sound { IsTillSound ⟦<Device as Peripheral>⟧ kept.new }
 {
     let outcome = kept.counter.tear_off(name);

@@ -6,7 +6,7 @@ use crate::device::Device;
 use crate::session::Session;
 use crate::till_disk::{Settlement, TillDisk};
 use pos_disk::Disk;
-use pos_drive::Hosted;
+use pos_drive::Awaits;
 use pos_service::Peripheral;
 
 /// Takes the host's report of an order and writes the answer of the lines that it lets go on, if no errand is left and
@@ -18,7 +18,7 @@ pub(crate) fn report(
     text: &mut [u8],
     needed: &mut usize,
 ) -> u32
-    ensures { AnswersReport ⟦<TillDisk as Disk>⟧ ⟦<Device as Hosted>⟧.course ⟦<Device as Peripheral>⟧ session.old
+    ensures { AnswersReport ⟦<TillDisk as Disk>⟧ ⟦<Device as Awaits>⟧.course ⟦<Device as Peripheral>⟧ session.old
         outcome inputs.now text.old text.new needed.old needed.new result session.new }
 {
     match session.settlement() {

@@ -21,7 +21,7 @@ use crate::till_disk::{Settlement, TillDisk};
 use crate::tray::Tray;
 use crate::wire_calls::{tell_order_bytes, tell_reply};
 use pos_disk::Disk;
-use pos_drive::Hosted;
+use pos_drive::Awaits;
 use pos_profile::Profile;
 use pos_run::{Held, Names, carry_out_lines, end_counter, simulate_profile};
 use pos_script::LineBuffer;
@@ -130,7 +130,7 @@ impl Session {
     /// WAITS if a line of an earlier text waits. NO_MEMORY if a device is driven and memory ran out for the lines. Then
     /// nothing changes.
     pub fn carry_out(&mut self, lines: &[u8]) -> Result<(), u32>
-        ensures { TakesLines ⟦<TillDisk as Disk>⟧ ⟦<Device as Hosted>⟧.course ⟦<Device as Peripheral>⟧ self.old
+        ensures { TakesLines ⟦<TillDisk as Disk>⟧ ⟦<Device as Awaits>⟧.course ⟦<Device as Peripheral>⟧ self.old
             lines.now result self.new }
     {
         if !self.kept.held.is_empty() {
@@ -152,7 +152,7 @@ impl Session {
     ///
     /// NO_ORDER if the host has no order, and NO_MEMORY if memory ran out for the inputs. Then nothing changes.
     pub fn take_report(&mut self, outcome: u32, inputs: &[u8]) -> Result<(), u32>
-        ensures { TakesReport ⟦<TillDisk as Disk>⟧ ⟦<Device as Hosted>⟧.course ⟦<Device as Peripheral>⟧ self.old outcome
+        ensures { TakesReport ⟦<TillDisk as Disk>⟧ ⟦<Device as Awaits>⟧.course ⟦<Device as Peripheral>⟧ self.old outcome
             inputs.now result self.new }
     {
         self.kept
@@ -225,7 +225,7 @@ impl Session {
     ///
     /// NO_DEVICE if no device of the name may be driven, or nothing serves it. Then nothing changes.
     pub fn drive(&mut self, name: &[u8]) -> u32
-        ensures { Drives ⟦<Device as Hosted>⟧.course ⟦<Device as Peripheral>⟧ self.old name.now result self.new }
+        ensures { Drives ⟦<Device as Awaits>⟧.course ⟦<Device as Peripheral>⟧ self.old name.now result self.new }
     {
         drive_device(&mut self.kept, name)
     }
@@ -236,7 +236,7 @@ impl Session {
     ///
     /// NO_DEVICE if no device has the name or nothing serves it, and NO_MEMORY if memory ran out. Then nothing changes.
     pub fn tear_off(&mut self, name: &[u8]) -> u32
-        ensures { TearsOff ⟦<Device as Hosted>⟧.course ⟦<Device as Peripheral>⟧ self.old name.now result self.new }
+        ensures { TearsOff ⟦<Device as Awaits>⟧.course ⟦<Device as Peripheral>⟧ self.old name.now result self.new }
     {
         tear_off(&mut self.kept, name)
     }
@@ -249,7 +249,7 @@ impl Session {
     /// - ERRANDS if errands are left, and DISK_FAILED if one failed. Then nothing is written.
     /// - NO_MEMORY if memory ran out for the line of a driven device. Then nothing is written.
     pub fn next_order(&mut self, text: &mut [u8], needed: &mut usize) -> u32
-        ensures { NextOrder ⟦<Device as Hosted>⟧.course ⟦<Device as Peripheral>⟧ self.old text.old text.new needed.old
+        ensures { NextOrder ⟦<Device as Awaits>⟧.course ⟦<Device as Peripheral>⟧ self.old text.old text.new needed.old
             needed.new result self.new }
     {
         next_order(&mut self.kept, &self.tray, text, needed)
@@ -268,7 +268,7 @@ impl Session {
         bytes: &mut [u8],
         needed: &mut usize,
     ) -> u32
-        ensures { AnswersOrderBytes ⟦<Device as Hosted>⟧.course self.now settings.now is_new end bytes.old bytes.new
+        ensures { AnswersOrderBytes ⟦<Device as Awaits>⟧.course self.now settings.now is_new end bytes.old bytes.new
             needed.old needed.new result }
     {
         tell_order_bytes(&self.kept, self.alloc, settings, is_new, end, bytes, needed)

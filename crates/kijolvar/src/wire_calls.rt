@@ -10,7 +10,7 @@ ghost use Rattle.kijolvar.specs.WireCalls.{AnswersOrderBytes, AnswersReplies, Is
 use crate::codes::{BAD_SETTINGS, NO_DEVICE, NO_MEMORY, NO_ORDER, OK, SHORT};
 use crate::device::Device;
 use crate::kept::Kept;
-use pos_drive::Hosted;
+use pos_drive::Awaits;
 use pos_escpos::{NowStatus, OrderStatus, PrinterReply};
 use pos_service::{Kind, Peripheral};
 use pos_wire::{Asked, JobEnd, WireFault, WireSettings, order_bytes, read_reply, reply_text};
@@ -79,7 +79,7 @@ pub(crate) fn tell_order_bytes(
     out: &mut [u8],
     needed: &mut usize,
 ) -> u32
-    ensures { AnswersOrderBytes ⟦<Device as Hosted>⟧.course kept.now settings.now is_new end out.old out.new needed.old
+    ensures { AnswersOrderBytes ⟦<Device as Awaits>⟧.course kept.now settings.now is_new end out.old out.new needed.old
         needed.new result }
 {
     let Some((_, device)) = kept.counter.pending() else {

@@ -1,7 +1,7 @@
 -- How the devices of a counter stand to their host, and what the host does with them.
 use Rattle.std.specs.Prelude.{◌≡◌, ◌<◌, ℕ, zero, suc, Bool, true, false, List, [], ◌∷◌, Option, Some, None, bytes_eq, map, if◌then◌else◌}
 use Rattle.std.specs.Option.{option_map}
-use Rattle.pos_drive.specs.Courses.{driven_course, handed_out_course, order_in, progress_of, reported_course, settled_course}
+use Rattle.pos_drive.specs.Courses.{driven_course, handed_out_course, order_in, progress_of, reported_course}
 use Rattle.pos_drive.specs.declared.courses.Course.{Course}
 use Rattle.pos_drive.specs.declared.courses.Course.TheVariants as course
 use Rattle.pos_drive.specs.declared.courses.Progress.{Progress}
@@ -11,7 +11,7 @@ use Rattle.pos_service.specs.declared.order.Order.{Order}
 use Rattle.pos_counter.specs.KeptDevices.{slots_in}
 use Rattle.pos_counter.specs.declared.counter.Counter.{Counter}
 use Rattle.pos_counter.specs.declared.hosts.HostAct.{HostAct}
-use Rattle.pos_counter.specs.declared.hosts.HostAct.TheVariants.{Drive, HandOut, Report, Settle}
+use Rattle.pos_counter.specs.declared.hosts.HostAct.TheVariants.{Drive, HandOut, Report}
 
 -- a device to its host: its name, and how its peripheral stands to the host; none if it is vacant
 abbrev pub Host : Type 0
@@ -121,7 +121,6 @@ abbrev pub course_after : HostAct → Course → Course
 course_after Drive course = driven_course course
 course_after HandOut course = handed_out_course course
 course_after (Report is_done) course = reported_course is_done course
-course_after Settle course = settled_course course
 
 -- An order of the device at a place is pending, and none of a device before it is.
 pub record IsFirstPending (hosts : List Host) (place : ℕ) : Type 0 where

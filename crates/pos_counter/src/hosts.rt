@@ -12,7 +12,7 @@ ghost use Rattle.pos_counter.specs.KeptDevices.{AreDevicesSound, devices_in, slo
 use crate::counter::Counter;
 use crate::devices::Devices;
 use pos_disk::Disk;
-use pos_drive::{Hosted, Progress};
+use pos_drive::{Awaits, Hosted, Progress};
 use pos_profile::Slot;
 use pos_service::Order;
 
@@ -25,34 +25,12 @@ pub(crate) enum HostAct {
     HandOut,
     /// It reports whether the order that it has is done.
     Report(bool),
-    /// It forgets the order.
-    Settle,
 }
 
-impl<D: Disk, P: Hosted> Counter<D, P> {
-    /// Makes each order of the device of this name wait for the host from now on. It returns false, and nothing
-    /// changes, if no device has the name or it has no peripheral.
-    pub fn drive(&mut self, device: &[u8]) -> bool
-        requires sound { IsCounterSound P.Peripheral self.old }
-        ensures found { result ≡ is_some (course_named device.now (hosts_in P.Hosted.course self.old)) }
-        ensures unchanged { result ≡ false → self.new ≡ self.old }
-        ensures hosts { hosts_in P.Hosted.course self.new
-            ≡ changed_named driven_course device.now (hosts_in P.Hosted.course self.old) }
-        ensures stays { Stays P.Peripheral self.old self.new }
-        ensures sound { IsCounterSound P.Peripheral self.new }
-    {
-        match self.devices.find_hosted(device) {
-            Some(place) => {
-                self.act_at(place, HostAct::Drive);
-                true
-            }
-            None => false,
-        }
-    }
-
+impl<D: Disk, P: Awaits> Counter<D, P> {
     /// Returns how far the host is with the order of the first device that has one pending, or `Ready` if none has.
     pub fn progress(&self) -> Progress
-        ensures { result ≡ progress_in P.Hosted.course self.now }
+        ensures { result ≡ progress_in P.Awaits.course self.now }
     {
         match self.devices.pending() {
             Some((_, peripheral)) => peripheral.progress(),
@@ -63,7 +41,7 @@ impl<D: Disk, P: Hosted> Counter<D, P> {
     /// Returns the order of the first device that has one pending, with the device's name: one that waits, or that the
     /// host has.
     pub fn waiting(&self) -> Option<(&[u8], &Order)>
-        ensures { option_map (λ found. (found.0.now, found.1.now)) result ≡ waiting_in P.Hosted.course self.now }
+        ensures { option_map (λ found. (found.0.now, found.1.now)) result ≡ waiting_in P.Awaits.course self.now }
     {
         let (name, peripheral) = self.devices.pending()?;
         let order = peripheral.waiting()?;
@@ -73,7 +51,7 @@ impl<D: Disk, P: Hosted> Counter<D, P> {
     /// Returns the first device that has an order pending: its name, and its peripheral.
     pub fn pending(&self) -> Option<(&[u8], &P)>
         ensures { option_map (λ found. (found.0.now, found.1.now)) result
-            ≡ pending_peripheral P.Hosted.course (slots_in self.now.devices) }
+            ≡ pending_peripheral P.Awaits.course (slots_in self.now.devices) }
     {
         self.devices.pending()
     }
@@ -88,40 +66,12 @@ impl<D: Disk, P: Hosted> Counter<D, P> {
         slot.peripheral.as_ref()
     }
 
-    /// Gives the order of the first device that has one pending to the host. Nothing changes if it doesn't wait.
-    pub fn hand_out(&mut self)
-        requires sound { IsCounterSound P.Peripheral self.old }
-        ensures hosts { hosts_in P.Hosted.course self.new
-            ≡ changed_pending handed_out_course (hosts_in P.Hosted.course self.old) }
-        ensures waiting { waiting_in P.Hosted.course self.new ≡ waiting_in P.Hosted.course self.old }
-        ensures progress { progress_in P.Hosted.course self.new
-            ≡ progress_handed_out (progress_in P.Hosted.course self.old) }
-        ensures stays { Stays P.Peripheral self.old self.new }
-        ensures sound { IsCounterSound P.Peripheral self.new }
-    {
-        self.act_at_pending(HostAct::HandOut);
-    }
-
-    /// Takes what the host reports of the order of the first device that has one pending: it is done, or not done.
-    /// Nothing changes if the host doesn't have the order.
-    pub fn report(&mut self, is_done: bool)
-        requires sound { IsCounterSound P.Peripheral self.old }
-        ensures hosts { hosts_in P.Hosted.course self.new
-            ≡ changed_pending (reported_course is_done) (hosts_in P.Hosted.course self.old) }
-        ensures progress { progress_in P.Hosted.course self.new
-            ≡ progress_reported (progress_in P.Hosted.course self.old) }
-        ensures stays { Stays P.Peripheral self.old self.new }
-        ensures sound { IsCounterSound P.Peripheral self.new }
-    {
-        self.act_at_pending(HostAct::Report(is_done));
-    }
-
     /// Forgets each order that is pending, and what the host reported.
     pub fn settle(&mut self)
         requires sound { IsCounterSound P.Peripheral self.old }
-        ensures hosts { hosts_in P.Hosted.course self.new
-            ≡ changed_all settled_course (hosts_in P.Hosted.course self.old) }
-        ensures progress { progress_in P.Hosted.course self.new ≡ progress.Ready }
+        ensures hosts { hosts_in P.Awaits.course self.new
+            ≡ changed_all settled_course (hosts_in P.Awaits.course self.old) }
+        ensures progress { progress_in P.Awaits.course self.new ≡ progress.Ready }
         ensures stays { Stays P.Peripheral self.old self.new }
         ensures sound { IsCounterSound P.Peripheral self.new }
     {
@@ -133,21 +83,71 @@ impl<D: Disk, P: Hosted> Counter<D, P> {
     /// Forgets the order of the device at a place.
     fn settle_at(&mut self, place: usize)
         requires sound { IsCounterSound P.Peripheral self.old }
-        ensures hosts { hosts_in P.Hosted.course self.new
-            ≡ changed_at settled_course place (hosts_in P.Hosted.course self.old) }
+        ensures hosts { hosts_in P.Awaits.course self.new
+            ≡ changed_at settled_course place (hosts_in P.Awaits.course self.old) }
         ensures stays { Stays P.Peripheral self.old self.new }
         ensures sound { IsCounterSound P.Peripheral self.new }
     {
         if self.devices.is_served(place) {
-            self.act_at(place, HostAct::Settle);
+            self.devices.settle_at(place);
         }
+    }
+}
+
+impl<D: Disk, P: Hosted> Counter<D, P> {
+    /// Makes each order of the device of this name wait for the host from now on. It returns false, and nothing
+    /// changes, if no device has the name or it has no peripheral.
+    pub fn drive(&mut self, device: &[u8]) -> bool
+        requires sound { IsCounterSound P.Peripheral self.old }
+        ensures found { result ≡ is_some (course_named device.now (hosts_in P.Awaits.course self.old)) }
+        ensures unchanged { result ≡ false → self.new ≡ self.old }
+        ensures hosts { hosts_in P.Awaits.course self.new
+            ≡ changed_named driven_course device.now (hosts_in P.Awaits.course self.old) }
+        ensures stays { Stays P.Peripheral self.old self.new }
+        ensures sound { IsCounterSound P.Peripheral self.new }
+    {
+        match self.devices.find_hosted(device) {
+            Some(place) => {
+                self.act_at(place, HostAct::Drive);
+                true
+            }
+            None => false,
+        }
+    }
+
+    /// Gives the order of the first device that has one pending to the host. Nothing changes if it doesn't wait.
+    pub fn hand_out(&mut self)
+        requires sound { IsCounterSound P.Peripheral self.old }
+        ensures hosts { hosts_in P.Awaits.course self.new
+            ≡ changed_pending handed_out_course (hosts_in P.Awaits.course self.old) }
+        ensures waiting { waiting_in P.Awaits.course self.new ≡ waiting_in P.Awaits.course self.old }
+        ensures progress { progress_in P.Awaits.course self.new
+            ≡ progress_handed_out (progress_in P.Awaits.course self.old) }
+        ensures stays { Stays P.Peripheral self.old self.new }
+        ensures sound { IsCounterSound P.Peripheral self.new }
+    {
+        self.act_at_pending(HostAct::HandOut);
+    }
+
+    /// Takes what the host reports of the order of the first device that has one pending: it is done, or not done.
+    /// Nothing changes if the host doesn't have the order.
+    pub fn report(&mut self, is_done: bool)
+        requires sound { IsCounterSound P.Peripheral self.old }
+        ensures hosts { hosts_in P.Awaits.course self.new
+            ≡ changed_pending (reported_course is_done) (hosts_in P.Awaits.course self.old) }
+        ensures progress { progress_in P.Awaits.course self.new
+            ≡ progress_reported (progress_in P.Awaits.course self.old) }
+        ensures stays { Stays P.Peripheral self.old self.new }
+        ensures sound { IsCounterSound P.Peripheral self.new }
+    {
+        self.act_at_pending(HostAct::Report(is_done));
     }
 
     /// Does this with the first device that has an order pending, if one has.
     fn act_at_pending(&mut self, act: HostAct)
         requires sound { IsCounterSound P.Peripheral self.old }
-        ensures hosts { hosts_in P.Hosted.course self.new
-            ≡ changed_pending (course_after act) (hosts_in P.Hosted.course self.old) }
+        ensures hosts { hosts_in P.Awaits.course self.new
+            ≡ changed_pending (course_after act) (hosts_in P.Awaits.course self.old) }
         ensures stays { Stays P.Peripheral self.old self.new }
         ensures sound { IsCounterSound P.Peripheral self.new }
     {
@@ -160,8 +160,8 @@ impl<D: Disk, P: Hosted> Counter<D, P> {
     fn act_at(&mut self, place: usize, act: HostAct)
         requires sound { IsCounterSound P.Peripheral self.old }
         requires served { is_some (peripheral_at (slots_in self.old.devices) place) ≡ true }
-        ensures hosts { hosts_in P.Hosted.course self.new
-            ≡ changed_at (course_after act) place (hosts_in P.Hosted.course self.old) }
+        ensures hosts { hosts_in P.Awaits.course self.new
+            ≡ changed_at (course_after act) place (hosts_in P.Awaits.course self.old) }
         ensures stays { Stays P.Peripheral self.old self.new }
         ensures sound { IsCounterSound P.Peripheral self.new }
     {
@@ -169,11 +169,11 @@ impl<D: Disk, P: Hosted> Counter<D, P> {
     }
 }
 
-impl<P: Hosted> Devices<P> {
+impl<P: Awaits> Devices<P> {
     /// Returns the place of the device of this name, if it has a peripheral.
     fn find_hosted(&self, name: &[u8]) -> Option<usize>
         requires { AreDevicesSound P.Peripheral self.now }
-        ensures { let hosts = hosts_of P.Hosted.course (slots_in self.now) in
+        ensures { let hosts = hosts_of P.Awaits.course (slots_in self.now) in
             MatchOption result (course_named name.now hosts ≡ None) (λ place. IsNamedAt name.now hosts place
             × (is_some (course_named name.now hosts) ≡ true)
             × (is_some (peripheral_at (slots_in self.now) place) ≡ true)) }
@@ -198,7 +198,7 @@ impl<P: Hosted> Devices<P> {
 
     /// Returns the place of the first device that has an order pending.
     fn find_pending(&self) -> Option<usize>
-        ensures { let hosts = hosts_of P.Hosted.course (slots_in self.now) in
+        ensures { let hosts = hosts_of P.Awaits.course (slots_in self.now) in
             MatchOption result (NonePending hosts) (λ place. IsFirstPending hosts place) }
     {
         for place in 0..self.registry.count() {
@@ -211,7 +211,7 @@ impl<P: Hosted> Devices<P> {
 
     /// Returns whether an order of the device at a place is pending.
     fn is_pending(&self, place: usize) -> bool
-        ensures { result ≡ pends_at (hosts_of P.Hosted.course (slots_in self.now)) place }
+        ensures { result ≡ pends_at (hosts_of P.Awaits.course (slots_in self.now)) place }
     {
         match self.registry.slot(place) {
             Some(slot) => is_pending(slot),
@@ -221,10 +221,10 @@ impl<P: Hosted> Devices<P> {
 
     /// Returns the first device that has an order pending: its name, and its peripheral.
     fn pending(&self) -> Option<(&[u8], &P)>
-        ensures hosts { option_map (λ found. (found.0.now, P.Hosted.course found.1.now)) result
-            ≡ pending_of (hosts_of P.Hosted.course (slots_in self.now)) }
+        ensures hosts { option_map (λ found. (found.0.now, P.Awaits.course found.1.now)) result
+            ≡ pending_of (hosts_of P.Awaits.course (slots_in self.now)) }
         ensures peripheral { option_map (λ found. (found.0.now, found.1.now)) result
-            ≡ pending_peripheral P.Hosted.course (slots_in self.now) }
+            ≡ pending_peripheral P.Awaits.course (slots_in self.now) }
     {
         let place = self.find_pending()?;
         let slot = self.registry.slot(place)?;
@@ -232,12 +232,27 @@ impl<P: Hosted> Devices<P> {
         Some((slot.name.as_slice(), peripheral))
     }
 
+    /// Forgets the order of the device at a place, which has a peripheral.
+    fn settle_at(&mut self, place: usize)
+        requires sound { AreDevicesSound P.Peripheral self.old }
+        requires served { is_some (peripheral_at (slots_in self.old) place) ≡ true }
+        ensures hosts { hosts_of P.Awaits.course (slots_in self.new)
+            ≡ changed_at settled_course place (hosts_of P.Awaits.course (slots_in self.old)) }
+        ensures same { devices_in P.Peripheral self.new ≡ devices_in P.Peripheral self.old }
+        ensures sound { AreDevicesSound P.Peripheral self.new }
+    {
+        let peripheral = self.registry.serving(place);
+        settle_with(peripheral);
+    }
+}
+
+impl<P: Hosted> Devices<P> {
     /// Does this with the device at a place, which has a peripheral.
     fn act_at(&mut self, place: usize, act: HostAct)
         requires sound { AreDevicesSound P.Peripheral self.old }
         requires served { is_some (peripheral_at (slots_in self.old) place) ≡ true }
-        ensures hosts { hosts_of P.Hosted.course (slots_in self.new)
-            ≡ changed_at (course_after act) place (hosts_of P.Hosted.course (slots_in self.old)) }
+        ensures hosts { hosts_of P.Awaits.course (slots_in self.new)
+            ≡ changed_at (course_after act) place (hosts_of P.Awaits.course (slots_in self.old)) }
         ensures same { devices_in P.Peripheral self.new ≡ devices_in P.Peripheral self.old }
         ensures sound { AreDevicesSound P.Peripheral self.new }
     {
@@ -247,8 +262,8 @@ impl<P: Hosted> Devices<P> {
 }
 
 /// Returns whether an order of a device is pending.
-fn is_pending<P: Hosted>(slot: &Slot<P>) -> bool
-    ensures { result ≡ has_pending (host_of P.Hosted.course slot.now) }
+fn is_pending<P: Awaits>(slot: &Slot<P>) -> bool
+    ensures { result ≡ has_pending (host_of P.Awaits.course slot.now) }
 {
     match &slot.peripheral {
         Some(peripheral) => !matches!(peripheral.progress(), Progress::Free | Progress::Ready),
@@ -260,7 +275,7 @@ fn is_pending<P: Hosted>(slot: &Slot<P>) -> bool
 fn act_with<P: Hosted>(peripheral: &mut P, act: HostAct)
     requires unparked { (P.Peripheral.state peripheral.old).is_parked ≡ false }
     ensures state { P.Peripheral.state peripheral.new ≡ P.Peripheral.state peripheral.old }
-    ensures course { P.Hosted.course peripheral.new ≡ course_after act (P.Hosted.course peripheral.old) }
+    ensures course { P.Awaits.course peripheral.new ≡ course_after act (P.Awaits.course peripheral.old) }
     ensures in_service { let state = P.Peripheral.state in
         StaysInService (state peripheral.old) (state peripheral.new) }
 {
@@ -268,6 +283,16 @@ fn act_with<P: Hosted>(peripheral: &mut P, act: HostAct)
         HostAct::Drive => peripheral.drive(),
         HostAct::HandOut => peripheral.hand_out(),
         HostAct::Report(is_done) => peripheral.report(is_done),
-        HostAct::Settle => peripheral.settle(),
     }
+}
+
+/// Forgets the order of a peripheral.
+fn settle_with<P: Awaits>(peripheral: &mut P)
+    requires unparked { (P.Peripheral.state peripheral.old).is_parked ≡ false }
+    ensures state { P.Peripheral.state peripheral.new ≡ P.Peripheral.state peripheral.old }
+    ensures course { P.Awaits.course peripheral.new ≡ settled_course (P.Awaits.course peripheral.old) }
+    ensures in_service { let state = P.Peripheral.state in
+        StaysInService (state peripheral.old) (state peripheral.new) }
+{
+    peripheral.settle();
 }

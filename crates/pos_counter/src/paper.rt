@@ -26,7 +26,7 @@ impl<D: Disk, P: Hosted> Counter<D, P> {
     pub fn tear_off(&mut self, device: &[u8]) -> Result<bool, NoMemory>
         requires sound { IsCounterSound P.Peripheral self.old }
         ensures torn { TearsOff P.Peripheral device.now self.old result self.new }
-        ensures hosts { hosts_in P.Hosted.course self.new ≡ hosts_in P.Hosted.course self.old }
+        ensures hosts { hosts_in P.Awaits.course self.new ≡ hosts_in P.Awaits.course self.old }
         ensures sound { IsCounterSound P.Peripheral self.new }
     {
         let Some((place, _)) = self.devices.find_served(device) else {
@@ -51,7 +51,7 @@ impl<P: Hosted> Devices<P> {
         ensures done { let seen = devices_in P.Peripheral in (helds : List KeptControl) → MatchResult result
             (λ done. IsDoneAt (seen self.old) place IsTorn helds helds (seen self.new))
             (λ want. seen self.new ≡ seen self.old) }
-        ensures hosts { hosts_of P.Hosted.course (slots_in self.new) ≡ hosts_of P.Hosted.course (slots_in self.old) }
+        ensures hosts { hosts_of P.Awaits.course (slots_in self.new) ≡ hosts_of P.Awaits.course (slots_in self.old) }
         ensures sound { AreDevicesSound P.Peripheral self.new }
     {
         let peripheral = self.registry.serving(place);
@@ -67,7 +67,7 @@ impl<P: Hosted> Devices<P> {
 fn tear_with<P: Hosted>(peripheral: &mut P) -> Result<(), NoMemory>
     requires unparked { (P.Peripheral.state peripheral.old).is_parked ≡ false }
     ensures torn { TearsOffOne (P.Peripheral.state peripheral.old) result (P.Peripheral.state peripheral.new) }
-    ensures course { P.Hosted.course peripheral.new ≡ P.Hosted.course peripheral.old }
+    ensures course { P.Awaits.course peripheral.new ≡ P.Awaits.course peripheral.old }
     ensures in_service { let state = P.Peripheral.state in
         StaysInService (state peripheral.old) (state peripheral.new) }
 {

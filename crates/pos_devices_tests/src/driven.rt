@@ -1,4 +1,4 @@
-use pos_drive::{Driven, Hosted, Preview, Progress};
+use pos_drive::{Awaits, Driven, Hosted, Preview, Progress};
 use pos_service::display_text::Attribute;
 use pos_service::receipt_text::{Alignment, Mark};
 use pos_service::{Bytes, Form, Input, NoMemory, Order, Peripheral, Reply};

@@ -12,7 +12,7 @@ use crate::names::Names;
 use crate::spares::Spares;
 use pos_counter::Counter;
 use pos_disk::Disk;
-use pos_drive::{Hosted, Progress};
+use pos_drive::{Awaits, Progress};
 use pos_script::LineBuffer;
 use pos_service::{Ends, Peripheral};
 use pos_streams::{Sink, WriteFault};
@@ -56,7 +56,7 @@ fn held_by(progress: Progress, text: &LineText) -> Held
 /// # Errors
 ///
 /// [`WriteFault`] if a write failed. The line was carried out, and a front of what it prints was written.
-fn carry_out_held<W: Sink, D: Disk, P: Hosted + Ends>(
+fn carry_out_held<W: Sink, D: Disk, P: Awaits + Ends>(
     alloc: Global,
     line: &[u8],
     buffer: &mut LineBuffer,
@@ -68,7 +68,7 @@ fn carry_out_held<W: Sink, D: Disk, P: Hosted + Ends>(
     requires sound { IsCounterSound P.Peripheral counter.old }
     requires spares { AreSparesSound P.Peripheral spares.old }
     ensures line { (line_in : List ℕ) → lines_of line.now ≡ line_in ∷ [] →
-        LineLeaves D.Disk P.Peripheral P.Hosted.course IsNotHeld counter.old
+        LineLeaves D.Disk P.Peripheral P.Awaits.course IsNotHeld counter.old
         (session_of P.Peripheral names.old spares.old) line_in (W.given writer.old) (W.given writer.new) result
         counter.new (session_of P.Peripheral names.new spares.new) }
     ensures sound { IsCounterSound P.Peripheral counter.new }
@@ -95,7 +95,7 @@ fn carry_out_held<W: Sink, D: Disk, P: Hosted + Ends>(
 /// # Errors
 ///
 /// [`WriteFault`] if a write failed. The line was carried out, and a front of what it prints was written.
-fn carry_out_settled<W: Sink, D: Disk, P: Hosted + Ends>(
+fn carry_out_settled<W: Sink, D: Disk, P: Awaits + Ends>(
     alloc: Global,
     line: &[u8],
     buffer: &mut LineBuffer,
@@ -107,7 +107,7 @@ fn carry_out_settled<W: Sink, D: Disk, P: Hosted + Ends>(
     requires sound { IsCounterSound P.Peripheral counter.old }
     requires spares { AreSparesSound P.Peripheral spares.old }
     ensures line { (line_in : List ℕ) → lines_of line.now ≡ line_in ∷ [] →
-        LineLeaves D.Disk P.Peripheral P.Hosted.course IsReady counter.old
+        LineLeaves D.Disk P.Peripheral P.Awaits.course IsReady counter.old
         (session_of P.Peripheral names.old spares.old) line_in (W.given writer.old) (W.given writer.new) result
         counter.new (session_of P.Peripheral names.new spares.new) }
     ensures sound { IsCounterSound P.Peripheral counter.new }
@@ -134,7 +134,7 @@ fn carry_out_settled<W: Sink, D: Disk, P: Hosted + Ends>(
 ///
 /// [`WriteFault`] if a write failed. The line at which it failed was carried out and is removed, and a front of what it
 /// prints was written.
-pub fn carry_on<W: Sink, D: Disk, P: Hosted + Ends>(
+pub fn carry_on<W: Sink, D: Disk, P: Awaits + Ends>(
     alloc: Global,
     lines: &mut VecDeque<Vec<u8>>,
     buffer: &mut LineBuffer,
@@ -146,7 +146,7 @@ pub fn carry_on<W: Sink, D: Disk, P: Hosted + Ends>(
     requires lines { All IsOneLine lines.old.items }
     requires sound { IsCounterSound P.Peripheral counter.old }
     requires spares { AreSparesSound P.Peripheral spares.old }
-    ensures carried { LinesLeave D.Disk P.Peripheral P.Hosted.course counter.old
+    ensures carried { LinesLeave D.Disk P.Peripheral P.Awaits.course counter.old
         (session_of P.Peripheral names.old spares.old) lines.old.items lines.new.items (W.given writer.old)
         (W.given writer.new) result counter.new (session_of P.Peripheral names.new spares.new) }
     ensures lines { All IsOneLine lines.new.items }

@@ -147,6 +147,8 @@ pub fn order_bytes<P: PrintPreview>(
     ensures bad_settings { IsErrOf result fault.BadSettings →
         settings_fit (P.Peripheral.state twin.now).kind settings.now ≡ false }
     ensures good_settings { OnOk result (settings_fit (P.Peripheral.state twin.now).kind settings.now ≡ true) }
+    ensures settings_first { IsErrOf result fault.NoBytes →
+        settings_fit (P.Peripheral.state twin.now).kind settings.now ≡ true }
 {
     let kind = twin.kind();
     if !settings.fit(kind) {

@@ -7,4 +7,6 @@ use Rattle.kijolvar.proofs.wire_calls.tell_order_bytes.Goals as goal
 pub returns-in-Err-NoBytes : goal.returns-in-Err-NoBytes
 returns-in-Err-NoBytes c =
     tells_no_order device_course c.args.kept.now _ _ _ _ _ _ c.in-Some.device.now c.in-Some-waiting.order.now c.in-Some.ensures
-    c.in-Some-waiting.ensures (rw c.twin.ensures at c.in-Err-NoBytes.ensures.no_bytes (ap Err c.in-Err-NoBytes.field-0-is))
+    c.in-Some-waiting.ensures
+    (rw c.twin.ensures at c.in-Err-NoBytes.ensures.settings_first (ap Err c.in-Err-NoBytes.field-0-is))
+    (rw c.twin.ensures at c.in-Err-NoBytes.ensures.no_bytes (ap Err c.in-Err-NoBytes.field-0-is))

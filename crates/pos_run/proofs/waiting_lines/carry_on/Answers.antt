@@ -36,7 +36,7 @@ loop-line-preserved-in-Ok-Told g c =
     let lines = subst (All IsOneLine) split c.loop-line.invariant.lines in
     let (line, is) = lines 0 c.in-Some.line.now (omega arith) in
     let told : c.carry_out_settled.result ≡ Ok held.Told = grind (arith, c.in-Ok-Told.is, c.in-Ok-Told.field-0-is) in
-    let (tells, ready) = leaves_as g.D.Disk g.P.Peripheral g.P.Hosted.course IsReady c.loop-line.counter c.carry_out_settled.new.counter old new line before after
+    let (tells, ready) = leaves_as g.D.Disk g.P.Peripheral g.P.Awaits.course IsReady c.loop-line.counter c.carry_out_settled.new.counter old new line before after
     c.carry_out_settled.result (Ok held.Told) told (c.carry_out_settled.ensures.line line (ap lines_of c.as_slice.ensures.value ∙ is)) in
     record {
       carries = carries_line g.D.Disk g.P.Peripheral c.args.counter.now c.loop-line.counter c.carry_out_settled.new.counter first old new c.args.lines.now.items
@@ -59,7 +59,7 @@ returns-in-Ok-Waits-clause-carried g c =
     let split = first_of c.loop-line.lines.items (drop 1 c.loop-line.lines.items) c.in-Some.line.now (grind (arith, c.in-Some.ensures.variant)) c.in-Some.ensures.lookup refl in
     let (line, is) = subst (All IsOneLine) split c.loop-line.invariant.lines 0 c.in-Some.line.now (omega arith) in
     let waits : c.carry_out_settled.result ≡ Ok held.Waits = grind (arith, c.in-Ok-Waits.is, c.in-Ok-Waits.field-0-is) in
-    let (holds, out) = leaves_as g.D.Disk g.P.Peripheral g.P.Hosted.course IsReady c.loop-line.counter c.carry_out_settled.new.counter old new line before after
+    let (holds, out) = leaves_as g.D.Disk g.P.Peripheral g.P.Awaits.course IsReady c.loop-line.counter c.carry_out_settled.new.counter old new line before after
     c.carry_out_settled.result (Ok held.Waits) waits (c.carry_out_settled.ensures.line line (ap lines_of c.as_slice.ensures.value ∙ is)) in (
       carries_held g.D.Disk g.P.Peripheral c.args.counter.now c.loop-line.counter c.carry_out_settled.new.counter first old new c.args.lines.now.items
           (g.W.Sink.given c.args.writer.now) before after c.loop-line.lines.items c.loop-line.invariant.carries holds,
@@ -76,7 +76,7 @@ returns-in-Ok-NoMemory-clause-carried g c =
     let split = first_of c.loop-line.lines.items (drop 1 c.loop-line.lines.items) c.in-Some.line.now (grind (arith, c.in-Some.ensures.variant)) c.in-Some.ensures.lookup refl in
     let (line, is) = subst (All IsOneLine) split c.loop-line.invariant.lines 0 c.in-Some.line.now (omega arith) in
     let wants : c.carry_out_settled.result ≡ Ok held.NoMemory = grind (arith, c.in-Ok-NoMemory.is, c.in-Ok-NoMemory.field-0-is) in
-    let (holds, reported) = leaves_as g.D.Disk g.P.Peripheral g.P.Hosted.course IsReady c.loop-line.counter c.carry_out_settled.new.counter old new line before after
+    let (holds, reported) = leaves_as g.D.Disk g.P.Peripheral g.P.Awaits.course IsReady c.loop-line.counter c.carry_out_settled.new.counter old new line before after
     c.carry_out_settled.result (Ok held.NoMemory) wants (c.carry_out_settled.ensures.line line (ap lines_of c.as_slice.ensures.value ∙ is)) in (
       carries_held g.D.Disk g.P.Peripheral c.args.counter.now c.loop-line.counter c.carry_out_settled.new.counter first old new c.args.lines.now.items
           (g.W.Sink.given c.args.writer.now) before after c.loop-line.lines.items c.loop-line.invariant.carries holds,
@@ -93,7 +93,7 @@ returns-in-Err-clause-carried g c =
     let rest = c.pop_front-in-Err.new.self.items in
     let split = first_of c.loop-line.lines.items rest c.in-Some.line.now (grind (arith, c.in-Some.ensures.variant)) c.in-Some.ensures.lookup c.pop_front-in-Err.ensures.rest in
     let (line, is) = subst (All IsOneLine) split c.loop-line.invariant.lines 0 c.in-Some.line.now (omega arith) in
-    let (cuts, ready) = leaves_as g.D.Disk g.P.Peripheral g.P.Hosted.course IsReady c.loop-line.counter c.carry_out_settled.new.counter old new line before after
+    let (cuts, ready) = leaves_as g.D.Disk g.P.Peripheral g.P.Awaits.course IsReady c.loop-line.counter c.carry_out_settled.new.counter old new line before after
     c.carry_out_settled.result (Err c.in-Err.field-0) c.in-Err.is (c.carry_out_settled.ensures.line line (ap lines_of c.as_slice.ensures.value ∙ is)) in (
       cuts_off g.D.Disk g.P.Peripheral c.args.counter.now c.loop-line.counter c.carry_out_settled.new.counter first old new c.args.lines.now.items
           (g.W.Sink.given c.args.writer.now) before after c.in-Some.line.now rest line is

@@ -13,8 +13,8 @@ returns-in-Ok-Told-clause-line g c line_in one =
     let after = g.W.Sink.given c.carry_out_held.new.writer in
     let told : c.carry_out_held.result ≡ Ok held.Told = grind (arith, c.in-Ok-Told.is, c.in-Ok-Told.field-0-is) in
     tells_settled g.D.Disk g.P.Peripheral c.args.counter.now c.carry_out_held.new.counter c.settle.new.self old new line_in before after
-    (progress_in g.P.Hosted.course c.settle.new.self) (IsNotHeld (progress_in g.P.Hosted.course c.carry_out_held.new.counter))
-    (leaves_as g.D.Disk g.P.Peripheral g.P.Hosted.course IsNotHeld c.args.counter.now c.carry_out_held.new.counter old new line_in before after c.carry_out_held.result
+    (progress_in g.P.Awaits.course c.settle.new.self) (IsNotHeld (progress_in g.P.Awaits.course c.carry_out_held.new.counter))
+    (leaves_as g.D.Disk g.P.Peripheral g.P.Awaits.course IsNotHeld c.args.counter.now c.carry_out_held.new.counter old new line_in before after c.carry_out_held.result
     (Ok held.Told) told (c.carry_out_held.ensures.line line_in one))
     c.settle.ensures.stays c.settle.ensures.progress
 
@@ -22,5 +22,5 @@ pub returns-in-Err-clause-line : goal.returns-in-Err-clause-line
 returns-in-Err-clause-line g c line_in one =
     cuts_settled g.D.Disk g.P.Peripheral c.args.counter.now c.carry_out_held.new.counter c.settle-in-Err.new.self (session_of g.P.Peripheral c.args.names.now c.args.spares.now)
     (session_of g.P.Peripheral c.carry_out_held.new.names c.carry_out_held.new.spares) line_in (g.W.Sink.given c.args.writer.now) (g.W.Sink.given c.carry_out_held.new.writer)
-    (progress_in g.P.Hosted.course c.settle-in-Err.new.self) (IsNotHeld (progress_in g.P.Hosted.course c.carry_out_held.new.counter)) (c.in-Err.ensures.line line_in one)
+    (progress_in g.P.Awaits.course c.settle-in-Err.new.self) (IsNotHeld (progress_in g.P.Awaits.course c.carry_out_held.new.counter)) (c.in-Err.ensures.line line_in one)
     c.settle-in-Err.ensures.stays c.settle-in-Err.ensures.progress

@@ -6,4 +6,4 @@ use Rattle.pos_counter.proofs.counter.Counter.drive.Goals as goal
 
 pub returns-in-None-clause-hosts : goal.returns-in-None-clause-hosts
 returns-in-None-clause-hosts g c =
-    sym (absent_same driven_course c.args.device.now (hosts_in g.P.Hosted.course c.args.self.now) c.in-None.ensures)
+    sym (absent_same driven_course c.args.device.now (hosts_in g.P.Awaits.course c.args.self.now) c.in-None.ensures)

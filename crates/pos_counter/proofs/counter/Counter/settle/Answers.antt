@@ -7,7 +7,7 @@ use Rattle.pos_counter.proofs.counter.Counter.settle.Goals as goal
 
 pub loop-place-preserved : goal.loop-place-preserved
 loop-place-preserved g c =
-    let hosts = hosts_in g.P.Hosted.course c.args.self.now in
+    let hosts = hosts_in g.P.Awaits.course c.args.self.now in
     let place = c.loop-place.place in
     let one_more : suc place ≡ place + 1 = omega arith in
     record {
@@ -23,16 +23,16 @@ loop-place-preserved g c =
 pub returns-clause-hosts : goal.returns-clause-hosts
 returns-clause-hosts g c =
     let slots = c.args.self.now.devices.registry.slots.items in
-    let hosts = hosts_in g.P.Hosted.course c.args.self.now in
+    let hosts = hosts_in g.P.Awaits.course c.args.self.now in
     c.loop-place.invariant.hosts
     ∙ front_all settled_course c.loop-place.place hosts
-    (omega (arith, c.loop-place-test.false, c.count-place-end.ensures, length-map slots (λ s. device_of g.P.Peripheral s), length-map slots (λ s. host_of g.P.Hosted.course s)))
+    (omega (arith, c.loop-place-test.false, c.count-place-end.ensures, length-map slots (λ s. device_of g.P.Peripheral s), length-map slots (λ s. host_of g.P.Awaits.course s)))
 
 pub returns-clause-progress : goal.returns-clause-progress
 returns-clause-progress g c =
     let slots = c.args.self.now.devices.registry.slots.items in
-    let hosts = hosts_in g.P.Hosted.course c.args.self.now in
+    let hosts = hosts_in g.P.Awaits.course c.args.self.now in
     ap (λ hs. progress_with (pending_of hs)) (c.loop-place.invariant.hosts
     ∙ front_all settled_course c.loop-place.place hosts
-    (omega (arith, c.loop-place-test.false, c.count-place-end.ensures, length-map slots (λ s. device_of g.P.Peripheral s), length-map slots (λ s. host_of g.P.Hosted.course s))))
+    (omega (arith, c.loop-place-test.false, c.count-place-end.ensures, length-map slots (λ s. device_of g.P.Peripheral s), length-map slots (λ s. host_of g.P.Awaits.course s))))
     ∙ ap progress_with (settled_none hosts)

@@ -14,6 +14,6 @@ returns-clause-done g c helds =
 
 pub returns-clause-hosts : goal.returns-clause-hosts
 returns-clause-hosts g c =
-    hosts_with g.P.Hosted.course c.args.self.now.registry.slots c.args.place c.serving-peripheral.result.now c.tear_with.new.peripheral (λ one. one)
+    hosts_with g.P.Awaits.course c.args.self.now.registry.slots c.args.place c.serving-peripheral.result.now c.tear_with.new.peripheral (λ one. one)
     c.serving-peripheral.ensures.is c.tear_with.ensures.course
-    ∙ same_at (hosts_of g.P.Hosted.course c.args.self.now.registry.slots.items) c.args.place
+    ∙ same_at (hosts_of g.P.Awaits.course c.args.self.now.registry.slots.items) c.args.place
