@@ -9,6 +9,7 @@ tcp:HOST:PORT. The last line is 'N passed, M failed'.
 """
 import argparse
 import contextlib
+import ctypes
 import io
 import os
 import operator
@@ -455,6 +456,45 @@ def try_interrupts():
         shop.device.hang(False)
         told("the till goes on", None, raised(shop.control.print, TEXT))
         shop.same_paper("the order that was interrupted, again")
+
+
+def try_memory():
+    """Want of memory at each allocation of an order in turn: what is answered ok, or has no answer, is printed once."""
+    heap = ctypes.CDLL(os.fspath(LIBRARY))
+    if not hasattr(heap, "heap_refuses"):
+        print("memory: this library's heap refuses nothing", flush=True)
+        return
+    with contextlib.ExitStack() as stack:
+        shop = Shop(stack)
+        wanted, number, refused, unanswered = [], 0, 0, 0
+        while number - refused < 20 and number < 500:
+            number += 1
+            text = f"Line {number} " + "x" * min(number, 25) + "\n"
+            code = code_without_memory(heap, number, shop.control.print, text)
+            refused = refused if code is None else number
+            # What has no answer was carried out.
+            while code not in (None, kijolvar._constants.KIJOLVAR_CUT):
+                code = code_without_memory(heap, 0, shop.control.print, text)
+            unanswered += code is not None
+            wanted.append(text.rstrip())
+        told("want of memory ends", True, 0 < refused < 480)
+        told("want of memory: some orders have no answer", True, unanswered > 0)
+        told("want of memory: the paper", wanted, characters_of(shop.device))
+        told("want of memory: nothing is held", None, raised(shop.control.print, TEXT))
+        shop.same_paper("want of memory: the till's paper")
+        print(f"memory was refused at up to {refused} allocations, {unanswered} orders had no answer", flush=True)
+
+
+def code_without_memory(heap, number, call, *words):
+    """The code of a call during which the allocation of this number and all behind it are refused; None if it is done."""
+    heap.heap_refuses(ctypes.c_long(number))
+    try:
+        call(*words)
+    except kijolvar.NoMemoryError as fault:
+        return fault.code
+    finally:
+        heap.heap_refuses(ctypes.c_long(0))
+    return None
 
 
 def try_slow():

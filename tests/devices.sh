@@ -3,7 +3,7 @@
 # what), and the commands of docs/guide/attach-your-printer.md.
 # Usage: tests/devices.sh [--library LIBRARY] [WORD ..]. The words are those of tests/devices.py: --faults N (150 random
 # faults by default), --seed N, --only WORD, or --port PORT for a real printer at a path or at tcp:HOST:PORT. Without
-# LIBRARY it builds one, a shared object, and needs rt and gcc. Its last line is 'N passed, M failed'.
+# LIBRARY it builds one, a shared object whose heap can refuse memory, and needs rt and gcc. Its last line is 'N passed, M failed'.
 set -u
 top=$(cd "$(dirname "$0")/.." && pwd)
 work=$(mktemp -d)
@@ -22,7 +22,8 @@ fi
 if [ -z "$library" ]; then
   library=$work/libkijolvar.so
   { env -C "$top/crates/kijolvar" rt lib && gcc -O2 -shared -fPIC -o "$library" -Wl,--whole-archive \
-    "$top/crates/kijolvar/out/libkijolvar.a" -Wl,--no-whole-archive "$top/abi/heap.c"; } > "$work/said" 2>&1 || {
+    "$top/crates/kijolvar/out/libkijolvar.a" -Wl,--no-whole-archive "$top/abi/heap.c" "$top/tests/native/scarce_heap.c" \
+    -Wl,--wrap=malloc,--wrap=calloc,--wrap=realloc; } > "$work/said" 2>&1 || {
     tail -n 5 "$work/said"
     echo "failed: the library isn't built: it needs rt, and gcc"
     echo "0 passed, 1 failed"

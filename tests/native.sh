@@ -92,7 +92,7 @@ runs "the host in C is built" gcc -std=c99 "${strict[@]}" -O1 -g -o "$work/host"
 runs "the host in C is built with sanitizers" gcc -std=c99 "${strict[@]}" -O1 -g -fsanitize=address,undefined \
   -fno-sanitize-recover -o "$work/checked" "$here/host.c" "$abi"/c/kij_*.c "${bare[@]}"
 runs "the host in C is built with a heap" gcc -std=c99 "${strict[@]}" -O1 -g -DHOST_HAS_HEAP -o "$work/heap" \
-  "$here/host.c" "$work/libkijolvar.a" -Wl,--wrap=malloc,--wrap=calloc,--wrap=realloc
+  "$here/host.c" "$here/scarce_heap.c" "$work/libkijolvar.a" -Wl,--wrap=malloc,--wrap=calloc,--wrap=realloc
 runs "what measures the cost is built" gcc -std=c99 "${strict[@]}" -O2 -o "$work/cost" "$here/cost.c" \
   "$work/libkijolvar.a"
 runs "the host in C++17 is built" g++ -std=c++17 "${strict[@]}" -O1 -x c++ "$here/host.c" "$abi"/c/kij_*.c -x none \

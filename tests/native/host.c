@@ -11,7 +11,7 @@
    host DEVICE       kij_host
    order             kij_next_order: its device, or `none`
    tear DEVICE       kij_tear_off
-   memory N          refuses all allocations from now on but N, and gives all again if N is 0 or less
+   memory N          refuses the allocation of this number and all behind it, and gives all again if N is 0 or less
 
    What is refused is answered by the name of its code, and the extended code if it has one. */
 #include "kij.h"
@@ -23,25 +23,7 @@ static kij_till *till;
 static kij_control *printer;
 
 #ifdef HOST_HAS_HEAP
-static long left = -1;
-
-void *__real_malloc(size_t size);
-void *__real_calloc(size_t count, size_t size);
-void *__real_realloc(void *at, size_t size);
-void *__wrap_malloc(size_t size);
-void *__wrap_calloc(size_t count, size_t size);
-void *__wrap_realloc(void *at, size_t size);
-
-static bool comes(void) {
-    if (left > 0) left--;
-    return left != 0;
-}
-
-void *__wrap_malloc(size_t size) { return comes() ? __real_malloc(size) : NULL; }
-
-void *__wrap_calloc(size_t count, size_t size) { return comes() ? __real_calloc(count, size) : NULL; }
-
-void *__wrap_realloc(void *at, size_t size) { return comes() ? __real_realloc(at, size) : NULL; }
+void heap_refuses(long number);
 #endif
 
 static void answer(kij_result result, const char *text) {
@@ -172,7 +154,7 @@ static void obey(char *line) {
         long count = number();
         /* This is the answer, for which there is memory. */
         puts("ok");
-        left = count > 0 ? count : -1;
+        heap_refuses(count);
     }
 #endif
     else printf("not understood\n");

@@ -8,7 +8,7 @@ from collections import deque
 from collections.abc import Callable, Iterator
 from typing import Any, BinaryIO, NoReturn
 
-from ._constants import (KIJOLVAR_DISK_FAILED, KIJOLVAR_DISK_LENGTH, KIJOLVAR_ERRANDS, KIJOLVAR_EVENT,
+from ._constants import (KIJOLVAR_CUT, KIJOLVAR_DISK_FAILED, KIJOLVAR_DISK_LENGTH, KIJOLVAR_ERRANDS, KIJOLVAR_EVENT,
                          KIJOLVAR_NO_MEMORY, KIJOLVAR_NO_ORDER, KIJOLVAR_OK, KIJOLVAR_ORDER, KIJOLVAR_SHORT,
                          KIJOLVAR_SYNC, KIJOLVAR_UNDONE, KIJOLVAR_WAITS, KIJOLVAR_WRITE)
 from ._library import Raw, by_addresses, carrier, check
@@ -55,6 +55,9 @@ class Session:
             by_addresses(library, f"kijolvar_{name}") for name in ("next_order", "order_done", "order_bytes", "replies"))
         self._later: deque[Callable[[], None]] = deque()
         self._is_settling = self._has_served = False
+        # Whether the library holds lines for which memory ran out, and what was printed of them and isn't reported yet.
+        self._is_holding = False
+        self._unreported: tuple[int, bytes] | None = None
         # The devices that are driven, and the orders of hosted devices that came before one of these.
         self._driven: set[bytes] = set()
         self._hosted: deque[bytes] = deque()
@@ -188,7 +191,8 @@ class Session:
         if code == KIJOLVAR_UNDONE:
             self._settle()
             return self.carry_out(lines)
-        if code == KIJOLVAR_WAITS and self._needed.value == _UNWRITTEN:
+        is_held = code == KIJOLVAR_WAITS or (code == KIJOLVAR_NO_MEMORY and self._is_holding)
+        if is_held and self._needed.value == _UNWRITTEN:
             # Lines of an earlier call are held, and none of these was carried out.
             self._give_up()
             return self.carry_out(lines)
@@ -200,9 +204,11 @@ class Session:
 
     def _told(self, code: int, is_wanted: bool = True) -> bytes:
         """The whole answer to lines, by the code of the call that began with them. The orders for which lines wait are
-        carried out meanwhile, or reported as failed if nobody wants the answer."""
-        room, parts, tries = self._room, list[bytes](), 0
-        report: tuple[int, bytes] | None = None
+        carried out meanwhile, or reported as failed if nobody wants the answer. If memory runs out for the report of what
+        was printed, it is reported the next time, and the call has no answer."""
+        room, parts, tries, is_told = self._room, list[bytes](), 0, False
+        report, self._unreported = self._unreported, None
+        is_any_done = report is not None
         while True:
             if code in _UNANSWERED:
                 code, room = self._answered(code, room)
@@ -212,17 +218,20 @@ class Session:
                 code, room = self._answered(self._answer_into(room), room)
                 is_taken, tries = code == KIJOLVAR_NO_MEMORY, tries + 1
                 if code == KIJOLVAR_OK or tries == _TRIES:
-                    code = KIJOLVAR_NO_MEMORY
+                    self._is_holding = code != KIJOLVAR_OK
+                    if not is_taken and report is not None and report[0] == _DONE:
+                        self._unreported = report
+                    code = KIJOLVAR_CUT if is_any_done else KIJOLVAR_NO_MEMORY
                     break
             if code not in (KIJOLVAR_OK, KIJOLVAR_WAITS, KIJOLVAR_NO_MEMORY):
                 break
             if is_taken:
                 text: bytes = room[:self._needed.value]
-                if report is not None and report[1]:
+                if is_told and report is not None and report[1]:
                     # The answers of the inputs are first.
                     text = b"".join(text.splitlines(True)[report[1].count(b"\n"):])
                 parts.append(text)
-                report = None
+                report = None if is_told else report
             if code == KIJOLVAR_OK:
                 return b"".join(parts)
             if code == KIJOLVAR_NO_MEMORY:
@@ -230,6 +239,7 @@ class Session:
             elif report is None:
                 report = self._served() if is_wanted else self._refused()
             outcome, inputs = report
+            is_told, is_any_done = True, is_any_done or outcome == _DONE
             room_at = self._room_at if room is self._room else ctypes.addressof(room)
             code = self._order_done(self._raw, self._raw_at, outcome, inputs, len(inputs), room_at, len(room),
                                     self._has_at)
@@ -278,7 +288,9 @@ class Session:
         return None
 
     def _give_up(self) -> None:
-        """Ends lines of an earlier call that was interrupted: their orders failed, and nobody wants the answer."""
+        """Ends lines of an earlier call that was interrupted, or for which memory ran out: an order that wasn't printed has
+        failed, and nobody wants the answer."""
+        self._is_holding = False
         self._told(self._answer_into(self._room), is_wanted=False)
 
     def number_of(self, control: bytes) -> int:
