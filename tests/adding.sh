@@ -1,6 +1,6 @@
 #!/usr/bin/env bash
 # Counts what an addition costs, as docs/contributing/adding.md says: for one of each kind that is there, the files of
-# src/, specs/ and proofs/ that name it. The crates of tests and the example pos_till don't count. Neither do pos_escpos and
+# src/, specs/ and proofs/ that name it. Tests and the example pos_till don't count. Neither do pos_escpos and
 # pos_report, which name some and need none: but a code needs a row there that explains it. Usage: tests/adding.sh.
 # A kind that takes more files than its row says has failed, and so has one that no file names. Of the categories it is the
 # median. Its last line is 'N passed, M failed'.
@@ -12,7 +12,7 @@ failed=0
 # files_with PATTERN: the files that name it, comments aside. What a file imports of a module of the same name isn't it.
 files_with() {
   grep -rnP --include='*.rt' --include='*.antt' "(?<!specs\.)(?<!proofs\.)(?:$1)" crates/*/src crates/*/specs crates/*/proofs |
-    grep -vP '^[^:]*:[0-9]+:\s*(//|--)' | cut -d: -f1 | sort -u | grep -v '_tests/\|pos_till/\|pos_escpos/\|pos_report/'
+    grep -vP '^[^:]*:[0-9]+:\s*(//|--)' | cut -d: -f1 | sort -u | grep -v '_tests/\|src/tests\.rt\|pos_till/\|pos_escpos/\|pos_report/'
 }
 
 # judge KIND MOST NUMBER FILES: a kind that so many files name, of which at most so many are said
@@ -58,16 +58,16 @@ count_median() {
 }
 
 count "a call with an order that is there" 6 'PrintImmediate|printImmediate|print_immediate'
-count "a call with a new order" 9 'OpenDrawer|openDrawer|open_drawer'
+count "a call with a new order" 11 'OpenDrawer|openDrawer|open_drawer'
 count "a question about the totals' files" 7 'FindByIndex|findByIndex|find_by_index'
 count "an edit of a file of the totals" 14 'SetAll|setAll|set_all'
 count "a property that is always the same" 3 'CapTransactions'
 count "a property of the device" 3 'NumberOfFiles'
 count "a property that can be set" 5 'AutoDisable|auto_disable'
-count "an input of every kind" 6 'PowerMoved'
-count "a reply with its code" 8 'Offline\b'
-count "a sign" 22 '\bpowered\b'
-count "a request of the script" 14 'Deliver\b|deliver_event|"deliver"'
+count "an input of every kind" 8 'PowerMoved'
+count "a reply with its code" 10 'Offline\b'
+count "a sign" 26 '\bpowered\b'
+count "a request of the script" 15 'Deliver\b|deliver_event|"deliver"'
 count_median "a category" 24 CashDrawer Scanner LineDisplay PosPrinter HardTotals
 echo "$passed passed, $failed failed"
 [ "$failed" -eq 0 ]
