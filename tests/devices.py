@@ -476,7 +476,7 @@ def try_memory():
             while code not in (None, kijolvar._constants.KIJOLVAR_CUT):
                 code = code_without_memory(heap, 0, shop.control.print, text)
             unanswered += code is not None
-            wanted.append(text.rstrip())
+            wanted.append(text.rstrip().encode())
         told("want of memory ends", True, 0 < refused < 480)
         told("want of memory: some orders have no answer", True, unanswered > 0)
         told("want of memory: the paper", wanted, characters_of(shop.device))
@@ -491,7 +491,7 @@ def code_without_memory(heap, number, call, *words):
     try:
         call(*words)
     except kijolvar.NoMemoryError as fault:
-        return fault.code
+        return fault.library_code
     finally:
         heap.heap_refuses(ctypes.c_long(0))
     return None

@@ -74,8 +74,8 @@ class ProfileError(LibraryFault):
 
 
 class NoMemoryError(LibraryFault, MemoryError):
-    """The library had no memory for a call. Nothing has changed, unless `code` is `KIJOLVAR_CUT`: then the call was carried
-    out, and only its answer is lost."""
+    """The library had no memory for a call. Nothing has changed, unless `library_code` is KIJOLVAR_CUT: then the call was
+    carried out, and only its answer is lost."""
 
 
 class DiskError(LibraryFault):
