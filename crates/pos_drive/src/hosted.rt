@@ -6,8 +6,8 @@ ghost use Rattle.pos_drive.specs.Courses.{driven_course, handed_out_course, repo
 use crate::awaits::Awaits;
 use pos_service::NoMemory;
 
-/// A peripheral whose orders may wait for a host, in the host's hands. What the host does with it changes nothing that a
-/// counter sees of it.
+/// A peripheral whose orders may wait for a host, in the host's hands. What the host does with it changes nothing that
+/// a counter sees of it.
 pub trait Hosted: Awaits {
     /// Makes each order wait for the host from now on.
     fn drive(&mut self)

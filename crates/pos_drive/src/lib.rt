@@ -2,8 +2,8 @@
 //!
 //! - [`Driven`] is a simulated peripheral that stands for the host's. Once it is driven, it keeps an order for the host
 //!   and answers that there is no memory, until the host has reported what became of the order and it is given again.
-//! - [`Awaits`] tells if such a peripheral waits, and [`Progress`] how far its host is with an order. [`Hosted`] is what
-//!   the host does with it: it alone takes and reports orders.
+//! - [`Awaits`] tells if such a peripheral waits, and [`Progress`] how far its host is with an order. [`Hosted`] is
+//!   what the host does with it: it alone takes and reports orders.
 //! - [`Preview`] says before an order what a peripheral would reply, and [`Tears`] takes printed paper away.
 //!
 //! The layer above relies on this: an order that waits has done nothing, and want of memory forgets no report. A driven
