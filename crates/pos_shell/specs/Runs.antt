@@ -94,8 +94,8 @@ RunsInMemory bound manner contents lines old new result =
     ((result ≡ Err without_memory) × (new ≡ old)) ⊎ RunsFresh bound manner contents lines old new result
 
 -- A run of the machine by these steps, from where it begins for a profile over totals that may be these. A power cut at
--- any moment since the file was read leaves, of a file that keeps the crash model, what the machine may leave before, in
--- or after one of its steps.
+-- any moment since the file was read leaves, of a file that keeps the crash model, what the machine may leave before,
+-- in or after one of its steps.
 pub record LeavesCuts {B : Type 0} (below : FileGhosts B) (contents : Contents) (left : List Standing)
     (totals after : Mirror (FileDisk B)) (steps : List (Request × Response)) : Type 0 where
   pub end : Machine

@@ -99,8 +99,8 @@ passes trials = length trials - failures trials
 
 -- what was found of a script: how its answers differ, and whether it prints what is wanted
 abbrev pub trial_text : Trial → List ℕ
-trial_text trial = trial.differences.items ++ (if is_nothing trial.differences.items then codes "ok " else codes "failed ")
-    ++ trial.path.now ++ codes "\n"
+trial_text trial = trial.differences.items
+    ++ (if is_nothing trial.differences.items then codes "ok " else codes "failed ") ++ trial.path.now ++ codes "\n"
 
 -- what was found of each script, and how many print what is wanted, and don't
 abbrev pub tally : List Trial → List ℕ

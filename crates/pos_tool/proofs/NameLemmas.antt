@@ -1,6 +1,6 @@
 -- Names with an end, and paths that are found one after another.
-use Rattle.std.proofs.Common.{ap, arith, false, length, map, refl, subst, sym, take, true, drop, get_or, ◌+◌, ◌-◌, ◌++◌, ◌≤◌, ◌<◌, ◌∙◌, ◌∷◌, ◌≡◌, append-nil, append_assoc, Bool, List, Ok, [], ℕ}
-use Rattle.std.specs.Prelude.{None, Some, String, codes, nat_eq, if◌then◌else◌, string_bytes}
+use Rattle.std.proofs.Common.{ap, arith, false, length, refl, subst, sym, take, true, drop, get_or, ◌+◌, ◌-◌, ◌++◌, ◌<◌, ◌∙◌, ◌∷◌, ◌≡◌, append-nil, append_assoc, Bool, List, Ok, [], ℕ}
+use Rattle.std.specs.Prelude.{None, String, codes, nat_eq, if◌then◌else◌, string_bytes}
 use Rattle.std.specs.Borrow.{Bor}
 use Rattle.std.specs.Cmp.Lexicographic.{slice_cmp}
 use Rattle.std.specs.List.{ends_with}
@@ -23,7 +23,7 @@ by_test name test is = rw is refl
 pub with_end : (name script : List ℕ) → StripsSuffix (FindsTextSuffix (codes ".stdout")) name script → script_of name ≡ script ∷ []
 with_end name script (n, (is, same, boundary), taken, long) =
     by_test name true (sym (ends_text true (codes ".stdout") name
-        (n, (is, same, boundary), omega (arith, long), subst (λ m. IsCharBoundary name (length name - m)) (sym is) boundary)))
+    (n, (is, same, boundary), omega (arith, long), subst (λ m. IsCharBoundary name (length name - m)) (sym is) boundary)))
     ∙ ap (λ rest. rest ∷ []) (ap (λ m. take (length name - m) name) (sym is) ∙ sym taken)
 
 -- a name without it
@@ -53,5 +53,7 @@ sorted_texts [] sorted k d low high = absurd (omega (arith, high))
 sorted_texts {A = A} (name ∷ names) sorted k d low high =
     let all : List (String A) = name ∷ names in
     let below : k + 1 < length all = subst (λ (n : ℕ). k + 1 < n) (length-map all (λ (x : String A). string_bytes x)) high in
-    rw (get_or-map (λ (x : String A). string_bytes x) all (k + 1) name d below,
-    get_or-map (λ (x : String A). string_bytes x) all k name d (omega (arith, below))) (sorted k name low below)
+    rw (
+      get_or-map (λ (x : String A). string_bytes x) all (k + 1) name d below,
+      get_or-map (λ (x : String A). string_bytes x) all k name d (omega (arith, below)),
+    ) (sorted k name low below)

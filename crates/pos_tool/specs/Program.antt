@@ -1,5 +1,5 @@
 -- What the program does for its words, and how it ends (docs/reference/tool.md).
-use Rattle.std.specs.Prelude.{◌≡◌, ◌≢◌, ℕ, Bool, List, [], Option, Some, None, Result, Ok, Err, Vec, bytes_eq, codes}
+use Rattle.std.specs.Prelude.{◌≡◌, ◌≢◌, ℕ, List, [], Option, Some, None, Result, Ok, Err, Vec, bytes_eq, codes}
 use Rattle.std.specs.Prelude.{flat_map, if◌then◌else◌, map}
 use Rattle.pos_disk.specs.Memory.{Memory}
 use Rattle.pos_disk.specs.declared.device.Disk.{Ghosts as DiskGhosts}
@@ -81,8 +81,8 @@ Completes pages shell old new result = PrintsPage shell (page_of pages shell) ol
 
 -- what it does for a task that reads no lines, over these files and pages, by how its output stood before, and after
 abbrev pub Does : {F B S G : Type 0} → Ghosts F B → FileGhosts B → DiskGhosts (Mirror (FileDisk B))
-    → DiskGhosts Memory → F → SystemGhosts S G → FolderGhosts S → FileGhosts G → S → Pages → Terminals → Task → Output → Output
-    → Result Finding Fault → Type 0
+    → DiskGhosts Memory → F → SystemGhosts S G → FolderGhosts S → FileGhosts G → S → Pages → Terminals → Task → Output
+    → Output → Result Finding Fault → Type 0
 Does files below mirrors memories them system folder under it pages terminals Help old new result =
     Prints pages.help.now old new result
 Does files below mirrors memories them system folder under it pages terminals Version old new result =
@@ -97,18 +97,19 @@ Does files below mirrors memories them system folder under it pages terminals (M
     EndsMove files below them file.now result × (new ≡ old)
 Does files below mirrors memories them system folder under it pages terminals (Backup file to) old new result =
     BacksUp system folder under.calls it file.now to.now result × (new ≡ old)
-Does files below mirrors memories them system folder under it pages terminals (Restore from file replaces) old new result =
-    Restores system folder under.calls it from.now file.now replaces result × (new ≡ old)
+Does files below mirrors memories them system folder under it pages terminals (Restore from file replaces) old new
+    result = Restores system folder under.calls it from.now file.now replaces result × (new ≡ old)
 Does files below mirrors memories them system folder under it pages terminals (Diff file other) old new result =
     TellsDifference files below them file.now other.now old new result
 Does files below mirrors memories them system folder under it pages terminals (Load text file) old new result =
     Loads system folder under.calls it text.now file.now result × (new ≡ old)
 Does files below mirrors memories them system folder under it pages terminals (Salvage file to) old new result =
     Salvages system folder under.calls it file.now to.now old new result
-Does files below mirrors memories them system folder under it pages terminals (Run scripts profile totals json) old new result = ⊥
-Does files below mirrors memories them system folder under it pages terminals (Test paths profile junit colour) old new result =
-    EndsTest files them system folder under.calls it memories terminals.output paths.items profile junit colour old new
-    result
+Does files below mirrors memories them system folder under it pages terminals (Run scripts profile totals json) old new
+    result = ⊥
+Does files below mirrors memories them system folder under it pages terminals (Test paths profile junit colour) old new
+    result = EndsTest files them system folder under.calls it memories terminals.output paths.items profile junit colour
+    old new result
 Does files below mirrors memories them system folder under it pages terminals (Completions shell) old new result =
     Completes pages shell.now old new result
 Does files below mirrors memories them system folder under it pages terminals Man old new result =

@@ -86,8 +86,8 @@ RenamesPart system folder them part path result =
     (renamed : Result (Unit {0}) Error) × folder.renames them part path renamed
     × Follows fault.Link (Settles system them path result) renamed result
 
--- What making a file with these bytes at a path comes to, in place of one that may be there: want of memory; or they are
--- written to the file beside it, and after that it gets its name.
+-- What making a file with these bytes at a path comes to, in place of one that may be there: want of memory; or they
+-- are written to the file beside it, and after that it gets its name.
 abbrev pub PutsOver : {S F : Type 0} → SystemGhosts S F → FolderGhosts S → (F → List Call) → S → List ℕ → List ℕ
     → Result (Unit {0}) WholeFault → Type 0
 PutsOver system folder calls them path bytes result =

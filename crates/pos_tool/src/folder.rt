@@ -6,8 +6,8 @@ ghost use Rattle.pos_tool.specs.Texts.{names_in};
 use std::rt::Files;
 use std::{fs, io};
 
-/// The folders of a file system, and the names in them. Contracts of functions over it say what is made of what it answers; what
-/// it answers itself is for each such type to say. Of the system's own no contract can say anything.
+/// The folders of a file system, and the names in them. Contracts of functions over it say what is made of what it
+/// answers; what it answers itself is for each such type to say. Of the system's own no contract can say anything.
 pub trait Folder {
     /// What giving a file a second name may answer.
     ghost links: { Self → List ℕ → List ℕ → Result (Unit {0}) Error → Type 0 } = { λ _ _ _ _. ⊤ };
@@ -66,6 +66,7 @@ impl<R: Files + AllocGlobal + Clone + Drop> Folder for R {
     fn remove(&self, path: &str) -> io::Result<()> {
         fs::remove_file(self, path)
     }
+
     fn names(&self, path: &str) -> io::Result<Option<Vec<String>>> {
         match fs::metadata(self, path) {
             Ok(found) if found.is_dir() => {}

@@ -8,11 +8,7 @@ use crate::folder::Folder;
 use std::alloc::{AllocError, Global};
 
 // Puts the script that a name is the wanted answers of, if it is some's, at the end of names.
-fn put_script(
-    alloc: Global,
-    scripts: &mut Vec<String>,
-    name: &str,
-) -> Result<(), AllocError>
+fn put_script(alloc: Global, scripts: &mut Vec<String>, name: &str) -> Result<(), AllocError>
     ensures { OnOk result (texts scripts.new.items ≡ texts scripts.old.items ++ script_of name.now) }
 {
     match name.strip_suffix(".stdout") {
@@ -54,11 +50,7 @@ fn in_folder(alloc: Global, folder: &str, name: &str) -> Result<String, AllocErr
 }
 
 // The paths of names in a folder.
-fn all_in_folder(
-    alloc: Global,
-    folder: &str,
-    names: &[String],
-) -> Result<Vec<String>, AllocError>
+fn all_in_folder(alloc: Global, folder: &str, names: &[String]) -> Result<Vec<String>, AllocError>
     ensures { IfOk result (λ paths. texts paths.items ≡ map (in_folder folder.now) (texts names.now)) }
 {
     let mut paths = Vec::new(alloc);

@@ -51,7 +51,8 @@ _kijolvar() {
     cat) _arguments '2:file:_files' '3:name:' '--hex' ;;
     restore) _arguments '2:copy:_files' '3:file:_files' '--replace' ;;
     run) _arguments '*:script:_files' '--profile:profile:_files' '--totals:file:_files' '--json' ;;
-    test) _arguments '*:script:_files' '--profile:profile:_files' '--junit:report:_files' '--color:when:(auto always never)' ;;
+    test) _arguments '*:script:_files' '--profile:profile:_files' '--junit:report:_files' \
+      '--color:when:(auto always never)' ;;
     completions) _values shell bash zsh fish ;;
     explain|man|version|help) ;;
     *) _files ;;

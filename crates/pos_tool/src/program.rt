@@ -237,8 +237,8 @@ fn fault_of_unread(fault: ChoiceFault) -> WordsFault
 }
 
 /// The program, over the files that its words name, the file system that they are in, which also takes a fault, an
-/// input and an output, which may be terminals, and what takes how far long work is. It does what the words ask for, if they could be read, and ends with
-/// the status of what became of it. docs/reference/tool.md.
+/// input and an output, which may be terminals, and what takes how far long work is. It does what the words ask for, if
+/// they could be read, and ends with the status of what became of it. docs/reference/tool.md.
 pub fn perform<
     F: NamedFiles,
     S: FileSystem + Folder + Eprint + AllocGlobal,

@@ -3,8 +3,8 @@ ghost use Rattle.std.specs.Prelude.{◌≡◌, IfOk};
 ghost use Rattle.pos_shell.specs.Outputs.{output_of, streams_of};
 ghost use Rattle.pos_tool.specs.Texts.{texts};
 ghost use Rattle.pos_tool.specs.Scripts.{EndsRun, RunsAsked, form_of, is_typed, run_finding};
-ghost use Rattle.pos_tool.specs.Testing.{Chooses, EndsReport, EndsTest, MakesReport, PrintsTrials, TellsTrials, TestsOver};
-ghost use Rattle.pos_tool.specs.Testing.{TestsPainted, TestsProfiled, tally_text, trial_finding};
+ghost use Rattle.pos_tool.specs.Testing.{Chooses, EndsReport, EndsTest, MakesReport, PrintsTrials, TellsTrials};
+ghost use Rattle.pos_tool.specs.Testing.{TestsOver, TestsPainted, TestsProfiled, tally_text, trial_finding};
 
 use crate::fault::Fault;
 use crate::folder::Folder;
@@ -190,17 +190,13 @@ fn make_report<'a, S: FileSystem + Folder + AllocGlobal>(
     trials: &[Trial<'_>],
     finding: Finding,
 ) -> Result<Finding, Fault<'a>>
-    ensures { MakesReport S.FileSystem S.Folder ⟦<S::File as BlockFile>⟧.calls system.now path.entry.now trials.now finding
-        result }
+    ensures { MakesReport S.FileSystem S.Folder ⟦<S::File as BlockFile>⟧.calls system.now path.entry.now trials.now
+        finding result }
 {
     let Ok(text) = junit(system.alloc(), trials) else {
         return Err(Fault::NoMemory);
     };
-    at_report(
-        path,
-        finding,
-        put_over(system.alloc(), system, path, &text),
-    )
+    at_report(path, finding, put_over(system.alloc(), system, path, &text))
 }
 
 // Prints what trying scripts found, and then makes a report of it, if a path for one is given.
@@ -296,9 +292,9 @@ fn try_painted<'a, F: NamedFiles, S: FileSystem + Folder + AllocGlobal, W: Sink,
 ///
 /// # Errors
 ///
-/// `NoColour` if no choice of colour has the word; `Run` if the profile can't serve; `Folder` and `NoScripts` for the
-/// first folder without scripts, and `Trial` for the first file that can't serve; `NoMemory` and `Write`; `Whole` if the
-/// report can't be made, which is after the rest.
+/// - `NoColour` if no choice of colour has the word, and `Run` if the profile can't serve.
+/// - `Folder` and `NoScripts` for the first folder without scripts, and `Trial` for the first file that can't serve.
+/// - `NoMemory` and `Write`, and `Whole` if the report can't be made, which is after the rest.
 pub(crate) fn try_paths<
     'a,
     F: NamedFiles,

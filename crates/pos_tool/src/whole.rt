@@ -144,11 +144,7 @@ pub(crate) fn put_new<S: FileSystem + Folder>(
 }
 
 // Puts a whole file in the place of what has its name.
-fn rename_part<S: FileSystem + Folder>(
-    system: &S,
-    part: &str,
-    path: &str,
-) -> Result<(), WholeFault>
+fn rename_part<S: FileSystem + Folder>(system: &S, part: &str, path: &str) -> Result<(), WholeFault>
     ensures { RenamesPart S.FileSystem S.Folder system.now part.now path.now result }
 {
     if let Err(cause) = system.rename(part, path) {
