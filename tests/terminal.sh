@@ -111,6 +111,50 @@ typed 'new a CashDrawer' Enter C-d
 shows 'and JSON has none' '{"answer":"ok","line":1,"reason":null,"script":"-","text":"new a CashDrawer"}'
 typed 'clear; kijolvar run --totals none.totals' Enter
 shows 'a fault ends it before it asks' "kijolvar: none.totals: can't be opened for reading and writing"
+# --- colours at a terminal, and none in a pipe
+# coloured NAME TEXT: whether the screen, with its colours, has this text within 30 seconds
+coloured() {
+  local turn
+  for turn in $(seq 300); do
+    if tmux -S "$socket" capture-pane -e -p -t tool | grep -qF -- "$2"; then
+      passed=$((passed + 1))
+      return
+    fi
+    sleep 0.1
+  done
+  failed=$((failed + 1))
+  printf 'failed: %s\n  wanted: %q\n' "$1" "$2"
+}
+echo 'new d CashDrawer' > one
+echo ok > one.stdout
+echo 'new d CashDrawer' > two
+echo no > two.stdout
+typed 'clear; kijolvar test one two' Enter
+shows 'scripts are tried' '1 passed, 1 failed'
+coloured 'a script that passes is green' $'\e[32mok one'
+coloured 'what is found is red' $'\e[31m  found:  ok'
+typed 'clear; kijolvar test one two --color never' Enter
+shows 'scripts are tried without colours' '1 passed, 1 failed'
+told=$(tmux -S "$socket" capture-pane -e -p -t tool | grep -c $'\e\[3[12]m')
+if [ "$told" = 0 ]; then passed=$((passed + 1)); else failed=$((failed + 1)); echo 'failed: never has colours'; fi
+# --- how far it is, after a second, and not before
+mkfifo slow slower
+echo ok > slow.stdout
+echo ok > slower.stdout
+typed 'clear; kijolvar test slow one slower > tried; echo "ended $?"' Enter
+sleep 1.5
+echo 'new d CashDrawer' > slow
+shows 'how far it is' 'tried 2 of 3'
+echo 'new d CashDrawer' > slower
+shows 'its end' 'ended 0'
+screen 'what was shown is gone' 'ended 0' 'ready>'
+typed 'clear; kijolvar test one > tried; echo "ended $?"' Enter
+screen 'within a second nothing is shown' 'ended 0' 'ready>'
+typed 'clear; kijolvar test slow one slower > tried 2> errors; echo "ended $?"; wc -c < errors' Enter
+sleep 1.5
+echo 'new d CashDrawer' > slow
+echo 'new d CashDrawer' > slower
+screen 'nothing is shown if errors go elsewhere' 'ended 0' '0' 'ready>'
 typed 'clear; kijolvar chek' Enter
 shows 'an error has a hint' 'hint: `kijolvar help` lists the commands'
 

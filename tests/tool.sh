@@ -661,8 +661,92 @@ printf 'ok\nok\nbad control\n' > till.script.stdout
 ends 'test over a profile' 0 '' $'ok till.script\n1 passed, 0 failed' test till.script --profile till.toml
 ends 'test without the answers' 4 \
   "kijolvar: scan.script.stdout: $unread: $none"$'\n''hint: the answers that are wanted of SCRIPT are in SCRIPT.stdout' '' test sale.script scan.script
-ends 'test of no script' 4 "kijolvar: none.script: $unread: $none"$'\n'"$hint_script" '' test none.script
-refuses 'test without a script' "$missing <SCRIPT>..." test
+ends 'test of no script' 4 "kijolvar: none.script: $unread: $none"$'\n''hint: check the path, and who may read it' '' test none.script
+refuses 'test without a script' "$missing <PATH>..." test
+
+# --- test of folders: of names that end so each, in the order of their bytes, and of no folder inside
+mkdir -p folder/inner.stdout folder/inside empty
+for name in b a.b a 'c d' B; do
+  cp sale.script "folder/$name"
+  cp sale.script.stdout "folder/$name.stdout"
+done
+cp sale.script folder/alone
+cp sale.script folder/inside/in
+cp sale.script.stdout folder/inside/in.stdout
+rmdir folder/inner.stdout
+in_folder=$'ok folder/B\nok folder/a\nok folder/a.b\nok folder/b\nok folder/c d'
+ends 'test of a folder' 0 '' "$in_folder"$'\n5 passed, 0 failed' test folder
+ends 'test of a folder with a slash' 0 '' "$in_folder"$'\n5 passed, 0 failed' test folder/
+ends 'test of a folder among scripts' 0 '' $'ok sale.script\n'"$in_folder"$'\nok sale.script\n7 passed, 0 failed' \
+  test sale.script folder sale.script
+ends 'test of a folder without a script' 1 \
+  $'kijolvar: empty: no script is in this folder\nhint: the answers that are wanted of SCRIPT are in SCRIPT.stdout' '' test folder empty
+touch folder/gone.stdout
+ends 'test of answers without a script' 4 "kijolvar: folder/gone: $unread: $none"$'\n''hint: check the path, and who may read it' '' \
+  test folder
+rm folder/gone.stdout
+mkdir hidden
+chmod 111 hidden
+under=("${held[@]}")
+ends 'test of a folder that may not be read' 4 \
+  $'kijolvar: hidden: can\'t be listed: Permission denied (os error 13)\nhint: check who may read it; its names have to be UTF-8' '' test hidden
+under=()
+mkdir odd
+: > "$(printf 'odd/\377')"
+"$tool" test odd 2> err
+told 'test of a folder with a name that is no UTF-8' "4 kijolvar: odd: can't be listed" "$? $(head -n 1 err | cut -d: -f1-3)"
+
+# --- the report of a test
+# suite FILE: what an XML parser reads in a report
+suite() {
+  python3 - "$1" << 'PYTHON'
+import sys, xml.etree.ElementTree as tree
+root = tree.parse(sys.argv[1]).getroot()
+print(root.tag, root.get('name'), root.get('tests'), root.get('failures'))
+for case in root:
+    found = [f'{part.tag} {part.text!r}' for part in case]
+    print(case.tag, case.get('classname'), repr(case.get('name')), *found)
+PYTHON
+}
+ends 'test with a report' 0 '' "$in_folder"$'\n5 passed, 0 failed' test folder --junit report.xml
+told 'the report of scripts that pass' "testsuite kijolvar 5 0
+testcase kijolvar 'folder/B'
+testcase kijolvar 'folder/a'
+testcase kijolvar 'folder/a.b'
+testcase kijolvar 'folder/b'
+testcase kijolvar 'folder/c d'" "$(suite report.xml)"
+printf 'new d CashDrawer\n' > 'odd <"&> é.script'
+printf 'no <"&>\t\001 \303\251 \303( \357\277\277 \360\237\230\200 \355\240\200\n' > 'odd <"&> é.script.stdout'
+"$tool" test sale.script 'odd <"&> é.script' --junit report.xml > out
+told 'test with a report: a difference' 1 $?
+told 'what is printed stays' "$("$tool" test sale.script 'odd <"&> é.script' | sha256sum)" "$(sha256sum < out)"
+told 'the report has what XML can have, and the rest in hex' 'testsuite kijolvar 2 1
+testcase kijolvar '"'sale.script'"'
+testcase kijolvar '"'odd <\"&> é.script'"' failure '"'"'odd <"&> é.script:1: new d CashDrawer\n  wanted: no <"&>\t\\x01 é \\xc3( \\xef\\xbf\\xbf 😀 \\xed\\xa0\\x80\n  found:  ok\n'"'" "$(suite report.xml)"
+told 'no part of it is left' '' "$(ls report.xml.part 2> /dev/null)"
+ends 'a report in no folder' 4 \
+  "kijolvar: none/report.xml: the file beside it, with .part at its end, can't be made: $none"$'\n''hint: check the folder; remove the .part file if no other command is making it' \
+  $'ok sale.script\n1 passed, 0 failed' test sale.script --junit none/report.xml
+cp report.xml before.xml
+touch report.xml.part
+"$tool" test sale.script --junit report.xml > out 2> err
+told 'a report beside a part of one' "4 ok sale.script" "$? $(head -n 1 out)"
+same 'the old report stays' before.xml report.xml
+rm report.xml.part
+"$tool" test sale.script --junit report.xml > /dev/full 2> err
+told 'a test onto a full disk' "5 kijolvar: the output can't be written" "$? $(head -n 1 err)"
+same 'makes no report' before.xml report.xml
+
+# --- colours
+plain=$("$tool" test sale.script 'odd <"&> é.script')
+told 'auto has no colours in a pipe' "$plain" "$("$tool" test sale.script 'odd <"&> é.script' --color auto)"
+told 'never has none' "$plain" "$("$tool" test sale.script 'odd <"&> é.script' --color never)"
+told 'always has some' $'\e[32mok sale.script\e[0m' "$("$tool" test sale.script 'odd <"&> é.script' --color always | head -n 1)"
+told 'and nothing else' "$plain" "$("$tool" test sale.script 'odd <"&> é.script' --color always | sed 's/\x1b\[[0-9]*m//g')"
+told 'what is wanted is green' $'\e[32m' "$("$tool" test 'odd <"&> é.script' --color always | sed -n 2p | head -c 5)"
+told 'what is found is red' $'\e[31m  found:  ok\e[0m' "$("$tool" test 'odd <"&> é.script' --color always | sed -n 3p)"
+told 'a failure is red' $'\e[31mfailed odd <"&> é.script\e[0m' "$("$tool" test 'odd <"&> é.script' --color always | sed -n 4p)"
+ends 'no choice of colour' 3 $'kijolvar: no choice of colour is red\nhint: there are auto, always and never' '' test none --color red
 
 # --- completions and the man page
 for shell in bash zsh fish; do
@@ -680,6 +764,8 @@ completed() {
 told 'a command is completed' 'check create' "$(completed kijolvar c | tr ' ' '\n' | grep -E '^(check|create)$' | tr '\n' ' ' | sed 's/ $//')"
 told 'an option is completed' '--profile' "$(completed kijolvar run --p)"
 told 'a file is completed' 'till.toml' "$(completed kijolvar run till.tom)"
+told 'an option of test is completed' '--junit' "$(completed kijolvar test --j)"
+told 'a choice of colour is completed' 'always' "$(completed kijolvar test --color al)"
 told 'a shell is completed' 'fish' "$(completed kijolvar completions f)"
 ends 'completions of no shell' 1 'kijolvar: no completions for tcsh'$'\n''hint: there are some for bash, zsh and fish' '' completions tcsh
 "$tool" man > kijolvar.1

@@ -1,4 +1,6 @@
 mod ConversationLemmas
+mod CutLemmas
 mod RunLemmas
 mod TextLemmas
 mod TrialLemmas
+mod XmlLemmas

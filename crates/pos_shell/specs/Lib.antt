@@ -2,9 +2,11 @@ pub mod Conversation
 pub mod Differences
 pub mod Names
 pub mod Outputs
+pub mod Paint
 pub mod ProfileRun
 pub mod Reasons
 pub mod Runs
 pub mod Scripts
 pub mod Told
 pub mod Trials
+pub mod Xml

@@ -1,16 +1,21 @@
 -- What a run over a counter of a profile comes to: of scripts, or of what is typed (docs/reference/tool.md, "run").
+use Rattle.std.proofs.Common.{inl, inr}
 use Rattle.std.specs.Prelude.{◌≡◌, ◌⊎◌, [], List, Option, Some, None, Result, Err, option_map}
 use Rattle.std.specs.Borrow.{Bor}
+use Rattle.pos_disk.specs.State.{DiskState, LeavesOnly}
 use Rattle.pos_disk.specs.declared.device.Disk.{Ghosts as DiskGhosts}
-use Rattle.pos_counter.specs.Steps.{Request, Response}
+use Rattle.pos_counter.specs.Counters.{IsLeftDuring}
+use Rattle.pos_counter.specs.Machine.{Machine}
+use Rattle.pos_counter.specs.Steps.{Request, Response, Run}
 use Rattle.pos_counter.specs.declared.counter.Counter.{Counter}
 use Rattle.pos_profile.specs.Entries.{Contents}
 use Rattle.pos_run.specs.Carried.{RunsThrough}
-use Rattle.pos_run.specs.Simulating.{AreMounted, IsSimulatedCounter, as_it_is, wrapped_devices}
+use Rattle.pos_run.specs.Simulating.{AreMounted, IsSimulatedCounter, as_it_is, begun_over, wrapped_devices}
 use Rattle.pos_run.specs.Spares.{spares_in}
 use Rattle.pos_run.specs.Transcript.{Session, begun_session}
 use Rattle.pos_run.specs.declared.spares.Spares.{Spares}
 use Rattle.pos_run.specs.declared.wrapped.Wrapped.{Wrapped}
+use Rattle.pos_store.specs.Standing.{LeavesOneOf, Standing}
 use Rattle.pos_shell.specs.Conversation.{Converses}
 use Rattle.pos_shell.specs.Outputs.{Streams}
 use Rattle.pos_shell.specs.Scripts.{TellsScripts}
@@ -64,3 +69,25 @@ abbrev pub RunsLines : {D : Type 0} → DiskGhosts D → Manner → Contents →
 RunsLines bound manner contents lines disk old new result after =
     ((result ≡ Err fault.NoMemory) × (new ≡ old) × (after ≡ disk))
     ⊎ RunsTold bound manner contents lines disk old new result after
+
+-- the steps that the lines asked
+abbrev pub steps_of : {D : Type 0} {bound : DiskGhosts D} {manner : Manner} {contents : Contents} {lines : Lines}
+    {disk : D} {old new : Streams} {result : Result (Unit {0}) TellFault} {after : D}
+    → RunsLines bound manner contents lines disk old new result after → List (Request × Response)
+steps_of (inl nothing) = []
+steps_of (inr told) = told.steps
+
+-- A run of the machine by these steps, from where it begins for a profile over a disk that may leave these. A crash at
+-- any moment leaves what the machine may leave before, in or after one of its steps.
+pub record LeavesSteps (contents : Contents) (left : List Standing) (disk after : DiskState)
+    (steps : List (Request × Response)) : Type 0 where
+  pub end : Machine
+  pub run : Run (begun_over contents left disk) steps end
+  pub any_moment : LeavesOnly disk after (IsLeftDuring (begun_over contents left disk) steps end run)
+
+-- A run of lines, and what a crash at any moment of it leaves, for all that an honest disk may leave before it.
+pub record LeavesLines {D : Type 0} (bound : DiskGhosts D) (manner : Manner) (contents : Contents) (lines : Lines)
+    (disk : D) (old new : Streams) (result : Result (Unit {0}) TellFault) (after : D) : Type 0 where
+  pub runs : RunsLines bound manner contents lines disk old new result after
+  pub moments : (left : List Standing) → bound.honest disk → LeavesOneOf left (bound.state disk)
+      → LeavesSteps contents left (bound.state disk) (bound.state after) (steps_of runs)

@@ -1,20 +1,25 @@
 -- What running the scripts in files comes to (docs/reference/tool.md, "run").
 use Rattle.std.specs.Prelude.{◌≡◌, ◌⊎◌, ◌++◌, ◌∷◌, [], ℕ, List, Option, Some, None, Result, Ok, Err, Vec, bytes_eq, codes, if◌then◌else◌, ⊤}
 use Rattle.std.specs.Borrow.{Bor}
+use Rattle.pos_counter.specs.Counters.{IsLeftDuring}
+use Rattle.pos_counter.specs.Machine.{Machine}
+use Rattle.pos_counter.specs.Steps.{Request, Response, Run}
 use Rattle.pos_disk.specs.Memory.{Memory}
 use Rattle.pos_disk.specs.declared.device.Disk.{Ghosts as DiskGhosts}
 use Rattle.pos_file.specs.declared.block_file.BlockFile.{Ghosts as FileGhosts}
 use Rattle.pos_file.specs.declared.file_disk.FileDisk.{FileDisk}
 use Rattle.pos_image.specs.Standing.{HasNoFiles}
-use Rattle.pos_mirror.specs.Mirror.{Mirror}
+use Rattle.pos_mirror.specs.Mirror.{Mirror, mirror_state}
 use Rattle.pos_profile.specs.Built.{built}
 use Rattle.pos_profile.specs.Entries.{Contents}
-use Rattle.pos_program.specs.MirroredFiles.{IsMirrored}
+use Rattle.pos_program.specs.MirroredFiles.{CutMayLeave, IsMirrored}
 use Rattle.pos_program.specs.declared.file_fault.FileFault.{FileFault}
 use Rattle.pos_program.specs.declared.file_system.FileSystem.{Ghosts as SystemGhosts}
 use Rattle.pos_program.specs.declared.named_files.NamedFiles.{Ghosts}
+use Rattle.pos_run.specs.Simulating.{begun_over}
+use Rattle.pos_store.specs.Standing.{LeavesOneOf, Standing}
 use Rattle.pos_shell.specs.Outputs.{Streams}
-use Rattle.pos_shell.specs.ProfileRun.{Lines, RunsLines}
+use Rattle.pos_shell.specs.ProfileRun.{Lines, RunsLines, steps_of}
 use Rattle.pos_shell.specs.declared.runs.RunFault.{RunFault}
 use Rattle.pos_shell.specs.declared.runs.RunFault.TheVariants as run
 use Rattle.pos_shell.specs.declared.scripts.Script.{Script}
@@ -88,7 +93,18 @@ abbrev pub RunsInMemory : DiskGhosts Memory → Manner → Contents → Lines �
 RunsInMemory bound manner contents lines old new result =
     ((result ≡ Err without_memory) × (new ≡ old)) ⊎ RunsFresh bound manner contents lines old new result
 
--- A run of lines over the totals in a file. The calls of the file make the totals that are left.
+-- A run of the machine by these steps, from where it begins for a profile over totals that may be these. A power cut at
+-- any moment since the file was read leaves, of a file that keeps the crash model, what the machine may leave before,
+-- in or after one of its steps.
+pub record LeavesCuts {B : Type 0} (below : FileGhosts B) (contents : Contents) (left : List Standing)
+    (totals after : Mirror (FileDisk B)) (steps : List (Request × Response)) : Type 0 where
+  pub end : Machine
+  pub run : Run (begun_over contents left (mirror_state totals)) steps end
+  pub cut : (is : IsMirrored below.calls after) (bytes : List ℕ) → CutMayLeave is bytes
+      → IsLeftDuring (begun_over contents left (mirror_state totals)) steps end run bytes
+
+-- A run of lines over the totals in a file. The calls of the file make the totals that are left, and for all that the
+-- file may have held, a power cut leaves what it says.
 pub record RunsOverTotals {B : Type 0} (below : FileGhosts B) (mirrors : DiskGhosts (Mirror (FileDisk B)))
     (manner : Manner) (contents : Contents) (lines : Lines) (totals : Mirror (FileDisk B)) (old new : Streams)
     (result : Result (Unit {0}) RunFault) : Type 0 where
@@ -96,6 +112,8 @@ pub record RunsOverTotals {B : Type 0} (below : FileGhosts B) (mirrors : DiskGho
   pub answer : Result (Unit {0}) TellFault
   pub runs : RunsLines mirrors manner contents lines totals old new answer after
   pub file : IsMirrored below.calls after
+  pub cuts : (left : List Standing) → LeavesOneOf left (mirror_state totals)
+      → LeavesCuts below contents left totals after (steps_of runs)
   pub ends : result ≡ ended answer
 
 -- what running lines over what opening a totals file gave comes to

@@ -11,15 +11,19 @@
 mod conversation;
 mod differences;
 mod names;
+mod paint;
 mod profile_run;
 mod reasons;
 mod runs;
 mod scripts;
 mod told;
 mod trials;
+mod xml;
 
+pub use paint::painted;
 pub use reasons::reason;
 pub use runs::{RunFault, profile_at, run, run_typed};
 pub use scripts::TellFault;
 pub use told::{Form, Manner, write_text};
-pub use trials::{Trials, tally, try_scripts};
+pub use trials::{Progress, Trial, TrialFault, failures, tally, try_scripts};
+pub use xml::{escapes_markup, junit};

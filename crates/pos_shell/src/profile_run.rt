@@ -6,7 +6,7 @@ ghost use Rattle.pos_run.specs.Names.{ControlNames};
 ghost use Rattle.pos_run.specs.Spares.{AreSparesSound, spares_in};
 ghost use Rattle.pos_run.specs.Transcript.{begun_session, session_with};
 ghost use Rattle.pos_shell.specs.Outputs.{streams_of};
-ghost use Rattle.pos_shell.specs.ProfileRun.{RunsLines, TellsAll, lines_in};
+ghost use Rattle.pos_shell.specs.ProfileRun.{LeavesLines, TellsAll, lines_in};
 
 use crate::conversation::converse;
 use crate::scripts::{Script, TellFault, tell_scripts};
@@ -84,7 +84,7 @@ pub(crate) fn run_lines<R: Source, W: Sink, D: Disk>(
     writer: &mut W,
     disk: D,
 ) -> (Result<(), TellFault>, D)
-    ensures { RunsLines D.Disk manner.now profile.now (lines_in scripts.entry) disk
+    ensures { LeavesLines D.Disk manner.now profile.now (lines_in scripts.entry) disk
         (streams_of R.Source reader.old W.Sink writer.old) (streams_of R.Source reader.new W.Sink writer.new)
         result.0 result.1 }
 {

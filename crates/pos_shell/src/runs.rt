@@ -1,5 +1,6 @@
 //! Runs of scripts in files, or of what is typed, over a profile and totals.
 ghost use Rattle.std.specs.Prelude.{◌≡◌, None};
+ghost use Rattle.pos_program.specs.TotalsDisks.{IsNewMirror};
 ghost use Rattle.pos_shell.specs.Outputs.{streams_of};
 ghost use Rattle.pos_shell.specs.ProfileRun.{lines_in};
 ghost use Rattle.pos_shell.specs.Runs.{GivesProfile, ReadsEach, Runs, RunsAll, RunsInMemory, RunsOver, RunsOverTotals, ended};
@@ -25,13 +26,6 @@ pub enum RunFault<'a> {
     /// A script can't be read. Nothing was run.
     Script {
         /// Its path.
-        path: &'a str,
-        /// Why.
-        cause: io::Error,
-    },
-    /// The answers that are wanted of a script can't be read.
-    Wanted {
-        /// The path of the script.
         path: &'a str,
         /// Why.
         cause: io::Error,
@@ -150,6 +144,7 @@ fn run_over_totals<'a, R: Source, W: Sink, F: BlockFile + Drop>(
     writer: &mut W,
     totals: TotalsDisk<F>,
 ) -> Result<(), RunFault<'a>>
+    requires { IsNewMirror totals }
     ensures { RunsOverTotals ⟦<F as BlockFile>⟧ ⟦<TotalsDisk<F> as Disk>⟧ manner.now profile.now
         (lines_in scripts.entry) totals (streams_of R.Source reader.old W.Sink writer.old)
         (streams_of R.Source reader.new W.Sink writer.new) result }

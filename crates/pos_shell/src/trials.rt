@@ -1,5 +1,5 @@
 //! Scripts that are tried: what they print is compared with what they should print.
-ghost use Rattle.std.specs.Prelude.{◌≡◌, ◌++◌, IfOk, List, OnOk, codes, string_bytes};
+ghost use Rattle.std.specs.Prelude.{◌≡◌, ◌≤◌, ◌++◌, IfOk, List, OnOk, codes, flat_map, length, map, string_bytes};
 ghost use Rattle.pos_counter.specs.Counters.{IsCounterSound, IsRun};
 ghost use Rattle.pos_counter.specs.Steps.{Request, Response};
 ghost use Rattle.pos_program.specs.Answers.{bytes_of};
@@ -8,12 +8,10 @@ ghost use Rattle.pos_run.specs.Spares.{AreSparesSound, spares_in};
 ghost use Rattle.pos_run.specs.Transcript.{LinesPrint, begun_session, session_with};
 ghost use Rattle.pos_script.specs.Lines.{lines_of};
 ghost use Rattle.pos_streams.specs.Transfers.{given_to};
-ghost use Rattle.pos_shell.specs.Trials.{AddsTrial, Compares, IsAnswered, ReadsText, ReadsWanted, TriesEach, TriesScript};
-ghost use Rattle.pos_shell.specs.Trials.{tally, trial_text};
+ghost use Rattle.pos_shell.specs.Trials.{Compares, IsAnswered, ReadsText, ReadsWanted, TriesEach, TriesScript, failures};
+ghost use Rattle.pos_shell.specs.Trials.{tally, trial_text, trials_of};
 
 use crate::differences::{differences, put_parts};
-use crate::runs::RunFault;
-use crate::scripts::TellFault;
 use itoa::Buffer;
 use pos_counter::Counter;
 use pos_disk::{Disk, MemDisk};
@@ -25,6 +23,46 @@ use pos_script::LineBuffer;
 use pos_service::{Ends, Peripheral};
 use pos_streams::MemorySink;
 use std::alloc::{AllocError, Global};
+use std::io;
+
+/// Why a script can't be tried.
+#[derive(Drop)]
+pub enum TrialFault {
+    /// It can't be read.
+    Script {
+        /// Its path.
+        path: String,
+        /// Why.
+        cause: io::Error,
+    },
+    /// The answers that are wanted of it can't be read.
+    Wanted {
+        /// The path of the script.
+        path: String,
+        /// Why.
+        cause: io::Error,
+    },
+    /// There was no memory.
+    NoMemory,
+}
+
+/// A script that was tried.
+#[derive(Drop)]
+pub struct Trial<'a> {
+    /// Its path.
+    pub path: &'a str,
+    /// The lines whose answers differ from those that are wanted. It is empty if none do.
+    pub differences: Vec<u8>,
+}
+
+/// What is told of long work while it goes on.
+pub trait Progress {
+    /// Takes that so many parts of the work are done, of all.
+    fn tell(&mut self, done: usize, all: usize);
+
+    /// Takes that the work ended.
+    fn end(&mut self);
+}
 
 // What the lines of a script are answered, over a counter whose controls have no names yet.
 fn answer_all<D: Disk, P: Peripheral + Ends>(
@@ -32,7 +70,7 @@ fn answer_all<D: Disk, P: Peripheral + Ends>(
     script: &[u8],
     counter: &mut Counter<D, P>,
     spares: &mut Spares<P>,
-) -> Result<MemorySink, TellFault>
+) -> Result<MemorySink, TrialFault>
     requires sound { IsCounterSound P.Peripheral counter.old }
     requires spares { AreSparesSound P.Peripheral spares.old }
     ensures answers { IfOk result (λ answers. (steps : List (Request × Response)) × (names : ControlNames)
@@ -43,7 +81,7 @@ fn answer_all<D: Disk, P: Peripheral + Ends>(
     ensures spares { AreSparesSound P.Peripheral spares.new }
 {
     let Ok(mut buffer) = LineBuffer::new(alloc) else {
-        return Err(TellFault::NoMemory);
+        return Err(TrialFault::NoMemory);
     };
     let mut names = Names::new(alloc);
     let mut answers = MemorySink::new(alloc);
@@ -57,21 +95,21 @@ fn answer_all<D: Disk, P: Peripheral + Ends>(
         spares,
     );
     let Ok(()) = done else {
-        return Err(TellFault::NoMemory);
+        return Err(TrialFault::NoMemory);
     };
     Ok(answers)
 }
 
 // What the lines of a script are answered, over a new counter of a profile's devices and totals in memory.
-fn answers_of(alloc: Global, profile: &Profile, script: &[u8]) -> Result<MemorySink, TellFault>
+fn answers_of(alloc: Global, profile: &Profile, script: &[u8]) -> Result<MemorySink, TrialFault>
     ensures { IfOk result (λ answers. IsAnswered ⟦<MemDisk as Disk>⟧ profile.now script.now (given_to answers).bytes) }
 {
     let Ok(disk) = new_disk(alloc) else {
-        return Err(TellFault::NoMemory);
+        return Err(TrialFault::NoMemory);
     };
     let (mut counter, mut spares) = match simulate_profile(alloc, profile, disk, &AsSimulated) {
         Ok(made) => made,
-        Err(_) => return Err(TellFault::NoMemory),
+        Err(_) => return Err(TrialFault::NoMemory),
     };
     let answers = answer_all(alloc, script, &mut counter, &mut spares);
     let _disk = end_counter(counter);
@@ -89,29 +127,31 @@ fn wanted_path(alloc: Global, path: &str) -> Result<String, AllocError>
 }
 
 // Reads the answers that are wanted of the script at a path.
-fn read_wanted<'a, S: FileSystem>(
-    alloc: Global,
-    system: &S,
-    path: &'a str,
-) -> Result<Vec<u8>, RunFault<'a>>
-    ensures { ReadsWanted S.FileSystem system.now path.entry (bytes_of result) }
+fn read_wanted<S: FileSystem>(alloc: Global, system: &S, path: &str) -> Result<Vec<u8>, TrialFault>
+    ensures { ReadsWanted S.FileSystem system.now path.now (bytes_of result) }
 {
     let Ok(beside) = wanted_path(alloc, path) else {
-        return Err(RunFault::Told(TellFault::NoMemory));
+        return Err(TrialFault::NoMemory);
     };
     match system.read(&beside) {
         Ok(wanted) => Ok(wanted),
-        Err(cause) => Err(RunFault::Wanted { path, cause }),
+        Err(cause) => match String::from_str(alloc, path) {
+            Ok(path) => Err(TrialFault::Wanted { path, cause }),
+            Err(_) => Err(TrialFault::NoMemory),
+        },
     }
 }
 
 // Reads the script at a path.
-fn read_script<'a, S: FileSystem>(system: &S, path: &'a str) -> Result<Vec<u8>, RunFault<'a>>
-    ensures { ReadsText S.FileSystem system.now path.entry (bytes_of result) }
+fn read_script<S: FileSystem>(alloc: Global, system: &S, path: &str) -> Result<Vec<u8>, TrialFault>
+    ensures { ReadsText S.FileSystem system.now path.now (bytes_of result) }
 {
     match system.read(path) {
         Ok(script) => Ok(script),
-        Err(cause) => Err(RunFault::Script { path, cause }),
+        Err(cause) => match String::from_str(alloc, path) {
+            Ok(path) => Err(TrialFault::Script { path, cause }),
+            Err(_) => Err(TrialFault::NoMemory),
+        },
     }
 }
 
@@ -122,7 +162,7 @@ fn compare(
     name: &str,
     script: &[u8],
     wanted: &[u8],
-) -> Result<Vec<u8>, TellFault>
+) -> Result<Vec<u8>, TrialFault>
     ensures { IfOk result (λ text. Compares ⟦<MemDisk as Disk>⟧ profile.now name.now script.now wanted.now text.items) }
 {
     let answers = match answers_of(alloc, profile, script) {
@@ -131,20 +171,20 @@ fn compare(
     };
     match differences(alloc, name, script, wanted, answers.as_slice()) {
         Ok(text) => Ok(text),
-        Err(_) => Err(TellFault::NoMemory),
+        Err(_) => Err(TrialFault::NoMemory),
     }
 }
 
 // How what the script at a path prints differs from what is wanted.
-fn try_script<'a, S: FileSystem>(
+fn try_script<S: FileSystem>(
     alloc: Global,
     system: &S,
     profile: &Profile,
-    path: &'a str,
-) -> Result<Vec<u8>, RunFault<'a>>
-    ensures { TriesScript S.FileSystem system.now ⟦<MemDisk as Disk>⟧ profile.now path.entry (bytes_of result) }
+    path: &str,
+) -> Result<Vec<u8>, TrialFault>
+    ensures { TriesScript S.FileSystem system.now ⟦<MemDisk as Disk>⟧ profile.now path.now (bytes_of result) }
 {
-    let script = match read_script(system, path) {
+    let script = match read_script(alloc, system, path) {
         Ok(script) => script,
         Err(fault) => return Err(fault),
     };
@@ -154,106 +194,99 @@ fn try_script<'a, S: FileSystem>(
     };
     match compare(alloc, profile, path, script.as_slice(), wanted.as_slice()) {
         Ok(text) => Ok(text),
-        Err(fault) => Err(RunFault::Told(fault)),
+        Err(_) => Err(TrialFault::NoMemory),
     }
 }
 
-// Puts what trying a script found at the end of a report.
-fn put_trial(report: &mut Vec<u8>, path: &str, text: &[u8]) -> Result<(), AllocError>
-    ensures { OnOk result (report.new.items ≡ report.old.items ++ trial_text path.now text.now) }
-{
-    report.extend_from_slice(text)?;
-    if text.is_empty() {
-        report.extend_from_slice(b"ok ")?;
-    } else {
-        report.extend_from_slice(b"failed ")?;
-    }
-    report.extend_from_slice(path.as_bytes())?;
-    report.extend_from_slice(b"\n")
-}
-
-// Tries the script at a path, and puts what was found at the end of a report. Returns whether it prints what is wanted.
-fn add_trial<'a, S: FileSystem>(
-    alloc: Global,
-    system: &S,
-    profile: &Profile,
-    path: &'a str,
-    report: &mut Vec<u8>,
-) -> Result<bool, RunFault<'a>>
-    ensures { AddsTrial S.FileSystem system.now ⟦<MemDisk as Disk>⟧ profile.now path.entry report.old.items
-        report.new.items result }
-{
-    let text = match try_script(alloc, system, profile, path) {
-        Ok(text) => text,
-        Err(fault) => return Err(fault),
-    };
-    let Ok(()) = put_trial(report, path, text.as_slice()) else {
-        return Err(RunFault::Told(TellFault::NoMemory));
-    };
-    Ok(text.is_empty())
-}
-
-/// What trying scripts found.
-#[derive(Drop)]
-pub struct Trials {
-    /// The differences, and a line for each script.
-    pub report: Vec<u8>,
-    /// How many scripts print what is wanted.
-    pub passed: usize,
-    /// How many don't.
-    pub failed: usize,
-}
-
-/// Tries the scripts at paths, each over a new counter of the profile's devices and totals in memory. A script has the
-/// answers that are wanted of it beside it, at its path with `.stdout` at its end. docs/reference/tool.md, "test".
+/// Tries the scripts at paths, in order, each over a new counter of the profile's devices and totals in memory. A
+/// script has the answers that are wanted of it beside it, at its path with `.stdout` at its end.
+/// docs/reference/tool.md, "test".
 ///
 /// # Errors
 ///
-/// `Script` or `Wanted` for the first file that can't be read, and `Told` for want of memory.
-pub fn try_scripts<'a, S: FileSystem>(
+/// `Script` or `Wanted` for the first file that can't be read, and `NoMemory`.
+pub fn try_scripts<'a, S: FileSystem, P: Progress>(
     alloc: Global,
     system: &S,
     profile: &Profile,
-    paths: &[&'a str],
-) -> Result<Trials, RunFault<'a>>
-    ensures { TriesEach S.FileSystem system.now ⟦<MemDisk as Disk>⟧ profile.now paths.entry.now result }
+    paths: &'a [String],
+    progress: &mut P,
+) -> Result<Vec<Trial<'a>>, TrialFault>
+    ensures { TriesEach S.FileSystem system.now ⟦<MemDisk as Disk>⟧ profile.now
+        (map (λ path. string_bytes path) paths.entry.now) (trials_of result) }
 {
-    let mut report = Vec::new(alloc);
-    let mut passed = 0;
-    let mut failed = 0;
-    for path in paths {
-        match add_trial(alloc, system, profile, *path, &mut report) {
-            Ok(same) => {
-                if same {
-                    passed += 1;
-                } else {
-                    failed += 1;
-                }
+    let mut trials = Vec::new(alloc);
+    for name in paths {
+        progress.tell(trials.len(), paths.len());
+        let path = name.as_str();
+        match try_script(alloc, system, profile, path) {
+            Ok(differences) => {
+                let Ok(()) = trials.push(Trial { path, differences }) else {
+                    return Err(TrialFault::NoMemory);
+                };
             }
             Err(fault) => return Err(fault),
         }
     }
-    Ok(Trials {
-        report,
-        passed,
-        failed,
-    })
+    Ok(trials)
 }
 
-/// Returns the report of trials, and how many scripts print what is wanted, and don't.
+/// Returns how many scripts don't print what is wanted.
+pub fn failures(trials: &[Trial<'_>]) -> usize
+    ensures value { result ≡ failures trials.now }
+    ensures most { result ≤ length trials.now }
+{
+    let mut failed = 0;
+    for trial in trials {
+        if !trial.differences.is_empty() {
+            failed += 1;
+        }
+    }
+    failed
+}
+
+// Puts what trying a script found at the end of a text.
+fn put_trial(text: &mut Vec<u8>, trial: &Trial<'_>) -> Result<(), AllocError>
+    ensures { OnOk result (text.new.items ≡ text.old.items ++ trial_text trial.now) }
+{
+    text.extend_from_slice(&trial.differences)?;
+    if trial.differences.is_empty() {
+        text.extend_from_slice(b"ok ")?;
+    } else {
+        text.extend_from_slice(b"failed ")?;
+    }
+    text.extend_from_slice(trial.path.as_bytes())?;
+    text.extend_from_slice(b"\n")
+}
+
+// Puts what trying scripts found at the end of a text.
+fn put_trials(text: &mut Vec<u8>, trials: &[Trial<'_>]) -> Result<(), AllocError>
+    ensures { OnOk result (text.new.items ≡ text.old.items ++ flat_map trial_text trials.now) }
+{
+    for trial in trials {
+        put_trial(text, trial)?;
+    }
+    Ok(())
+}
+
+/// Returns what is printed of scripts that were tried: what was found of each, and how many print what is wanted, and
+/// don't.
 ///
 /// # Errors
 ///
 /// [`AllocError`] if memory ran out.
-pub fn tally(alloc: Global, made: &Trials) -> Result<Vec<u8>, AllocError>
-    ensures { IfOk result (λ text. text.items ≡ tally made.now) }
+pub fn tally(alloc: Global, trials: &[Trial<'_>]) -> Result<Vec<u8>, AllocError>
+    ensures { IfOk result (λ text. text.items ≡ tally trials.now) }
 {
-    let mut passed = Buffer::new();
-    let mut failed = Buffer::new();
-    let passed = passed.format(made.passed as u64).as_bytes();
-    let failed = failed.format(made.failed as u64).as_bytes();
-    let mut text = Vec::from_slice(alloc, &made.report)?;
-    put_parts(&mut text, passed, b" passed, ", failed)?;
+    let failed = failures(trials);
+    let passed = trials.len() - failed;
+    let mut passes = Buffer::new();
+    let mut fails = Buffer::new();
+    let passes = passes.format(passed as u64).as_bytes();
+    let fails = fails.format(failed as u64).as_bytes();
+    let mut text = Vec::new(alloc);
+    put_trials(&mut text, trials)?;
+    put_parts(&mut text, passes, b" passed, ", fails)?;
     text.extend_from_slice(b" failed\n")?;
     Ok(text)
 }

@@ -1,2 +1,3 @@
-mod ParseLemmas
 mod CopyLemmas
+mod NameLemmas
+mod ParseLemmas

@@ -59,7 +59,7 @@ module _ (app : App) (words : List Text) (same : app ≡ program_line) where
   told error (Ok (Load text file)) kinds why = absurd why
   told error (Ok (Salvage file to)) kinds why = absurd why
   told error (Ok (Run scripts profile totals json)) kinds why = absurd why
-  told error (Ok (Test scripts profile)) kinds why = absurd why
+  told error (Ok (Test paths profile junit colour)) kinds why = absurd why
   told error (Ok (Completions shell)) kinds why = absurd why
   told error (Ok Man) kinds why = absurd why
   told error (Err (Refused refusal)) kinds why = rw why.0 (among error kinds why.1)

@@ -77,9 +77,11 @@ RunsOf name rows (Some (Run scripts profile totals json)) = (name ≡ codes "run
     × (option_map (λ path. path.now) profile ≡ first_of (codes "profile") rows)
     × (option_map (λ path. path.now) totals ≡ first_of (codes "totals") rows)
     × (json ≡ is_given (codes "json") rows)
-RunsOf name rows (Some (Test scripts profile)) = (name ≡ codes "test")
-    × (map (λ script. script.now) scripts.items ≡ words_in (codes "SCRIPT") rows)
+RunsOf name rows (Some (Test paths profile junit colour)) = (name ≡ codes "test")
+    × (map (λ path. path.now) paths.items ≡ words_in (codes "PATH") rows)
     × (option_map (λ path. path.now) profile ≡ first_of (codes "profile") rows)
+    × (option_map (λ path. path.now) junit ≡ first_of (codes "junit") rows)
+    × (option_map (λ word. word.now) colour ≡ first_of (codes "color") rows)
 RunsOf name rows (Some other) = ⊥
 
 -- a command prints something else than the help

@@ -8,6 +8,8 @@ use Rattle.pos_shell.specs.declared.runs.RunFault.{RunFault}
 use Rattle.pos_shell.specs.declared.runs.RunFault.TheVariants as run
 use Rattle.pos_shell.specs.declared.scripts.TellFault.{TellFault}
 use Rattle.pos_shell.specs.declared.scripts.TellFault.TheVariants as told
+use Rattle.pos_shell.specs.declared.trials.TrialFault.{TrialFault}
+use Rattle.pos_shell.specs.declared.trials.TrialFault.TheVariants as trial
 use Rattle.pos_survey.specs.declared.fault.SurveyFault.{SurveyFault}
 use Rattle.pos_survey.specs.declared.fault.SurveyFault.TheVariants as survey
 use Rattle.pos_tool.specs.declared.fault.Fault.{Fault}
@@ -73,10 +75,15 @@ told_status told.Read = 4
 -- the status of a fault of a run
 abbrev pub run_status : RunFault → ℕ
 run_status (run.Script path cause) = 4
-run_status (run.Wanted path cause) = 4
 run_status (run.Profile path cause) = profile_status cause
 run_status (run.Totals path cause) = file_status cause
 run_status (run.Told cause) = told_status cause
+
+-- the status of a script that can't be tried
+abbrev pub trial_status : TrialFault → ℕ
+trial_status (trial.Script path cause) = 4
+trial_status (trial.Wanted path cause) = 4
+trial_status trial.NoMemory = 6
 
 -- the status of a fault
 abbrev pub status : Fault → ℕ
@@ -88,7 +95,11 @@ status (fault.Load path cause) = load_status cause
 status (fault.NoFile path name) = 1
 status (fault.NoCode code) = 1
 status (fault.NoShell shell) = 1
+status (fault.NoColour word) = 3
 status (fault.Run why) = run_status why
+status (fault.Trial why) = trial_status why
+status (fault.Folder path cause) = 4
+status (fault.NoScripts path) = 1
 status fault.Write = 5
 status fault.NoMemory = 6
 

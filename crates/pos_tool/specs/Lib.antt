@@ -4,7 +4,10 @@ pub mod Differing
 pub mod Faults
 pub mod Lines
 pub mod Making
+pub mod Names
 pub mod Program
 pub mod Scripts
 pub mod Telling
+pub mod Testing
+pub mod Texts
 pub mod Whole

@@ -38,10 +38,10 @@ some_places_rule name = record (new_rule name) {
   action = Some Append;
 }
 
--- test SCRIPT .. [--profile P]
+-- test PATH .. [--profile P] [--junit FILE] [--color WHEN]
 abbrev pub test_line : App
-test_line = with_rule (with_rule (new_app (codes "test")) (some_places_rule (codes "SCRIPT")))
-    (valued_rule (codes "profile"))
+test_line = with_rule (with_rule (with_rule (with_rule (new_app (codes "test")) (some_places_rule (codes "PATH")))
+    (valued_rule (codes "profile"))) (valued_rule (codes "junit"))) (valued_rule (codes "color"))
 
 -- COMMAND NAME
 abbrev pub place_line : Text → Text → App

@@ -1,5 +1,5 @@
 -- What the program does for its words, and how it ends (docs/reference/tool.md).
-use Rattle.std.specs.Prelude.{◌≡◌, ◌≢◌, ℕ, Bool, List, [], Option, Some, None, Result, Ok, Err, Vec, bytes_eq, codes}
+use Rattle.std.specs.Prelude.{◌≡◌, ◌≢◌, ℕ, List, [], Option, Some, None, Result, Ok, Err, Vec, bytes_eq, codes}
 use Rattle.std.specs.Prelude.{flat_map, if◌then◌else◌, map}
 use Rattle.pos_disk.specs.Memory.{Memory}
 use Rattle.pos_disk.specs.declared.device.Disk.{Ghosts as DiskGhosts}
@@ -19,8 +19,9 @@ use Rattle.pos_tool.specs.Differing.{TellsDifference}
 use Rattle.pos_tool.specs.Faults.{status_of}
 use Rattle.pos_tool.specs.Making.{Loads, Salvages}
 use Rattle.pos_shell.specs.Outputs.{Output, Streams}
-use Rattle.pos_tool.specs.Scripts.{EndsRun, EndsTest}
+use Rattle.pos_tool.specs.Scripts.{EndsRun}
 use Rattle.pos_tool.specs.Telling.{EndsAtFile, Prints, TellsFile}
+use Rattle.pos_tool.specs.Testing.{EndsTest}
 use Rattle.pos_report.specs.Texts.{explained}
 use Rattle.pos_report.specs.declared.codes.Code.{Code}
 use Rattle.pos_tool.specs.declared.commands.Task.{Task}
@@ -32,6 +33,7 @@ use Rattle.pos_tool.specs.declared.fault.WordsFault.{WordsFault}
 use Rattle.pos_tool.specs.declared.fault.WordsFault.TheVariants as words
 use Rattle.pos_tool.specs.declared.folder.Folder.{Ghosts as FolderGhosts}
 use Rattle.pos_tool.specs.declared.program.Pages.{Pages}
+use Rattle.pos_tool.specs.declared.program.Terminals.{Terminals}
 use Rattle.pos_report.specs.declared.question.Finding.{Finding}
 use Rattle.pos_report.specs.declared.question.Finding.TheVariants.{Good}
 
@@ -79,48 +81,50 @@ Completes pages shell old new result = PrintsPage shell (page_of pages shell) ol
 
 -- what it does for a task that reads no lines, over these files and pages, by how its output stood before, and after
 abbrev pub Does : {F B S G : Type 0} → Ghosts F B → FileGhosts B → DiskGhosts (Mirror (FileDisk B))
-    → DiskGhosts Memory → F → SystemGhosts S G → FolderGhosts S → FileGhosts G → S → Pages → Task → Output → Output
-    → Result Finding Fault → Type 0
-Does files below mirrors memories them system folder under it pages Help old new result =
+    → DiskGhosts Memory → F → SystemGhosts S G → FolderGhosts S → FileGhosts G → S → Pages → Terminals → Task → Output
+    → Output → Result Finding Fault → Type 0
+Does files below mirrors memories them system folder under it pages terminals Help old new result =
     Prints pages.help.now old new result
-Does files below mirrors memories them system folder under it pages Version old new result =
+Does files below mirrors memories them system folder under it pages terminals Version old new result =
     Prints pages.version_line.now old new result
-Does files below mirrors memories them system folder under it pages (Explain code) old new result =
+Does files below mirrors memories them system folder under it pages terminals (Explain code) old new result =
     Explains pages.codes.now code.now old new result
-Does files below mirrors memories them system folder under it pages (Ask file question) old new result =
+Does files below mirrors memories them system folder under it pages terminals (Ask file question) old new result =
     TellsFile files below them file.now question old new result
-Does files below mirrors memories them system folder under it pages (Create file) old new result =
+Does files below mirrors memories them system folder under it pages terminals (Create file) old new result =
     EndsFormat files below them file.now result × (new ≡ old)
-Does files below mirrors memories them system folder under it pages (Migrate file) old new result =
+Does files below mirrors memories them system folder under it pages terminals (Migrate file) old new result =
     EndsMove files below them file.now result × (new ≡ old)
-Does files below mirrors memories them system folder under it pages (Backup file to) old new result =
+Does files below mirrors memories them system folder under it pages terminals (Backup file to) old new result =
     BacksUp system folder under.calls it file.now to.now result × (new ≡ old)
-Does files below mirrors memories them system folder under it pages (Restore from file replaces) old new result =
-    Restores system folder under.calls it from.now file.now replaces result × (new ≡ old)
-Does files below mirrors memories them system folder under it pages (Diff file other) old new result =
+Does files below mirrors memories them system folder under it pages terminals (Restore from file replaces) old new
+    result = Restores system folder under.calls it from.now file.now replaces result × (new ≡ old)
+Does files below mirrors memories them system folder under it pages terminals (Diff file other) old new result =
     TellsDifference files below them file.now other.now old new result
-Does files below mirrors memories them system folder under it pages (Load text file) old new result =
+Does files below mirrors memories them system folder under it pages terminals (Load text file) old new result =
     Loads system folder under.calls it text.now file.now result × (new ≡ old)
-Does files below mirrors memories them system folder under it pages (Salvage file to) old new result =
+Does files below mirrors memories them system folder under it pages terminals (Salvage file to) old new result =
     Salvages system folder under.calls it file.now to.now old new result
-Does files below mirrors memories them system folder under it pages (Run scripts profile totals json) old new result = ⊥
-Does files below mirrors memories them system folder under it pages (Test scripts profile) old new result =
-    EndsTest files them system it memories scripts.items profile old new result
-Does files below mirrors memories them system folder under it pages (Completions shell) old new result =
+Does files below mirrors memories them system folder under it pages terminals (Run scripts profile totals json) old new
+    result = ⊥
+Does files below mirrors memories them system folder under it pages terminals (Test paths profile junit colour) old new
+    result = EndsTest files them system folder under.calls it memories terminals.output paths.items profile junit colour
+    old new result
+Does files below mirrors memories them system folder under it pages terminals (Completions shell) old new result =
     Completes pages shell.now old new result
-Does files below mirrors memories them system folder under it pages Man old new result =
+Does files below mirrors memories them system folder under it pages terminals Man old new result =
     Prints pages.man.now old new result
 
 -- what it does for any task; but for a run that is typed it reads nothing from its input
 abbrev pub DoesTask : {F B S G : Type 0} → Ghosts F B → FileGhosts B → DiskGhosts (Mirror (FileDisk B))
-    → DiskGhosts Memory → F → SystemGhosts S G → FolderGhosts S → FileGhosts G → S → Pages → Bool → Task → Streams
+    → DiskGhosts Memory → F → SystemGhosts S G → FolderGhosts S → FileGhosts G → S → Pages → Terminals → Task → Streams
     → Streams → Result Finding Fault → Type 0
-DoesTask files below mirrors memories them system folder under it pages is_terminal (Run scripts profile totals json)
+DoesTask files below mirrors memories them system folder under it pages terminals (Run scripts profile totals json)
     old new result = EndsRun files below mirrors memories them system it pages.codes pages.lines_help scripts.items
-    profile totals json is_terminal old new result
-DoesTask files below mirrors memories them system folder under it pages is_terminal task old new result =
+    profile totals json terminals.input old new result
+DoesTask files below mirrors memories them system folder under it pages terminals task old new result =
     (new.taken ≡ old.taken)
-    × Does files below mirrors memories them system folder under it pages task old.output new.output result
+    × Does files below mirrors memories them system folder under it pages terminals task old.output new.output result
 
 -- what it does for what the words ask for: nothing where they ask for nothing
 abbrev pub DoesChosen : (Task → Streams → Streams → Result Finding Fault → Type 0) → Result Task WordsFault → Streams
@@ -130,11 +134,11 @@ DoesChosen DoesIt (Err why) old new result = (result ≡ Err (fault.Words why)) 
 
 -- what it does for words
 abbrev pub DoesAsAsked : {F B S G : Type 0} → Ghosts F B → FileGhosts B → DiskGhosts (Mirror (FileDisk B))
-    → DiskGhosts Memory → F → SystemGhosts S G → FolderGhosts S → FileGhosts G → S → Pages → Bool → List (List ℕ)
+    → DiskGhosts Memory → F → SystemGhosts S G → FolderGhosts S → FileGhosts G → S → Pages → Terminals → List (List ℕ)
     → Streams → Streams → Result Finding Fault → Type 0
-DoesAsAsked files below mirrors memories them system folder under it pages is_terminal words old new result =
+DoesAsAsked files below mirrors memories them system folder under it pages terminals words old new result =
     (chosen : Result Task WordsFault) × Chooses words chosen
-    × DoesChosen (DoesTask files below mirrors memories them system folder under it pages is_terminal) chosen old new
+    × DoesChosen (DoesTask files below mirrors memories them system folder under it pages terminals) chosen old new
     result
 
 -- why words that couldn't be read ask for nothing
@@ -149,13 +153,13 @@ DoesAsRead DoesWords text (Ok words) old new result = DoesWords (map text words.
 DoesAsRead DoesWords text (Err why) old new result =
     (result ≡ Err (fault.Words (fault_of_unread why))) × (new ≡ old)
 
--- The whole program, by its words, its files, the file system that they are in, its pages, whether its input is a
--- terminal, how its input and its output stood before and after, and the status that it ends with.
+-- The whole program, by its words, its files, the file system that they are in, its pages, which of its streams are
+-- terminals, how its input and its output stood before and after, and the status that it ends with.
 pub record Performs {F B S G T A : Type 0} (files : Ghosts F B) (below : FileGhosts B)
     (mirrors : DiskGhosts (Mirror (FileDisk B))) (memories : DiskGhosts Memory) (them : F) (system : SystemGhosts S G)
-    (folder : FolderGhosts S) (under : FileGhosts G) (it : S) (pages : Pages) (is_terminal : Bool)
+    (folder : FolderGhosts S) (under : FileGhosts G) (it : S) (pages : Pages) (terminals : Terminals)
     (text : T → List ℕ) (words : Result (Vec T A) ChoiceFault) (old new : Streams) (ended : ℕ) : Type 0 where
   pub outcome : Result Finding Fault
-  pub done : DoesAsRead (DoesAsAsked files below mirrors memories them system folder under it pages is_terminal) text
+  pub done : DoesAsRead (DoesAsAsked files below mirrors memories them system folder under it pages terminals) text
       words old new outcome
   pub ends : ended ≡ status_of outcome

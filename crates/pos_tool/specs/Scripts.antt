@@ -1,24 +1,21 @@
--- What running and trying scripts comes to, to the program (docs/reference/tool.md, "run" and "test").
-use Rattle.std.specs.Prelude.{◌≡◌, ◌∷◌, [], ℕ, Bool, true, false, List, Option, None, Result, Ok, Err, ◌==◌, bytes_eq, codes, if◌then◌else◌}
+-- What running scripts comes to, to the program (docs/reference/tool.md, "run").
+use Rattle.std.specs.Prelude.{◌≡◌, ◌∷◌, [], ℕ, Bool, true, false, List, Option, None, Result, Ok, Err, bytes_eq, codes}
 use Rattle.std.specs.Borrow.{Bor}
 use Rattle.pos_disk.specs.Memory.{Memory}
 use Rattle.pos_disk.specs.declared.device.Disk.{Ghosts as DiskGhosts}
 use Rattle.pos_file.specs.declared.block_file.BlockFile.{Ghosts as FileGhosts}
 use Rattle.pos_file.specs.declared.file_disk.FileDisk.{FileDisk}
 use Rattle.pos_mirror.specs.Mirror.{Mirror}
-use Rattle.pos_profile.specs.Entries.{Contents}
 use Rattle.pos_program.specs.declared.file_system.FileSystem.{Ghosts as SystemGhosts}
 use Rattle.pos_program.specs.declared.named_files.NamedFiles.{Ghosts}
 use Rattle.pos_report.specs.declared.codes.Code.{Code}
 use Rattle.pos_report.specs.declared.question.Finding.{Finding}
-use Rattle.pos_report.specs.declared.question.Finding.TheVariants.{Good, Nothing}
-use Rattle.pos_shell.specs.Outputs.{IsCutOff, IsWritten, Output, Streams}
-use Rattle.pos_shell.specs.Runs.{GivesProfile, Runs, RunsAll}
-use Rattle.pos_shell.specs.Trials.{TriesEach, tally}
+use Rattle.pos_report.specs.declared.question.Finding.TheVariants.{Good}
+use Rattle.pos_shell.specs.Outputs.{Streams}
+use Rattle.pos_shell.specs.Runs.{Runs, RunsAll}
 use Rattle.pos_shell.specs.declared.runs.RunFault.{RunFault}
 use Rattle.pos_shell.specs.declared.told.Form.{Form}
 use Rattle.pos_shell.specs.declared.told.Form.TheVariants.{Json, Numbered, Typed}
-use Rattle.pos_shell.specs.declared.trials.Trials.{Trials}
 use Rattle.pos_tool.specs.declared.fault.Fault.{Fault}
 use Rattle.pos_tool.specs.declared.fault.Fault.TheVariants as fault
 
@@ -58,38 +55,3 @@ EndsRun files below mirrors memories them system it known help paths profile tot
     × RunsAsked files below mirrors memories them system it known help paths profile totals json
     (is_typed paths json is_terminal) old new answer
     × (result ≡ run_finding answer)
-
--- what is found where so many scripts don't print what is wanted
-abbrev pub trial_finding : ℕ → Finding
-trial_finding failed = if failed == 0 then Good else Nothing
-
--- what trying scripts found is printed, as far as it can be written
-abbrev pub PrintsTrials : Trials → Output → Output → Result Finding Fault → Type 0
-PrintsTrials made old new (Ok finding) = (finding ≡ trial_finding made.failed) × IsWritten old new (tally made)
-PrintsTrials made old new (Err fault.Write) = IsCutOff old new (tally made)
-PrintsTrials made old new (Err why) = (why ≡ fault.NoMemory) × (new ≡ old)
-
--- what is printed of scripts that were tried, or of one that can't be
-abbrev pub PrintsTried : Result Trials RunFault → Output → Output → Result Finding Fault → Type 0
-PrintsTried (Ok made) old new result = PrintsTrials made old new result
-PrintsTried (Err why) old new result = (result ≡ Err (fault.Run why)) × (new ≡ old)
-
--- the scripts at paths are tried over a profile, and what was found is printed
-abbrev pub TestsProfiled : {S G : Type 0} → SystemGhosts S G → S → DiskGhosts Memory → Contents → List (Bor (List ℕ))
-    → Output → Output → Result Finding Fault → Type 0
-TestsProfiled system it memories contents paths old new result = (made : Result Trials RunFault)
-    × TriesEach system it memories contents paths made × PrintsTried made old new result
-
--- likewise, over what reading the profile gave
-abbrev pub TestsGiven : {S G : Type 0} → SystemGhosts S G → S → DiskGhosts Memory → Result Contents RunFault
-    → List (Bor (List ℕ)) → Output → Output → Result Finding Fault → Type 0
-TestsGiven system it memories (Ok contents) paths old new result =
-    TestsProfiled system it memories contents paths old new result
-TestsGiven system it memories (Err why) paths old new result = (result ≡ Err (fault.Run why)) × (new ≡ old)
-
--- What trying the scripts at paths comes to.
-abbrev pub EndsTest : {F B S G : Type 0} → Ghosts F B → F → SystemGhosts S G → S → DiskGhosts Memory
-    → List (Bor (List ℕ)) → Option (Bor (List ℕ)) → Output → Output → Result Finding Fault → Type 0
-EndsTest files them system it memories paths profile old new result =
-    (given : Result Contents RunFault) × GivesProfile files them profile given
-    × TestsGiven system it memories given paths old new result

@@ -79,13 +79,28 @@ Puts system folder calls them path bytes result =
     ⊎ Continues (WritesPart system calls them (path ++ codes ".part") bytes)
     (LinksPart system folder them (path ++ codes ".part") path result) result
 
+-- what putting a whole file in the place of what has its name comes to
+abbrev pub RenamesPart : {S F : Type 0} → SystemGhosts S F → FolderGhosts S → S → List ℕ → List ℕ
+    → Result (Unit {0}) WholeFault → Type 0
+RenamesPart system folder them part path result =
+    (renamed : Result (Unit {0}) Error) × folder.renames them part path renamed
+    × Follows fault.Link (Settles system them path result) renamed result
+
+-- What making a file with these bytes at a path comes to, in place of one that may be there: want of memory; or they
+-- are written to the file beside it, and after that it gets its name.
+abbrev pub PutsOver : {S F : Type 0} → SystemGhosts S F → FolderGhosts S → (F → List Call) → S → List ℕ → List ℕ
+    → Result (Unit {0}) WholeFault → Type 0
+PutsOver system folder calls them path bytes result =
+    (result ≡ Err fault.NoMemory)
+    ⊎ Continues (WritesPart system calls them (path ++ codes ".part") bytes)
+    (RenamesPart system folder them (path ++ codes ".part") path result) result
+
 -- what keeping a file under a second name, and putting another one in its place, comes to
 abbrev pub SetsAside : {S F : Type 0} → SystemGhosts S F → FolderGhosts S → S → List ℕ → List ℕ → List ℕ
     → Result (Unit {0}) WholeFault → Type 0
 SetsAside system folder them part path old result =
     (linked : Result (Unit {0}) Error) × folder.links them path old linked
-    × Follows fault.Aside ((renamed : Result (Unit {0}) Error) × folder.renames them part path renamed
-    × Follows fault.Link (Settles system them path result) renamed result) linked result
+    × Follows fault.Aside (RenamesPart system folder them part path result) linked result
 
 -- What putting a file with these bytes in place of the one at a path comes to: want of memory; or they are written to
 -- the file beside it, then the old file gets a second name, and then the new one takes its place.

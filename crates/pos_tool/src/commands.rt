@@ -89,12 +89,16 @@ pub enum Task<'a> {
         /// Whether as JSON.
         json: bool,
     },
-    /// `test SCRIPT ..`: to try scripts, and print how their answers differ from those that are wanted.
+    /// `test PATH ..`: to try scripts, and print how their answers differ from those that are wanted.
     Test {
-        /// The scripts.
-        scripts: Vec<&'a str>,
+        /// The scripts, and folders of scripts.
+        paths: Vec<&'a str>,
         /// The profile, if it isn't the built-in one.
         profile: Option<&'a str>,
+        /// The file to make of what is found, if one is asked for.
+        junit: Option<&'a str>,
+        /// When what is printed is painted.
+        colour: Option<&'a str>,
     },
     /// `completions SHELL`: to print what completes the words of a shell.
     Completions {
@@ -239,9 +243,16 @@ fn running_of<'a>(
         }));
     }
     if command == "test" {
-        let scripts = words_in(alloc, found, "SCRIPT")?;
+        let paths = words_in(alloc, found, "PATH")?;
         let profile = option_in(found, "profile");
-        return Ok(Some(Task::Test { scripts, profile }));
+        let junit = option_in(found, "junit");
+        let colour = option_in(found, "color");
+        return Ok(Some(Task::Test {
+            paths,
+            profile,
+            junit,
+            colour,
+        }));
     }
     Ok(None)
 }

@@ -1,15 +1,15 @@
 //! Why the program doesn't do what it was asked, and the status that it ends with.
 ghost use Rattle.std.specs.Prelude.{◌≡◌};
 ghost use Rattle.pos_tool.specs.Faults.{file_status, finding_status, load_status, profile_status, run_status, status};
-ghost use Rattle.pos_tool.specs.Faults.{status_of, survey_status, told_status, whole_status, words_status};
+ghost use Rattle.pos_tool.specs.Faults.{status_of, survey_status, told_status, trial_status, whole_status, words_status};
 
 use crate::whole::WholeFault;
 use pos_program::{FileFault, FirstParagraph, OneLine, ProfileFileFault};
 use pos_report::{Finding, LoadFault};
-use pos_shell::{RunFault, TellFault};
+use pos_shell::{RunFault, TellFault, TrialFault};
 use pos_survey::{SurveyFault, words_of};
-use std::fmt;
 use std::fmt::Write;
+use std::{fmt, io};
 
 /// Why the words ask for nothing that the program does.
 #[derive(Drop)]
@@ -72,8 +72,27 @@ pub enum Fault<'a> {
         /// The shell.
         shell: &'a str,
     },
+    /// No choice of colour has this word.
+    NoColour {
+        /// The word.
+        word: &'a str,
+    },
     /// A file that scripts need can't serve.
     Run(RunFault<'a>),
+    /// A script can't be tried.
+    Trial(TrialFault),
+    /// A folder can't be listed.
+    Folder {
+        /// Its path, as its word stood.
+        path: &'a str,
+        /// Why.
+        cause: io::Error,
+    },
+    /// No script is in a folder.
+    NoScripts {
+        /// Its path, as its word stood.
+        path: &'a str,
+    },
     /// The output can't be written.
     Write,
     /// There was no memory.
@@ -170,10 +189,20 @@ fn run_status(fault: &RunFault<'_>) -> u8
     ensures { result ≡ run_status fault.now }
 {
     match fault {
-        RunFault::Script { .. } | RunFault::Wanted { .. } => 4,
+        RunFault::Script { .. } => 4,
         RunFault::Profile { cause, .. } => profile_status(cause),
         RunFault::Totals { cause, .. } => file_status(cause),
         RunFault::Told(cause) => told_status(cause),
+    }
+}
+
+// The status of a script that can't be tried.
+fn trial_status(fault: &TrialFault) -> u8
+    ensures { result ≡ trial_status fault.now }
+{
+    match fault {
+        TrialFault::Script { .. } | TrialFault::Wanted { .. } => 4,
+        TrialFault::NoMemory => 6,
     }
 }
 
@@ -189,7 +218,11 @@ impl Fault<'_> {
             Fault::Whole { cause, .. } => whole_status(cause),
             Fault::Load { cause, .. } => load_status(cause),
             Fault::NoFile { .. } | Fault::NoCode { .. } | Fault::NoShell { .. } => 1,
+            Fault::NoScripts { .. } => 1,
+            Fault::NoColour { .. } => 3,
             Fault::Run(fault) => run_status(fault),
+            Fault::Trial(fault) => trial_status(fault),
+            Fault::Folder { .. } => 4,
             Fault::Write => 5,
             Fault::NoMemory => 6,
         }
@@ -265,13 +298,21 @@ fn hint_of_whole(cause: &WholeFault) -> &'static str {
 fn hint_of_run(fault: &RunFault<'_>) -> &'static str {
     match fault {
         RunFault::Script { .. } => "check the path, and who may read it; `-` is standard input",
-        RunFault::Wanted { .. } => "the answers that are wanted of SCRIPT are in SCRIPT.stdout",
         RunFault::Profile { .. } =>
             "docs/reference/profile.md has each key; without --profile the built-in one serves",
         RunFault::Totals { cause, .. } => hint_of_file(cause),
         RunFault::Told(TellFault::NoMemory) => "free memory; the lines that were told are done",
         RunFault::Told(TellFault::Write) => "check the space that is free where the output goes",
         RunFault::Told(TellFault::Read) => "put the lines into a script; the lines before are done",
+    }
+}
+
+// What to do about a script that can't be tried.
+fn hint_of_trial(fault: &TrialFault) -> &'static str {
+    match fault {
+        TrialFault::Script { .. } => "check the path, and who may read it",
+        TrialFault::Wanted { .. } => "the answers that are wanted of SCRIPT are in SCRIPT.stdout",
+        TrialFault::NoMemory => "free memory, and try again",
     }
 }
 
@@ -287,7 +328,11 @@ impl Fault<'_> {
             Fault::NoFile { .. } => "`kijolvar files FILE` lists the files in it",
             Fault::NoCode { .. } => "give a number as 106, or a name as E_ILLEGAL",
             Fault::NoShell { .. } => "there are some for bash, zsh and fish",
+            Fault::NoColour { .. } => "there are auto, always and never",
             Fault::Run(fault) => hint_of_run(fault),
+            Fault::Trial(fault) => hint_of_trial(fault),
+            Fault::Folder { .. } => "check who may read it; its names have to be UTF-8",
+            Fault::NoScripts { .. } => "the answers that are wanted of SCRIPT are in SCRIPT.stdout",
             Fault::Write => "check the space that is free where the output goes",
             Fault::NoMemory => "free memory, and try again",
         }
@@ -346,14 +391,20 @@ impl fmt::Display for Fault<'_> {
             Fault::Run(RunFault::Script { path, cause }) => {
                 write!(line, "{path}: can't be read: {cause}")?
             }
-            Fault::Run(RunFault::Wanted { path, cause }) => {
-                write!(line, "{path}.stdout: can't be read: {cause}")?
-            }
             Fault::Run(RunFault::Profile { path, cause }) => write!(line, "{path}: {cause}")?,
             Fault::Run(RunFault::Totals { path, cause }) => write!(line, "{path}: {cause}")?,
             Fault::Run(RunFault::Told(cause)) => write!(line, "{cause}")?,
+            Fault::Trial(TrialFault::Script { path, cause }) => {
+                write!(line, "{path}: can't be read: {cause}")?
+            }
+            Fault::Trial(TrialFault::Wanted { path, cause }) => {
+                write!(line, "{path}.stdout: can't be read: {cause}")?
+            }
+            Fault::Folder { path, cause } => write!(line, "{path}: can't be listed: {cause}")?,
+            Fault::NoScripts { path } => write!(line, "{path}: no script is in this folder")?,
+            Fault::NoColour { word } => write!(line, "no choice of colour is {word}")?,
             Fault::Write => write!(line, "the output can't be written")?,
-            Fault::NoMemory => write!(line, "no memory")?,
+            Fault::Trial(TrialFault::NoMemory) | Fault::NoMemory => write!(line, "no memory")?,
         }
         let hint = self.hint();
         write!(f, "\nhint: {hint}")

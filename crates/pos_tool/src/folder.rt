@@ -1,12 +1,13 @@
 //! What the program asks of folders.
-ghost use Rattle.std.specs.Prelude.{List, Result, ℕ, ⊤};
+ghost use Rattle.std.specs.Prelude.{List, Option, Result, ℕ, ⊤};
 ghost use Rattle.std.specs.declared.io.Error.{Error};
+ghost use Rattle.pos_tool.specs.Texts.{names_in};
 
 use std::rt::Files;
 use std::{fs, io};
 
-/// The names in the folders of a file system. Contracts of functions over it say what is made of what it answers; what
-/// it answers itself is for each such type to say. Of the system's own no contract can say anything.
+/// The folders of a file system, and the names in them. Contracts of functions over it say what is made of what it
+/// answers; what it answers itself is for each such type to say. Of the system's own no contract can say anything.
 pub trait Folder {
     /// What giving a file a second name may answer.
     ghost links: { Self → List ℕ → List ℕ → Result (Unit {0}) Error → Type 0 } = { λ _ _ _ _. ⊤ };
@@ -16,6 +17,9 @@ pub trait Folder {
 
     /// What taking a name away may answer.
     ghost removes: { Self → List ℕ → Result (Unit {0}) Error → Type 0 } = { λ _ _ _. ⊤ };
+
+    /// What listing a folder may answer: the names in it, or none if the path is no folder's.
+    ghost lists: { Self → List ℕ → Result (Option (List (List ℕ))) Error → Type 0 } = { λ _ _ _. ⊤ };
 
     /// Gives the file at a path a second name, which isn't in use.
     ///
@@ -40,9 +44,17 @@ pub trait Folder {
     /// What the system says.
     fn remove(&self, path: &str) -> io::Result<()>
         ensures { removes self.now path.now result };
+
+    /// Returns the names in the folder at a path, in any order; none if the path is no folder's.
+    ///
+    /// # Errors
+    ///
+    /// What the system says, also if a name isn't UTF-8.
+    fn names(&self, path: &str) -> io::Result<Option<Vec<String>>>
+        ensures { lists self.now path.now (names_in result) };
 }
 
-impl<R: Files> Folder for R {
+impl<R: Files + AllocGlobal + Clone + Drop> Folder for R {
     fn link(&self, from: &str, to: &str) -> io::Result<()> {
         fs::hard_link(self, from, to)
     }
@@ -53,5 +65,17 @@ impl<R: Files> Folder for R {
 
     fn remove(&self, path: &str) -> io::Result<()> {
         fs::remove_file(self, path)
+    }
+
+    fn names(&self, path: &str) -> io::Result<Option<Vec<String>>> {
+        match fs::metadata(self, path) {
+            Ok(found) if found.is_dir() => {}
+            _ => return Ok(None),
+        }
+        let mut names = Vec::new(self.alloc());
+        for entry in fs::read_dir(self, path)? {
+            names.push(String::from_str(self.alloc(), entry?.file_name())?)?;
+        }
+        Ok(Some(names))
     }
 }

@@ -47,8 +47,9 @@ usage: kijolvar COMMAND ..
   run [SCRIPT ..] [--profile P] [--totals FILE] [--json]
                            run scripts (or standard input), and print what each line is answered;
                            at a terminal, run each line that is typed
-  test SCRIPT .. [--profile P]
-                           run each script, and print how its answers differ from SCRIPT.stdout
+  test PATH .. [--profile P] [--junit FILE] [--color auto|always|never]
+                           run each script, and each that is in a folder, and print how its answers
+                           differ from SCRIPT.stdout; --junit makes a report, too
   explain CODE             what a code means, and what to do: 106, E_ILLEGAL
   completions SHELL        print what completes the words of bash, zsh or fish
   man                      print the man page
@@ -57,7 +58,7 @@ usage: kijolvar COMMAND ..
 
 statuses:
   0  done; of check: sound
-  1  no totals, or no such file, code or shell; of diff and test: they differ
+  1  no totals, or no such file, code, shell or script; of diff and test: they differ
   2  damaged totals
   3  the words ask for nothing
   4  a file can't be read or written, is there already, is in use, or is no profile

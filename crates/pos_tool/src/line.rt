@@ -67,8 +67,10 @@ fn test_line<'a>(alloc: Global) -> Result<Command<'a>, AllocError>
     ensures app { IfOk result (λ line. app_of line ≡ test_line) }
     ensures local { IfOk result (λ line. (fields_of line).has_globals ≡ false) }
 {
-    let started = Command::new(alloc, "test").arg(some_places(alloc, "SCRIPT"))?;
-    started.arg(valued(alloc, "profile"))
+    let started = Command::new(alloc, "test").arg(some_places(alloc, "PATH"))?;
+    let profiled = started.arg(valued(alloc, "profile"))?;
+    let reported = profiled.arg(valued(alloc, "junit"))?;
+    reported.arg(valued(alloc, "color"))
 }
 
 // The command line of a command with one word after it.

@@ -12,22 +12,28 @@ mod fault;
 mod folder;
 mod help;
 mod line;
+mod meter;
+mod names;
 mod pages;
 mod program;
 mod scripts;
 mod whole;
 
 use help::{HELP, LINES_HELP, VERSION, VERSION_LINE};
+use meter::Meter;
 use pages::{BASH, FISH, MAN, ZSH};
 use pos_program::{SystemFiles, read_words};
 use pos_report::CODES;
 use pos_streams::{ReaderSource, WriterSink};
-use program::{Pages, perform};
+use program::{Pages, Terminals, perform};
 use std::io::IsTerminal;
 use std::process::ExitCode;
 
 fn main(rt: HostRuntime) -> ExitCode {
-    let is_terminal = rt.stdin().is_terminal();
+    let terminals = Terminals {
+        input: rt.stdin().is_terminal(),
+        output: rt.stdout().is_terminal(),
+    };
     let mut reader = ReaderSource::new(rt.stdin());
     let mut writer = WriterSink::new(rt.stdout());
     let words = read_words(&rt);
@@ -35,8 +41,9 @@ fn main(rt: HostRuntime) -> ExitCode {
         &SystemFiles::of(&rt),
         &rt,
         &mut reader,
-        is_terminal,
+        terminals,
         &mut writer,
+        &mut Meter::new(&rt, rt.stderr().is_terminal()),
         &Pages {
             help: HELP,
             version: VERSION,

@@ -15,11 +15,12 @@ explain completions man version help" -- "$word"))
     cat) options=--hex ;;
     restore) options=--replace ;;
     run) options='--profile --totals --json' ;;
-    test) options=--profile ;;
+    test) options='--profile --junit --color' ;;
     completions) options='bash zsh fish' ;;
     explain | man | version | help) return ;;
   esac
-  if [[ $word == -* || ${COMP_WORDS[1]} == completions ]]; then
+  [ "$before" != --color ] || options='auto always never'
+  if [[ $word == -* || $before == --color || ${COMP_WORDS[1]} == completions ]]; then
     COMPREPLY=($(compgen -W "$options" -- "$word"))
     return
   fi
@@ -50,7 +51,8 @@ _kijolvar() {
     cat) _arguments '2:file:_files' '3:name:' '--hex' ;;
     restore) _arguments '2:copy:_files' '3:file:_files' '--replace' ;;
     run) _arguments '*:script:_files' '--profile:profile:_files' '--totals:file:_files' '--json' ;;
-    test) _arguments '*:script:_files' '--profile:profile:_files' ;;
+    test) _arguments '*:script:_files' '--profile:profile:_files' '--junit:report:_files' \
+      '--color:when:(auto always never)' ;;
     completions) _values shell bash zsh fish ;;
     explain|man|version|help) ;;
     *) _files ;;
@@ -70,6 +72,8 @@ complete -c kijolvar -n "__fish_seen_subcommand_from cat" -l hex
 complete -c kijolvar -n "__fish_seen_subcommand_from restore" -l replace
 complete -c kijolvar -n "__fish_seen_subcommand_from run test" -l profile -r
 complete -c kijolvar -n "__fish_seen_subcommand_from run" -l totals -r
+complete -c kijolvar -n "__fish_seen_subcommand_from test" -l junit -r
+complete -c kijolvar -n "__fish_seen_subcommand_from test" -l color -x -a "auto always never"
 complete -c kijolvar -n "__fish_seen_subcommand_from completions" -f -a "bash zsh fish"
 complete -c kijolvar -n "__fish_seen_subcommand_from explain man version help" -f
 "#;
@@ -142,8 +146,13 @@ or Ctrl\-D, and
 .B help
 prints the lines. Without a profile the built\-in one serves; without a totals file totals in memory.
 .TP
-.BI test " SCRIPT .. [\-\-profile P]"
-Runs each script over a counter of its own, and prints how its answers differ from those in the file SCRIPT.stdout.
+.BI test " PATH .. [\-\-profile P] [\-\-junit FILE] [\-\-color WHEN]"
+Runs each script over a counter of its own, and prints how its answers differ from those in the file SCRIPT.stdout. Of a
+folder it runs each script that has such a file there. With
+.B \-\-junit
+it then replaces FILE by a report in JUnit's XML. With
+.B \-\-color
+what it prints has colours always, never, or, by auto, at a terminal.
 .SH OTHERS
 .TP
 .BI explain " CODE"
@@ -166,7 +175,7 @@ Prints the commands.
 Done; of check: sound.
 .TP
 .B 1
-No totals, or no such file, code or shell; of diff and test: they differ.
+No totals, or no such file, code, shell or script; of diff and test: they differ.
 .TP
 .B 2
 Damaged totals.

@@ -18,6 +18,7 @@ use pos_program::{
     ChoiceFault, FileFault, FileSystem, NamedFiles, TotalsDisk, format_file, migrate_file,
 };
 use pos_report::{Code, Finding, explained};
+use pos_shell::Progress;
 use pos_streams::{Sink, Source};
 use std::alloc::Global;
 use std::convert::AsStr;
@@ -45,6 +46,15 @@ pub struct Pages<'a> {
     pub zsh: &'a str,
     /// What completes the words of fish.
     pub fish: &'a str,
+}
+
+/// Which of the program's streams are terminals.
+#[derive(Clone, Copy)]
+pub struct Terminals {
+    /// Its input is one.
+    pub input: bool,
+    /// Its output is one.
+    pub output: bool,
 }
 
 // Prints what a code means.
@@ -96,17 +106,25 @@ fn complete<'a, W: Sink>(
 }
 
 // Does what the words of the command line chose.
-fn carry_out<'a, F: NamedFiles, S: FileSystem + Folder + AllocGlobal, R: Source, W: Sink>(
+fn carry_out<
+    'a,
+    F: NamedFiles,
+    S: FileSystem + Folder + AllocGlobal,
+    R: Source,
+    W: Sink,
+    P: Progress,
+>(
     files: &F,
     system: &S,
     reader: &mut R,
-    is_terminal: bool,
+    terminals: Terminals,
     writer: &mut W,
+    progress: &mut P,
     pages: &Pages<'_>,
     task: Task<'a>,
 ) -> Result<Finding, Fault<'a>>
     ensures { DoesTask F.NamedFiles ⟦<F::File as BlockFile>⟧ ⟦<TotalsDisk<F::File> as Disk>⟧ ⟦<MemDisk as Disk>⟧
-        files.now S.FileSystem S.Folder ⟦<S::File as BlockFile>⟧ system.now pages.now is_terminal task.entry
+        files.now S.FileSystem S.Folder ⟦<S::File as BlockFile>⟧ system.now pages.now terminals task.entry
         (streams_of R.Source reader.old W.Sink writer.old) (streams_of R.Source reader.new W.Sink writer.new) result }
 {
     let alloc = system.alloc();
@@ -135,7 +153,7 @@ fn carry_out<'a, F: NamedFiles, S: FileSystem + Folder + AllocGlobal, R: Source,
             files,
             system,
             reader,
-            is_terminal,
+            terminals.input,
             writer,
             pages.codes,
             pages.lines_help,
@@ -144,7 +162,22 @@ fn carry_out<'a, F: NamedFiles, S: FileSystem + Folder + AllocGlobal, R: Source,
             totals,
             json,
         ),
-        Task::Test { scripts, profile } => try_paths(files, system, writer, &scripts, profile),
+        Task::Test {
+            paths,
+            profile,
+            junit,
+            colour,
+        } => try_paths(
+            files,
+            system,
+            writer,
+            progress,
+            terminals.output,
+            &paths,
+            profile,
+            junit,
+            colour,
+        ),
         Task::Completions { shell } => complete(writer, pages, shell),
         Task::Man => print(writer, pages.man.as_bytes()),
     }
@@ -158,22 +191,26 @@ fn carry_out_words<
     T: AsStr,
     R: Source,
     W: Sink,
+    P: Progress,
 >(
     files: &F,
     system: &S,
     reader: &mut R,
-    is_terminal: bool,
+    terminals: Terminals,
     writer: &mut W,
+    progress: &mut P,
     pages: &Pages<'a>,
     words: &'a [T],
 ) -> Result<Finding, Fault<'a>>
     ensures { DoesAsAsked F.NamedFiles ⟦<F::File as BlockFile>⟧ ⟦<TotalsDisk<F::File> as Disk>⟧ ⟦<MemDisk as Disk>⟧
         files.now
-        S.FileSystem S.Folder ⟦<S::File as BlockFile>⟧ system.now pages.now is_terminal (map T.text words.entry.now)
+        S.FileSystem S.Folder ⟦<S::File as BlockFile>⟧ system.now pages.now terminals (map T.text words.entry.now)
         (streams_of R.Source reader.old W.Sink writer.old) (streams_of R.Source reader.new W.Sink writer.new) result }
 {
     match choice(system.alloc(), words, pages.version) {
-        Ok(task) => carry_out(files, system, reader, is_terminal, writer, pages, task),
+        Ok(task) => carry_out(
+            files, system, reader, terminals, writer, progress, pages, task,
+        ),
         Err(fault) => Err(Fault::Words(fault)),
     }
 }
@@ -200,32 +237,36 @@ fn fault_of_unread(fault: ChoiceFault) -> WordsFault
 }
 
 /// The program, over the files that its words name, the file system that they are in, which also takes a fault, an
-/// input, which may be a terminal, and an output. It does what the words ask for, if they could be read, and ends with
-/// the status of what became of it. docs/reference/tool.md.
+/// input and an output, which may be terminals, and what takes how far long work is. It does what the words ask for, if
+/// they could be read, and ends with the status of what became of it. docs/reference/tool.md.
 pub fn perform<
     F: NamedFiles,
     S: FileSystem + Folder + Eprint + AllocGlobal,
     T: AsStr + Drop,
     R: Source,
     W: Sink,
+    P: Progress,
 >(
     files: &F,
     system: &S,
     reader: &mut R,
-    is_terminal: bool,
+    terminals: Terminals,
     writer: &mut W,
+    progress: &mut P,
     pages: &Pages<'_>,
     words: Result<Vec<T>, ChoiceFault>,
 ) -> ExitCode
     ensures { Performs F.NamedFiles ⟦<F::File as BlockFile>⟧ ⟦<TotalsDisk<F::File> as Disk>⟧ ⟦<MemDisk as Disk>⟧
-        files.now S.FileSystem S.Folder ⟦<S::File as BlockFile>⟧ system.now pages.now is_terminal T.text words
+        files.now S.FileSystem S.Folder ⟦<S::File as BlockFile>⟧ system.now pages.now terminals T.text words
         (streams_of R.Source reader.old W.Sink writer.old) (streams_of R.Source reader.new W.Sink writer.new)
         (exit_status result) }
 {
     match words {
         Ok(words) => {
             let words = words.as_slice();
-            let outcome = carry_out_words(files, system, reader, is_terminal, writer, pages, words);
+            let outcome = carry_out_words(
+                files, system, reader, terminals, writer, progress, pages, words,
+            );
             end(system, outcome)
         }
         Err(fault) => end(system, Err(Fault::Words(fault_of_unread(fault)))),

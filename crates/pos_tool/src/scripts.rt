@@ -1,20 +1,26 @@
 //! Scripts that are run, or tried.
-ghost use Rattle.std.specs.Prelude.{◌≡◌};
+ghost use Rattle.std.specs.Prelude.{◌≡◌, IfOk};
 ghost use Rattle.pos_shell.specs.Outputs.{output_of, streams_of};
-ghost use Rattle.pos_tool.specs.Scripts.{EndsRun, EndsTest, PrintsTrials, RunsAsked, TestsProfiled, form_of, is_typed};
-ghost use Rattle.pos_tool.specs.Scripts.{run_finding, trial_finding};
+ghost use Rattle.pos_tool.specs.Texts.{texts};
+ghost use Rattle.pos_tool.specs.Scripts.{EndsRun, RunsAsked, form_of, is_typed, run_finding};
+ghost use Rattle.pos_tool.specs.Testing.{Chooses, EndsReport, EndsTest, MakesReport, PrintsTrials, TellsTrials};
+ghost use Rattle.pos_tool.specs.Testing.{TestsOver, TestsPainted, TestsProfiled, tally_text, trial_finding};
 
 use crate::fault::Fault;
+use crate::folder::Folder;
+use crate::names::find_scripts;
+use crate::whole::{WholeFault, put_over};
 use pos_disk::{Disk, MemDisk};
 use pos_file::BlockFile;
 use pos_profile::Profile;
 use pos_program::{FileSystem, NamedFiles, TotalsDisk};
 use pos_report::{Code, Finding};
 use pos_shell::{
-    Form, Manner, RunFault, Trials, profile_at, run, run_typed, tally, try_scripts, write_text,
+    Form, Manner, Progress, RunFault, Trial, failures, junit, painted, profile_at, run, run_typed,
+    tally, try_scripts, write_text,
 };
 use pos_streams::{Sink, Source};
-use std::alloc::Global;
+use std::alloc::{AllocError, Global};
 
 // What is answered of a run, to the program.
 fn at_run<'a>(answer: Result<(), RunFault<'a>>) -> Result<Finding, Fault<'a>>
@@ -105,6 +111,25 @@ pub(crate) fn run_paths<'a, F: NamedFiles, S: FileSystem + AllocGlobal, R: Sourc
     at_run(answer)
 }
 
+// Whether what is printed is painted, by the word after `--color` and whether the output is a terminal.
+fn painting<'a>(word: Option<&'a str>, is_terminal: bool) -> Result<bool, Fault<'a>>
+    ensures { Chooses word.entry is_terminal result }
+{
+    let Some(word) = word else {
+        return Ok(is_terminal);
+    };
+    if word == "auto" {
+        return Ok(is_terminal);
+    }
+    if word == "always" {
+        return Ok(true);
+    }
+    if word == "never" {
+        return Ok(false);
+    }
+    Err(Fault::NoColour { word })
+}
+
 // What is found where so many scripts don't print what is wanted.
 fn trial_finding(failed: usize) -> Finding
     ensures { result ≡ trial_finding failed }
@@ -115,57 +140,186 @@ fn trial_finding(failed: usize) -> Finding
     Finding::Nothing
 }
 
+// What is printed of scripts that were tried.
+fn tally_text(alloc: Global, trials: &[Trial<'_>], is_painted: bool) -> Result<Vec<u8>, AllocError>
+    ensures { IfOk result (λ text. text.items ≡ tally_text is_painted trials.now) }
+{
+    let text = tally(alloc, trials)?;
+    if is_painted {
+        return painted(alloc, &text);
+    }
+    Ok(text)
+}
+
 // Prints what trying scripts found.
 fn print_trials<'a, W: Sink>(
     alloc: Global,
     writer: &mut W,
-    made: &Trials,
+    trials: &[Trial<'_>],
+    is_painted: bool,
 ) -> Result<Finding, Fault<'a>>
-    ensures { PrintsTrials made.now (output_of W.Sink writer.old) (output_of W.Sink writer.new) result }
+    ensures { PrintsTrials is_painted trials.now (output_of W.Sink writer.old) (output_of W.Sink writer.new) result }
 {
-    let Ok(text) = tally(alloc, made) else {
+    let Ok(text) = tally_text(alloc, trials, is_painted) else {
         return Err(Fault::NoMemory);
     };
     match write_text(writer, &text) {
-        Ok(()) => Ok(trial_finding(made.failed)),
+        Ok(()) => Ok(trial_finding(failures(trials))),
         Err(_) => Err(Fault::Write),
     }
 }
 
-// Tries the scripts at paths over a profile, and prints what was found.
-fn try_over<'a, S: FileSystem + AllocGlobal, W: Sink>(
+// What is answered of a report that was to be made, to the program.
+fn at_report<'a>(
+    path: &'a str,
+    finding: Finding,
+    answer: Result<(), WholeFault>,
+) -> Result<Finding, Fault<'a>>
+    ensures { EndsReport path.entry.now finding answer result }
+{
+    match answer {
+        Ok(()) => Ok(finding),
+        Err(cause) => Err(Fault::Whole { path, cause }),
+    }
+}
+
+// Makes the report of scripts that were tried at a path.
+fn make_report<'a, S: FileSystem + Folder + AllocGlobal>(
+    system: &S,
+    path: &'a str,
+    trials: &[Trial<'_>],
+    finding: Finding,
+) -> Result<Finding, Fault<'a>>
+    ensures { MakesReport S.FileSystem S.Folder ⟦<S::File as BlockFile>⟧.calls system.now path.entry.now trials.now
+        finding result }
+{
+    let Ok(text) = junit(system.alloc(), trials) else {
+        return Err(Fault::NoMemory);
+    };
+    at_report(path, finding, put_over(system.alloc(), system, path, &text))
+}
+
+// Prints what trying scripts found, and then makes a report of it, if a path for one is given.
+fn tell_trials<'a, S: FileSystem + Folder + AllocGlobal, W: Sink>(
     system: &S,
     writer: &mut W,
-    profile: &Profile,
-    scripts: &[&'a str],
+    trials: &[Trial<'_>],
+    is_painted: bool,
+    report: Option<&'a str>,
 ) -> Result<Finding, Fault<'a>>
-    ensures { TestsProfiled S.FileSystem system.now ⟦<MemDisk as Disk>⟧ profile.now scripts.entry.now
-        (output_of W.Sink writer.old) (output_of W.Sink writer.new) result }
+    ensures { TellsTrials S.FileSystem S.Folder ⟦<S::File as BlockFile>⟧.calls system.now is_painted report.entry
+        trials.now (output_of W.Sink writer.old) (output_of W.Sink writer.new) result }
 {
-    match try_scripts(system.alloc(), system, profile, scripts) {
-        Ok(made) => print_trials(system.alloc(), writer, &made),
+    let finding = match print_trials(system.alloc(), writer, trials, is_painted) {
+        Ok(finding) => finding,
+        Err(fault) => return Err(fault),
+    };
+    match report {
+        Some(path) => make_report(system, path, trials, finding),
+        None => Ok(finding),
+    }
+}
+
+// Tries the scripts at paths over a profile, and tells what was found.
+fn try_over<'a, S: FileSystem + Folder + AllocGlobal, W: Sink, P: Progress>(
+    system: &S,
+    writer: &mut W,
+    progress: &mut P,
+    profile: &Profile,
+    paths: &[String],
+    is_painted: bool,
+    report: Option<&'a str>,
+) -> Result<Finding, Fault<'a>>
+    ensures { TestsOver S.FileSystem S.Folder ⟦<S::File as BlockFile>⟧.calls system.now ⟦<MemDisk as Disk>⟧ profile.now
+        (texts paths.now) is_painted report.entry (output_of W.Sink writer.old) (output_of W.Sink writer.new) result }
+{
+    let tried = try_scripts(system.alloc(), system, profile, paths, progress);
+    progress.end();
+    match tried {
+        Ok(trials) => tell_trials(system, writer, &trials, is_painted, report),
+        Err(fault) => Err(Fault::Trial(fault)),
+    }
+}
+
+// Tries the scripts that paths stand for over a profile, and tells what was found.
+fn try_profiled<'a, S: FileSystem + Folder + AllocGlobal, W: Sink, P: Progress>(
+    system: &S,
+    writer: &mut W,
+    progress: &mut P,
+    profile: &Profile,
+    paths: &[&'a str],
+    is_painted: bool,
+    report: Option<&'a str>,
+) -> Result<Finding, Fault<'a>>
+    ensures { TestsProfiled S.FileSystem S.Folder ⟦<S::File as BlockFile>⟧.calls system.now ⟦<MemDisk as Disk>⟧
+        profile.now paths.entry.now is_painted report.entry (output_of W.Sink writer.old)
+        (output_of W.Sink writer.new) result }
+{
+    match find_scripts(system, paths) {
+        Ok(found) => try_over(
+            system, writer, progress, profile, &found, is_painted, report,
+        ),
+        Err(fault) => Err(fault),
+    }
+}
+
+// Tries the scripts that paths stand for over the profile at a path, the built-in one if none is given.
+fn try_painted<'a, F: NamedFiles, S: FileSystem + Folder + AllocGlobal, W: Sink, P: Progress>(
+    files: &F,
+    system: &S,
+    writer: &mut W,
+    progress: &mut P,
+    paths: &[&'a str],
+    profile: Option<&'a str>,
+    is_painted: bool,
+    report: Option<&'a str>,
+) -> Result<Finding, Fault<'a>>
+    ensures { TestsPainted F.NamedFiles files.now S.FileSystem S.Folder ⟦<S::File as BlockFile>⟧.calls system.now
+        ⟦<MemDisk as Disk>⟧ paths.entry.now profile.entry is_painted report.entry (output_of W.Sink writer.old)
+        (output_of W.Sink writer.new) result }
+{
+    match profile_at(system.alloc(), files, profile) {
+        Ok(profile) => try_profiled(
+            system, writer, progress, &profile, paths, is_painted, report,
+        ),
         Err(fault) => Err(Fault::Run(fault)),
     }
 }
 
-/// Tries the scripts at paths over a profile, the built-in one if no path is given, and prints how their answers differ
-/// from those that are wanted. docs/reference/tool.md, "test".
+/// Tries the scripts that paths stand for over a profile, the built-in one if no path is given. It prints how their
+/// answers differ from those that are wanted, in colours if these are chosen, and makes a report of it if a path for
+/// one is given. docs/reference/tool.md, "test".
 ///
 /// # Errors
 ///
-/// `Run`, with the first file that can't serve; `NoMemory` and `Write`.
-pub(crate) fn try_paths<'a, F: NamedFiles, S: FileSystem + AllocGlobal, W: Sink>(
+/// - `NoColour` if no choice of colour has the word, and `Run` if the profile can't serve.
+/// - `Folder` and `NoScripts` for the first folder without scripts, and `Trial` for the first file that can't serve.
+/// - `NoMemory` and `Write`, and `Whole` if the report can't be made, which is after the rest.
+pub(crate) fn try_paths<
+    'a,
+    F: NamedFiles,
+    S: FileSystem + Folder + AllocGlobal,
+    W: Sink,
+    P: Progress,
+>(
     files: &F,
     system: &S,
     writer: &mut W,
-    scripts: &[&'a str],
+    progress: &mut P,
+    is_terminal: bool,
+    paths: &[&'a str],
     profile: Option<&'a str>,
+    report: Option<&'a str>,
+    colour: Option<&'a str>,
 ) -> Result<Finding, Fault<'a>>
-    ensures { EndsTest F.NamedFiles files.now S.FileSystem system.now ⟦<MemDisk as Disk>⟧ scripts.entry.now
-        profile.entry (output_of W.Sink writer.old) (output_of W.Sink writer.new) result }
+    ensures { EndsTest F.NamedFiles files.now S.FileSystem S.Folder ⟦<S::File as BlockFile>⟧.calls system.now
+        ⟦<MemDisk as Disk>⟧ is_terminal paths.entry.now profile.entry report.entry colour.entry
+        (output_of W.Sink writer.old) (output_of W.Sink writer.new) result }
 {
-    match profile_at(system.alloc(), files, profile) {
-        Ok(profile) => try_over(system, writer, &profile, scripts),
-        Err(fault) => Err(Fault::Run(fault)),
+    match painting(colour, is_terminal) {
+        Ok(is_painted) => try_painted(
+            files, system, writer, progress, paths, profile, is_painted, report,
+        ),
+        Err(fault) => Err(fault),
     }
 }

@@ -1,6 +1,7 @@
 //! Files that appear whole or not at all.
 ghost use Rattle.std.specs.Prelude.{◌≡◌, ◌++◌, IfOk, string_bytes};
-ghost use Rattle.pos_tool.specs.Whole.{LinksPart, Puts, Replaces, SetsAside, Settles, WritesPart, WritesWhole, to_make};
+ghost use Rattle.pos_tool.specs.Whole.{LinksPart, Puts, PutsOver, RenamesPart, Replaces, SetsAside, Settles};
+ghost use Rattle.pos_tool.specs.Whole.{WritesPart, WritesWhole, to_make};
 
 use crate::folder::Folder;
 use pos_file::BlockFile;
@@ -142,6 +143,36 @@ pub(crate) fn put_new<S: FileSystem + Folder>(
     link_part(system, &part, path)
 }
 
+// Puts a whole file in the place of what has its name.
+fn rename_part<S: FileSystem + Folder>(system: &S, part: &str, path: &str) -> Result<(), WholeFault>
+    ensures { RenamesPart S.FileSystem S.Folder system.now part.now path.now result }
+{
+    if let Err(cause) = system.rename(part, path) {
+        let _ = system.remove(part);
+        return Err(WholeFault::Link(cause));
+    }
+    settle(system, path)
+}
+
+/// Makes a file with these bytes at a path, in place of one that may be there. They are written to a file beside it and
+/// synced, and only then does it get its name: whatever happens, the whole new file is there or what was there before.
+///
+/// # Errors
+///
+/// Those of [`WholeFault`].
+pub(crate) fn put_over<S: FileSystem + Folder>(
+    alloc: Global,
+    system: &S,
+    path: &str,
+    bytes: &[u8],
+) -> Result<(), WholeFault>
+    ensures { PutsOver S.FileSystem S.Folder ⟦<S::File as BlockFile>⟧.calls system.now path.now bytes.now result }
+{
+    let part = beside(alloc, path, ".part")?;
+    write_part(system, &part, bytes)?;
+    rename_part(system, &part, path)
+}
+
 // Keeps a file under a second name, and then puts another one in its place.
 fn set_aside<S: FileSystem + Folder>(
     system: &S,
@@ -155,11 +186,7 @@ fn set_aside<S: FileSystem + Folder>(
         let _ = system.remove(part);
         return Err(WholeFault::Aside(cause));
     }
-    if let Err(cause) = system.rename(part, path) {
-        let _ = system.remove(part);
-        return Err(WholeFault::Link(cause));
-    }
-    settle(system, path)
+    rename_part(system, part, path)
 }
 
 /// Puts a file with these bytes in place of the one at a path, which is kept beside it with `.old` at its end.

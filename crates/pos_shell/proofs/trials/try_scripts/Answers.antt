@@ -1,39 +1,47 @@
-use Rattle.std.proofs.Common.{List, [], arith, drop, slice_index_or, subst, sym, take, ◌++◌, ◌+◌, ◌∙◌, ◌∷◌, ℕ}
-use Rattle.std.specs.Borrow.{Bor}
-use Rattle.pos_shell.specs.Trials.{AreTried, Trial}
-use Rattle.pos_shell.proofs.RunLemmas.{in_parts_at, taken_at}
-use Rattle.pos_shell.proofs.TrialLemmas.{fails_more, in_memory, passes_more, tried_more}
+use Rattle.std.proofs.Common.{List, Ok, Err, [], drop, map, subst, sym, take, ◌++◌, ◌+◌, ◌∷◌, ◌≡◌, ℕ}
+use Rattle.std.specs.Prelude.{string_bytes}
+use Rattle.pos_shell.specs.Trials.{AreTried, TriesScript}
+use Rattle.pos_shell.specs.declared.trials.Trial.{Trial}
+use Rattle.pos_shell.proofs.TrialLemmas.{in_memory, mapped_parts, mapped_taken, tried_more}
 use Rattle.pos_shell.proofs.trials.try_scripts.Goals as goal
-use Rattle.pos_shell.proofs.trials.try_scripts.Goals.{else-same, then-same}
 
 pub returns-in-Err : goal.returns-in-Err
 returns-in-Err g c =
-    let paths = c.args.paths.now in
-    let i = c.loop-path.path-index in
-    (take i paths, _, drop (i + 1) paths, in_parts_at paths i _ c.loop-path-test.true, c.in-Err.ensures)
+    let names = c.args.paths.now in
+    let i = c.loop-name.name-index in
+    let name = c.name-item.result in (
+      map (λ name. string_bytes name) (take i names),
+      string_bytes name,
+      map (λ name. string_bytes name) (drop (i + 1) names),
+      mapped_parts (λ name. string_bytes name) names i name c.loop-name-test.true c.name-item.is,
+      subst (λ (path : List ℕ). TriesScript g.S.FileSystem c.args.system.now in_memory c.args.profile.now path (Err c.in-Err.fault)) c.as_str-path.ensures.value
+          c.in-Err.ensures,
+    )
 
-pub loop-path-preserved : goal.loop-path-preserved
-loop-path-preserved g c =
-    let (bound, trials, are, said) = c.loop-path.invariant in
-    let (text, tried, report, same) = c.in-Ok.ensures in
-    let paths = c.args.paths.now in
-    let i = c.loop-path.path-index in
-    let path = slice_index_or paths i (record { ref_ptr = (0, 0); now = [] }) in
-    let trial : Trial = record { path = path; text = text } in
-    let more = subst (λ (xs : List (Bor (List ℕ))). AreTried g.S.FileSystem c.args.system.now in_memory c.args.profile.now xs (trials ++ trial ∷ []))
-    (sym (taken_at paths i _ c.loop-path-test.true))
-    (tried_more g.S.FileSystem c.args.system.now in_memory c.args.profile.now (take i paths) trials path text are tried) in
-    elim c.if-same.branch [
-      | then-same w ↦ (
-        omega (arith, bound, w.passed-is, w.failed-is),
-        trials ++ trial ∷ [],
-        more,
-        rw (report, w.passed-is, w.failed-is) (passes_more trials trial _ _ _ (sym same ∙ w.if-same.true) said),
-      )
-      | else-same w ↦ (
-        omega (arith, bound, w.passed-is, w.failed-is),
-        trials ++ trial ∷ [],
-        more,
-        rw (report, w.passed-is, w.failed-is) (fails_more trials trial _ _ _ (sym same ∙ w.if-same.false) said),
-      )
-    ]
+pub returns-in_default : goal.returns-in_default
+returns-in_default g c =
+    let names = c.args.paths.now in
+    let i = c.loop-name.name-index in
+    let name = c.name-item.result in (
+      map (λ name. string_bytes name) (take i names),
+      string_bytes name,
+      map (λ name. string_bytes name) (drop (i + 1) names),
+      mapped_parts (λ name. string_bytes name) names i name c.loop-name-test.true c.name-item.is,
+      tt,
+    )
+
+pub loop-name-preserved : goal.loop-name-preserved
+loop-name-preserved g c =
+    let names = c.args.paths.now in
+    let i = c.loop-name.name-index in
+    let name = c.name-item.result in
+    let trial : Trial = record { path = c.as_str-path.result; differences = c.in-Ok.differences } in
+    let value : c.as_str-path.result.now ≡ string_bytes name = c.as_str-path.ensures.value in
+    subst (λ (paths : List (List ℕ)). AreTried g.S.FileSystem c.args.system.now in_memory c.args.profile.now paths c.push.new.self.items)
+    (sym (mapped_taken (λ name. string_bytes name) names i name c.loop-name-test.true c.name-item.is))
+    (subst (λ (trials : List Trial). AreTried g.S.FileSystem c.args.system.now in_memory c.args.profile.now
+    (map (λ name. string_bytes name) (take i names) ++ string_bytes name ∷ []) trials) (sym c.in-Ok-push.ensures.items)
+    (tried_more g.S.FileSystem c.args.system.now in_memory c.args.profile.now (map (λ name. string_bytes name) (take i names)) c.loop-name.trials.items
+    (string_bytes name) trial c.loop-name.invariant value
+    (subst (λ (path : List ℕ). TriesScript g.S.FileSystem c.args.system.now in_memory c.args.profile.now path (Ok c.in-Ok.differences.items)) value
+    c.in-Ok.ensures)))
