@@ -12,7 +12,7 @@ ghost use Rattle.pos_run.specs.Transcript.{asked_as};
 use crate::session::{Asks, Session};
 use pos_disk::Disk;
 use pos_script::{
-    Command, DeviceVerb, LineFault, Reply, Verb, print_fault, print_reply, read_called,
+    CallVerb, Command, DeviceVerb, LineFault, Reply, Verb, print_fault, print_reply, read_called,
     read_category, read_command, read_happening, read_none, read_reply, read_spare,
 };
 use pos_service::{Ends, Peripheral};
@@ -76,6 +76,79 @@ fn carry_out_rare<W: Sink, D: Disk, P: Peripheral, A: Asks<D, P>>(
     carry_out_read(writer, session, name, read)
 }
 
+/// Carries out a line that calls a control, and writes what it prints.
+///
+/// # Errors
+///
+/// [`WriteFault`] if a write failed.
+#[inline(always)]
+#[tactic(auto, using(crate::proofs::SessionLemmas::asks_by_words))]
+fn carry_out_call<W: Sink, D: Disk, P: Peripheral>(
+    alloc: Global,
+    writer: &mut W,
+    session: &mut Session<'_, D, P>,
+    name: &[u8],
+    by: CallVerb,
+    words: &[u8],
+) -> Result<(), WriteFault>
+    requires sound { IsSessionSound P.Peripheral session.old }
+    ensures line { CarriesOutReading D.Disk P.Peripheral session.old.counter.now (session_in P.Peripheral session.old)
+        (line_of (Verb.Call by) name.now (words_of words.now)) (W.given writer.old) (W.given writer.new) result
+        (session_in P.Peripheral session.new) session.new.counter.now }
+    ensures session { KeepsSession P.Peripheral session.old session.new }
+{
+    let called = read_called(alloc, by, words);
+    carry_out_read(writer, session, name, called)
+}
+
+/// Carries out a line by which something happens at a device, and writes what it prints.
+///
+/// # Errors
+///
+/// [`WriteFault`] if a write failed.
+#[inline(always)]
+#[tactic(auto, using(crate::proofs::SessionLemmas::asks_by_words))]
+fn carry_out_input<W: Sink, D: Disk, P: Peripheral>(
+    alloc: Global,
+    writer: &mut W,
+    session: &mut Session<'_, D, P>,
+    name: &[u8],
+    words: &[u8],
+) -> Result<(), WriteFault>
+    requires sound { IsSessionSound P.Peripheral session.old }
+    ensures line { CarriesOutReading D.Disk P.Peripheral session.old.counter.now (session_in P.Peripheral session.old)
+        (line_of Verb.Input name.now (words_of words.now)) (W.given writer.old) (W.given writer.new) result
+        (session_in P.Peripheral session.new) session.new.counter.now }
+    ensures session { KeepsSession P.Peripheral session.old session.new }
+{
+    let happening = read_happening(alloc, words);
+    carry_out_read(writer, session, name, happening)
+}
+
+/// Carries out a line that delivers an event, and writes what it prints.
+///
+/// # Errors
+///
+/// [`WriteFault`] if a write failed.
+#[inline(always)]
+#[tactic(auto, using(crate::proofs::SessionLemmas::asks_by_words))]
+fn carry_out_delivery<W: Sink, D: Disk, P: Peripheral>(
+    alloc: Global,
+    writer: &mut W,
+    session: &mut Session<'_, D, P>,
+    name: &[u8],
+    words: &[u8],
+) -> Result<(), WriteFault>
+    requires sound { IsSessionSound P.Peripheral session.old }
+    ensures line { CarriesOutReading D.Disk P.Peripheral session.old.counter.now (session_in P.Peripheral session.old)
+        (line_of Verb.Deliver name.now (words_of words.now)) (W.given writer.old) (W.given writer.new) result
+        (session_in P.Peripheral session.new) session.new.counter.now }
+    ensures session { KeepsSession P.Peripheral session.old session.new }
+{
+    let reply = read_reply(alloc, words);
+    carry_out_read(writer, session, name, reply)
+}
+
 /// Carries out a line that was taken apart, and writes what it prints.
 ///
 /// # Errors
@@ -103,18 +176,9 @@ fn carry_out_command<W: Sink, D: Disk, P: Peripheral + Ends>(
             let category = read_category(alloc, words);
             carry_out_rare(writer, session, name, category)
         }
-        Verb::Call(by) => {
-            let called = read_called(alloc, by, words);
-            carry_out_read(writer, session, name, called)
-        }
-        Verb::Input => {
-            let happening = read_happening(alloc, words);
-            carry_out_read(writer, session, name, happening)
-        }
-        Verb::Deliver => {
-            let reply = read_reply(alloc, words);
-            carry_out_read(writer, session, name, reply)
-        }
+        Verb::Call(by) => carry_out_call(alloc, writer, session, name, by, words),
+        Verb::Input => carry_out_input(alloc, writer, session, name, words),
+        Verb::Deliver => carry_out_delivery(alloc, writer, session, name, words),
         Verb::Attach => {
             let spare = read_spare(alloc, words);
             carry_out_rare(writer, session, name, spare)

@@ -1,5 +1,5 @@
 //! The verbs of lines, and what the words after them ask.
-ghost use Rattle.std.specs.Prelude.{◌≡◌, ◌∷◌, MatchOption, bytes_eq};
+ghost use Rattle.std.specs.Prelude.{◌≡◌, ◌∷◌, MatchOption};
 ghost use Rattle.pos_script.specs.Lines.{words_of};
 ghost use Rattle.pos_script.specs.Arguments.{Reads, from_three, misshapen, one};
 ghost use Rattle.pos_script.specs.Words.{bytes_shape, category_shape, count_shape};
@@ -9,7 +9,7 @@ ghost use Rattle.pos_script.specs.Commands.{called, choice_of, happening, input_
 use crate::arguments::{DeviceName, LineFault, read_none, read_one, read_three, read_two};
 use crate::lines::next_word;
 use crate::methods::read_call;
-use pos_service::words::is;
+use crate::words::is;
 use pos_service::{Call, Category, ErrorReply, Input, LentBytes, is_device_name};
 use std::alloc::Global;
 
@@ -71,43 +71,26 @@ pub struct Command<'a> {
     pub words: &'a [u8],
 }
 
-/// Returns whether a word is this verb. It is inlined, and a verb's bytes are known there, so each costs one compare.
-#[inline(always)]
-fn is_verb(word: &[u8], verb: &str) -> bool
-    ensures { result ≡ bytes_eq word.now verb.now }
-{
-    let verb = verb.as_bytes();
-    if word.len() != verb.len() {
-        return false;
-    }
-    for place in 0..verb.len() {
-        if word[place] != verb[place] {
-            return false;
-        }
-    }
-    true
-}
-
 /// Returns the verb of this word. Those of most lines are looked for first.
 #[inline(always)]
 fn named_verb(word: &[u8]) -> Option<Verb>
     ensures { result ≡ verb_named word.now }
 {
     match word {
-        _ if is_verb(word, "call") => Some(Verb::Call(CallVerb::Method)),
-        _ if is_verb(word, "get") => Some(Verb::Call(CallVerb::Get)),
-        _ if is_verb(word, "set") => Some(Verb::Call(CallVerb::Set)),
-        _ if is_verb(word, "deliver") => Some(Verb::Deliver),
-        _ if is_verb(word, "input") => Some(Verb::Input),
-        _ if is_verb(word, "open") => Some(Verb::Call(CallVerb::Open)),
-        _ if is_verb(word, "claim") => Some(Verb::Call(CallVerb::Claim)),
-        _ if is_verb(word, "release") => Some(Verb::Call(CallVerb::Release)),
-        _ if is_verb(word, "close") => Some(Verb::Call(CallVerb::Close)),
-        _ if is_verb(word, "new") => Some(Verb::New),
-        _ if is_verb(word, "show") => Some(Verb::Device(DeviceVerb::Show)),
-        _ if is_verb(word, "work") => Some(Verb::Device(DeviceVerb::Work)),
-        _ if is_verb(word, "attach") => Some(Verb::Attach),
-        _ if is_verb(word, "detach") => Some(Verb::Device(DeviceVerb::Detach)),
+        _ if is(word, "call") => Some(Verb::Call(CallVerb::Method)),
+        _ if is(word, "get") => Some(Verb::Call(CallVerb::Get)),
+        _ if is(word, "set") => Some(Verb::Call(CallVerb::Set)),
+        _ if is(word, "deliver") => Some(Verb::Deliver),
+        _ if is(word, "input") => Some(Verb::Input),
+        _ if is(word, "open") => Some(Verb::Call(CallVerb::Open)),
+        _ if is(word, "claim") => Some(Verb::Call(CallVerb::Claim)),
+        _ if is(word, "release") => Some(Verb::Call(CallVerb::Release)),
+        _ if is(word, "close") => Some(Verb::Call(CallVerb::Close)),
+        _ if is(word, "new") => Some(Verb::New),
+        _ if is(word, "show") => Some(Verb::Device(DeviceVerb::Show)),
+        _ if is(word, "work") => Some(Verb::Device(DeviceVerb::Work)),
+        _ if is(word, "attach") => Some(Verb::Attach),
+        _ if is(word, "detach") => Some(Verb::Device(DeviceVerb::Detach)),
         _ => None,
     }
 }
@@ -143,6 +126,37 @@ fn read_method(alloc: Global, words: &[u8]) -> Result<Call, LineFault>
     read_call(alloc, method, rest)
 }
 
+/// Reads the name of a device that is opened.
+fn read_open(alloc: Global, words: &[u8]) -> Result<Call, LineFault>
+    ensures { Reads (called CallVerb.Open (words_of words.now)) result }
+{
+    read_one(alloc, words).map(|device: DeviceName| Call::Open(device.name))
+}
+
+/// Reads the timeout of a claim.
+fn read_claim(alloc: Global, words: &[u8]) -> Result<Call, LineFault>
+    ensures { Reads (called CallVerb.Claim (words_of words.now)) result }
+{
+    read_one(alloc, words).map(Call::Claim)
+}
+
+/// Reads a property that is set, and its value.
+fn read_set(alloc: Global, words: &[u8]) -> Result<Call, LineFault>
+    ensures { Reads (called CallVerb.Set (words_of words.now)) result }
+{
+    read_two(alloc, words).map(|(property, value)| Call::Set(property, value))
+}
+
+/// Reads a property that is asked for.
+fn read_get(alloc: Global, words: &[u8]) -> Result<Call, LineFault>
+    ensures { Reads (called CallVerb.Get (words_of words.now)) result }
+{
+    match read_one(alloc, words) {
+        Ok(property) => Ok(Call::Get(property)),
+        Err(fault) => Err(fault),
+    }
+}
+
 /// Returns the call that a line asks for on its control, by its verb and the words after the control's name.
 ///
 /// # Errors
@@ -156,14 +170,12 @@ pub fn read_called(alloc: Global, verb: CallVerb, words: &[u8]) -> Result<Call, 
     ensures { Reads (called verb (words_of words.now)) result }
 {
     match verb {
-        CallVerb::Open => {
-            read_one(alloc, words).map(|device: DeviceName| Call::Open(device.name))
-        }
+        CallVerb::Open => read_open(alloc, words),
         CallVerb::Close => read_none(words).map(|_| Call::Close),
-        CallVerb::Claim => read_one(alloc, words).map(Call::Claim),
+        CallVerb::Claim => read_claim(alloc, words),
         CallVerb::Release => read_none(words).map(|_| Call::Release),
-        CallVerb::Set => read_two(alloc, words).map(|(property, value)| Call::Set(property, value)),
-        CallVerb::Get => read_one(alloc, words).map(Call::Get),
+        CallVerb::Set => read_set(alloc, words),
+        CallVerb::Get => read_get(alloc, words),
         CallVerb::Method => read_method(alloc, words),
     }
 }
