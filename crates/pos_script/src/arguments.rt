@@ -1,10 +1,11 @@
 //! The words of a line that are arguments.
+ghost use Rattle.std.specs.Prelude.{◌≤◌, length};
 ghost use Rattle.pos_script.specs.Lines.{words_of};
 ghost use Rattle.pos_script.specs.Arguments.{Shape, Reads, Glances, word_as, none, one, two, three, four};
-ghost use Rattle.pos_script.specs.Words.{number_shape, count_shape, truth_shape, bytes_shape, device_shape, category_shape, property_shape, value_shape, error_reply_shape};
+ghost use Rattle.pos_script.specs.Words.{decoded, number_shape, count_shape, truth_shape, bytes_shape, device_shape, category_shape, property_shape, value_shape, error_reply_shape};
 
 use crate::lines::next_word;
-use crate::words::{count, decode, error_reply, is_hex_word, number, truth, value};
+use crate::words::{count, decode, error_reply, is, is_hex_word, number, truth, value};
 use pos_service::{Bytes, Category, ErrorReply, Property, Value, is_device_name};
 use std::alloc::Global;
 use thiserror::Error;
@@ -147,6 +148,31 @@ impl Argument for ErrorReply {
     }
 }
 
+/// The most bytes that are decoded before memory is taken for them.
+const FEW: usize = 32;
+
+/// Reads the bytes that hex digits write, two for each. They are few, so all are read before memory is taken.
+///
+/// # Errors
+///
+/// - `WrongShape` if there is an odd digit, or a byte that is no digit.
+/// - `NoMemory` if memory ran out.
+#[tactic(auto, using(crate::proofs::HexLemmas::decodes_half))]
+fn read_few(alloc: Global, digits: &[u8]) -> Result<Bytes, LineFault>
+    requires few { length digits.now ≤ 64 }
+    ensures { Reads (decoded digits.now) result }
+{
+    let mut room = [0u8; FEW];
+    let bytes = &mut room[..digits.len() / 2];
+    let Ok(()) = hex::decode_to_slice(digits, &mut *bytes) else {
+        return Err(LineFault::WrongShape);
+    };
+    match Bytes::from_slice(alloc, bytes) {
+        Ok(bytes) => Ok(bytes),
+        Err(_) => Err(LineFault::NoMemory),
+    }
+}
+
 impl Argument for Bytes {
     ghost shape = { bytes_shape };
 
@@ -158,6 +184,12 @@ impl Argument for Bytes {
     }
 
     fn read(alloc: Global, word: &[u8]) -> Result<Self, LineFault> {
+        if is(word, "-") {
+            return Ok(Bytes::from_vec(Vec::new(alloc)));
+        }
+        if word.len() <= 2 * FEW {
+            return read_few(alloc, word);
+        }
         if !is_hex_word(word) {
             return Err(LineFault::WrongShape);
         }

@@ -4,7 +4,7 @@ ghost use Rattle.pos_script.specs.Lines.{words_of};
 ghost use Rattle.pos_script.specs.Arguments.{Reads, from_three, misshapen, one};
 ghost use Rattle.pos_script.specs.Words.{bytes_shape, category_shape, count_shape};
 ghost use Rattle.pos_service.specs.declared.input.Input.TheVariants as input;
-ghost use Rattle.pos_script.specs.Commands.{called, choice_of, happening, input_of, line_of, method_of, printer_input_of, reply_of, request_of_words, verb_named};
+ghost use Rattle.pos_script.specs.Commands.{called, choice_of, happening, input_of, line_of, printer_input_of, reply_of, request_of_words, verb_named};
 
 use crate::arguments::{DeviceName, LineFault, read_none, read_one, read_three, read_two};
 use crate::lines::next_word;
@@ -116,9 +116,13 @@ pub fn read_command(line: &[u8]) -> Option<Command<'_>>
     })
 }
 
-/// Reads a method and its arguments.
-fn read_method(alloc: Global, words: &[u8]) -> Result<Call, LineFault>
-    ensures { Reads (method_of (words_of words.now)) result }
+/// Returns the call that a `call` line asks for on its control, by the words after the control's name.
+///
+/// # Errors
+///
+/// As of `read_called`.
+pub fn read_method(alloc: Global, words: &[u8]) -> Result<Call, LineFault>
+    ensures { Reads (called CallVerb.Method (words_of words.now)) result }
 {
     let Some((method, rest)) = next_word(words) else {
         return Err(LineFault::WrongShape);
@@ -147,8 +151,12 @@ fn read_set(alloc: Global, words: &[u8]) -> Result<Call, LineFault>
     read_two(alloc, words).map(|(property, value)| Call::Set(property, value))
 }
 
-/// Reads a property that is asked for.
-fn read_get(alloc: Global, words: &[u8]) -> Result<Call, LineFault>
+/// Returns the call that a `get` line asks for on its control, by the words after the control's name.
+///
+/// # Errors
+///
+/// As of `read_called`.
+pub fn read_get(alloc: Global, words: &[u8]) -> Result<Call, LineFault>
     ensures { Reads (called CallVerb.Get (words_of words.now)) result }
 {
     match read_one(alloc, words) {
