@@ -15,7 +15,7 @@ use crate::session::{Asks, Session};
 use pos_disk::Disk;
 use pos_script::{
     CallVerb, Command, DeviceVerb, LineFault, Reply, Verb, print_fault, print_reply, read_called,
-    read_category, read_command, read_get, read_happening, read_method, read_none, read_reply,
+    read_category, read_command, read_happening, read_method, read_none, read_property, read_reply,
     read_spare,
 };
 use pos_service::{Call, Ends, Peripheral, Response};
@@ -157,14 +157,13 @@ fn carry_out_call<W: Sink, D: Disk, P: Peripheral>(
     carry_out_read_call(writer, session, name, &called)
 }
 
-/// Carries out a line that asks for a property, and writes what it prints. It has a function of its own, as the next
-/// has, so that what is read is kept where it is needed.
+/// Carries out a line that asks for a property, and writes what it prints. Its call is made in place, as the one after
+/// is read, since both are large.
 ///
 /// # Errors
 ///
 /// [`WriteFault`] if a write failed.
 #[inline(always)]
-#[tactic(auto, using(crate::proofs::SessionLemmas::asks_by_words))]
 fn carry_out_get<W: Sink, D: Disk, P: Peripheral>(
     alloc: Global,
     writer: &mut W,
@@ -178,8 +177,13 @@ fn carry_out_get<W: Sink, D: Disk, P: Peripheral>(
         (session_in P.Peripheral session.new) session.new.counter.now }
     ensures session { KeepsSession P.Peripheral session.old session.new }
 {
-    let called = read_get(alloc, words);
-    carry_out_read_call(writer, session, name, &called)
+    match read_property(alloc, words) {
+        Ok(property) => {
+            let call = Call::Get(property);
+            carry_out_called(writer, session, name, &call)
+        }
+        Err(fault) => print_fault(writer, fault),
+    }
 }
 
 /// Carries out a line that calls a method, and writes what it prints.

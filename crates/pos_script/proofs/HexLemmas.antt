@@ -1,5 +1,5 @@
 -- Hex digits in parts.
-use Rattle.std.proofs.Common.{◌≡◌, ◌++◌, ◌∷◌, [], ℕ, ◌/◌, List, ap, length, refl, arith}
+use Rattle.std.proofs.Common.{◌≡◌, ◌++◌, ◌∷◌, [], ℕ, ◌/◌, List, length, refl, arith}
 use Rattle.hex.specs.Hex.{decode_of, decode_sized, encode_lower, encode_with}
 
 -- digits decode into room for half as many bytes as they decode

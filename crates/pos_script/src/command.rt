@@ -2,7 +2,7 @@
 ghost use Rattle.std.specs.Prelude.{◌≡◌, ◌∷◌, MatchOption};
 ghost use Rattle.pos_script.specs.Lines.{words_of};
 ghost use Rattle.pos_script.specs.Arguments.{Reads, from_three, misshapen, one};
-ghost use Rattle.pos_script.specs.Words.{bytes_shape, category_shape, count_shape};
+ghost use Rattle.pos_script.specs.Words.{bytes_shape, category_shape, count_shape, property_shape};
 ghost use Rattle.pos_service.specs.declared.input.Input.TheVariants as input;
 ghost use Rattle.pos_script.specs.Commands.{called, choice_of, happening, input_of, line_of, printer_input_of, reply_of, request_of_words, verb_named};
 
@@ -10,7 +10,7 @@ use crate::arguments::{DeviceName, LineFault, read_none, read_one, read_three, r
 use crate::lines::next_word;
 use crate::methods::read_call;
 use crate::words::is;
-use pos_service::{Call, Category, ErrorReply, Input, LentBytes, is_device_name};
+use pos_service::{Call, Category, ErrorReply, Input, LentBytes, Property, is_device_name};
 use std::alloc::Global;
 
 /// The verb of a line that asks for a call, after which the control's name comes.
@@ -151,18 +151,23 @@ fn read_set(alloc: Global, words: &[u8]) -> Result<Call, LineFault>
     read_two(alloc, words).map(|(property, value)| Call::Set(property, value))
 }
 
-/// Returns the call that a `get` line asks for on its control, by the words after the control's name.
+/// Returns the property that a `get` line asks for, by the words after the control's name.
 ///
 /// # Errors
 ///
-/// As of `read_called`.
-pub fn read_get(alloc: Global, words: &[u8]) -> Result<Call, LineFault>
+/// `WrongShape` if they aren't one property.
+#[inline(always)]
+pub fn read_property(alloc: Global, words: &[u8]) -> Result<Property, LineFault>
+    ensures { Reads (one property_shape (words_of words.now)) result }
+{
+    read_one(alloc, words)
+}
+
+/// Reads a property that is asked for.
+fn read_get(alloc: Global, words: &[u8]) -> Result<Call, LineFault>
     ensures { Reads (called CallVerb.Get (words_of words.now)) result }
 {
-    match read_one(alloc, words) {
-        Ok(property) => Ok(Call::Get(property)),
-        Err(fault) => Err(fault),
-    }
+    read_property(alloc, words).map(Call::Get)
 }
 
 /// Returns the call that a line asks for on its control, by its verb and the words after the control's name.

@@ -1,4 +1,4 @@
-use Rattle.std.proofs.Common.{◌≡◌, ◌++◌, [], ap, append_assoc, drop, refl, sym, take, take-append-drop, ◌∙◌}
+use Rattle.std.proofs.Common.{◌≡◌, ◌++◌, [], ap, append_assoc, refl, sym, take-append-drop, ◌∙◌}
 use Rattle.hex.specs.Hex.{encode_lower}
 use Rattle.pos_streams.proofs.StreamLemmas.{Appends-nil, Appends-trans}
 use Rattle.pos_script.proofs.HexLemmas.{encodes_nothing, encodes_on}
