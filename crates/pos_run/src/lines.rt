@@ -173,8 +173,8 @@ fn carry_out_get<W: Sink, D: Disk, P: Peripheral>(
 ) -> Result<(), WriteFault>
     requires sound { IsSessionSound P.Peripheral session.old }
     ensures line { CarriesOutReading D.Disk P.Peripheral session.old.counter.now (session_in P.Peripheral session.old)
-        (line_of (Verb.Call CallVerb.Get) name.now (words_of words.now)) (W.given writer.old) (W.given writer.new) result
-        (session_in P.Peripheral session.new) session.new.counter.now }
+        (line_of (Verb.Call CallVerb.Get) name.now (words_of words.now)) (W.given writer.old) (W.given writer.new)
+        result (session_in P.Peripheral session.new) session.new.counter.now }
     ensures session { KeepsSession P.Peripheral session.old session.new }
 {
     match read_property(alloc, words) {
@@ -202,8 +202,8 @@ fn carry_out_method<W: Sink, D: Disk, P: Peripheral>(
 ) -> Result<(), WriteFault>
     requires sound { IsSessionSound P.Peripheral session.old }
     ensures line { CarriesOutReading D.Disk P.Peripheral session.old.counter.now (session_in P.Peripheral session.old)
-        (line_of (Verb.Call CallVerb.Method) name.now (words_of words.now)) (W.given writer.old) (W.given writer.new) result
-        (session_in P.Peripheral session.new) session.new.counter.now }
+        (line_of (Verb.Call CallVerb.Method) name.now (words_of words.now)) (W.given writer.old) (W.given writer.new)
+        result (session_in P.Peripheral session.new) session.new.counter.now }
     ensures session { KeepsSession P.Peripheral session.old session.new }
 {
     let called = read_method(alloc, words);

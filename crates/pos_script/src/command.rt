@@ -160,7 +160,7 @@ fn read_set(alloc: Global, words: &[u8]) -> Result<Call, LineFault>
 pub fn read_property(alloc: Global, words: &[u8]) -> Result<Property, LineFault>
     ensures { Reads (one property_shape (words_of words.now)) result }
 {
-    read_one(alloc, words)
+    read_one::<Property>(alloc, words)
 }
 
 /// Reads a property that is asked for.
