@@ -636,7 +636,7 @@ def tables(documents):
     console = documents["docs/reference/console.md"]
     said = [ticked(cells[0])[0] for cells in rows_of(console, "Lines") if ticked(cells[0])]
     verbs = re.search(r"^fn named_verb.*?^}", read("crates/pos_script/src/command.rt"), re.M | re.S)[0]
-    has("docs/reference/console.md", "verbs", said, re.findall(r'is_verb\(word, "(\w+)"\)', verbs))
+    has("docs/reference/console.md", "verbs", said, re.findall(r'is\(word, "(\w+)"\)', verbs))
     header = read("abi/kijolvar.h")
     abi = documents["abi/README.md"]
     said = re.findall(r"^\| `(kijolvar_\w+)` \|", abi, re.M)

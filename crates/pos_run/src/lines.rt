@@ -2,6 +2,8 @@
 //!
 //! The kinds of most lines are carried out in place where they are read, and the rare ones in functions of their own.
 //! So no line needs room for the largest of them.
+ghost use Rattle.std.specs.Prelude.{Ok};
+ghost use Rattle.pos_counter.specs.Steps.{CallOf};
 ghost use Rattle.pos_script.specs.Arguments.{Reads, from_none};
 ghost use Rattle.pos_script.specs.Commands.{line_of, request_of_words};
 ghost use Rattle.pos_script.specs.Lines.{words_of};
@@ -12,10 +14,11 @@ ghost use Rattle.pos_run.specs.Transcript.{asked_as};
 use crate::session::{Asks, Session};
 use pos_disk::Disk;
 use pos_script::{
-    Command, DeviceVerb, LineFault, Reply, Verb, print_fault, print_reply, read_called,
-    read_category, read_command, read_happening, read_none, read_reply, read_spare,
+    CallVerb, Command, DeviceVerb, LineFault, Reply, Verb, print_fault, print_reply, read_called,
+    read_category, read_command, read_happening, read_method, read_none, read_property, read_reply,
+    read_spare,
 };
-use pos_service::{Ends, Peripheral};
+use pos_service::{Call, Ends, Peripheral, Response};
 use pos_streams::{Sink, WriteFault};
 use std::alloc::Global;
 
@@ -76,6 +79,185 @@ fn carry_out_rare<W: Sink, D: Disk, P: Peripheral, A: Asks<D, P>>(
     carry_out_read(writer, session, name, read)
 }
 
+/// Calls the control of a name, and writes the answer. Each answer is written where it is known, so none is copied into
+/// the reply to any line.
+///
+/// # Errors
+///
+/// [`WriteFault`] if a write failed.
+#[inline(always)]
+fn carry_out_called<W: Sink, D: Disk, P: Peripheral>(
+    writer: &mut W,
+    session: &mut Session<'_, D, P>,
+    name: &[u8],
+    call: &Call,
+) -> Result<(), WriteFault>
+    requires sound { IsSessionSound P.Peripheral session.old }
+    ensures line { CarriesOutRead D.Disk P.Peripheral session.old.counter.now (session_in P.Peripheral session.old)
+        (Ok (CallOf name.now call.now)) (W.given writer.old) (W.given writer.new) result
+        (session_in P.Peripheral session.new) session.new.counter.now }
+    ensures session { KeepsSession P.Peripheral session.old session.new }
+{
+    let Some(number) = session.names.find(name) else {
+        return print_reply(writer, Reply::BadControl);
+    };
+    match session.counter.call(number, call) {
+        Ok(answer) => print_reply(writer, Reply::Responded(Response::Answered(answer))),
+        Err(_) => print_reply(writer, Reply::Responded(Response::OutOfMemory)),
+    }
+}
+
+/// Makes the call that was read of a line on the control of a name, and writes the answer, or why it was not read.
+///
+/// # Errors
+///
+/// [`WriteFault`] if a write failed.
+#[inline(always)]
+#[tactic(auto, using(crate::proofs::SessionLemmas::asks_nothing_unread))]
+fn carry_out_read_call<W: Sink, D: Disk, P: Peripheral>(
+    writer: &mut W,
+    session: &mut Session<'_, D, P>,
+    name: &[u8],
+    read: &Result<Call, LineFault>,
+) -> Result<(), WriteFault>
+    requires sound { IsSessionSound P.Peripheral session.old }
+    ensures line { CarriesOutRead D.Disk P.Peripheral session.old.counter.now (session_in P.Peripheral session.old)
+        (asked_as (λ call. CallOf name.now call) read.now) (W.given writer.old) (W.given writer.new) result
+        (session_in P.Peripheral session.new) session.new.counter.now }
+    ensures session { KeepsSession P.Peripheral session.old session.new }
+{
+    match read {
+        Ok(call) => carry_out_called(writer, session, name, call),
+        Err(fault) => print_fault(writer, *fault),
+    }
+}
+
+/// Carries out a line that calls a control, and writes what it prints.
+///
+/// # Errors
+///
+/// [`WriteFault`] if a write failed.
+#[inline(always)]
+#[tactic(auto, using(crate::proofs::SessionLemmas::asks_by_words))]
+fn carry_out_call<W: Sink, D: Disk, P: Peripheral>(
+    alloc: Global,
+    writer: &mut W,
+    session: &mut Session<'_, D, P>,
+    name: &[u8],
+    by: CallVerb,
+    words: &[u8],
+) -> Result<(), WriteFault>
+    requires sound { IsSessionSound P.Peripheral session.old }
+    ensures line { CarriesOutReading D.Disk P.Peripheral session.old.counter.now (session_in P.Peripheral session.old)
+        (line_of (Verb.Call by) name.now (words_of words.now)) (W.given writer.old) (W.given writer.new) result
+        (session_in P.Peripheral session.new) session.new.counter.now }
+    ensures session { KeepsSession P.Peripheral session.old session.new }
+{
+    let called = read_called(alloc, by, words);
+    carry_out_read_call(writer, session, name, &called)
+}
+
+/// Carries out a line that asks for a property, and writes what it prints. Its call is made in place, as the one after
+/// is read, since both are large.
+///
+/// # Errors
+///
+/// [`WriteFault`] if a write failed.
+#[inline(always)]
+fn carry_out_get<W: Sink, D: Disk, P: Peripheral>(
+    alloc: Global,
+    writer: &mut W,
+    session: &mut Session<'_, D, P>,
+    name: &[u8],
+    words: &[u8],
+) -> Result<(), WriteFault>
+    requires sound { IsSessionSound P.Peripheral session.old }
+    ensures line { CarriesOutReading D.Disk P.Peripheral session.old.counter.now (session_in P.Peripheral session.old)
+        (line_of (Verb.Call CallVerb.Get) name.now (words_of words.now)) (W.given writer.old) (W.given writer.new)
+        result (session_in P.Peripheral session.new) session.new.counter.now }
+    ensures session { KeepsSession P.Peripheral session.old session.new }
+{
+    match read_property(alloc, words) {
+        Ok(property) => {
+            let call = Call::Get(property);
+            carry_out_called(writer, session, name, &call)
+        }
+        Err(fault) => print_fault(writer, fault),
+    }
+}
+
+/// Carries out a line that calls a method, and writes what it prints.
+///
+/// # Errors
+///
+/// [`WriteFault`] if a write failed.
+#[inline(always)]
+#[tactic(auto, using(crate::proofs::SessionLemmas::asks_by_words))]
+fn carry_out_method<W: Sink, D: Disk, P: Peripheral>(
+    alloc: Global,
+    writer: &mut W,
+    session: &mut Session<'_, D, P>,
+    name: &[u8],
+    words: &[u8],
+) -> Result<(), WriteFault>
+    requires sound { IsSessionSound P.Peripheral session.old }
+    ensures line { CarriesOutReading D.Disk P.Peripheral session.old.counter.now (session_in P.Peripheral session.old)
+        (line_of (Verb.Call CallVerb.Method) name.now (words_of words.now)) (W.given writer.old) (W.given writer.new)
+        result (session_in P.Peripheral session.new) session.new.counter.now }
+    ensures session { KeepsSession P.Peripheral session.old session.new }
+{
+    let called = read_method(alloc, words);
+    carry_out_read_call(writer, session, name, &called)
+}
+
+/// Carries out a line by which something happens at a device, and writes what it prints.
+///
+/// # Errors
+///
+/// [`WriteFault`] if a write failed.
+#[inline(always)]
+#[tactic(auto, using(crate::proofs::SessionLemmas::asks_by_words))]
+fn carry_out_input<W: Sink, D: Disk, P: Peripheral>(
+    alloc: Global,
+    writer: &mut W,
+    session: &mut Session<'_, D, P>,
+    name: &[u8],
+    words: &[u8],
+) -> Result<(), WriteFault>
+    requires sound { IsSessionSound P.Peripheral session.old }
+    ensures line { CarriesOutReading D.Disk P.Peripheral session.old.counter.now (session_in P.Peripheral session.old)
+        (line_of Verb.Input name.now (words_of words.now)) (W.given writer.old) (W.given writer.new) result
+        (session_in P.Peripheral session.new) session.new.counter.now }
+    ensures session { KeepsSession P.Peripheral session.old session.new }
+{
+    let happening = read_happening(alloc, words);
+    carry_out_read(writer, session, name, happening)
+}
+
+/// Carries out a line that delivers an event, and writes what it prints.
+///
+/// # Errors
+///
+/// [`WriteFault`] if a write failed.
+#[inline(always)]
+#[tactic(auto, using(crate::proofs::SessionLemmas::asks_by_words))]
+fn carry_out_delivery<W: Sink, D: Disk, P: Peripheral>(
+    alloc: Global,
+    writer: &mut W,
+    session: &mut Session<'_, D, P>,
+    name: &[u8],
+    words: &[u8],
+) -> Result<(), WriteFault>
+    requires sound { IsSessionSound P.Peripheral session.old }
+    ensures line { CarriesOutReading D.Disk P.Peripheral session.old.counter.now (session_in P.Peripheral session.old)
+        (line_of Verb.Deliver name.now (words_of words.now)) (W.given writer.old) (W.given writer.new) result
+        (session_in P.Peripheral session.new) session.new.counter.now }
+    ensures session { KeepsSession P.Peripheral session.old session.new }
+{
+    let reply = read_reply(alloc, words);
+    carry_out_read(writer, session, name, reply)
+}
+
 /// Carries out a line that was taken apart, and writes what it prints.
 ///
 /// # Errors
@@ -103,18 +285,11 @@ fn carry_out_command<W: Sink, D: Disk, P: Peripheral + Ends>(
             let category = read_category(alloc, words);
             carry_out_rare(writer, session, name, category)
         }
-        Verb::Call(by) => {
-            let called = read_called(alloc, by, words);
-            carry_out_read(writer, session, name, called)
-        }
-        Verb::Input => {
-            let happening = read_happening(alloc, words);
-            carry_out_read(writer, session, name, happening)
-        }
-        Verb::Deliver => {
-            let reply = read_reply(alloc, words);
-            carry_out_read(writer, session, name, reply)
-        }
+        Verb::Call(CallVerb::Get) => carry_out_get(alloc, writer, session, name, words),
+        Verb::Call(CallVerb::Method) => carry_out_method(alloc, writer, session, name, words),
+        Verb::Call(by) => carry_out_call(alloc, writer, session, name, by, words),
+        Verb::Input => carry_out_input(alloc, writer, session, name, words),
+        Verb::Deliver => carry_out_delivery(alloc, writer, session, name, words),
         Verb::Attach => {
             let spare = read_spare(alloc, words);
             carry_out_rare(writer, session, name, spare)

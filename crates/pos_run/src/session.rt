@@ -1,6 +1,6 @@
 //! What the lines of a script ask of their session, by what was read of their words.
 ghost use Rattle.std.specs.Prelude.{List, ℕ};
-ghost use Rattle.pos_counter.specs.Steps.{NewControl, CallOf, InputTo, Deliver, Attach};
+ghost use Rattle.pos_counter.specs.Steps.{NewControl, InputTo, Deliver, Attach};
 ghost use Rattle.pos_script.specs.Commands.{LineRequest, asked_of};
 ghost use Rattle.pos_run.specs.Carried.{CarriesOutAsking};
 ghost use Rattle.pos_run.specs.Sessions.{IsSessionSound, KeepsSession, session_in};
@@ -8,10 +8,10 @@ ghost use Rattle.pos_run.specs.Sessions.{IsSessionSound, KeepsSession, session_i
 use crate::names::Names;
 use crate::spares::Spares;
 use pos_counter::Counter;
-use pos_counter::responses::{of_call, of_control, of_input, of_snapshot, of_work};
+use pos_counter::responses::{of_control, of_input, of_snapshot, of_work};
 use pos_disk::Disk;
 use pos_script::{DeviceVerb, Reply};
-use pos_service::{Call, Category, Ends, ErrorReply, Input, Peripheral, Response};
+use pos_service::{Category, Ends, ErrorReply, Input, Peripheral, Response};
 
 /// What carries out the lines of a script: a counter, the names of its controls, and the spares beside it.
 #[derive(Drop)]
@@ -54,20 +54,6 @@ impl<D: Disk, P: Peripheral> Asks<D, P> for Category {
             }
             Err(fault) => Reply::Responded(of_control(Err(fault))),
         }
-    }
-}
-
-/// Calls the control of a name.
-impl<D: Disk, P: Peripheral> Asks<D, P> for Call {
-    ghost asked = { λ name call. CallOf name call };
-
-    #[tactic(auto, using(crate::proofs::SessionLemmas::asks_none))]
-    #[inline(always)]
-    fn ask(&self, name: &[u8], session: &mut Session<'_, D, P>) -> Reply {
-        let Some(number) = session.names.find(name) else {
-            return Reply::BadControl;
-        };
-        Reply::Responded(of_call(session.counter.call(number, self)))
     }
 }
 

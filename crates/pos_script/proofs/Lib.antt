@@ -3,3 +3,4 @@ pub mod LineLemmas
 pub mod BufferLemmas
 pub mod WriteLemmas
 pub mod ReceiptLemmas
+pub mod HexLemmas

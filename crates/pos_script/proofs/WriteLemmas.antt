@@ -22,12 +22,6 @@ cut_at f ps i d bytes front back lt is e =
     ∙ ap (λ x. a ++ x) (append_assoc front back b)
     ∙ sym (append_assoc a front (back ++ b))
 
--- the hex of bytes is that of each byte in turn
-pub hex_of_each : (bytes : List ℕ) → flat_map (λ (b : ℕ). encode_lower (b ∷ [])) bytes ≡ encode_lower bytes
-unfolding encode_with
-hex_of_each [] = refl
-hex_of_each (b ∷ bs) = ap (λ rest. encode_lower (b ∷ []) ++ rest) (hex_of_each bs)
-
 -- characters in hex are each in turn
 pub hex_of_glyphs : {G : Type 0} (character : G → ℕ) (glyphs : List G)
     → flat_map (λ glyph. encode_lower (character glyph ∷ [])) glyphs ≡ characters_text character glyphs

@@ -95,3 +95,10 @@ abbrev pub Reads : {A : Type 0} → Reading A → Result A LineFault → Type 0
 Reads reading (Ok value) = reading.value ≡ Some value
 Reads reading (Err fault.WrongShape) = reading.value ≡ None
 Reads reading (Err fault.NoMemory) = (is_some reading.value ≡ true) × (reading.is_kept ≡ true)
+
+-- what a first look at words tells, which takes no memory: what they stand for, where none of it is kept; else whether
+-- their shape is right
+abbrev pub Glances : {A : Type 0} → Reading A → Result (Option A) LineFault → Type 0
+Glances reading (Ok (Some value)) = reading.value ≡ Some value
+Glances reading (Ok None) = is_some reading.value ≡ true
+Glances reading (Err e) = reading.value ≡ None

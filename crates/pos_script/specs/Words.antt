@@ -13,7 +13,7 @@ use Rattle.pos_service.specs.Names.{is_device_name}
 use Rattle.pos_service.specs.Categories.{category_named}
 use Rattle.pos_service.specs.Properties.{property_named}
 use Rattle.pos_script.specs.Lines.{is_nothing}
-use Rattle.pos_script.specs.Arguments.{Shape, value_of}
+use Rattle.pos_script.specs.Arguments.{Reading, Shape, value_of}
 use Rattle.pos_script.specs.declared.arguments.DeviceName.{DeviceName}
 
 -- whether a byte is a decimal digit
@@ -60,6 +60,10 @@ truth_named word =
 -- the bytes that a word writes: a hyphen for none, else two hex digits of either case for each
 abbrev pub bytes_named : List ℕ → Option (List ℕ)
 bytes_named word = if bytes_eq word (codes "-") then Some [] else value_of (decode_of word)
+
+-- hex digits, read as the bytes that they write
+abbrev pub decoded : List ℕ → Reading (List ℕ)
+decoded digits = record { value = value_of (decode_of digits); is_kept = true }
 
 -- the value that a word stands for: a truth value or a number
 abbrev pub value_named : List ℕ → Option Value

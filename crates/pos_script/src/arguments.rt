@@ -1,11 +1,11 @@
 //! The words of a line that are arguments.
-ghost use Rattle.std.specs.Prelude.{◌≡◌, true, is_some};
+ghost use Rattle.std.specs.Prelude.{◌≤◌, length};
 ghost use Rattle.pos_script.specs.Lines.{words_of};
-ghost use Rattle.pos_script.specs.Arguments.{Shape, Reads, word_as, none, one, two, three, four};
-ghost use Rattle.pos_script.specs.Words.{number_shape, count_shape, truth_shape, bytes_shape, device_shape, category_shape, property_shape, value_shape, error_reply_shape};
+ghost use Rattle.pos_script.specs.Arguments.{Shape, Reads, Glances, word_as, none, one, two, three, four};
+ghost use Rattle.pos_script.specs.Words.{decoded, number_shape, count_shape, truth_shape, bytes_shape, device_shape, category_shape, property_shape, value_shape, error_reply_shape};
 
 use crate::lines::next_word;
-use crate::words::{count, decode, error_reply, is_hex_word, number, truth, value};
+use crate::words::{count, decode, error_reply, is, is_hex_word, number, truth, value};
 use pos_service::{Bytes, Category, ErrorReply, Property, Value, is_device_name};
 use std::alloc::Global;
 use thiserror::Error;
@@ -25,9 +25,13 @@ pub enum LineFault {
 pub(crate) trait Argument: Sized + Drop {
     ghost shape: { Shape Self };
 
-    /// Returns whether a word is of this shape. It takes no memory.
-    fn has_shape(word: &[u8]) -> bool
-        ensures { result ≡ is_some (shape.named word.now) };
+    /// Returns what a word stands for, or `None` if that is kept in memory. It takes no memory.
+    ///
+    /// # Errors
+    ///
+    /// `WrongShape` if the word isn't of this shape.
+    fn glance(word: &[u8]) -> Result<Option<Self>, LineFault>
+        ensures { Glances (word_as shape word.now) result };
 
     /// Returns what a word stands for.
     ///
@@ -42,8 +46,11 @@ pub(crate) trait Argument: Sized + Drop {
 impl Argument for i128 {
     ghost shape = { number_shape };
 
-    fn has_shape(word: &[u8]) -> bool {
-        number(word).is_some()
+    fn glance(word: &[u8]) -> Result<Option<Self>, LineFault> {
+        match number(word) {
+            Some(read) => Ok(Some(read)),
+            None => Err(LineFault::WrongShape),
+        }
     }
 
     fn read(_: Global, word: &[u8]) -> Result<Self, LineFault> {
@@ -54,8 +61,11 @@ impl Argument for i128 {
 impl Argument for u32 {
     ghost shape = { count_shape };
 
-    fn has_shape(word: &[u8]) -> bool {
-        count(word).is_some()
+    fn glance(word: &[u8]) -> Result<Option<Self>, LineFault> {
+        match count(word) {
+            Some(read) => Ok(Some(read)),
+            None => Err(LineFault::WrongShape),
+        }
     }
 
     fn read(_: Global, word: &[u8]) -> Result<Self, LineFault> {
@@ -66,8 +76,11 @@ impl Argument for u32 {
 impl Argument for bool {
     ghost shape = { truth_shape };
 
-    fn has_shape(word: &[u8]) -> bool {
-        truth(word).is_some()
+    fn glance(word: &[u8]) -> Result<Option<Self>, LineFault> {
+        match truth(word) {
+            Some(read) => Ok(Some(read)),
+            None => Err(LineFault::WrongShape),
+        }
     }
 
     fn read(_: Global, word: &[u8]) -> Result<Self, LineFault> {
@@ -78,8 +91,11 @@ impl Argument for bool {
 impl Argument for Value {
     ghost shape = { value_shape };
 
-    fn has_shape(word: &[u8]) -> bool {
-        value(word).is_some()
+    fn glance(word: &[u8]) -> Result<Option<Self>, LineFault> {
+        match value(word) {
+            Some(read) => Ok(Some(read)),
+            None => Err(LineFault::WrongShape),
+        }
     }
 
     fn read(_: Global, word: &[u8]) -> Result<Self, LineFault> {
@@ -90,8 +106,11 @@ impl Argument for Value {
 impl Argument for Category {
     ghost shape = { category_shape };
 
-    fn has_shape(word: &[u8]) -> bool {
-        Category::named(word).is_some()
+    fn glance(word: &[u8]) -> Result<Option<Self>, LineFault> {
+        match Category::named(word) {
+            Some(read) => Ok(Some(read)),
+            None => Err(LineFault::WrongShape),
+        }
     }
 
     fn read(_: Global, word: &[u8]) -> Result<Self, LineFault> {
@@ -102,8 +121,11 @@ impl Argument for Category {
 impl Argument for Property {
     ghost shape = { property_shape };
 
-    fn has_shape(word: &[u8]) -> bool {
-        Property::named(word).is_some()
+    fn glance(word: &[u8]) -> Result<Option<Self>, LineFault> {
+        match Property::named(word) {
+            Some(read) => Ok(Some(read)),
+            None => Err(LineFault::WrongShape),
+        }
     }
 
     fn read(_: Global, word: &[u8]) -> Result<Self, LineFault> {
@@ -114,8 +136,11 @@ impl Argument for Property {
 impl Argument for ErrorReply {
     ghost shape = { error_reply_shape };
 
-    fn has_shape(word: &[u8]) -> bool {
-        error_reply(word).is_some()
+    fn glance(word: &[u8]) -> Result<Option<Self>, LineFault> {
+        match error_reply(word) {
+            Some(read) => Ok(Some(read)),
+            None => Err(LineFault::WrongShape),
+        }
     }
 
     fn read(_: Global, word: &[u8]) -> Result<Self, LineFault> {
@@ -123,14 +148,48 @@ impl Argument for ErrorReply {
     }
 }
 
+/// The most bytes that are decoded before memory is taken for them.
+const FEW: usize = 32;
+
+/// Reads the bytes that hex digits write, two for each. They are few, so all are read before memory is taken.
+///
+/// # Errors
+///
+/// - `WrongShape` if there is an odd digit, or a byte that is no digit.
+/// - `NoMemory` if memory ran out.
+#[tactic(auto, using(crate::proofs::HexLemmas::decodes_half))]
+fn read_few(alloc: Global, digits: &[u8]) -> Result<Bytes, LineFault>
+    requires few { length digits.now ≤ 64 }
+    ensures { Reads (decoded digits.now) result }
+{
+    let mut room = [0u8; FEW];
+    let bytes = &mut room[..digits.len() / 2];
+    let Ok(()) = hex::decode_to_slice(digits, &mut *bytes) else {
+        return Err(LineFault::WrongShape);
+    };
+    match Bytes::from_slice(alloc, bytes) {
+        Ok(bytes) => Ok(bytes),
+        Err(_) => Err(LineFault::NoMemory),
+    }
+}
+
 impl Argument for Bytes {
     ghost shape = { bytes_shape };
 
-    fn has_shape(word: &[u8]) -> bool {
-        is_hex_word(word)
+    fn glance(word: &[u8]) -> Result<Option<Self>, LineFault> {
+        if !is_hex_word(word) {
+            return Err(LineFault::WrongShape);
+        }
+        Ok(None)
     }
 
     fn read(alloc: Global, word: &[u8]) -> Result<Self, LineFault> {
+        if is(word, "-") {
+            return Ok(Bytes::from_vec(Vec::new(alloc)));
+        }
+        if word.len() <= 2 * FEW {
+            return read_few(alloc, word);
+        }
         if !is_hex_word(word) {
             return Err(LineFault::WrongShape);
         }
@@ -151,8 +210,11 @@ pub(crate) struct DeviceName {
 impl Argument for DeviceName {
     ghost shape = { device_shape };
 
-    fn has_shape(word: &[u8]) -> bool {
-        is_device_name(word)
+    fn glance(word: &[u8]) -> Result<Option<Self>, LineFault> {
+        if !is_device_name(word) {
+            return Err(LineFault::WrongShape);
+        }
+        Ok(None)
     }
 
     fn read(alloc: Global, word: &[u8]) -> Result<Self, LineFault> {
@@ -213,13 +275,16 @@ pub(crate) fn read_two<A: Argument, B: Argument>(
     let Some((word, rest)) = next_word(words) else {
         return Err(LineFault::WrongShape);
     };
-    if !A::has_shape(word) {
+    let Ok(glanced) = A::glance(word) else {
         return Err(LineFault::WrongShape);
-    }
+    };
     let second = match read_one(alloc, rest) {
         Ok(second) => second,
         Err(fault) => return Err(fault),
     };
+    if let Some(first) = glanced {
+        return Ok((first, second));
+    }
     match A::read(alloc, word) {
         Ok(first) => Ok((first, second)),
         Err(fault) => Err(fault),
@@ -242,13 +307,16 @@ pub(crate) fn read_three<A: Argument, B: Argument, C: Argument>(
     let Some((word, rest)) = next_word(words) else {
         return Err(LineFault::WrongShape);
     };
-    if !A::has_shape(word) {
+    let Ok(glanced) = A::glance(word) else {
         return Err(LineFault::WrongShape);
-    }
+    };
     let others = match read_two(alloc, rest) {
         Ok(others) => others,
         Err(fault) => return Err(fault),
     };
+    if let Some(first) = glanced {
+        return Ok((first, others));
+    }
     match A::read(alloc, word) {
         Ok(first) => Ok((first, others)),
         Err(fault) => Err(fault),
@@ -271,13 +339,16 @@ pub(crate) fn read_four<A: Argument, B: Argument, C: Argument, D: Argument>(
     let Some((word, rest)) = next_word(words) else {
         return Err(LineFault::WrongShape);
     };
-    if !A::has_shape(word) {
+    let Ok(glanced) = A::glance(word) else {
         return Err(LineFault::WrongShape);
-    }
+    };
     let others = match read_three(alloc, rest) {
         Ok(others) => others,
         Err(fault) => return Err(fault),
     };
+    if let Some(first) = glanced {
+        return Ok((first, others));
+    }
     match A::read(alloc, word) {
         Ok(first) => Ok((first, others)),
         Err(fault) => Err(fault),

@@ -1,16 +1,16 @@
 //! The verbs of lines, and what the words after them ask.
-ghost use Rattle.std.specs.Prelude.{◌≡◌, ◌∷◌, MatchOption, bytes_eq};
+ghost use Rattle.std.specs.Prelude.{◌≡◌, ◌∷◌, MatchOption};
 ghost use Rattle.pos_script.specs.Lines.{words_of};
 ghost use Rattle.pos_script.specs.Arguments.{Reads, from_three, misshapen, one};
-ghost use Rattle.pos_script.specs.Words.{bytes_shape, category_shape, count_shape};
+ghost use Rattle.pos_script.specs.Words.{bytes_shape, category_shape, count_shape, property_shape};
 ghost use Rattle.pos_service.specs.declared.input.Input.TheVariants as input;
-ghost use Rattle.pos_script.specs.Commands.{called, choice_of, happening, input_of, line_of, method_of, printer_input_of, reply_of, request_of_words, verb_named};
+ghost use Rattle.pos_script.specs.Commands.{called, choice_of, happening, input_of, line_of, printer_input_of, reply_of, request_of_words, verb_named};
 
 use crate::arguments::{DeviceName, LineFault, read_none, read_one, read_three, read_two};
 use crate::lines::next_word;
 use crate::methods::read_call;
-use pos_service::words::is;
-use pos_service::{Call, Category, ErrorReply, Input, LentBytes, is_device_name};
+use crate::words::is;
+use pos_service::{Call, Category, ErrorReply, Input, LentBytes, Property, is_device_name};
 use std::alloc::Global;
 
 /// The verb of a line that asks for a call, after which the control's name comes.
@@ -71,43 +71,26 @@ pub struct Command<'a> {
     pub words: &'a [u8],
 }
 
-/// Returns whether a word is this verb. It is inlined, and a verb's bytes are known there, so each costs one compare.
-#[inline(always)]
-fn is_verb(word: &[u8], verb: &str) -> bool
-    ensures { result ≡ bytes_eq word.now verb.now }
-{
-    let verb = verb.as_bytes();
-    if word.len() != verb.len() {
-        return false;
-    }
-    for place in 0..verb.len() {
-        if word[place] != verb[place] {
-            return false;
-        }
-    }
-    true
-}
-
 /// Returns the verb of this word. Those of most lines are looked for first.
 #[inline(always)]
 fn named_verb(word: &[u8]) -> Option<Verb>
     ensures { result ≡ verb_named word.now }
 {
     match word {
-        _ if is_verb(word, "call") => Some(Verb::Call(CallVerb::Method)),
-        _ if is_verb(word, "get") => Some(Verb::Call(CallVerb::Get)),
-        _ if is_verb(word, "set") => Some(Verb::Call(CallVerb::Set)),
-        _ if is_verb(word, "deliver") => Some(Verb::Deliver),
-        _ if is_verb(word, "input") => Some(Verb::Input),
-        _ if is_verb(word, "open") => Some(Verb::Call(CallVerb::Open)),
-        _ if is_verb(word, "claim") => Some(Verb::Call(CallVerb::Claim)),
-        _ if is_verb(word, "release") => Some(Verb::Call(CallVerb::Release)),
-        _ if is_verb(word, "close") => Some(Verb::Call(CallVerb::Close)),
-        _ if is_verb(word, "new") => Some(Verb::New),
-        _ if is_verb(word, "show") => Some(Verb::Device(DeviceVerb::Show)),
-        _ if is_verb(word, "work") => Some(Verb::Device(DeviceVerb::Work)),
-        _ if is_verb(word, "attach") => Some(Verb::Attach),
-        _ if is_verb(word, "detach") => Some(Verb::Device(DeviceVerb::Detach)),
+        _ if is(word, "call") => Some(Verb::Call(CallVerb::Method)),
+        _ if is(word, "get") => Some(Verb::Call(CallVerb::Get)),
+        _ if is(word, "set") => Some(Verb::Call(CallVerb::Set)),
+        _ if is(word, "deliver") => Some(Verb::Deliver),
+        _ if is(word, "input") => Some(Verb::Input),
+        _ if is(word, "open") => Some(Verb::Call(CallVerb::Open)),
+        _ if is(word, "claim") => Some(Verb::Call(CallVerb::Claim)),
+        _ if is(word, "release") => Some(Verb::Call(CallVerb::Release)),
+        _ if is(word, "close") => Some(Verb::Call(CallVerb::Close)),
+        _ if is(word, "new") => Some(Verb::New),
+        _ if is(word, "show") => Some(Verb::Device(DeviceVerb::Show)),
+        _ if is(word, "work") => Some(Verb::Device(DeviceVerb::Work)),
+        _ if is(word, "attach") => Some(Verb::Attach),
+        _ if is(word, "detach") => Some(Verb::Device(DeviceVerb::Detach)),
         _ => None,
     }
 }
@@ -133,14 +116,58 @@ pub fn read_command(line: &[u8]) -> Option<Command<'_>>
     })
 }
 
-/// Reads a method and its arguments.
-fn read_method(alloc: Global, words: &[u8]) -> Result<Call, LineFault>
-    ensures { Reads (method_of (words_of words.now)) result }
+/// Returns the call that a `call` line asks for on its control, by the words after the control's name.
+///
+/// # Errors
+///
+/// As of `read_called`.
+pub fn read_method(alloc: Global, words: &[u8]) -> Result<Call, LineFault>
+    ensures { Reads (called CallVerb.Method (words_of words.now)) result }
 {
     let Some((method, rest)) = next_word(words) else {
         return Err(LineFault::WrongShape);
     };
     read_call(alloc, method, rest)
+}
+
+/// Reads the name of a device that is opened.
+fn read_open(alloc: Global, words: &[u8]) -> Result<Call, LineFault>
+    ensures { Reads (called CallVerb.Open (words_of words.now)) result }
+{
+    read_one(alloc, words).map(|device: DeviceName| Call::Open(device.name))
+}
+
+/// Reads the timeout of a claim.
+fn read_claim(alloc: Global, words: &[u8]) -> Result<Call, LineFault>
+    ensures { Reads (called CallVerb.Claim (words_of words.now)) result }
+{
+    read_one(alloc, words).map(Call::Claim)
+}
+
+/// Reads a property that is set, and its value.
+fn read_set(alloc: Global, words: &[u8]) -> Result<Call, LineFault>
+    ensures { Reads (called CallVerb.Set (words_of words.now)) result }
+{
+    read_two(alloc, words).map(|(property, value)| Call::Set(property, value))
+}
+
+/// Returns the property that a `get` line asks for, by the words after the control's name.
+///
+/// # Errors
+///
+/// `WrongShape` if they aren't one property.
+#[inline(always)]
+pub fn read_property(alloc: Global, words: &[u8]) -> Result<Property, LineFault>
+    ensures { Reads (one property_shape (words_of words.now)) result }
+{
+    read_one::<Property>(alloc, words)
+}
+
+/// Reads a property that is asked for.
+fn read_get(alloc: Global, words: &[u8]) -> Result<Call, LineFault>
+    ensures { Reads (called CallVerb.Get (words_of words.now)) result }
+{
+    read_property(alloc, words).map(Call::Get)
 }
 
 /// Returns the call that a line asks for on its control, by its verb and the words after the control's name.
@@ -156,14 +183,12 @@ pub fn read_called(alloc: Global, verb: CallVerb, words: &[u8]) -> Result<Call, 
     ensures { Reads (called verb (words_of words.now)) result }
 {
     match verb {
-        CallVerb::Open => {
-            read_one(alloc, words).map(|device: DeviceName| Call::Open(device.name))
-        }
+        CallVerb::Open => read_open(alloc, words),
         CallVerb::Close => read_none(words).map(|_| Call::Close),
-        CallVerb::Claim => read_one(alloc, words).map(Call::Claim),
+        CallVerb::Claim => read_claim(alloc, words),
         CallVerb::Release => read_none(words).map(|_| Call::Release),
-        CallVerb::Set => read_two(alloc, words).map(|(property, value)| Call::Set(property, value)),
-        CallVerb::Get => read_one(alloc, words).map(Call::Get),
+        CallVerb::Set => read_set(alloc, words),
+        CallVerb::Get => read_get(alloc, words),
         CallVerb::Method => read_method(alloc, words),
     }
 }

@@ -23,7 +23,7 @@ mod write;
 pub use arguments::{LineFault, read_none};
 pub use command::{
     CallVerb, Command, DeviceVerb, Verb, read_called, read_category, read_command, read_happening,
-    read_reply, read_spare,
+    read_method, read_property, read_reply, read_spare,
 };
 pub use line_buffer::{EndedLine, Line, LineBuffer};
 pub use lines::{

@@ -6,8 +6,8 @@ ghost use Rattle.pos_script.specs.Words.{bytes_shape, number_shape, truth_shape}
 ghost use Rattle.pos_script.specs.Methods.{call_in, call_of, display_methods, handle_methods, printer_methods, totals_methods, transaction_methods};
 
 use crate::arguments::{LineFault, read_four, read_none, read_one, read_three, read_two};
+use crate::words::is;
 use pos_service::Call;
-use pos_service::words::is;
 use std::alloc::Global;
 
 /// Returns the call of a method, by its word and the words after it, whatever its control is.
@@ -111,14 +111,16 @@ fn read_handle_call(alloc: Global, method: &[u8], words: &[u8]) -> Result<Call, 
     ensures { Reads (call_in handle_methods method.now (words_of words.now)) result }
 {
     if is(method, "read") {
-        return read_three(alloc, words).map(|(handle, (offset, count))| Call::Read(
-            handle, offset, count,
-        ));
+        return match read_three(alloc, words) {
+            Ok((handle, (offset, count))) => Ok(Call::Read(handle, offset, count)),
+            Err(fault) => Err(fault),
+        };
     }
     if is(method, "write") {
-        return read_three(alloc, words).map(|(handle, (offset, bytes))| Call::Write(
-            handle, offset, bytes,
-        ));
+        return match read_three(alloc, words) {
+            Ok((handle, (offset, bytes))) => Ok(Call::Write(handle, offset, bytes)),
+            Err(fault) => Err(fault),
+        };
     }
     if is(method, "setAll") {
         return read_two(alloc, words).map(|(handle, value)| Call::SetAll(handle, value));

@@ -1,5 +1,5 @@
 //! How bytes and texts are written.
-ghost use Rattle.std.specs.Prelude.{◌≡◌, ◌∷◌, [], flat_map};
+ghost use Rattle.std.specs.Prelude.{◌≤◌, flat_map, length};
 ghost use Rattle.hex.specs.Hex.{encode_lower};
 ghost use Rattle.pos_script.specs.Writing.{Writes};
 
@@ -55,13 +55,22 @@ pub(crate) fn write_parts<W: Sink>(writer: &mut W, parts: &[&str]) -> Result<(),
     Ok(())
 }
 
-/// Returns the two hex digits of a byte.
-fn hex_pair(b: u8) -> [u8; 2]
-    ensures { result ≡ encode_lower (b ∷ []) }
+/// How many bytes are written as hex at once.
+const CHUNK: usize = 32;
+
+/// Writes a few bytes as lower-case hex.
+///
+/// # Errors
+///
+/// [`WriteFault`] at the first write that fails. Then only a front of the text was written.
+fn write_hex_chunk<W: Sink>(writer: &mut W, bytes: &[u8]) -> Result<(), WriteFault>
+    requires few { length bytes.now ≤ 32 }
+    ensures { Writes (W.given writer.old) (W.given writer.new) (encode_lower bytes.now) result }
 {
-    let mut pair = [0u8; 2];
-    hex::encode_to_slice([b], &mut pair).unwrap();
-    pair
+    let mut room = [0u8; 2 * CHUNK];
+    let digits = &mut room[..2 * bytes.len()];
+    hex::encode_to_slice(bytes, &mut *digits).unwrap();
+    write_bytes(writer, digits)
 }
 
 /// Writes bytes as lower-case hex.
@@ -72,8 +81,11 @@ fn hex_pair(b: u8) -> [u8; 2]
 pub(crate) fn write_hex<W: Sink>(writer: &mut W, bytes: &[u8]) -> Result<(), WriteFault>
     ensures { Writes (W.given writer.old) (W.given writer.new) (encode_lower bytes.now) result }
 {
-    for b in bytes {
-        write_bytes(writer, &hex_pair(*b))?;
+    let mut rest = bytes;
+    while !rest.is_empty() {
+        let (chunk, left) = rest.split_at(rest.len().min(CHUNK));
+        write_hex_chunk(writer, chunk)?;
+        rest = left;
     }
     Ok(())
 }
