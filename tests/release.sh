@@ -366,6 +366,7 @@ try_page() {
   local name=$1
   shift
   cat > "$outside/page.sh" <<'SCRIPT'
+rm -f address
 "$1" "$2/kijolvar/page/serve.py" "$3" 0 > address &
 for turn in 1 2 3 4 5 6 7 8 9 10; do
   [ -s address ] || sleep 1
