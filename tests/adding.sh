@@ -58,16 +58,16 @@ count_median() {
 }
 
 count "a call with an order that is there" 6 'PrintImmediate|printImmediate|print_immediate'
-count "a call with a new order" 11 'OpenDrawer|openDrawer|open_drawer'
+count "a call with a new order" 9 'OpenDrawer|openDrawer|open_drawer'
 count "a question about the totals' files" 7 'FindByIndex|findByIndex|find_by_index'
 count "an edit of a file of the totals" 14 'SetAll|setAll|set_all'
 count "a property that is always the same" 3 'CapTransactions'
 count "a property of the device" 3 'NumberOfFiles'
 count "a property that can be set" 5 'AutoDisable|auto_disable'
-count "an input of every kind" 8 'PowerMoved'
-count "a reply with its code" 10 'Offline\b'
-count "a sign" 26 '\bpowered\b'
-count "a request of the script" 15 'Deliver\b|deliver_event|"deliver"'
+count "an input of every kind" 6 'PowerMoved'
+count "a reply with its code" 8 'Offline\b'
+count "a sign" 22 '\bpowered\b'
+count "a request of the script" 14 'Deliver\b|deliver_event|"deliver"'
 count_median "a category" 24 CashDrawer Scanner LineDisplay PosPrinter HardTotals
 echo "$passed passed, $failed failed"
 [ "$failed" -eq 0 ]

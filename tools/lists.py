@@ -95,22 +95,25 @@ def benches():
 
 @functools.cache
 def counted_files():
-    """The files that tests/adding.sh looks at, with their crates and texts."""
+    """The files that tests/adding.sh looks at, with their crates and texts without comments."""
     found = []
     for crate in sources.crates():
         if not crate.endswith("_tests") and crate not in ("pos_till", "pos_escpos", "pos_report"):
             for folder, ending in (("src", "rt"), ("specs", "antt"), ("proofs", "antt")):
-                found += [(short(crate), path, sources.read(path)) for path in sources.Tree.paths(crate, folder, ending)]
+                found += [(short(crate), path, re.sub(r"(?m)^\s*(//|--).*$", "", sources.read(path)))
+                          for path in sources.Tree.paths(crate, folder, ending)
+                          if not path.endswith("/src/tests.rt")]
     return found
 
 
 def files_with(pattern):
-    """The files that name something, as a list by crates."""
+    """The files that name something: how many, and a list by crates."""
     found, words = {}, re.findall(r"\w{4,}", pattern.partition("(?:")[2].replace("\\b", " "))
     for crate, path, text in counted_files():
         if any(word in text for word in words) and re.search(pattern, text):
             found.setdefault(crate, []).append(path.split("/", 2)[2].rpartition(".")[0])
-    return "; ".join(f"{crate}: {', '.join(files)}" for crate, files in found.items())
+    return (str(sum(map(len, found.values()))),
+            "; ".join(f"{crate}: {', '.join(files)}" for crate, files in found.items()))
 
 
 def additions():
@@ -118,8 +121,8 @@ def additions():
     for median, kind, most, words in re.findall(r'^count(_median)? "([^"]+)" (\d+) (.*)$', sources.read("tests/adding.sh"), re.M):
         pattern = rf"\b{words.split()[2]}\b" if median else words.strip("'")
         name = words.split()[2] if median else re.findall(r"\w+", pattern.replace("\\b", ""))[0]
-        rows.append([kind, name, most, files_with(rf"(?<!specs\.)(?<!proofs\.)(?:{pattern})")])
-    return table(["Kind", "As", "At most", "Files that name it"], rows)
+        rows.append([kind, name, most, *files_with(rf"(?<!specs\.)(?<!proofs\.)(?:{pattern})")])
+    return table(["Kind", "As", "At most", "Today", "Files that name it"], rows)
 
 
 HEADER = "abi/kijolvar.h"
