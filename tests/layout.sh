@@ -7,6 +7,7 @@
 #   lemmas    each file of proofs/ itself is Lib, Common or named XLemmas
 #   inside    functions and constants of a private module that a library's root doesn't export are pub(crate) or private
 #   case      no two files or folders of a crate differ only in the case of their letters
+#   width     no line has more than 120 columns, but an import
 # Then it plants one fault of each kind, in memory, which has to be found, a check each. Usage: tests/layout.sh. Its last
 # line is 'N passed, M failed'; it ends with 0 if none failed.
 set -u
@@ -23,6 +24,7 @@ SHORT = {
     "crates/pos_sims/src/power.rt": "four devices use it, and it belongs to none more than to another",
 }
 LEAST = 25
+MOST = 120
 
 
 def read_tree():
@@ -118,6 +120,13 @@ def case(tree):
                 yield f"{it} and {seen[it.lower()]} differ only in case"
 
 
+def width(tree):
+    for path in sorted(tree):
+        for number, line in enumerate(tree[path].split("\n"), 1):
+            if len(line) > MOST and not re.match(r"\s*(pub |ghost )?use ", line):
+                yield f"{path}:{number}: {len(line)} columns"
+
+
 def with_file(path, text):
     return lambda tree: tree.update({path: text})
 
@@ -135,6 +144,7 @@ RULES = [
     (lemmas, with_file("crates/pos_dir/proofs/Turned.antt", "")),
     (inside, with_line("crates/pos_dir/src/supplies.rt", "pub fn nothing_of_it() {}")),
     (case, with_file("crates/pos_dir/specs/changes.antt", "")),
+    (width, with_line("crates/pos_dir/proofs/Lib.antt", "-- " + "a" * MOST)),
 ]
 
 tree = read_tree()

@@ -8,13 +8,17 @@ definition, the function and the test. The text of a link says where it leads:
   `crate::Type::name`            a function; for Type the name of its file will do
   `script: front of a comment`   a group of a conformance script
   `crate: name`                  a test of a tests crate
-  `tests/name`                   a script of tests/
-Behind the prose stand words that are under its heading, and behind a group words of one of its lines, as in
+  `tests/name`, `script.left`    a file of tests/, or one beside a script
+After the prose and after a file come words that are under the heading or in a line of the file, as in
   [model, Events](..): "wait for DataEventEnabled"
-Behind the function may stand `; body`, and the function whose body decides; it has to where the first has no body. The
-contract of the first has to lead to the definition, by the names that it uses and those that their definitions use in
-turn. With --check it also plants a wrong cell of each kind in a row, which has to be found. Its last line is 'N passed,
-M failed', a row or a planted cell each.
+After a group come lines of it, in their order. Words of a line will do: the tool writes the line and what it prints, by
+the script's `.stdout`, as in
+  [totals.claims: claimFile](..): "claim b 0" => `err 112`, "call a releaseFile 1" => `ok`
+Of two groups with the same front of a comment it takes the one that has the lines. A cell may have several tests, with
+`; ` between them. After the function `; body` may come, and the function whose body decides; it must if the first has
+no body. The contract of the first has to lead to the definition, by the names that it uses and those that their
+definitions use in turn. With --check it also plants a wrong cell of each kind in a row, which has to be found. Its last
+line is 'N passed, M failed', a row or a planted cell each.
 """
 import glob
 import os
@@ -58,6 +62,18 @@ def quoted(words, text, where):
 
 def slug(heading):
     return re.sub(r"[^\w -]", "", heading.lower()).replace(" ", "-")
+
+
+def said_by(path):
+    """Each line of a script with what it prints: None for a quiet line (docs/reference/console.md, "Lines")."""
+    with open(os.path.join(sources.TOP, path), encoding="utf-8", errors="surrogateescape", newline="\n") as file:
+        lines = file.read().replace("\r\n", "\n").split("\n")
+    answers = sources.read(f"{path}.stdout").split("\n")[:-1]
+    is_loud = [bool(line.strip(" ")) and not line.startswith("#") for line in lines]
+    if sum(is_loud) != len(answers):
+        raise Fault(f"{path} has {sum(is_loud)} lines that print, and its .stdout {len(answers)}")
+    turn = iter(answers)
+    return [(line, next(turn) if loud else None) for line, loud in zip(lines, is_loud)]
 
 
 def line_of(path, pattern, what):
@@ -113,33 +129,74 @@ def functions(tree, cell):
     return "; body ".join(f"[`{name}`](../../{at.path}#L{at.line})" for name, at in zip(names, found))
 
 
-def group_of(path, number):
-    """The lines of a script's group, without its comment."""
-    lines = sources.read(path).split("\n")[number - 1 :]
-    group = lines[: lines.index("")] if "" in lines else lines
-    return "\n".join(line for line in group if not line.startswith("#"))
+def quoted_lines(group, quotes):
+    """The lines of a group that are quoted, each after the one before, with their answers; None if it hasn't them."""
+    found = []
+    for words in quotes:
+        exact = [at for at, (line, _) in enumerate(group) if line == words]
+        at = next(iter(exact or [at for at, (line, _) in enumerate(group) if words in line]), None)
+        if at is None:
+            return None
+        line, answer = group[at]
+        found.append(f'"{line}" => `{answer}`')
+        group = group[at + 1 :]
+    return ", ".join(found)
 
 
-def test(cell):
-    text, words = parsed(cell)
-    name, _, rest = text.partition(": ")
-    if name.endswith("_tests"):
-        for path in sorted(glob.glob(os.path.join(sources.TOP, f"crates/{name}/src/*.rt"))):
-            path = os.path.relpath(path, sources.TOP)
-            if re.search(rf"#\[test\]\s+fn {re.escape(rest)}\b", sources.read(path)):
-                number = line_of(path, rf"fn {re.escape(rest)}\b", f"test {rest}")
-                return f"[{text}](../../{path}#L{number})"
-        raise Fault(f"{name} has no test {rest}")
-    if re.fullmatch(r"tests/[\w.]+", text):
-        if not os.path.exists(os.path.join(sources.TOP, text)):
-            raise Fault(f"there is no {text}")
-        return f"[{text}](../../{text})"
+def test_in_script(text, quotes):
+    name, _, comment = text.partition(": ")
     path = f"{SCRIPTS}/{name}"
     if not os.path.exists(os.path.join(sources.TOP, path)):
         raise Fault(f"there is no script {name}")
-    comment = rest.replace("\\|", "|")
-    number = line_of(path, rf"# {re.escape(comment)}", f"group {comment!r}")
-    return f"[{text}](../../{path}#L{number})" + quoted(words, group_of(path, number), "the test's group")
+    lines = said_by(path)
+    front = "# " + comment.replace("\\|", "|")
+    starts = [at for at, (line, _) in enumerate(lines) if line.startswith(front)]
+    if not starts:
+        raise Fault(f"{path} has no group {comment!r}")
+    if not quotes:
+        raise Fault("it quotes no words of the test's group")
+    for start in starts:
+        end = next(at for at, (line, _) in enumerate([*lines, ("", None)]) if at > start and not line)
+        found = quoted_lines([said for said in lines[start:end] if said[1] is not None], quotes)
+        if found:
+            return f"[{text}](../../{path}#L{start + 1}): {found}"
+    raise Fault(f"the test's group hasn't the words {', '.join(map(repr, quotes))}, in this order")
+
+
+def test_in_crate(text):
+    crate, _, name = text.partition(": ")
+    for path in sorted(glob.glob(os.path.join(sources.TOP, f"crates/{crate}/src/*.rt"))):
+        path = os.path.relpath(path, sources.TOP)
+        if re.search(rf"#\[test\]\s+fn {re.escape(name)}\b", sources.read(path)):
+            number = line_of(path, rf"fn {re.escape(name)}\b", f"test {name}")
+            return f"[{text}](../../{path}#L{number})"
+    raise Fault(f"{crate} has no test {name}")
+
+
+def words_in_file(text, quotes):
+    path = text if text.startswith("tests/") else f"{SCRIPTS}/{text}"
+    if not os.path.exists(os.path.join(sources.TOP, path)):
+        raise Fault(f"there is no {path}")
+    if len(quotes) != 1:
+        raise Fault(f"it quotes no words of {text}")
+    for number, line in enumerate(sources.read(path).split("\n"), 1):
+        if quotes[0] in line:
+            return f'[{text}](../../{path}#L{number}): "{quotes[0]}"'
+    raise Fault(f"{text} hasn't the words {quotes[0]!r}")
+
+
+QUOTE = r'"([^"]+)"(?: => `[^`]*`)?'
+TEST = re.compile(rf"(?:\[(.*?)\]\([^()]*\)|(.*?))(?:: ((?:{QUOTE}(?:, )?)+))?")
+# A cell's tests: what is between `; `, but not in the text of a link, in words or in an answer.
+TESTS = re.compile(r'(?:\[[^\]]*\]|"[^"]*"|`[^`]*`|[^;\["`]|;(?! ))+')
+
+
+def test(part):
+    link, text, quotes, _ = TEST.fullmatch(part.strip()).groups()
+    text, quotes = link or text, re.findall(QUOTE, quotes or "")
+    if re.match(r"\w+_tests: ", text):
+        return test_in_crate(text)
+    return test_in_script(text, quotes) if ": " in text else words_in_file(text, quotes)
 
 
 def written(tree, cells):
@@ -147,7 +204,8 @@ def written(tree, cells):
     if len(cells) != 6:
         raise Fault("a row has six cells")
     target, name = parsed(cells[3])[0], parsed(cells[4].partition("; body ")[0])[0]
-    row = [*cells[:2], prose(cells[2]), definition(tree, target), functions(tree, cells[4]), test(cells[5])]
+    row = [*cells[:2], prose(cells[2]), definition(tree, target), functions(tree, cells[4]),
+           "; ".join(map(test, TESTS.findall(cells[5])))]
     if tuple(target.split(".")) not in tree.closure(tree.named_by_contract(tree.function(name))):
         raise Fault(f"the contract of {name} doesn't lead to {target}")
     return row
@@ -157,7 +215,7 @@ def checked(tree, line):
     """The row as it has to be; with --check a fault if it differs."""
     row = "| " + " | ".join(written(tree, cells_of(line))) + " |"
     if row != line and "--check" in sys.argv:
-        raise Fault("a link isn't what the sources have: run tools/rules.py")
+        raise Fault("a link or an answer isn't what the sources have: run tools/rules.py")
     return row
 
 
@@ -167,14 +225,17 @@ PLANTS = [
     (2, lambda cell: cell.replace(': "', ': "nothing of ', 1), "hasn't the words"),
     (2, lambda cell: cell.partition(': "')[0], "quotes no words"),
     (3, lambda cell: "`pos_counter.Steps.Nothing`", "no definition"),
-    (3, lambda cell: "`pos_survey.Tellings.Tells`", "doesn't lead to"),
+    (3, lambda cell: "`pos_survey.Descriptions.Describes`", "doesn't lead to"),
     (4, lambda cell: "`pos_counter::Counter::nothing`", "no function"),
     (4, lambda cell: cell + "; body `pos_common::status::nothing`", "no function"),
     (4, lambda cell: cell + "; body `pos_sims::Screen::show`", "has no body"),
     (5, lambda cell: "drawer.open: nothing of it", "no group"),
     (5, lambda cell: cell.replace(': "', ': "nothing of ', 1), "hasn't the words"),
+    (5, lambda cell: re.sub(r"=> `[^`]*`", "=> `nothing of it`", cell), "run tools/rules.py"),
     (5, lambda cell: re.sub(r"#L(\d+)", lambda at: f"#L{int(at[1]) + 1}", cell), "run tools/rules.py"),
     (5, lambda cell: "pos_run_tests: nothing_of_it", "no test"),
+    (5, lambda cell: cell + '; tests/program.sh: "nothing of it"', "hasn't the words"),
+    (5, lambda cell: cell + "; disk.files.left", "quotes no words"),
 ]
 
 

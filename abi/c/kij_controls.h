@@ -556,7 +556,8 @@ kij_result kij_scanner_clear_input_properties(kij_control *scanner);
  * @retval KIJ_E_CLAIMED Another control has claimed the device.
  * @retval KIJ_E_NOTCLAIMED No control has claimed the device.
  * @retval KIJ_E_DISABLED The control is disabled.
- * @retval KIJ_E_ILLEGAL The text has a byte that a display doesn't take, or the attribute is out of its range.
+ * @retval KIJ_E_ILLEGAL The text has a byte other than 0x20 to 0x7E, LF and CR, or the attribute is out of its
+ *         range.
  * @retval KIJ_E_FAILURE The display didn't answer.
  * @retval KIJ_E_OFFLINE The display is off.
  * @retval KIJ_NO_MEMORY There was no memory.
@@ -579,7 +580,8 @@ kij_result kij_display_text(kij_control *display, const void *text, size_t text_
  * @retval KIJ_E_CLAIMED Another control has claimed the device.
  * @retval KIJ_E_NOTCLAIMED No control has claimed the device.
  * @retval KIJ_E_DISABLED The control is disabled.
- * @retval KIJ_E_ILLEGAL The row, the column or the attribute is out of its range, or the text has another byte.
+ * @retval KIJ_E_ILLEGAL The row, column or attribute is out of its range, or displayText refuses a byte of the
+ *         text.
  * @retval KIJ_E_FAILURE The display didn't answer.
  * @retval KIJ_E_OFFLINE The display is off.
  * @retval KIJ_NO_MEMORY There was no memory.

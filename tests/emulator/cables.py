@@ -93,6 +93,8 @@ class TcpCable:
     def pull_out(self, is_forever=False):
         self.drop()
         if self._listener is not None:
+            # The device's thread may be waiting for it. A close alone would then keep the port until that thread goes on.
+            self._listener.shutdown(socket.SHUT_RDWR)
             self._listener.close()
             self._listener = None
 

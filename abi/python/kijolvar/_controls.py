@@ -637,7 +637,7 @@ class LineDisplay(StandardControl):
             ClaimedError: Another control has claimed the device.
             NotClaimedError: No control has claimed the device.
             DisabledError: The control is disabled.
-            IllegalError: The text has a byte that a display doesn't take, or the attribute is out of its range.
+            IllegalError: The text has a byte other than 0x20 to 0x7E, LF and CR, or the attribute is out of its range.
             FailureError: The display didn't answer.
             OfflineError: The display is off.
 
@@ -665,7 +665,7 @@ class LineDisplay(StandardControl):
             ClaimedError: Another control has claimed the device.
             NotClaimedError: No control has claimed the device.
             DisabledError: The control is disabled.
-            IllegalError: The row, the column or the attribute is out of its range, or the text has another byte.
+            IllegalError: The row, column or attribute is out of its range, or displayText refuses a byte of the text.
             FailureError: The display didn't answer.
             OfflineError: The display is off.
 

@@ -5,9 +5,10 @@ pub use Rattle.core.proofs.cell.Inside.{Good}
 pub use Rattle.core.specs.declared.alloc.Allocator.{Ghosts}
 pub use Rattle.kijolvar.specs.Orders.{order_text, with_arguments}
 pub use Rattle.kijolvar.specs.NextOrders.{NextOrderBy}
-pub use Rattle.kijolvar.specs.declared.kept.Kept.{Kept}
+pub use Rattle.kijolvar.specs.declared.till_state.TillState.{TillState}
 pub use Rattle.pos_service.specs.declared.order.Argument.{Argument}
-pub use Rattle.std.proofs.Common.{Err, List, Option, [], ap, arith, inl, refl, subst, sym, true≢false, ℕ, ◌++◌, ◌∙◌, ◌∷◌, ◌≡◌}
+pub use Rattle.std.proofs.Common.{Err, List, Option, [], ap, arith, inl, refl, subst, sym, true≢false, ℕ, ◌++◌, ◌∙◌}
+pub use Rattle.std.proofs.Common.{◌∷◌, ◌≡◌}
 pub use Rattle.std.proofs.raw_atomic.Walks.{leaves, proved_at}
 pub use Rattle.std.specs.List.{filter_map}
 pub use Rattle.std_alloc.proofs.BoxSteps.Steps.{box_in, box_out}
@@ -37,8 +38,9 @@ pub use mir.Val.{Val, WT, has_ty, of_list, vcons, vnil, vptr, vstruct}
 pub use prog.Wp.{WpFn}
 pub use seplogic.Ra.Ura.{Ura}
 pub use types.ByLocal.{alloc_all, env, free_all, get, get_in, lands_as, lands_last, look_at, pass_all, sets}
-pub use types.Kit.{ !, Goal, Item, Seq, Step, at_ret, await, by, drop, feq_i, feq_l, fjoin, fpack, fpick, fsplit, join, keep, later, move, pick, qed, raw}
-pub use types.Kit.{rewrite, some, split, split3, step, suffices, use0, use1, ‵, ◌$◌, ◌∵◌, ◌⊛◌}
+pub use types.Kit.{ !, Goal, Item, Seq, Step, at_ret, await, by, drop, feq_i, feq_l, fjoin, fpack, fpick, fsplit, join}
+pub use types.Kit.{keep, later, move, pick, qed, raw, rewrite, some, split, split3, step, suffices, use0, use1, ‵, ◌$◌}
+pub use types.Kit.{◌∵◌, ◌⊛◌}
 pub use types.Logic.{Logic, sem}
 pub use types.Part.{agg, sub, whole}
 pub use types.Run.{and_then, blocks, enter, exec, first, fld, no_more, of_opd, returns, stop}

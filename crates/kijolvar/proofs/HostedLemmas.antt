@@ -1,14 +1,16 @@
 -- What the calls of a till's disk do, in the terms of every disk.
-use Rattle.std.proofs.Common.{Bool, Err, List, Ok, Option, [], ap, arith, false, inl, inr, refl, subst, true, ℕ, ⊎_elim, ◌++◌, ◌<◌, ◌^◌, ◌∙◌, ◌∷◌, ◌≡◌, ◌≢◌}
+use Rattle.std.proofs.Common.{Bool, Err, List, Ok, Option, [], ap, arith, false, inl, inr, refl, subst, true, ℕ, ⊎_elim}
+use Rattle.std.proofs.Common.{◌++◌, ◌<◌, ◌^◌, ◌∙◌, ◌∷◌, ◌≡◌, ◌≢◌}
 use Rattle.std.specs.Prelude.{IfSome, None, OnOk, Some, ◌||◌}
 use Rattle.pos_disk.proofs.Common.{DiskState, Elapses, HasCause, Memory, Reads, Syncs, Writes, splice, state_of}
 use Rattle.pos_disk.specs.Fuse.{may_under, with_failures}
 use Rattle.pos_disk.specs.State.{Answer}
 use Rattle.pos_disk.specs.declared.device.DiskFault.{DiskFault}
 use Rattle.kijolvar.specs.Codes.{ok}
-use Rattle.kijolvar.specs.Errands.{Does, HostWork, IsSync, IsWrite, TellsOldest, file_after, file_after_all}
-use Rattle.kijolvar.specs.TillDisks.{AddsIfHosted, DoesIfHosted, HostedDisk, IsInFile, IsInStep, errands_of, failures_by, failures_of, hosted, hosted_state}
-use Rattle.kijolvar.specs.TillDisks.{DoesTold, settlement_by, settlement_with}
+use Rattle.kijolvar.specs.Errands.{Does, HostWork, IsSync, IsWrite, WritesOldest, file_after, file_after_all}
+use Rattle.kijolvar.specs.TillDisks.{AddsIfHosted, DoesIfHosted, HostedDisk, IsInFile, IsInStep, errands_of}
+use Rattle.kijolvar.specs.TillDisks.{failures_by, failures_of, hosted, hosted_state, DoesTold, settlement_by}
+use Rattle.kijolvar.specs.TillDisks.{settlement_with}
 use Rattle.kijolvar.specs.declared.till_disk.Settlement.TheVariants.{Failed, InMemory, Owed, Settled}
 use Rattle.kijolvar.specs.declared.errands.Errand.{Errand}
 use Rattle.kijolvar.specs.declared.errands.Errand.TheVariants.{Sync, Write}
@@ -18,26 +20,32 @@ time_under : {old new : DiskState} (f g : ℕ) → Elapses old new → Elapses (
 time_under {new = new} f g time = record {
   later = time.later;
   keeps = time.keeps;
-  nothing_else = λ t bytes le left. ⊎_elim inl (λ may. inr (may_under new g bytes may)) (time.nothing_else t bytes le left);
+  nothing_else = λ t bytes le left. ⊎_elim inl (λ may. inr (may_under new g bytes may))
+      (time.nothing_else t bytes le left);
 }
 
 -- a lost errand is a failure, and so is each later call
 lost_cause : (lost : Bool) (before after : DiskState) (fault : DiskFault)
-    → HasCause {T = Unit {0}} (with_failures before (failures_by lost)) (with_failures after (failures_by true)) (Err fault)
-lost_cause true before after fault = record { later = omega arith; last = omega arith; rises = inr (omega arith); same = tt }
-lost_cause false before after fault = record { later = omega arith; last = omega arith; rises = inl (omega arith); same = tt }
+    → HasCause {T = Unit {0}} (with_failures before (failures_by lost)) (with_failures after (failures_by true))
+    (Err fault)
+lost_cause true before after fault =
+    record { later = omega arith; last = omega arith; rises = inr (omega arith); same = tt }
+lost_cause false before after fault =
+    record { later = omega arith; last = omega arith; rises = inl (omega arith); same = tt }
 
 kept_cause : (failures : ℕ) (before after : DiskState) → failures < 2 ^ 64
     → HasCause {T = Unit {0}} (with_failures before failures) (with_failures after failures) (Ok tt)
 kept_cause failures before after last = record { later = omega arith; last = last; rises = tt; same = refl }
 
 -- a call fails exactly where its errand is lost
-pub cause_of : (Is : Errand → Type 0) (old new : Option HostWork) (answer : Answer) (before after : DiskState) → AddsIfHosted Is old new answer
+pub cause_of : (Is : Errand → Type 0) (old new : Option HostWork) (answer : Answer) (before after : DiskState)
+    → AddsIfHosted Is old new answer
     → HasCause (with_failures before (failures_of old)) (with_failures after (failures_of new)) answer
 cause_of Is None new (Ok u) before after (none, done) = rw none (kept_cause 0 before after (omega arith))
 cause_of Is None new (Err e) before after (none, done) = absurd (cc)
 cause_of Is (Some old) None answer before after adds = absurd adds
-cause_of Is (Some old) (Some new) (Ok u) before after (kept, (one, is, now)) = rw (now, kept) (kept_cause 0 before after (omega arith))
+cause_of Is (Some old) (Some new) (Ok u) before after (kept, (one, is, now)) =
+    rw (now, kept) (kept_cause 0 before after (omega arith))
 cause_of Is (Some old) (Some new) (Err e) before after now = rw now (lost_cause old.lost before after e)
 
 few_by : (lost : Bool) → failures_by lost < 2 ^ 64
@@ -54,7 +62,8 @@ any_answer (Ok u) a = a
 any_answer (Err e) a = tt
 
 -- a read asks nothing of the host
-pub reads_hosted : (work : Option HostWork) (old new : Memory) (at : ℕ) (out : List ℕ) (answer : Answer) → answer ≡ Ok tt
+pub reads_hosted : (work : Option HostWork) (old new : Memory) (at : ℕ) (out : List ℕ) (answer : Answer)
+    → answer ≡ Ok tt
     → Reads (state_of old) (state_of new) at out answer
     → Reads (hosted_state (hosted old work)) (hosted_state (hosted new work)) at out answer
 reads_hosted work old new at out (Err e) done reads = absurd (cc)
@@ -69,7 +78,8 @@ reads_hosted work old new at out (Ok u) done reads = record {
 
 -- a write, whatever became of its errand
 pub writes_hosted : (old new : HostedDisk) (at : ℕ) (bytes : List ℕ) (said : Answer) (answer : Answer) → said ≡ Ok tt
-    → Writes (state_of old.memory) (state_of new.memory) at bytes said → AddsIfHosted (IsWrite at bytes) old.work new.work answer
+    → Writes (state_of old.memory) (state_of new.memory) at bytes said
+    → AddsIfHosted (IsWrite at bytes) old.work new.work answer
     → Writes (hosted_state old) (hosted_state new) at bytes answer
 writes_hosted old new at bytes (Err e) answer done writes adds = absurd (cc)
 writes_hosted old new at bytes (Ok u) answer done writes adds = record {
@@ -83,7 +93,8 @@ writes_hosted old new at bytes (Ok u) answer done writes adds = record {
 }
 
 -- a sync whose errand is there
-pub syncs_hosted : (old new : HostedDisk) (said answer : Answer) → said ≡ Ok tt → answer ≡ Ok tt → Syncs (state_of old.memory) (state_of new.memory) said
+pub syncs_hosted : (old new : HostedDisk) (said answer : Answer) → said ≡ Ok tt → answer ≡ Ok tt
+    → Syncs (state_of old.memory) (state_of new.memory) said
     → AddsIfHosted IsSync old.work new.work answer → Syncs (hosted_state old) (hosted_state new) answer
 syncs_hosted old new (Err e) answer done fine syncs adds = absurd (cc)
 syncs_hosted old new (Ok u) answer done fine syncs adds = record {
@@ -101,9 +112,11 @@ last_done [] one file = refl
 last_done (errand ∷ errands) one file = last_done errands one (file_after errand file)
 
 -- The file stays behind by one errand more.
-module _ (Is : Errand → Type 0) (after : List ℕ → List ℕ) (does : (one : Errand) (file : List ℕ) → Is one → file_after one file ≡ after file) where
+module _ (Is : Errand → Type 0) (after : List ℕ → List ℕ)
+    (does : (one : Errand) (file : List ℕ) → Is one → file_after one file ≡ after file) where
   pub in_step_on : (old new : Option HostWork) (answer : Answer) (memory next : Memory) → AddsIfHosted Is old new answer
-      → (answer ≡ Ok tt → next.present.reading ≡ after memory.present.reading) → IsInStep (hosted memory old) → IsInStep (hosted next new)
+      → (answer ≡ Ok tt → next.present.reading ≡ after memory.present.reading) → IsInStep (hosted memory old)
+      → IsInStep (hosted next new)
   in_step_on None new answer memory next (none, done) reads is = rw none tt
   in_step_on (Some old) None answer memory next adds reads is = absurd adds
   in_step_on (Some old) (Some new) (Ok u) memory next (kept, (one, it_is, now)) reads is = λ present.
@@ -111,7 +124,8 @@ module _ (Is : Errand → Type 0) (after : List ℕ → List ℕ) (does : (one :
   in_step_on (Some old) (Some new) (Err e) memory next now reads is = λ present. absurd (cc (now, present))
 
 -- what a write and a sync do to a file
-pub written_so : (at : ℕ) (bytes : List ℕ) (one : Errand) (file : List ℕ) → IsWrite at bytes one → file_after one file ≡ splice file at bytes
+pub written_so : (at : ℕ) (bytes : List ℕ) (one : Errand) (file : List ℕ) → IsWrite at bytes one
+    → file_after one file ≡ splice file at bytes
 written_so at bytes (Write place kept) file (here, these) = rw (here, these) refl
 written_so at bytes Sync file is = absurd is
 
@@ -120,17 +134,20 @@ synced_so (Write place kept) file is = absurd is
 synced_so Sync file is = refl
 
 -- where nothing is left and nothing failed, the file has the bytes of the disk
-settled_file : (lost failed : Bool) (errands : List Errand) (file reading : List ℕ) → (lost ≡ false → file_after_all errands file ≡ reading)
+settled_file : (lost failed : Bool) (errands : List Errand) (file reading : List ℕ)
+    → (lost ≡ false → file_after_all errands file ≡ reading)
     → settlement_by (lost || failed) errands ≡ Settled → Some file ≡ Some reading
 settled_file true failed errands file reading is settled = absurd (cc)
 settled_file false true errands file reading is settled = absurd (cc)
 settled_file false false [] file reading is settled = ap Some (is refl)
 settled_file false false (errand ∷ errands) file reading is settled = absurd (cc)
 
-pub in_file : (memory : Memory) (work : Option HostWork) (failed : Bool) → IsInStep (hosted memory work) → settlement_with work failed ≡ Settled
+pub in_file : (memory : Memory) (work : Option HostWork) (failed : Bool) → IsInStep (hosted memory work)
+    → settlement_with work failed ≡ Settled
     → IsInFile (hosted memory work)
 in_file memory None failed is settled = absurd (cc)
-in_file memory (Some work) failed is settled = settled_file work.lost failed work.errands work.file memory.present.reading is settled
+in_file memory (Some work) failed is settled =
+    settled_file work.lost failed work.errands work.file memory.present.reading is settled
 
 -- a host that owes errands lost none
 owed_kept : (lost failed : Bool) (errands : List Errand) → settlement_by (lost || failed) errands ≡ Owed → lost ≡ false
@@ -138,10 +155,12 @@ owed_kept true failed errands owed = absurd (cc)
 owed_kept false failed errands owed = refl
 
 -- Where none is left of them, the code says so, and else it says something else.
-told_code : (errands : List Errand) (at_before at : ℕ) (before after : List ℕ) (needed_before needed code : ℕ) (told : Bool)
-    → TellsOldest errands at_before at before after needed_before needed code told → code ≡ ok → errands ≡ []
+told_code : (errands : List Errand) (at_before at : ℕ) (before after : List ℕ) (needed_before needed code : ℕ)
+    (told : Bool)
+    → WritesOldest errands at_before at before after needed_before needed code told → code ≡ ok → errands ≡ []
 told_code [] at_before at before after needed_before needed code told tells is = refl
-told_code (Sync ∷ errands) at_before at before after needed_before needed code told (tells, rest) is = absurd (omega (arith, tells.0, is))
+told_code (Sync ∷ errands) at_before at before after needed_before needed code told (tells, rest) is =
+    absurd (omega (arith, tells.0, is))
 told_code (Write place bytes ∷ errands) at_before at before after needed_before needed code told (tells, rest) is =
     absurd (⊎_elim (λ fits. omega (arith, fits.1, is)) (λ long. omega (arith, long.1, is)) tells.1)
 
@@ -157,31 +176,40 @@ kept_on : (old new : HostWork) (one : Option Errand) → Does old new one → ol
 kept_on old new None (none, same) kept = rw same kept
 kept_on old new (Some one) (first, same) kept = ap (λ (w : HostWork). w.lost) same ∙ kept
 
-owed_work : (work : Option HostWork) (failed : Bool) → settlement_with work failed ≡ Owed → IfSome work (λ w. w.lost ≡ false) × (work ≢ None)
+owed_work : (work : Option HostWork) (failed : Bool) → settlement_with work failed ≡ Owed
+    → IfSome work (λ w. w.lost ≡ false) × (work ≢ None)
 owed_work None failed owed = absurd (cc)
 owed_work (Some work) failed owed = (owed_kept work.lost failed work.errands owed, λ is. cc)
 
-still_hosted : (old new : Option HostWork) (failed : Bool) (one : Option Errand) → settlement_with old failed ≡ Owed → DoesIfHosted old new one
+still_hosted : (old new : Option HostWork) (failed : Bool) (one : Option Errand) → settlement_with old failed ≡ Owed
+    → DoesIfHosted old new one
     → IfSome new (λ w. w.lost ≡ false) × (new ≢ None)
 still_hosted None new failed one owed does = absurd (cc)
 still_hosted (Some old) None failed one owed does = absurd does
-still_hosted (Some old) (Some new) failed one owed does = (kept_on old new one does (owed_kept old.lost failed old.errands owed), λ is. cc)
+still_hosted (Some old) (Some new) failed one owed does =
+    (kept_on old new one does (owed_kept old.lost failed old.errands owed), λ is. cc)
 
-still_owed : (told : Bool) (old new : HostedDisk) (failed : Bool) → settlement_with old.work failed ≡ Owed → DoesTold told old new
+still_owed : (told : Bool) (old new : HostedDisk) (failed : Bool) → settlement_with old.work failed ≡ Owed
+    → DoesTold told old new
     → IfSome new.work (λ w. w.lost ≡ false) × (new.work ≢ None)
 still_owed true old new failed owed (one, does) = still_hosted old.work new.work failed one owed does.does
 still_owed false old new failed owed same = rw same (owed_work old.work failed owed)
 
 -- where the host is told that nothing is left, its file has the bytes of the disk
-pub told_in_file : (told : Bool) (old new : HostedDisk) (failed : Bool) → settlement_with old.work failed ≡ Owed → DoesTold told old new → IsInStep new
+pub told_in_file : (told : Bool) (old new : HostedDisk) (failed : Bool) → settlement_with old.work failed ≡ Owed
+    → DoesTold told old new → IsInStep new
     → (at_before at : ℕ) (before after : List ℕ) (needed_before needed code : ℕ) (now : Bool)
-    → TellsOldest (errands_of new.work) at_before at before after needed_before needed code now → code ≡ ok → IsInFile new
+    → WritesOldest (errands_of new.work) at_before at before after needed_before needed code now → code ≡ ok
+    → IsInFile new
 told_in_file told old new failed owed does is at_before at before after needed_before needed code now tells fine =
     let still = still_owed told old new failed owed does in
-    all_done new.memory new.work is (told_code (errands_of new.work) at_before at before after needed_before needed code now tells fine) still.0 still.1
+    all_done new.memory new.work is
+    (told_code (errands_of new.work) at_before at before after needed_before needed code now tells fine) still.0
+    still.1
 
 -- a host that said that an errand failed has failed, unless there is no file
-pub failed_now : (work : Option HostWork) (failed : Bool) → settlement_with work failed ≢ InMemory → settlement_with work true ≡ Failed
+pub failed_now : (work : Option HostWork) (failed : Bool) → settlement_with work failed ≢ InMemory
+    → settlement_with work true ≡ Failed
 failed_now None failed hosts = absurd (hosts refl)
 failed_now (Some work) failed hosts = failed_by work.lost work.errands
   where
@@ -189,7 +217,8 @@ failed_now (Some work) failed hosts = failed_by work.lost work.errands
     failed_by true errands = refl
     failed_by false errands = refl
 
-pub none_fails : (work : Option HostWork) (failed : Bool) → settlement_with work failed ≡ InMemory → settlement_with work true ≡ InMemory
+pub none_fails : (work : Option HostWork) (failed : Bool) → settlement_with work failed ≡ InMemory
+    → settlement_with work true ≡ InMemory
 none_fails None failed none = refl
 none_fails (Some work) failed none = absurd (has_file work.lost failed work.errands none)
   where

@@ -7,15 +7,18 @@ use Rattle.pos_store.specs.MovedDisks.{MovesAny}
 use Rattle.pos_store.specs.declared.fault.StoreFault.{StoreFault}
 use Rattle.kijolvar.specs.Codes.{no_memory}
 use Rattle.kijolvar.specs.Errands.{no_work}
-use Rattle.kijolvar.specs.Opening.{IsMovedOf, RefusesMove, move_code}
+use Rattle.kijolvar.specs.Openings.{IsMovedOf, RefusesMove, move_code}
 use Rattle.kijolvar.specs.TillDisks.{HostedDisk, IsInStep, file_of, hosted, hosted_state, settlement_with}
 use Rattle.kijolvar.specs.declared.till_disk.Settlement.TheVariants.{Owed}
 
 -- a disk of the file that was moved, with its errands, is the one that the move makes; one was lost for want of memory
-pub is_moved : (bytes : List ℕ) (old new : HostedDisk) (result : Result HostedDisk ℕ) → old ≡ hosted (fresh bytes) (Some (no_work bytes))
-    → MovesAny (hosted_state old) (hosted_state new) (Ok tt) → KeepsFirstLayout (hosted_state old).reading (hosted_state new).reading
+pub is_moved : (bytes : List ℕ) (old new : HostedDisk) (result : Result HostedDisk ℕ)
+    → old ≡ hosted (fresh bytes) (Some (no_work bytes))
+    → MovesAny (hosted_state old) (hosted_state new) (Ok tt)
+    → KeepsFirstLayout (hosted_state old).reading (hosted_state new).reading
     → file_of new ≡ file_of old
-    → MatchResult result (λ same. (same ≡ new) × IsInStep new × (settlement_with new.work false ≡ Owed)) (λ code. code ≡ no_memory)
+    → MatchResult result (λ same. (same ≡ new) × IsInStep new × (settlement_with new.work false ≡ Owed))
+    (λ code. code ≡ no_memory)
     → MatchResult result (IsMovedOf bytes) (RefusesMove bytes)
 is_moved bytes old new (Ok it) same moves rest file (is, in_step, owed) = rw is (record {
   moves = subst (λ (d : HostedDisk). MovesAny (hosted_state d) (hosted_state new) (Ok tt)) same moves;
@@ -27,7 +30,13 @@ is_moved bytes old new (Ok it) same moves rest file (is, in_step, owed) = rw is 
 is_moved bytes old new (Err code) same moves rest file none = inl none
 
 -- a file that isn't moved is refused for what it holds
-pub isnt_moved : (bytes : List ℕ) (old new : HostedDisk) (why : StoreFault) (code : ℕ) → old ≡ hosted (fresh bytes) (Some (no_work bytes))
+pub isnt_moved : (bytes : List ℕ) (old new : HostedDisk) (why : StoreFault) (code : ℕ)
+    → old ≡ hosted (fresh bytes) (Some (no_work bytes))
     → MovesAny (hosted_state old) (hosted_state new) (Err why) → code ≡ move_code why → RefusesMove bytes code
 isnt_moved bytes old new why code same moves told =
-    inr (inr (why, new, subst (λ (d : HostedDisk). MovesAny (hosted_state d) (hosted_state new) (Err why)) same moves, told))
+    inr (inr (
+      why,
+      new,
+      subst (λ (d : HostedDisk). MovesAny (hosted_state d) (hosted_state new) (Err why)) same moves,
+      told,
+    ))

@@ -5,7 +5,7 @@ use Rattle.std.proofs.alloc.Global.TheLaws.{the_row_laws as global_laws}
 use Rattle.std.specs.contracts.alloc.Global.{the_row as global_row}
 use Rattle.std.specs.contracts.impls.GlobalAllocator.TheImpl.{ghosts as global_ghosts}
 use Rattle.kijolvar.specs.contracts.till.Till as till
-use Rattle.kijolvar.proofs.ValueLemmas.{Loose}
+use Rattle.kijolvar.proofs.ValueLemmas.{RawBox}
 
 abbrev pub R : RattleType
 R = session_row
@@ -23,5 +23,5 @@ abbrev pub Till : RattleType
 Till = till.the_row
 
 -- a till as the loose box of its session
-abbrev pub as_loose : Till.Denot → (Loose R Z LZ g).Denot
+abbrev pub as_loose : Till.Denot → (RawBox R Z LZ g).Denot
 as_loose till = record { at = till.at; alloc = till.alloc; value = till.session }

@@ -1,7 +1,7 @@
 -- What C is told by a number (abi/README.md, "Codes").
 use Rattle.std.specs.Prelude.{ℕ, Bool, true, false, Result, Ok, Err}
-use Rattle.pos_run.specs.declared.waiting_lines.Held.{Held}
-use Rattle.pos_run.specs.declared.waiting_lines.Held.TheVariants.{Told, Waits, NoMemory}
+use Rattle.pos_run.specs.declared.waiting_lines.LineProgress.{LineProgress}
+use Rattle.pos_run.specs.declared.waiting_lines.LineProgress.TheVariants.{Printed, Waits, NoMemory}
 
 -- the call did what it says
 abbrev pub ok : ℕ
@@ -106,14 +106,14 @@ told true = ok
 told false = short
 
 -- the code of the line that is left
-abbrev pub left_code : Held → ℕ
-left_code Told = ok
+abbrev pub left_code : LineProgress → ℕ
+left_code Printed = ok
 left_code Waits = waits
 left_code NoMemory = no_memory
 
 -- the code of lines that were carried out, all of them or as far as there was memory for what they print, by whether
 -- the room holds the answer, and by what is left
-abbrev pub carried : {E : Type 0} → Result (Unit {0}) E → Bool → Held → ℕ
+abbrev pub carried : {E : Type 0} → Result (Unit {0}) E → Bool → LineProgress → ℕ
 carried (Ok u) true left = left_code left
 carried (Ok u) false left = short
 carried (Err fault) holds left = cut

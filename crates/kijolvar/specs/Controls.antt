@@ -5,7 +5,7 @@ use Rattle.pos_counter.specs.Counters.{machine}
 use Rattle.pos_counter.specs.NextEvent.{IsNextEvent}
 use Rattle.pos_counter.specs.Totals.{TotalsPart}
 use Rattle.kijolvar.specs.declared.device.Device.{Device}
-use Rattle.kijolvar.specs.declared.kept.Kept.{Kept}
+use Rattle.kijolvar.specs.declared.till_state.TillState.{TillState}
 use Rattle.kijolvar.specs.declared.till_disk.Settlement.{Settlement}
 use Rattle.kijolvar.specs.declared.till_disk.Settlement.TheVariants.{InMemory, Settled, Owed, Failed}
 use Rattle.kijolvar.specs.Codes.{disk_failed, errands_left, event_there, no_control, ok}
@@ -24,19 +24,19 @@ WritesEvent (Some number) before after code = (code ≡ event_there) × (after �
 
 -- the control that is written is the first, from a number on, to which a delivery gives an event; where nothing is
 -- written, a delivery to none gives one
-abbrev pub SaysEvent : Ghosts Device → (till : Kept) (from before after code : ℕ) → Type 0
+abbrev pub SaysEvent : Ghosts Device → (till : TillState) (from before after code : ℕ) → Type 0
 SaysEvent peripherals till from before after code = (part : TotalsPart) →
     ((code ≡ event_there) × IsNextEvent (machine peripherals till.counter part) from (Some after))
     ⊎ ((code ≡ ok) × (after ≡ before) × IsNextEvent (machine peripherals till.counter part) from None)
 
 -- what a host that asks for the next event is told, by how it stands to the disk: the control, and its file has the
 -- bytes of the totals' disk; or nothing while errands are left or one failed
-abbrev pub NextEventBy : Settlement → Ghosts Device → (till : Kept) (from before after code : ℕ) → Type 0
+abbrev pub NextEventBy : Settlement → Ghosts Device → (till : TillState) (from before after code : ℕ) → Type 0
 NextEventBy InMemory peripherals till from before after code = SaysEvent peripherals till from before after code
 NextEventBy Settled peripherals till from before after code =
     IsInFile (disk_of till) × SaysEvent peripherals till from before after code
 NextEventBy Owed peripherals till from before after code = (code ≡ errands_left) × (after ≡ before)
 NextEventBy Failed peripherals till from before after code = (code ≡ disk_failed) × (after ≡ before)
 
-abbrev pub NextEvent : Ghosts Device → (till : Kept) (from before after code : ℕ) → Type 0
+abbrev pub NextEvent : Ghosts Device → (till : TillState) (from before after code : ℕ) → Type 0
 NextEvent peripherals till = NextEventBy (settlement_of till) peripherals till

@@ -1,7 +1,8 @@
 -- The devices of a profile, as lines of text (abi/README.md, "Questions").
 use Rattle.std.specs.Prelude.{◌≡◌, ◌++◌, ◌⊎◌, ℕ, List, [], Option, Some, None, codes, decimal, flat_map}
 use Rattle.pos_service.specs.declared.category.Category.{Category}
-use Rattle.pos_service.specs.declared.category.Category.TheVariants.{CashDrawer, Scanner, LineDisplay, PosPrinter, HardTotals}
+use Rattle.pos_service.specs.declared.category.Category.TheVariants.{CashDrawer, Scanner, LineDisplay, PosPrinter}
+use Rattle.pos_service.specs.declared.category.Category.TheVariants.{HardTotals}
 use Rattle.pos_service.specs.declared.kind.Kind.{Kind}
 use Rattle.pos_service.specs.declared.kind.Kind.TheVariants as kind
 use Rattle.pos_profile.specs.Entries.{Contents}
@@ -9,8 +10,8 @@ use Rattle.pos_profile.specs.Kinds.{kind_of}
 use Rattle.pos_profile.specs.declared.entry.Entry.{Entry}
 use Rattle.kijolvar.specs.Codes.{ok}
 use Rattle.kijolvar.specs.Profiles.{GivesProfile, RefusesProfile}
-use Rattle.kijolvar.specs.Questions.{TellsText}
-use Rattle.kijolvar.specs.Tills.{TellsNothing}
+use Rattle.kijolvar.specs.Questions.{WritesText}
+use Rattle.kijolvar.specs.Tills.{WritesNothing}
 
 -- the word of a category in profiles and lines
 abbrev pub category_word : Category → List ℕ
@@ -36,13 +37,13 @@ abbrev pub devices_text : List Entry → List ℕ
 devices_text entries = flat_map device_text entries
 
 -- The devices of a profile are told.
-pub record TellsDevices (profile before after : List ℕ) (needed code : ℕ) : Type 0 where
+pub record WritesDevices (profile before after : List ℕ) (needed code : ℕ) : Type 0 where
   pub contents : Contents
   pub gives : GivesProfile profile contents
-  pub tells : TellsText (devices_text contents.devices) before after needed ok code
+  pub tells : WritesText (devices_text contents.devices) before after needed ok code
 
 -- The profile is refused, or there was no memory: nothing is written.
-pub record TellsNoDevices (profile before after : List ℕ) (needed_before needed code : ℕ) : Type 0 where
+pub record WritesNoDevices (profile before after : List ℕ) (needed_before needed code : ℕ) : Type 0 where
   pub why : RefusesProfile profile code
   pub text_stays : after ≡ before
   pub needed_stays : needed ≡ needed_before
@@ -50,4 +51,4 @@ pub record TellsNoDevices (profile before after : List ℕ) (needed_before neede
 -- what is told of the devices of a profile
 abbrev pub AnswersDevices : List ℕ → (before after : List ℕ) (needed_before needed code : ℕ) → Type 0
 AnswersDevices profile before after needed_before needed code =
-    TellsDevices profile before after needed code ⊎ TellsNoDevices profile before after needed_before needed code
+    WritesDevices profile before after needed code ⊎ WritesNoDevices profile before after needed_before needed code

@@ -1,5 +1,6 @@
 -- What a till's host has to do to its file, and what it is told of it (abi/README.md, "Totals in a file").
-use Rattle.std.specs.Prelude.{◌≡◌, ◌≢◌, ◌≤◌, ◌<◌, ◌⊎◌, ◌++◌, ◌∷◌, [], ℕ, Bool, List, Option, Some, None, Ok, Err, true, false, length, drop}
+use Rattle.std.specs.Prelude.{◌≡◌, ◌≢◌, ◌≤◌, ◌<◌, ◌⊎◌, ◌++◌, ◌∷◌, [], ℕ, Bool, List, Option, Some, None, Ok, Err, true}
+use Rattle.std.specs.Prelude.{false, length, drop}
 use Rattle.std.specs.Bool.{MatchBool}
 use Rattle.pos_disk.specs.State.{Answer, splice}
 use Rattle.kijolvar.specs.declared.errands.Errand.{Errand}
@@ -56,19 +57,19 @@ IsOldest (errand ∷ errands) found = found ≡ Some errand
 
 -- The bytes of an errand are written with their place, if there is room for them, else only how many they are. A sync
 -- has nothing to tell but itself.
-abbrev pub TellsErrand : Errand → (at_before at : ℕ) (before after : List ℕ) (needed_before needed code : ℕ) → Type 0
-TellsErrand (Write place bytes) at_before at before after needed_before needed code = (needed ≡ length bytes.items)
+abbrev pub WritesErrand : Errand → (at_before at : ℕ) (before after : List ℕ) (needed_before needed code : ℕ) → Type 0
+WritesErrand (Write place bytes) at_before at before after needed_before needed code = (needed ≡ length bytes.items)
     × (((length bytes.items ≤ length before) × (code ≡ write) × (at ≡ place)
     × (after ≡ bytes.items ++ drop (length bytes.items) before))
     ⊎ ((length before < length bytes.items) × (code ≡ short) × (at ≡ at_before) × (after ≡ before)))
-TellsErrand Sync at_before at before after needed_before needed code =
+WritesErrand Sync at_before at before after needed_before needed code =
     (code ≡ sync) × (at ≡ at_before) × (after ≡ before) × (needed ≡ needed_before)
 
 -- Of these errands the oldest is told, if there is one. It counts as told unless there was too little room.
-abbrev pub TellsOldest : List Errand → (at_before at : ℕ) (before after : List ℕ) (needed_before needed code : ℕ)
+abbrev pub WritesOldest : List Errand → (at_before at : ℕ) (before after : List ℕ) (needed_before needed code : ℕ)
     (told : Bool) → Type 0
-TellsOldest [] at_before at before after needed_before needed code told =
+WritesOldest [] at_before at before after needed_before needed code told =
     (code ≡ ok) × (at ≡ at_before) × (after ≡ before) × (needed ≡ needed_before) × (told ≡ false)
-TellsOldest (errand ∷ errands) at_before at before after needed_before needed code told =
-    TellsErrand errand at_before at before after needed_before needed code
+WritesOldest (errand ∷ errands) at_before at before after needed_before needed code told =
+    WritesErrand errand at_before at before after needed_before needed code
     × MatchBool told (code ≢ short) (code ≡ short)

@@ -13,11 +13,11 @@ use Rattle.pos_streams.specs.Transfers.{given_to}
 use Rattle.pos_run.specs.Transcript.{Session}
 use Rattle.pos_run.specs.Spares.{AreSparesSound}
 use Rattle.pos_run.specs.WaitingLines.{IsOneLine, LinesLeave}
-use Rattle.pos_run.specs.declared.waiting_lines.Held.{Held}
-use Rattle.pos_run.specs.declared.waiting_lines.Held.TheVariants.{Told}
+use Rattle.pos_run.specs.declared.waiting_lines.LineProgress.{LineProgress}
+use Rattle.pos_run.specs.declared.waiting_lines.LineProgress.TheVariants.{Printed}
 use Rattle.pos_streams.specs.declared.sink.WriteFault.{WriteFault}
 use Rattle.kijolvar.specs.declared.device.Device.{Device}
-use Rattle.kijolvar.specs.declared.kept.Kept.{Kept}
+use Rattle.kijolvar.specs.declared.till_state.TillState.{TillState}
 use Rattle.kijolvar.specs.TillDisks.{HostedDisk}
 use Rattle.kijolvar.specs.Tills.{session_in}
 
@@ -37,37 +37,37 @@ pub record AreHeld (texts : List (Vec ℕ Global)) : Type 0 where
   pub each : All IsOneLine texts
 
 -- What is true of every till: its counter and its spares are sound, and each text that is held is one line.
-pub record IsTillSound (peripherals : Ghosts Device) (till : Kept) : Type 0 where
+pub record IsTillSound (peripherals : Ghosts Device) (till : TillState) : Type 0 where
   pub counter : IsCounterSound peripherals till.counter
   pub spares : AreSparesSound peripherals till.spares
   pub held : AreHeld till.held.items
 
 -- the answer to earlier lines is forgotten, and nothing else changes
-pub record BeginsAnswer (old new : Kept) : Type 0 where
+pub record BeginsAnswer (old new : TillState) : Type 0 where
   pub stays : new ≡ record old { told = false; answer = new.answer }
   pub answer : given_to new.answer ≡ given_with [] (given_to old.answer).faults
 
 -- no line is held, and no order waits for its report
-pub record DropsHeld (peripherals : Ghosts Device) (old new : Kept) : Type 0 where
-  pub stays : new ≡ record old { counter = new.counter; held = new.held; left = Told }
+pub record DropsHeld (peripherals : Ghosts Device) (old new : TillState) : Type 0 where
+  pub stays : new ≡ record old { counter = new.counter; held = new.held; left = Printed }
   pub counter : Stays peripherals old.counter new.counter
   pub held : new.held.items ≡ []
 
 -- How lines ended is noted. Where memory ran out for what one prints, none is held any more.
-pub record EndsLines (went : Result Held WriteFault) (old new : Kept) : Type 0 where
+pub record EndsLines (went : Result LineProgress WriteFault) (old new : TillState) : Type 0 where
   pub stays : new ≡ record old { outcome = new.outcome; held = new.held; left = new.left }
   pub ends : MatchResult went (λ left. (new.outcome ≡ Ok tt) × (new.left ≡ left) × (new.held ≡ old.held))
-      (λ fault. (new.outcome ≡ Err fault) × (new.left ≡ Told) × (new.held.items ≡ []))
+      (λ fault. (new.outcome ≡ Err fault) × (new.left ≡ Printed) × (new.held.items ≡ []))
 
 -- Lines go on from a counter and a session. From the front on they are carried out, once each, and their text is added
 -- to the answer; the others are held. Where memory ran out for what a line prints, that line is the last, and none is
 -- held.
 pub record GoesOn (bound : DiskGhosts HostedDisk) (hosts : Device → Course) (peripherals : Ghosts Device)
     (counter : Counter HostedDisk Device) (session : Session) (before : Given) (lines : List (Vec ℕ Global))
-    (new : Kept) : Type 0 where
+    (new : TillState) : Type 0 where
   pub ends : MatchResult new.outcome
       (λ u. LinesLeave bound peripherals hosts counter session lines new.held.items before (given_to new.answer)
       (Ok new.left) new.counter (session_in peripherals new))
       (λ fault. (later : List (Vec ℕ Global)) × LinesLeave bound peripherals hosts counter session lines later before
       (given_to new.answer) (Err fault) new.counter (session_in peripherals new)
-      × (new.held.items ≡ []) × (new.left ≡ Told))
+      × (new.held.items ≡ []) × (new.left ≡ Printed))

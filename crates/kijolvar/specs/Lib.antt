@@ -7,9 +7,9 @@ pub mod HeldLines
 pub mod LineAnswers
 pub mod NextOrders
 pub mod Reports
-pub mod Hosting
+pub mod Hosts
 pub mod Paper
-pub mod Opening
+pub mod Openings
 pub mod Tills
 pub mod Profiles
 pub mod Slots

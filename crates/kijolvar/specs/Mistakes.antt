@@ -22,7 +22,7 @@ use Rattle.pos_program.specs.ProfileFiles.{Reads}
 use Rattle.pos_program.specs.declared.profile_fault.ProfileFileFault.{ProfileFileFault}
 use Rattle.pos_program.specs.declared.profile_fault.ProfileFileFault.TheVariants as fault
 use Rattle.kijolvar.specs.Codes.{bad_profile, bad_text, no_memory, ok}
-use Rattle.kijolvar.specs.Questions.{TellsNoText, TellsText}
+use Rattle.kijolvar.specs.Questions.{WritesNoText, WritesText}
 
 -- where something isn't sound: nothing for the root, else the entry
 abbrev pub place_text : Place → List ℕ
@@ -78,40 +78,40 @@ refusal_code (fault.NotToml line error) = bad_text
 refusal_code other = bad_profile
 
 -- A refusal is told, with its place if it has one.
-pub record TellsRefusal (why : ProfileFileFault) (at_before at : ℕ) (before after : List ℕ) (needed code : ℕ)
+pub record WritesRefusal (why : ProfileFileFault) (at_before at : ℕ) (before after : List ℕ) (needed code : ℕ)
     : Type 0 where
   pub told : List ℕ
   pub reason : IsReason why told
   pub place : IsPlace why at_before at
-  pub tells : TellsText told before after needed (refusal_code why) code
+  pub tells : WritesText told before after needed (refusal_code why) code
 
 -- a refusal is told, or there was no memory for its words
 abbrev pub AnswersRefusal : ProfileFileFault → (at_before at : ℕ) (before after : List ℕ)
     (needed_before needed code : ℕ) → Type 0
 AnswersRefusal why at_before at before after needed_before needed code =
-    TellsNoText at_before at before after needed_before needed code no_memory
-    ⊎ TellsRefusal why at_before at before after needed code
+    WritesNoText at_before at before after needed_before needed code no_memory
+    ⊎ WritesRefusal why at_before at before after needed code
 
 -- what is told of a document: that it is a profile, or why it isn't
 abbrev pub AnswersDocument : Option Members → (at_before at : ℕ) (before after : List ℕ)
     (needed_before needed code : ℕ) → Type 0
 AnswersDocument document at_before at before after needed_before needed code =
     ((contents : Contents) × FromDocument document (Ok contents)
-    × TellsNoText at_before at before after needed_before needed code ok)
+    × WritesNoText at_before at before after needed_before needed code ok)
     ⊎ ((why : ProfileFileFault) × Reads document (Err why)
     × AnswersRefusal why at_before at before after needed_before needed code)
 
 -- the bytes aren't UTF-8, from this place on
-pub record TellsNoUtf8 (bytes : List ℕ) (at : ℕ) (before after : List ℕ) (needed code : ℕ) : Type 0 where
+pub record WritesNoUtf8 (bytes : List ℕ) (at : ℕ) (before after : List ℕ) (needed code : ℕ) : Type 0 where
   pub no_text : ¬ (IsUtf8 bytes)
   pub place : at ≡ utf8_valid_len bytes
-  pub tells : TellsText (codes "not UTF-8") before after needed bad_text code
+  pub tells : WritesText (codes "not UTF-8") before after needed bad_text code
 
 -- What is told of the bytes of a profile: that none is the built one, why they are refused, or that they aren't.
 abbrev pub AnswersMistake : List ℕ → (at_before at : ℕ) (before after : List ℕ) (needed_before needed code : ℕ)
     → Type 0
 AnswersMistake [] at_before at before after needed_before needed code =
-    TellsNoText at_before at before after needed_before needed code ok
+    WritesNoText at_before at before after needed_before needed code ok
 AnswersMistake bytes at_before at before after needed_before needed code =
-    TellsNoUtf8 bytes at before after needed code
+    WritesNoUtf8 bytes at before after needed code
     ⊎ (IsUtf8 bytes × AnswersDocument (parse_document bytes) at_before at before after needed_before needed code)

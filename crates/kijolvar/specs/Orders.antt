@@ -1,5 +1,6 @@
 -- What a till's host is told of its devices' orders (abi/README.md, "Devices of one's own").
-use Rattle.std.specs.Prelude.{◌≡◌, ◌≤◌, ◌<◌, ◌⊎◌, ◌++◌, ◌∷◌, [], ℕ, List, IfSome, MatchResult, Result, Ok, false, true, codes, decimal, drop, length, map}
+use Rattle.std.specs.Prelude.{◌≡◌, ◌≤◌, ◌<◌, ◌⊎◌, ◌++◌, ◌∷◌, [], ℕ, List, IfSome, MatchResult, Result, Ok, false, true}
+use Rattle.std.specs.Prelude.{codes, decimal, drop, length, map}
 use Rattle.std.specs.declared.vec.Vec.{Vec}
 use Rattle.pos_service.specs.declared.faults.NoMemory.{NoMemory}
 use Rattle.pos_service.specs.declared.order.Argument.{Argument}
@@ -14,7 +15,7 @@ use Rattle.pos_drive.specs.declared.courses.Course.TheVariants.{Free}
 use Rattle.pos_drive.specs.declared.driven.Driven.{Driven}
 use Rattle.pos_drive.specs.DrivenPeripherals.{driven_state}
 use Rattle.pos_run.specs.declared.wrapped.Wrapped.{Wrapped}
-use Rattle.pos_run.specs.Simulating.{Mounts, wrapped_devices}
+use Rattle.pos_run.specs.Simulations.{Mounts, wrapped_devices}
 use Rattle.kijolvar.specs.declared.device.Device.{Device}
 use Rattle.kijolvar.specs.Codes.{ok, order_told, short}
 
@@ -57,7 +58,7 @@ device_course device = device.driven.course
 abbrev pub mounts_device : Mounts Device
 mounts_device entry made device =
     (device.driven.twin ≡ made) × (device.driven.course ≡ Free)
-    × IfSome device.post (λ post. post.device.items ≡ entry.name)
+    × IfSome device.order_sender (λ order_sender. order_sender.device.items ≡ entry.name)
 
 -- the simulated peripheral was given an order; or there was no memory for its line, and it wasn't
 abbrev pub AsksTwin : Driven Wrapped → Order → Result Reply NoMemory → Driven Wrapped → Type 0
@@ -81,9 +82,9 @@ Refills old new = (old ≡ []) ⊎ (new ≡ old)
 
 -- The oldest of the lines that wait is written where there is room for it, and left out from then on, and else stays,
 -- and how long it is is told; where none waits, that is 0.
-abbrev pub TellsOrder : List (List ℕ) → (before after : List ℕ) (needed code : ℕ) → List (List ℕ) → Type 0
-TellsOrder [] before after needed code left = (code ≡ ok) × (needed ≡ 0) × (after ≡ before) × (left ≡ [])
-TellsOrder (line ∷ lines) before after needed code left = (needed ≡ length line)
+abbrev pub WritesOrder : List (List ℕ) → (before after : List ℕ) (needed code : ℕ) → List (List ℕ) → Type 0
+WritesOrder [] before after needed code left = (code ≡ ok) × (needed ≡ 0) × (after ≡ before) × (left ≡ [])
+WritesOrder (line ∷ lines) before after needed code left = (needed ≡ length line)
     × (((length line ≤ length before) × (code ≡ order_told) × (after ≡ line ++ drop (length line) before)
     × (left ≡ lines))
     ⊎ ((length before < length line) × (code ≡ short) × (after ≡ before) × (left ≡ line ∷ lines)))

@@ -13,12 +13,12 @@ use Rattle.pos_counter.specs.Hosts.{changed_pending, hosts_in, progress_in}
 use Rattle.pos_script.specs.Lines.{lines_of}
 use Rattle.pos_streams.specs.Streams.{Given, given_with}
 use Rattle.pos_streams.specs.Transfers.{given_to}
-use Rattle.pos_run.specs.Carried.{CarriesOutLines}
+use Rattle.pos_run.specs.LineRuns.{RunsGivenLines}
 use Rattle.pos_run.specs.Transcript.{Session}
 use Rattle.pos_run.specs.WaitingLines.{lines_in}
-use Rattle.pos_run.specs.declared.waiting_lines.Held.TheVariants.{NoMemory, Told}
+use Rattle.pos_run.specs.declared.waiting_lines.LineProgress.TheVariants.{NoMemory, Printed}
 use Rattle.kijolvar.specs.declared.device.Device.{Device}
-use Rattle.kijolvar.specs.declared.kept.Kept.{Kept}
+use Rattle.kijolvar.specs.declared.till_state.TillState.{TillState}
 use Rattle.kijolvar.specs.declared.till_disk.Settlement.{Settlement}
 use Rattle.kijolvar.specs.declared.till_disk.Settlement.TheVariants.{InMemory, Settled, Owed, Failed}
 use Rattle.kijolvar.specs.Codes.{disk_failed, no_memory, no_order, undone}
@@ -35,14 +35,14 @@ pub record IsReported (hosts : Device → Course) (peripherals : Ghosts Device) 
 
 -- Lines that found no memory go on.
 pub record Resumes (bound : DiskGhosts HostedDisk) (hosts : Device → Course) (peripherals : Ghosts Device)
-    (old new : Kept) : Type 0 where
+    (old new : TillState) : Type 0 where
   pub go_on : GoesOn bound hosts peripherals old.counter (session_in peripherals old)
       (given_with [] (given_to old.answer).faults) old.held.items new
   pub rest : KeepsRest old new
 
 -- The order is done. The line that waits goes on, then the inputs, and then the others.
 pub record TakesDone (bound : DiskGhosts HostedDisk) (hosts : Device → Course) (peripherals : Ghosts Device)
-    (old : Kept) (inputs : List ℕ) (new : Kept) : Type 0 where
+    (old : TillState) (inputs : List ℕ) (new : TillState) : Type 0 where
   pub reported : Counter HostedDisk Device
   pub reports : IsReported hosts peripherals true old.counter reported
   pub lines : List (Vec ℕ Global)
@@ -54,11 +54,11 @@ pub record TakesDone (bound : DiskGhosts HostedDisk) (hosts : Device → Course)
 -- The order is not done. The inputs are carried out first, then the report is taken, and the line that waits goes on,
 -- and then the others.
 pub record TakesFailure (bound : DiskGhosts HostedDisk) (hosts : Device → Course) (peripherals : Ghosts Device)
-    (old : Kept) (inputs : List ℕ) (new : Kept) : Type 0 where
+    (old : TillState) (inputs : List ℕ) (new : TillState) : Type 0 where
   pub fed : Counter HostedDisk Device
   pub session : Session
   pub between : Given
-  pub carries : CarriesOutLines {E = Unit {0}} bound peripherals old.counter (session_in peripherals old)
+  pub carries : RunsGivenLines {E = Unit {0}} bound peripherals old.counter (session_in peripherals old)
       (lines_of inputs) (given_with [] (given_to old.answer).faults) between (Ok tt) session fed
   pub reported : Counter HostedDisk Device
   pub reports : IsReported hosts peripherals false fed reported
@@ -67,14 +67,14 @@ pub record TakesFailure (bound : DiskGhosts HostedDisk) (hosts : Device → Cour
 
 -- The order is not done, and memory ran out for what an input prints. No later line is carried out, and none is held.
 pub record CutsInputs (bound : DiskGhosts HostedDisk) (hosts : Device → Course) (peripherals : Ghosts Device)
-    (old : Kept) (inputs : List ℕ) (new : Kept) : Type 0 where
+    (old : TillState) (inputs : List ℕ) (new : TillState) : Type 0 where
   pub fed : Counter HostedDisk Device
-  pub carries : CarriesOutLines {E = Unit {0}} bound peripherals old.counter (session_in peripherals old)
+  pub carries : RunsGivenLines {E = Unit {0}} bound peripherals old.counter (session_in peripherals old)
       (lines_of inputs) (given_with [] (given_to old.answer).faults) (given_to new.answer) (Err tt)
       (session_in peripherals new) fed
   pub stays : Stays peripherals fed new.counter
   pub held : new.held.items ≡ []
-  pub left : new.left ≡ Told
+  pub left : new.left ≡ Printed
   pub rest : KeepsRest old new
 
 -- the outcome of the report 0 is that the order is done
@@ -84,7 +84,7 @@ is_done outcome = outcome == 0
 -- What a report does to a till, or the code that says why it does nothing: the host has no order, or there was no
 -- memory for the inputs. Where lines found no memory they go on, and nothing of the report is read.
 pub record TakesReport (bound : DiskGhosts HostedDisk) (hosts : Device → Course) (peripherals : Ghosts Device)
-    (old : Kept) (outcome : ℕ) (inputs : List ℕ) (result : Result (Unit {0}) ℕ) (new : Kept) : Type 0 where
+    (old : TillState) (outcome : ℕ) (inputs : List ℕ) (result : Result (Unit {0}) ℕ) (new : TillState) : Type 0 where
   pub resumes : old.left ≡ NoMemory → (result ≡ Ok tt) × Resumes bound hosts peripherals old new
   pub no_order : old.left ≢ NoMemory → progress_in hosts old.counter ≢ progress.HandedOut →
       (result ≡ Err no_order) × (new ≡ old)
@@ -97,15 +97,16 @@ pub record TakesReport (bound : DiskGhosts HostedDisk) (hosts : Device → Cours
 
 -- a report is taken, and the answer of its lines is handed over
 pub record Reports (bound : DiskGhosts HostedDisk) (hosts : Device → Course) (peripherals : Ghosts Device)
-    (old : Kept) (outcome : ℕ) (inputs before after : List ℕ) (needed_before needed code : ℕ) (new : Kept) : Type 0
+    (old : TillState) (outcome : ℕ) (inputs before after : List ℕ) (needed_before needed code : ℕ)
+    (new : TillState) : Type 0
   where
     pub result : Result (Unit {0}) ℕ
     pub takes : TakesReport bound hosts peripherals old outcome inputs result new
     pub answers : AnswersAs result new before after needed_before needed code
 
 -- what a call with a report leaves, by how the till's host stands to its disk
-abbrev pub AnswersReportBy : Settlement → DiskGhosts HostedDisk → (Device → Course) → Ghosts Device → (old : Kept)
-    (outcome : ℕ) (inputs before after : List ℕ) (needed_before needed code : ℕ) (new : Kept) → Type 0
+abbrev pub AnswersReportBy : Settlement → DiskGhosts HostedDisk → (Device → Course) → Ghosts Device → (old : TillState)
+    (outcome : ℕ) (inputs before after : List ℕ) (needed_before needed code : ℕ) (new : TillState) → Type 0
 AnswersReportBy InMemory bound hosts peripherals old outcome inputs before after needed_before needed code new =
     Reports bound hosts peripherals old outcome inputs before after needed_before needed code new
 AnswersReportBy Settled bound hosts peripherals old outcome inputs before after needed_before needed code new =
@@ -115,6 +116,6 @@ AnswersReportBy Owed bound hosts peripherals old outcome inputs before after nee
 AnswersReportBy Failed bound hosts peripherals old outcome inputs before after needed_before needed code new =
     Undone old before after needed_before needed code disk_failed new
 
-abbrev pub AnswersReport : DiskGhosts HostedDisk → (Device → Course) → Ghosts Device → (old : Kept) (outcome : ℕ)
-    (inputs before after : List ℕ) (needed_before needed code : ℕ) (new : Kept) → Type 0
+abbrev pub AnswersReport : DiskGhosts HostedDisk → (Device → Course) → Ghosts Device → (old : TillState) (outcome : ℕ)
+    (inputs before after : List ℕ) (needed_before needed code : ℕ) (new : TillState) → Type 0
 AnswersReport bound hosts peripherals old = AnswersReportBy (settlement_of old) bound hosts peripherals old

@@ -1,5 +1,6 @@
 -- The disk of a till, and how its host stands to it (abi/README.md, "Totals in a file").
-use Rattle.std.specs.Prelude.{◌≡◌, ◌||◌, ◌^◌, ◌-◌, [], ◌∷◌, ℕ, Bool, List, Option, Some, None, OnOk, OnErr, Ok, IfSome, true, false, option_map}
+use Rattle.std.specs.Prelude.{◌≡◌, ◌||◌, ◌^◌, ◌-◌, [], ◌∷◌, ℕ, Bool, List, Option, Some, None, OnOk, OnErr, Ok, IfSome}
+use Rattle.std.specs.Prelude.{true, false, option_map}
 use Rattle.pos_disk.specs.State.{Answer, CountsNow, DiskState, OnlyNow}
 use Rattle.pos_disk.specs.Fuse.{counts_under, only_under, with_failures}
 use Rattle.pos_disk.specs.Kept.{counts, only}

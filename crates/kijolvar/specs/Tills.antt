@@ -9,25 +9,25 @@ use Rattle.pos_counter.specs.Totals.{TotalsPart}
 use Rattle.pos_script.specs.Lines.{lines_of}
 use Rattle.pos_streams.specs.Streams.{given_with}
 use Rattle.pos_streams.specs.Transfers.{given_to}
-use Rattle.pos_run.specs.Carried.{CarriesOutLines, session_of}
-use Rattle.pos_run.specs.Running.{begun_with, off_over}
-use Rattle.pos_run.specs.Simulating.{simulated_all, simulated_devices}
-use Rattle.pos_run.specs.declared.waiting_lines.Held.TheVariants.{Told}
+use Rattle.pos_run.specs.LineRuns.{RunsGivenLines, session_of}
+use Rattle.pos_run.specs.Runs.{begun_with, off_over}
+use Rattle.pos_run.specs.Simulations.{simulated_all, simulated_devices}
+use Rattle.pos_run.specs.declared.waiting_lines.LineProgress.TheVariants.{Printed}
 use Rattle.pos_run.specs.Transcript.{Session, begun_session}
 use Rattle.kijolvar.specs.declared.device.Device.{Device}
-use Rattle.kijolvar.specs.declared.kept.Kept.{Kept}
+use Rattle.kijolvar.specs.declared.till_state.TillState.{TillState}
 use Rattle.kijolvar.specs.declared.till_disk.Settlement.{Settlement}
 use Rattle.kijolvar.specs.declared.till_disk.Settlement.TheVariants.{InMemory, Settled, Owed, Failed}
-use Rattle.kijolvar.specs.Errands.{TellsOldest}
+use Rattle.kijolvar.specs.Errands.{WritesOldest}
 use Rattle.kijolvar.specs.TillDisks.{DoesTold, HostedDisk, IsInFile, IsInStep, errands_of, file_of, settlement_with}
 use Rattle.kijolvar.specs.Codes.{carried, disk_failed, errands_left, ok}
 
 -- what the lines of a till have: the names of its controls, and its spares
-abbrev pub session_in : Ghosts Device → Kept → Session
+abbrev pub session_in : Ghosts Device → TillState → Session
 session_in peripherals till = session_of peripherals till.names till.spares
 
 -- the disk of a till
-abbrev pub disk_of : Kept → HostedDisk
+abbrev pub disk_of : TillState → HostedDisk
 disk_of till = till.counter.totals.disk
 
 -- a counter with this disk
@@ -35,12 +35,13 @@ abbrev pub with_disk : Counter HostedDisk Device → HostedDisk → Counter Host
 with_disk counter disk = record counter { totals = record counter.totals { disk = disk } }
 
 -- how the host of a till stands to its disk
-abbrev pub settlement_of : Kept → Settlement
+abbrev pub settlement_of : TillState → Settlement
 settlement_of till = settlement_with (disk_of till).work till.failed
 
 -- A new till over a disk: the devices of a profile, each served by what is simulated for it, its spares, no control,
 -- totals that are off, and no order; no errand was told, and none failed.
-pub record Begins (peripherals : Ghosts Device) (contents : Contents) (disk : HostedDisk) (till : Kept) : Type 0 where
+pub record Begins (peripherals : Ghosts Device) (contents : Contents) (disk : HostedDisk)
+    (till : TillState) : Type 0 where
   pub profile : till.profile ≡ contents
   pub served : (part : TotalsPart)
       → machine peripherals till.counter part ≡ begun_with (simulated_devices contents.devices) part
@@ -53,12 +54,12 @@ pub record Begins (peripherals : Ghosts Device) (contents : Contents) (disk : Ho
   pub orders : till.orders.items ≡ []
   pub is_driven : till.is_driven ≡ false
   pub held : till.held.items ≡ []
-  pub left : till.left ≡ Told
+  pub left : till.left ≡ Printed
 
 -- Beside the counter, the names, the spares and the answer nothing changes. The host's file stays as it is, and none of
 -- the errands was told; once they are done in it, it has the bytes of the totals' disk. The orders that wait already
 -- stay too.
-pub record KeepsRest (old new : Kept) : Type 0 where
+pub record KeepsRest (old new : TillState) : Type 0 where
   pub file : file_of (disk_of new) ≡ file_of (disk_of old)
   pub in_step : IsInStep (disk_of new)
   pub told : new.told ≡ false
@@ -69,86 +70,90 @@ pub record KeepsRest (old new : Kept) : Type 0 where
 
 -- The lines of a text are carried out in order, and the new answer is what they print; or, where there was no memory
 -- for that, they are as far as it is there, and it is a front. None is held.
-pub record CarriesOut (bound : DiskGhosts HostedDisk) (peripherals : Ghosts Device) (old : Kept)
-    (text : List ℕ) (new : Kept) : Type 0 where
-  pub lines : CarriesOutLines bound peripherals old.counter (session_in peripherals old) (lines_of text)
+pub record RunsText (bound : DiskGhosts HostedDisk) (peripherals : Ghosts Device) (old : TillState)
+    (text : List ℕ) (new : TillState) : Type 0 where
+  pub lines : RunsGivenLines bound peripherals old.counter (session_in peripherals old) (lines_of text)
       (given_with [] (given_to old.answer).faults) (given_to new.answer) new.outcome (session_in peripherals new)
       new.counter
   pub held : new.held.items ≡ []
-  pub left : new.left ≡ Told
+  pub left : new.left ≡ Printed
   pub rest : KeepsRest old new
 
 -- The front of an answer that there is room for is written, what stands behind it in the room stays, and how long the
 -- answer is is told.
-pub record Tells (answer before after : List ℕ) (needed : ℕ) : Type 0 where
+pub record WritesAnswer (answer before after : List ℕ) (needed : ℕ) : Type 0 where
   pub written : after ≡ take (length before) answer ++ drop (length answer) before
   pub length_told : needed ≡ length answer
 
 -- nothing is written, and the code is this one
-pub record TellsNothing (before after : List ℕ) (needed_before needed code why : ℕ) : Type 0 where
+pub record WritesNothing (before after : List ℕ) (needed_before needed code why : ℕ) : Type 0 where
   pub text_stays : after ≡ before
   pub needed_stays : needed ≡ needed_before
   pub code_told : code ≡ why
 
 -- the answer is told, and the code of its lines
-pub record TellsAll (till : Kept) (before after : List ℕ) (needed code : ℕ) : Type 0 where
-  pub tells : Tells (given_to till.answer).bytes before after needed
+pub record WritesAll (till : TillState) (before after : List ℕ) (needed code : ℕ) : Type 0 where
+  pub tells : WritesAnswer (given_to till.answer).bytes before after needed
   pub code_told : code
       ≡ carried till.outcome (nat_le (length (given_to till.answer).bytes) (length before)) till.left
 
 -- what is handed over of a till's answer, by how its host stands to its disk: all of it, and the host's file has the
 -- bytes of the totals' disk; or nothing while errands are left or one failed
-abbrev pub HandsOverBy : Settlement → (till : Kept) (before after : List ℕ) (needed_before needed code : ℕ) → Type 0
-HandsOverBy InMemory till before after needed_before needed code = TellsAll till before after needed code
+abbrev pub HandsOverBy : Settlement → (till : TillState) (before after : List ℕ) (needed_before needed code : ℕ)
+    → Type 0
+HandsOverBy InMemory till before after needed_before needed code = WritesAll till before after needed code
 HandsOverBy Settled till before after needed_before needed code =
-    IsInFile (disk_of till) × TellsAll till before after needed code
+    IsInFile (disk_of till) × WritesAll till before after needed code
 HandsOverBy Owed till before after needed_before needed code =
-    TellsNothing before after needed_before needed code errands_left
+    WritesNothing before after needed_before needed code errands_left
 HandsOverBy Failed till before after needed_before needed code =
-    TellsNothing before after needed_before needed code disk_failed
+    WritesNothing before after needed_before needed code disk_failed
 
-abbrev pub HandsOver : (till : Kept) (before after : List ℕ) (needed_before needed code : ℕ) → Type 0
+abbrev pub HandsOver : (till : TillState) (before after : List ℕ) (needed_before needed code : ℕ) → Type 0
 HandsOver till = HandsOverBy (settlement_of till) till
 
 -- nothing is carried out or told, and the code says why
-pub record Undone (old : Kept) (before after : List ℕ) (needed_before needed code why : ℕ) (new : Kept) : Type 0 where
+pub record Undone (old : TillState) (before after : List ℕ) (needed_before needed code why : ℕ)
+    (new : TillState) : Type 0 where
   pub stays : new ≡ old
-  pub tells : TellsNothing before after needed_before needed code why
+  pub tells : WritesNothing before after needed_before needed code why
 
 -- No errand is told, the code says why, and the till is the same.
-pub record TellsNoErrand (old : Kept) (at_before at : ℕ) (before after : List ℕ) (needed_before needed code why : ℕ)
-    (new : Kept) : Type 0 where
+pub record WritesNoErrand (old : TillState) (at_before at : ℕ) (before after : List ℕ)
+    (needed_before needed code why : ℕ)
+    (new : TillState) : Type 0 where
   pub stays : new ≡ old
   pub at_stays : at ≡ at_before
-  pub tells : TellsNothing before after needed_before needed code why
+  pub tells : WritesNothing before after needed_before needed code why
 
 -- The errand that was told is done, if one was. Of those that are left the oldest is told, if there is one and room for
 -- it. If none is left, the host's file has the bytes of the totals' disk.
-pub record TellsNext (old : Kept) (at_before at : ℕ) (before after : List ℕ) (needed_before needed code : ℕ)
-    (new : Kept) : Type 0 where
+pub record WritesNext (old : TillState) (at_before at : ℕ) (before after : List ℕ) (needed_before needed code : ℕ)
+    (new : TillState) : Type 0 where
   pub done : DoesTold old.told (disk_of old) (disk_of new)
-  pub tells : TellsOldest (errands_of (disk_of new).work) at_before at before after needed_before needed code new.told
+  pub tells : WritesOldest (errands_of (disk_of new).work) at_before at before after needed_before needed code new.told
   pub in_file : code ≡ ok → IsInFile (disk_of new)
   pub stays : new ≡ record old { counter = with_disk old.counter (disk_of new); told = new.told }
 
 -- what a call for the next errand writes and answers, by how the till's host stands to its disk
-abbrev pub AnswersNextErrandBy : Settlement → (old : Kept) (at_before at : ℕ) (before after : List ℕ)
-    (needed_before needed code : ℕ) (new : Kept) → Type 0
+abbrev pub AnswersNextErrandBy : Settlement → (old : TillState) (at_before at : ℕ) (before after : List ℕ)
+    (needed_before needed code : ℕ) (new : TillState) → Type 0
 AnswersNextErrandBy InMemory old at_before at before after needed_before needed code new =
-    TellsNoErrand old at_before at before after needed_before needed code ok new
+    WritesNoErrand old at_before at before after needed_before needed code ok new
 AnswersNextErrandBy Settled old at_before at before after needed_before needed code new =
-    IsInFile (disk_of old) × TellsNoErrand old at_before at before after needed_before needed code ok new
+    IsInFile (disk_of old) × WritesNoErrand old at_before at before after needed_before needed code ok new
 AnswersNextErrandBy Owed old at_before at before after needed_before needed code new =
-    TellsNext old at_before at before after needed_before needed code new
+    WritesNext old at_before at before after needed_before needed code new
 AnswersNextErrandBy Failed old at_before at before after needed_before needed code new =
-    TellsNoErrand old at_before at before after needed_before needed code disk_failed new
+    WritesNoErrand old at_before at before after needed_before needed code disk_failed new
 
-abbrev pub AnswersNextErrand : (old : Kept) (at_before at : ℕ) (before after : List ℕ) (needed_before needed code : ℕ)
-    (new : Kept) → Type 0
+abbrev pub AnswersNextErrand : (old : TillState) (at_before at : ℕ) (before after : List ℕ)
+    (needed_before needed code : ℕ)
+    (new : TillState) → Type 0
 AnswersNextErrand old = AnswersNextErrandBy (settlement_of old) old
 
 -- that an errand failed is taken as said, unless there is no file
-pub record Fails (old new : Kept) : Type 0 where
+pub record Fails (old new : TillState) : Type 0 where
   pub stays : new ≡ record old { failed = true }
   pub failed : settlement_of old ≢ InMemory → settlement_of new ≡ Failed
   pub in_memory : settlement_of old ≡ InMemory → settlement_of new ≡ InMemory

@@ -2,7 +2,7 @@
 ghost use Rattle.std.specs.Prelude.{◌≡◌};
 ghost use Rattle.kijolvar.specs.Codes.{carried};
 
-use pos_run::Held;
+use pos_run::LineProgress;
 use pos_streams::WriteFault;
 
 /// The call did what it says.
@@ -76,15 +76,15 @@ pub(crate) const BAD_SETTINGS: u32 = 22;
 
 /// Returns the code of lines that were carried out, all of them or as far as none waited: OK; SHORT if the room doesn't
 /// hold their answer; CUT if memory ran out for it; WAITS if the next one waits, and NO_MEMORY if it found no memory.
-pub(crate) fn code_of(outcome: Result<(), WriteFault>, holds: bool, left: Held) -> u32
+pub(crate) fn code_of(outcome: Result<(), WriteFault>, holds: bool, left: LineProgress) -> u32
     ensures { result ≡ carried outcome holds left }
 {
     match outcome {
         Ok(()) if !holds => SHORT,
         Ok(()) => match left {
-            Held::Told => OK,
-            Held::Waits => WAITS,
-            Held::NoMemory => NO_MEMORY,
+            LineProgress::Printed => OK,
+            LineProgress::Waits => WAITS,
+            LineProgress::NoMemory => NO_MEMORY,
         },
         Err(WriteFault) => CUT,
     }

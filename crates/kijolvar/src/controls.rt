@@ -4,8 +4,8 @@ ghost use Rattle.kijolvar.specs.Controls.{FindsNumber, NextEvent, WritesEvent};
 
 use crate::codes::{DISK_FAILED, ERRANDS, EVENT, NO_CONTROL, OK};
 use crate::device::Device;
-use crate::kept::Kept;
 use crate::till_disk::Settlement;
+use crate::till_state::TillState;
 use pos_run::Names;
 use pos_service::Peripheral;
 
@@ -45,14 +45,14 @@ fn write_event(number: Option<usize>, control: &mut usize) -> u32
 /// # Errors
 ///
 /// ERRANDS if errands are left, and DISK_FAILED if one failed. Then nothing is written, and neither with OK.
-pub(crate) fn next_event(kept: &Kept, from: usize, control: &mut usize) -> u32
-    ensures { NextEvent ⟦<Device as Peripheral>⟧ kept.now from control.old control.new result }
+pub(crate) fn next_event(till_state: &TillState, from: usize, control: &mut usize) -> u32
+    ensures { NextEvent ⟦<Device as Peripheral>⟧ till_state.now from control.old control.new result }
 {
-    match kept.settlement() {
+    match till_state.settlement() {
         Settlement::Owed => ERRANDS,
         Settlement::Failed => DISK_FAILED,
         Settlement::InMemory | Settlement::Settled => {
-            write_event(kept.counter.next_event(from), control)
+            write_event(till_state.counter.next_event(from), control)
         }
     }
 }

@@ -2,7 +2,7 @@
 ghost use Rattle.std.specs.Prelude.{◌≡◌};
 ghost use Rattle.kijolvar.specs.Orders.{device_state, mounts_device};
 
-use crate::tray::{Post, Tray};
+use crate::order_queue::{OrderQueue, OrderSender};
 use pos_drive::{Awaits, Driven, Hosted, Progress};
 use pos_profile::Entry;
 use pos_run::{Mount, Wrapped};
@@ -12,7 +12,7 @@ use pos_service::{
 
 /// A device of a till, or a spare: a simulated peripheral. If the host has the hardware, it is one of these:
 ///
-/// - The simulated one answers for it at once, and each order that it carries out is kept for the host (its post). A
+/// - The simulated one answers for it at once, and each order that it carries out is queued for the host. A
 ///   spare has no name, and none of its orders is kept.
 /// - It is driven: an order is answered only after the host has reported what became of it. None of its orders is kept.
 ///
@@ -20,7 +20,7 @@ use pos_service::{
 pub struct Device {
     driven: Driven<Wrapped>,
     asks: u64,
-    post: Option<Post>,
+    order_sender: Option<OrderSender>,
 }
 
 impl Device {
@@ -45,9 +45,9 @@ impl Peripheral for Device {
 
     fn ask(&mut self, order: &Order) -> Result<Reply, NoMemory> {
         self.asks = self.asks.saturating_add(1);
-        match &self.post {
-            Some(post) if self.driven.progress() == Progress::Free => {
-                post.ask(&mut self.driven, order)
+        match &self.order_sender {
+            Some(order_sender) if self.driven.progress() == Progress::Free => {
+                order_sender.ask(&mut self.driven, order)
             }
             _ => self.driven.ask(order),
         }
@@ -111,30 +111,30 @@ impl Ends for Device {
         let Device {
             driven,
             asks: _,
-            post: _,
+            order_sender: _,
         } = self;
         driven.end();
     }
 }
 
-impl Mount<Device> for Tray {
+impl Mount<Device> for OrderQueue {
     ghost mounts = { mounts_device };
 
     fn mount(&self, entry: &Entry, simulation: Wrapped) -> Result<Device, NoMemory> {
         let name = entry.name.as_bytes();
-        let post = if name.is_empty() {
+        let order_sender = if name.is_empty() {
             None
         } else {
-            let Ok(post) = self.post(name) else {
+            let Ok(order_sender) = self.order_sender(name) else {
                 park_and_end(simulation);
                 return Err(NoMemory);
             };
-            Some(post)
+            Some(order_sender)
         };
         Ok(Device {
             driven: Driven::new(self.allocator(), simulation),
             asks: 0,
-            post,
+            order_sender,
         })
     }
 }

@@ -1,7 +1,7 @@
 //! The disks that tills begin with.
 ghost use Rattle.std.specs.Prelude.{◌≡◌, ◌≢◌, ◌⊎◌, MatchResult, Some, false};
 ghost use Rattle.kijolvar.specs.Codes.{no_memory, ok};
-ghost use Rattle.kijolvar.specs.Opening.{IsFormattedOf, IsMovedOf, RefusesMove, format_code, move_code};
+ghost use Rattle.kijolvar.specs.Openings.{IsFormattedOf, IsMovedOf, RefusesMove, format_code, move_code};
 ghost use Rattle.pos_disk.specs.Memory.{fresh};
 ghost use Rattle.kijolvar.specs.Errands.{no_work};
 ghost use Rattle.kijolvar.specs.TillDisks.{IsInStep, file_of, hosted, settlement_with};

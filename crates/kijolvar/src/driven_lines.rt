@@ -3,18 +3,18 @@ ghost use Rattle.std.specs.Prelude.{◌≡◌, ◌⊎◌, MatchResult, false};
 ghost use Rattle.pos_streams.specs.Transfers.{given_to};
 ghost use Rattle.kijolvar.specs.Codes.{no_memory};
 ghost use Rattle.kijolvar.specs.HeldLines.{BeginsAnswer, DropsHeld, EndsLines, GoesOn, IsTillSound};
-ghost use Rattle.kijolvar.specs.LineAnswers.{CarriesOutDriven};
+ghost use Rattle.kijolvar.specs.LineAnswers.{RunsDriven};
 ghost use Rattle.kijolvar.specs.Reports.{CutsInputs, TakesDone, TakesFailure, TakesReport};
 ghost use Rattle.kijolvar.specs.Tills.{KeepsRest, session_in};
 
 use crate::codes::{NO_MEMORY, NO_ORDER};
 use crate::device::Device;
 use crate::held_lines::{insert_behind_first, split_lines};
-use crate::kept::Kept;
 use crate::till_disk::TillDisk;
+use crate::till_state::TillState;
 use pos_disk::Disk;
 use pos_drive::{Awaits, Progress};
-use pos_run::{Held, carry_on, carry_out_lines};
+use pos_run::{LineProgress, carry_on, run_given_lines};
 use pos_script::LineBuffer;
 use pos_service::Peripheral;
 use pos_streams::WriteFault;
@@ -23,7 +23,7 @@ use std::alloc::Global;
 /// The outcome of an order that the host's hardware has done.
 const DONE: u32 = 0;
 
-impl Kept {
+impl TillState {
     /// Forgets the answer to earlier lines.
     fn begin_answer(&mut self)
         requires { IsTillSound ⟦<Device as Peripheral>⟧ self.old }
@@ -41,12 +41,12 @@ impl Kept {
         ensures sound { IsTillSound ⟦<Device as Peripheral>⟧ self.new }
     {
         self.held.clear();
-        self.left = Held::Told;
+        self.left = LineProgress::Printed;
         self.counter.settle();
     }
 
     /// Notes how lines ended. If memory ran out for what one prints, none is held any more.
-    fn end_lines(&mut self, went: Result<Held, WriteFault>)
+    fn end_lines(&mut self, went: Result<LineProgress, WriteFault>)
         requires { IsTillSound ⟦<Device as Peripheral>⟧ self.old }
         ensures ends { EndsLines went self.old self.new }
         ensures sound { IsTillSound ⟦<Device as Peripheral>⟧ self.new }
@@ -58,7 +58,7 @@ impl Kept {
             }
             Err(fault) => {
                 self.outcome = Err(fault);
-                self.left = Held::Told;
+                self.left = LineProgress::Printed;
                 self.held.clear();
             }
         }
@@ -93,14 +93,14 @@ impl Kept {
     /// # Errors
     ///
     /// NO_MEMORY if memory ran out for the lines. Then nothing changes.
-    pub fn carry_out_driven(
+    pub fn run_driven(
         &mut self,
         alloc: Global,
         buffer: &mut LineBuffer,
         text: &[u8],
     ) -> Result<(), u32>
         requires { IsTillSound ⟦<Device as Peripheral>⟧ self.old }
-        ensures carries { MatchResult result (λ u. CarriesOutDriven ⟦<TillDisk as Disk>⟧ ⟦<Device as Awaits>⟧.course
+        ensures carries { MatchResult result (λ u. RunsDriven ⟦<TillDisk as Disk>⟧ ⟦<Device as Awaits>⟧.course
             ⟦<Device as Peripheral>⟧ self.old text.now self.new) (λ why. (why ≡ no_memory) × (self.new ≡ self.old)) }
         ensures sound { IsTillSound ⟦<Device as Peripheral>⟧ self.new }
     {
@@ -152,7 +152,7 @@ impl Kept {
         ensures sound { IsTillSound ⟦<Device as Peripheral>⟧ self.new }
     {
         self.begin_answer();
-        self.outcome = carry_out_lines(
+        self.outcome = run_given_lines(
             alloc,
             inputs,
             buffer,
@@ -188,7 +188,7 @@ impl Kept {
             outcome inputs.now result self.new }
         ensures sound { IsTillSound ⟦<Device as Peripheral>⟧ self.new }
     {
-        if self.left == Held::NoMemory {
+        if self.left == LineProgress::NoMemory {
             self.begin_answer();
             self.go_on(alloc, buffer);
             return Ok(());

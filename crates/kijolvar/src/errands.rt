@@ -1,6 +1,6 @@
 //! What a till's host must do to its file.
 ghost use Rattle.std.specs.Prelude.{◌≡◌, IfOk, Some, option_map};
-ghost use Rattle.kijolvar.specs.Errands.{Adds, Does, IsOldest, IsSync, IsWrite, TellsErrand, no_work};
+ghost use Rattle.kijolvar.specs.Errands.{Adds, Does, IsOldest, IsSync, IsWrite, WritesErrand, no_work};
 
 use crate::codes::{SHORT, SYNC, WRITE};
 use crate::host_file::HostFile;
@@ -38,13 +38,13 @@ pub(crate) fn write_errand(alloc: Global, at: u64, bytes: &[u8]) -> Result<Erran
 ///
 /// SHORT if `bytes` has less room than the errand has bytes. Then `needed` says how many it has, and nothing else is
 /// written.
-pub(crate) fn tell_errand(
+pub(crate) fn write_one_errand(
     errand: &Errand,
     at: &mut u64,
     bytes: &mut [u8],
     needed: &mut usize,
 ) -> u32
-    ensures { TellsErrand errand.now at.old at.new bytes.old bytes.new needed.old needed.new result }
+    ensures { WritesErrand errand.now at.old at.new bytes.old bytes.new needed.old needed.new result }
 {
     match errand {
         Errand::Sync => SYNC,

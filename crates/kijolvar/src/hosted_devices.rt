@@ -1,16 +1,16 @@
 //! What a till has for a host with devices of its own.
 ghost use Rattle.std.specs.Prelude.{◌≡◌};
 ghost use Rattle.kijolvar.specs.HeldLines.{IsTillSound};
-ghost use Rattle.kijolvar.specs.Hosting.{Drives, IsHostCode, is_drivable, is_hostable, may_be_driven, may_be_hosted};
+ghost use Rattle.kijolvar.specs.Hosts.{Drives, IsHostCode, is_drivable, is_hostable, may_be_driven, may_be_hosted};
 ghost use Rattle.kijolvar.specs.NextOrders.{GivesDriven, HandsOut, NextOrder};
 ghost use Rattle.kijolvar.specs.Orders.{Refills, order_lines};
 
 use crate::codes::{DISK_FAILED, ERRANDS, NO_DEVICE, NO_MEMORY, OK, ORDER, SHORT};
 use crate::device::Device;
-use crate::kept::Kept;
-use crate::orders::{order_line, tell_order};
+use crate::order_queue::OrderQueue;
+use crate::orders::{order_line, write_order};
 use crate::till_disk::Settlement;
-use crate::tray::Tray;
+use crate::till_state::TillState;
 use pos_drive::{Awaits, Progress};
 use pos_profile::{Entry, Profile};
 use pos_service::Peripheral;
@@ -36,13 +36,13 @@ fn may_be_hosted(entries: &[Entry], name: &[u8]) -> bool
 /// # Errors
 ///
 /// NO_DEVICE if no device of the name may have a peripheral, and NO_MEMORY if memory ran out. Then nothing changes.
-pub(crate) fn host_device(profile: &Profile, tray: &Tray, name: &[u8]) -> u32
+pub(crate) fn host_device(profile: &Profile, order_queue: &OrderQueue, name: &[u8]) -> u32
     ensures { IsHostCode profile.now.devices name.now result }
 {
     if !may_be_hosted(profile.devices(), name) {
         return NO_DEVICE;
     }
-    match tray.host(name) {
+    match order_queue.host(name) {
         Ok(()) => OK,
         Err(_) => NO_MEMORY,
     }
@@ -67,27 +67,28 @@ fn may_be_driven(entries: &[Entry], name: &[u8]) -> bool
 /// # Errors
 ///
 /// NO_DEVICE if no device of the name may be driven, or nothing serves it. Then nothing changes.
-pub(crate) fn drive_device(kept: &mut Kept, name: &[u8]) -> u32
-    requires { IsTillSound ⟦<Device as Peripheral>⟧ kept.old }
-    ensures drives { Drives ⟦<Device as Awaits>⟧.course ⟦<Device as Peripheral>⟧ kept.old name.now result kept.new }
-    ensures sound { IsTillSound ⟦<Device as Peripheral>⟧ kept.new }
+pub(crate) fn drive_device(till_state: &mut TillState, name: &[u8]) -> u32
+    requires { IsTillSound ⟦<Device as Peripheral>⟧ till_state.old }
+    ensures drives { Drives ⟦<Device as Awaits>⟧.course ⟦<Device as Peripheral>⟧ till_state.old name.now result
+        till_state.new }
+    ensures sound { IsTillSound ⟦<Device as Peripheral>⟧ till_state.new }
 {
-    if !may_be_driven(kept.profile.devices(), name) {
+    if !may_be_driven(till_state.profile.devices(), name) {
         return NO_DEVICE;
     }
-    if !kept.counter.drive(name) {
+    if !till_state.counter.drive(name) {
         return NO_DEVICE;
     }
-    kept.is_driven = true;
+    till_state.is_driven = true;
     OK
 }
 
 /// Takes the orders that devices have kept, if none is left of those that were taken before.
-fn refill(orders: &mut VecDeque<Vec<u8>>, tray: &Tray)
+fn refill(orders: &mut VecDeque<Vec<u8>>, order_queue: &OrderQueue)
     ensures { Refills (order_lines orders.old.items) (order_lines orders.new.items) }
 {
     if orders.front().is_none() {
-        tray.exchange(orders);
+        order_queue.exchange(orders);
     }
 }
 
@@ -97,18 +98,23 @@ fn refill(orders: &mut VecDeque<Vec<u8>>, tray: &Tray)
 /// # Errors
 ///
 /// SHORT if `text` has less room, and NO_MEMORY if memory ran out for the line. Then the host doesn't have the order.
-fn give_driven(kept: &mut Kept, alloc: Global, text: &mut [u8], needed: &mut usize) -> u32
-    requires { IsTillSound ⟦<Device as Peripheral>⟧ kept.old }
-    ensures gives { GivesDriven ⟦<Device as Awaits>⟧.course ⟦<Device as Peripheral>⟧ kept.old text.old text.new
-        needed.old needed.new result kept.new }
-    ensures orders { kept.new.orders ≡ kept.old.orders }
-    ensures sound { IsTillSound ⟦<Device as Peripheral>⟧ kept.new }
+fn give_driven(
+    till_state: &mut TillState,
+    alloc: Global,
+    text: &mut [u8],
+    needed: &mut usize,
+) -> u32
+    requires { IsTillSound ⟦<Device as Peripheral>⟧ till_state.old }
+    ensures gives { GivesDriven ⟦<Device as Awaits>⟧.course ⟦<Device as Peripheral>⟧ till_state.old text.old text.new
+        needed.old needed.new result till_state.new }
+    ensures orders { till_state.new.orders ≡ till_state.old.orders }
+    ensures sound { IsTillSound ⟦<Device as Peripheral>⟧ till_state.new }
 {
-    if kept.counter.progress() != Progress::Waits {
+    if till_state.counter.progress() != Progress::Waits {
         *needed = 0;
         return OK;
     }
-    let Some((device, order)) = kept.counter.waiting() else {
+    let Some((device, order)) = till_state.counter.waiting() else {
         *needed = 0;
         return OK;
     };
@@ -121,44 +127,59 @@ fn give_driven(kept: &mut Kept, alloc: Global, text: &mut [u8], needed: &mut usi
         return SHORT;
     }
     text[..count].copy_from_slice(&line);
-    kept.counter.hand_out();
+    till_state.counter.hand_out();
     ORDER
 }
 
 /// Writes the oldest order that was taken, or if none is left, of those that devices have kept since. If there is none
-/// either, it writes the order of a driven device that waits. It returns what `tell_order` does.
+/// either, it writes the order of a driven device that waits. It returns what `write_order` does.
 ///
 /// # Errors
 ///
 /// NO_MEMORY if memory ran out for the line of a driven device. Then nothing is written.
-fn tell_next(kept: &mut Kept, tray: &Tray, text: &mut [u8], needed: &mut usize) -> u32
-    requires { IsTillSound ⟦<Device as Peripheral>⟧ kept.old }
-    ensures hands_out { HandsOut ⟦<Device as Awaits>⟧.course ⟦<Device as Peripheral>⟧ kept.old text.old text.new
-        needed.old needed.new result kept.new }
-    ensures sound { IsTillSound ⟦<Device as Peripheral>⟧ kept.new }
+fn write_next(
+    till_state: &mut TillState,
+    order_queue: &OrderQueue,
+    text: &mut [u8],
+    needed: &mut usize,
+) -> u32
+    requires { IsTillSound ⟦<Device as Peripheral>⟧ till_state.old }
+    ensures hands_out { HandsOut ⟦<Device as Awaits>⟧.course ⟦<Device as Peripheral>⟧ till_state.old text.old text.new
+        needed.old needed.new result till_state.new }
+    ensures sound { IsTillSound ⟦<Device as Peripheral>⟧ till_state.new }
 {
-    refill(&mut kept.orders, tray);
-    if kept.is_driven && kept.orders.is_empty() {
-        return give_driven(kept, tray.allocator(), text, needed);
+    refill(&mut till_state.orders, order_queue);
+    if till_state.is_driven && till_state.orders.is_empty() {
+        return give_driven(till_state, order_queue.allocator(), text, needed);
     }
-    tell_order(&mut kept.orders, text, needed)
+    write_order(&mut till_state.orders, text, needed)
 }
 
-/// Writes the next order of the devices that the host has, and removes it. It returns what `tell_order` does.
+/// Writes the next order of the devices that the host has, and removes it. It returns what `write_order` does.
 ///
 /// # Errors
 ///
 /// - ERRANDS if errands are left, and DISK_FAILED if one failed. Then nothing is written.
 /// - NO_MEMORY if memory ran out for the line of a driven device. Then nothing is written.
-pub(crate) fn next_order(kept: &mut Kept, tray: &Tray, text: &mut [u8], needed: &mut usize) -> u32
-    requires { IsTillSound ⟦<Device as Peripheral>⟧ kept.old }
-    ensures next { NextOrder ⟦<Device as Awaits>⟧.course ⟦<Device as Peripheral>⟧ kept.old text.old text.new
-        needed.old needed.new result kept.new }
-    ensures sound { IsTillSound ⟦<Device as Peripheral>⟧ kept.new }
+pub(crate) fn next_order(
+    till_state: &mut TillState,
+    order_queue: &OrderQueue,
+    text: &mut [u8],
+    needed: &mut usize,
+) -> u32
+    requires { IsTillSound ⟦<Device as Peripheral>⟧ till_state.old }
+    ensures next { NextOrder ⟦<Device as Awaits>⟧.course ⟦<Device as Peripheral>⟧ till_state.old text.old text.new
+        needed.old needed.new result till_state.new }
+    ensures sound { IsTillSound ⟦<Device as Peripheral>⟧ till_state.new }
 {
-    match kept.settlement() {
+    match till_state.settlement() {
         Settlement::Owed => ERRANDS,
         Settlement::Failed => DISK_FAILED,
-        Settlement::InMemory | Settlement::Settled => tell_next(kept, tray, text, needed),
+        Settlement::InMemory | Settlement::Settled => write_next(
+            till_state,
+            order_queue,
+            text,
+            needed,
+        ),
     }
 }

@@ -20,12 +20,12 @@ ghost use Rattle.kijolvar.specs.Codes.{ok};
 ghost use Rattle.kijolvar.specs.Controls.{FindsNumber, NextEvent};
 ghost use Rattle.kijolvar.specs.Errands.{no_work};
 ghost use Rattle.kijolvar.specs.DeviceTexts.{AnswersDevices};
-ghost use Rattle.kijolvar.specs.Hosting.{Drives, IsHostCode};
+ghost use Rattle.kijolvar.specs.Hosts.{Drives, IsHostCode};
 ghost use Rattle.kijolvar.specs.LineAnswers.{Answers};
 ghost use Rattle.kijolvar.specs.Mistakes.{AnswersMistake};
 ghost use Rattle.kijolvar.specs.NextOrders.{NextOrder};
-ghost use Rattle.kijolvar.specs.Opening.{AnswersMove, AnswersOpening, IsFormattedOf, IsMovedOf, Opens};
-ghost use Rattle.kijolvar.specs.Opening.{format_code, open_code};
+ghost use Rattle.kijolvar.specs.Openings.{AnswersMove, AnswersOpening, IsFormattedOf, IsMovedOf, Opens};
+ghost use Rattle.kijolvar.specs.Openings.{format_code, open_code};
 ghost use Rattle.kijolvar.specs.Paper.{TearsOff};
 ghost use Rattle.kijolvar.specs.Profiles.{GivesProfile, IsRefused, RefusesProfile};
 ghost use Rattle.kijolvar.specs.Reports.{AnswersReport};
@@ -45,25 +45,25 @@ mod errands;
 mod held_lines;
 mod host_file;
 mod hosted_devices;
-mod kept;
-mod loose;
 mod mistakes;
+mod order_queue;
 mod orders;
 mod paper;
+mod raw_box;
 mod reports;
 mod session;
 mod surveys;
 mod till;
 mod till_disk;
-mod tray;
+mod till_state;
 mod wire_calls;
 
-use answers::tell_text;
+use answers::write_text;
 use codes::{BAD_PROFILE, DISK_FAILED, NO_MEMORY, OK, TOO_SMALL, UNDONE};
 use device::Device;
 use device_texts::devices_text;
 use disk::{SIZE, format_in_file, move_in_file};
-use mistakes::tell_mistake;
+use mistakes::write_mistake;
 use pos_disk::Disk;
 use pos_drive::Awaits;
 use pos_image::new_disk;
@@ -74,7 +74,7 @@ use reports::report;
 use session::Session;
 use std::alloc::Global;
 use std::str;
-use surveys::tell_survey;
+use surveys::write_survey;
 use till::{Slot, Till, hold, put, take};
 use till_disk::{Settlement, TillDisk};
 
@@ -122,7 +122,7 @@ fn begin(alloc: Global, profile: Profile, disk: TillDisk) -> Result<Box<Session>
 {
     let session = Session::new(alloc, profile, disk)?;
     match Box::new(alloc, session) {
-        Ok(kept) => Ok(kept),
+        Ok(till_state) => Ok(till_state),
         Err(_) => Err(NoMemory),
     }
 }
@@ -303,7 +303,7 @@ pub extern "C" fn kijolvar_profile_mistake(
 ) -> u32
     ensures { AnswersMistake profile.now at.old at.new text.old text.new needed.old needed.new result }
 {
-    tell_mistake(alloc, profile, at, text, needed)
+    write_mistake(alloc, profile, at, text, needed)
 }
 
 /// Writes the devices of a profile to `text`, in its order, and to `needed` how many bytes that is. Returns OK. Each
@@ -328,7 +328,7 @@ pub extern "C" fn kijolvar_devices(
         Err(code) => return code,
     };
     match devices_text(alloc, contents.devices()) {
-        Ok(lines) => tell_text(&lines, OK, text, needed),
+        Ok(lines) => write_text(&lines, OK, text, needed),
         Err(_) => NO_MEMORY,
     }
 }
@@ -352,7 +352,7 @@ pub extern "C" fn kijolvar_survey(
 ) -> u32
     ensures { AnswersSurvey bytes.now at.old at.new text.old text.new needed.old needed.new result }
 {
-    tell_survey(alloc, bytes, at, text, needed)
+    write_survey(alloc, bytes, at, text, needed)
 }
 
 /// Carries out lines and writes their answer, if no errand is left and none failed.
@@ -364,7 +364,7 @@ fn serve(session: &mut Session, lines: &[u8], text: &mut [u8], needed: &mut usiz
         Settlement::Owed => UNDONE,
         Settlement::Failed => DISK_FAILED,
         Settlement::InMemory | Settlement::Settled => {
-            let taken = session.carry_out(lines);
+            let taken = session.run_text(lines);
             session.answer(taken, text, needed)
         }
     }

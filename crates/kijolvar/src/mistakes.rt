@@ -4,7 +4,7 @@ ghost use Rattle.toml.specs.Parse.{parse_document};
 ghost use Rattle.kijolvar.specs.Mistakes.{AnswersDocument, AnswersMistake, AnswersRefusal, category_reason};
 ghost use Rattle.kijolvar.specs.Mistakes.{mistake_text, number_reason, option_reason, place_text, reason_text};
 
-use crate::answers::tell_text;
+use crate::answers::write_text;
 use crate::codes::{BAD_PROFILE, BAD_TEXT, NO_MEMORY, OK};
 use itoa::Buffer;
 use pos_profile::{Mistake, NumberKey, OptionalKey, Place, Reason, Role};
@@ -118,7 +118,7 @@ fn mistake_text(alloc: Global, mistake: &Mistake) -> Result<Vec<u8>, AllocError>
 }
 
 // Writes why a text is no profile. Returns BAD_TEXT, BAD_PROFILE, SHORT or NO_MEMORY.
-fn tell_refusal(
+fn write_refusal(
     alloc: Global,
     why: &ProfileFileFault,
     at: &mut u64,
@@ -136,15 +136,15 @@ fn tell_refusal(
                 return NO_MEMORY;
             };
             *at = span.start as u64;
-            tell_text(&reason, BAD_TEXT, text, needed)
+            write_text(&reason, BAD_TEXT, text, needed)
         }
         ProfileFileFault::Unsound(mistake) => match mistake_text(alloc, mistake) {
-            Ok(reason) => tell_text(&reason, BAD_PROFILE, text, needed),
+            Ok(reason) => write_text(&reason, BAD_PROFILE, text, needed),
             Err(_) => NO_MEMORY,
         },
         ProfileFileFault::Duplicate(name) => {
             match joined(alloc, "two devices have the name ", name.as_str()) {
-                Ok(reason) => tell_text(&reason, BAD_PROFILE, text, needed),
+                Ok(reason) => write_text(&reason, BAD_PROFILE, text, needed),
                 Err(_) => NO_MEMORY,
             }
         }
@@ -153,7 +153,7 @@ fn tell_refusal(
 }
 
 // Writes why a text is no profile, if it is none.
-fn tell_document(
+fn write_document(
     alloc: Global,
     profile: &str,
     at: &mut u64,
@@ -165,7 +165,7 @@ fn tell_document(
 {
     match profile_of_text(alloc, profile) {
         Ok(_) => OK,
-        Err(why) => tell_refusal(alloc, &why, at, text, needed),
+        Err(why) => write_refusal(alloc, &why, at, text, needed),
     }
 }
 
@@ -176,7 +176,7 @@ fn tell_document(
 /// - BAD_TEXT if they are not UTF-8 or no TOML document. `at` is the place where reading them stopped.
 /// - BAD_PROFILE if something in the document isn't sound.
 /// - SHORT if `text` has less room than the reason has bytes, and NO_MEMORY if memory ran out.
-pub(crate) fn tell_mistake(
+pub(crate) fn write_mistake(
     alloc: Global,
     profile: &[u8],
     at: &mut u64,
@@ -189,10 +189,10 @@ pub(crate) fn tell_mistake(
         return OK;
     }
     match str::from_utf8(profile) {
-        Ok(source) => tell_document(alloc, source, at, text, needed),
+        Ok(source) => write_document(alloc, source, at, text, needed),
         Err(error) => {
             *at = error.valid_up_to() as u64;
-            tell_text("not UTF-8".as_bytes(), BAD_TEXT, text, needed)
+            write_text("not UTF-8".as_bytes(), BAD_TEXT, text, needed)
         }
     }
 }

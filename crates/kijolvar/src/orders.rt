@@ -1,6 +1,6 @@
 //! The orders that a till's host gets, as lines.
 ghost use Rattle.std.specs.Prelude.{◌≡◌, ◌++◌, IfOk, OnOk, codes};
-ghost use Rattle.kijolvar.specs.Orders.{AsksTwin, Keeps, TellsOrder, argument_text, bytes_word, order_lines, number_word, order_text};
+ghost use Rattle.kijolvar.specs.Orders.{AsksTwin, Keeps, WritesOrder, argument_text, bytes_word, order_lines, number_word, order_text};
 
 use crate::codes::{OK, ORDER, SHORT};
 use itoa::Buffer;
@@ -106,8 +106,8 @@ pub(crate) fn ask_keeping(
 /// # Errors
 ///
 /// SHORT if `text` has less room. Then the line stays.
-pub(crate) fn tell_order(lines: &mut VecDeque<Vec<u8>>, text: &mut [u8], needed: &mut usize) -> u32
-    ensures { TellsOrder (order_lines lines.old.items) text.old text.new needed.new result
+pub(crate) fn write_order(lines: &mut VecDeque<Vec<u8>>, text: &mut [u8], needed: &mut usize) -> u32
+    ensures { WritesOrder (order_lines lines.old.items) text.old text.new needed.new result
         (order_lines lines.new.items) }
 {
     let Some(line) = lines.front() else {

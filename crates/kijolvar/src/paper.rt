@@ -5,7 +5,7 @@ ghost use Rattle.kijolvar.specs.Paper.{TearsOff, torn_code};
 
 use crate::codes::{NO_DEVICE, NO_MEMORY, OK};
 use crate::device::Device;
-use crate::kept::Kept;
+use crate::till_state::TillState;
 use pos_drive::Awaits;
 use pos_service::{NoMemory, Peripheral};
 
@@ -25,11 +25,12 @@ fn torn_code(outcome: Result<bool, NoMemory>) -> u32
 /// # Errors
 ///
 /// NO_DEVICE if no device has the name or nothing serves it, and NO_MEMORY if memory ran out. Then nothing changes.
-pub(crate) fn tear_off(kept: &mut Kept, name: &[u8]) -> u32
-    requires { IsTillSound ⟦<Device as Peripheral>⟧ kept.old }
-    ensures tears { TearsOff ⟦<Device as Awaits>⟧.course ⟦<Device as Peripheral>⟧ kept.old name.now result kept.new }
-    ensures sound { IsTillSound ⟦<Device as Peripheral>⟧ kept.new }
+pub(crate) fn tear_off(till_state: &mut TillState, name: &[u8]) -> u32
+    requires { IsTillSound ⟦<Device as Peripheral>⟧ till_state.old }
+    ensures tears { TearsOff ⟦<Device as Awaits>⟧.course ⟦<Device as Peripheral>⟧ till_state.old name.now result
+        till_state.new }
+    ensures sound { IsTillSound ⟦<Device as Peripheral>⟧ till_state.new }
 {
-    let outcome = kept.counter.tear_off(name);
+    let outcome = till_state.counter.tear_off(name);
     torn_code(outcome)
 }

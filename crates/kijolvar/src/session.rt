@@ -2,28 +2,28 @@
 ghost use Rattle.std.specs.Prelude.{◌≡◌, [], IfOk};
 ghost use Rattle.pos_run.specs.Names.{names_of, number_named};
 ghost use Rattle.kijolvar.specs.Controls.{FindsNumber, NextEvent};
-ghost use Rattle.kijolvar.specs.Hosting.{Drives, IsHostCode};
+ghost use Rattle.kijolvar.specs.Hosts.{Drives, IsHostCode};
 ghost use Rattle.kijolvar.specs.LineAnswers.{AnswersAs, TakesLines};
 ghost use Rattle.kijolvar.specs.NextOrders.{NextOrder};
 ghost use Rattle.kijolvar.specs.Paper.{TearsOff};
 ghost use Rattle.kijolvar.specs.Reports.{TakesReport};
-ghost use Rattle.kijolvar.specs.Tills.{Begins, CarriesOut, Fails, HandsOver, AnswersNextErrand, settlement_of};
+ghost use Rattle.kijolvar.specs.Tills.{Begins, RunsText, Fails, HandsOver, AnswersNextErrand, settlement_of};
 ghost use Rattle.kijolvar.specs.WireCalls.{AnswersOrderBytes, AnswersReplies};
 
-use crate::answers::tell;
+use crate::answers::write_answer;
 use crate::codes::{DISK_FAILED, ERRANDS, NO_MEMORY, WAITS, code_of};
 use crate::controls::{find_number, next_event};
 use crate::device::Device;
 use crate::hosted_devices::{drive_device, host_device, next_order};
-use crate::kept::Kept;
+use crate::order_queue::OrderQueue;
 use crate::paper::tear_off;
 use crate::till_disk::{Settlement, TillDisk};
-use crate::tray::Tray;
-use crate::wire_calls::{tell_order_bytes, tell_reply};
+use crate::till_state::TillState;
+use crate::wire_calls::{write_order_bytes, write_reply};
 use pos_disk::Disk;
 use pos_drive::Awaits;
 use pos_profile::Profile;
-use pos_run::{Held, Names, carry_out_lines, end_counter, simulate_profile};
+use pos_run::{LineProgress, Names, end_counter, run_given_lines, simulate_profile};
 use pos_script::LineBuffer;
 use pos_service::{NoMemory, Peripheral};
 use pos_streams::{MemorySink, WriteFault};
@@ -36,23 +36,23 @@ use std::marker::Model;
 /// counter and its spares are sound.
 pub struct Session {
     alloc: Global,
-    kept: Kept,
+    till_state: TillState,
     buffer: LineBuffer,
-    tray: Tray,
+    order_queue: OrderQueue,
 }
 
 impl Model for Session {
     ghost use Rattle.kijolvar.specs.HeldLines.{IsTillSound};
-    ghost use Rattle.kijolvar.specs.contracts.kept.Kept as kept_row;
-    ghost use Rattle.kijolvar.specs.declared.kept.Kept.{Kept as KeptTill};
+    ghost use Rattle.kijolvar.specs.contracts.till_state.TillState as kept_row;
+    ghost use Rattle.kijolvar.specs.declared.till_state.TillState.{TillState as KeptTill};
 
     ghost Value = { KeptTill };
 
     ghost coded = { kept_row.the_row.coded };
 
-    ghost view = { λ s. s.kept };
+    ghost view = { λ s. s.till_state };
 
-    ghost invariant = { λ s. IsTillSound ⟦<Device as Peripheral>⟧ s.kept };
+    ghost invariant = { λ s. IsTillSound ⟦<Device as Peripheral>⟧ s.till_state };
 }
 
 impl Session {
@@ -67,12 +67,12 @@ impl Session {
         let Ok(buffer) = LineBuffer::new(alloc) else {
             return Err(NoMemory);
         };
-        let tray = Tray::new(alloc)?;
-        let (counter, spares) = match simulate_profile(alloc, &profile, disk, &tray) {
+        let order_queue = OrderQueue::new(alloc)?;
+        let (counter, spares) = match simulate_profile(alloc, &profile, disk, &order_queue) {
             Ok(made) => made,
             Err((want, _)) => return Err(want),
         };
-        let kept = Kept {
+        let till_state = TillState {
             profile,
             counter,
             names: Names::new(alloc),
@@ -84,13 +84,13 @@ impl Session {
             orders: VecDeque::new(alloc),
             is_driven: false,
             held: VecDeque::new(alloc),
-            left: Held::Told,
+            left: LineProgress::Printed,
         };
         Ok(Session {
             alloc,
-            kept,
+            till_state,
             buffer,
-            tray,
+            order_queue,
         })
     }
 
@@ -98,28 +98,28 @@ impl Session {
     pub fn settlement(&self) -> Settlement
         ensures { result ≡ settlement_of self.now }
     {
-        self.kept.settlement()
+        self.till_state.settlement()
     }
 
     /// Carries out the lines of a text, and keeps what they print as the answer. If memory runs out for what a line
     /// prints, that line was carried out, and no later one, and a front of the answer is kept.
-    fn carry_out_at_once(&mut self, lines: &[u8])
+    fn run_at_once(&mut self, lines: &[u8])
         requires { self.old.held.items ≡ [] }
-        ensures { CarriesOut ⟦<TillDisk as Disk>⟧ ⟦<Device as Peripheral>⟧ self.old lines.now self.new }
+        ensures { RunsText ⟦<TillDisk as Disk>⟧ ⟦<Device as Peripheral>⟧ self.old lines.now self.new }
     {
-        self.kept.left = Held::Told;
-        self.kept.told = false;
-        self.kept.answer.clear();
-        self.kept.outcome = carry_out_lines(
+        self.till_state.left = LineProgress::Printed;
+        self.till_state.told = false;
+        self.till_state.answer.clear();
+        self.till_state.outcome = run_given_lines(
             self.alloc,
             lines,
             &mut self.buffer,
-            &mut self.kept.answer,
-            &mut self.kept.counter,
-            &mut self.kept.names,
-            &mut self.kept.spares,
+            &mut self.till_state.answer,
+            &mut self.till_state.counter,
+            &mut self.till_state.names,
+            &mut self.till_state.spares,
         );
-        self.kept.counter.disk().is_in_step();
+        self.till_state.counter.disk().is_in_step();
     }
 
     /// Carries out the lines of a text, and keeps what they print as the answer. With a driven device it carries them
@@ -129,19 +129,19 @@ impl Session {
     ///
     /// WAITS if a line of an earlier text waits. NO_MEMORY if a device is driven and memory ran out for the lines. Then
     /// nothing changes.
-    pub fn carry_out(&mut self, lines: &[u8]) -> Result<(), u32>
+    pub fn run_text(&mut self, lines: &[u8]) -> Result<(), u32>
         ensures { TakesLines ⟦<TillDisk as Disk>⟧ ⟦<Device as Awaits>⟧.course ⟦<Device as Peripheral>⟧ self.old
             lines.now result self.new }
     {
-        if !self.kept.held.is_empty() {
+        if !self.till_state.held.is_empty() {
             return Err(WAITS);
         }
-        if self.kept.is_driven {
+        if self.till_state.is_driven {
             return self
-                .kept
-                .carry_out_driven(self.alloc, &mut self.buffer, lines);
+                .till_state
+                .run_driven(self.alloc, &mut self.buffer, lines);
         }
-        self.carry_out_at_once(lines);
+        self.run_at_once(lines);
         Ok(())
     }
 
@@ -155,7 +155,7 @@ impl Session {
         ensures { TakesReport ⟦<TillDisk as Disk>⟧ ⟦<Device as Awaits>⟧.course ⟦<Device as Peripheral>⟧ self.old outcome
             inputs.now result self.new }
     {
-        self.kept
+        self.till_state
             .take_report(self.alloc, &mut self.buffer, outcome, inputs)
     }
 
@@ -169,13 +169,13 @@ impl Session {
     pub fn hand_over(&self, text: &mut [u8], needed: &mut usize) -> u32
         ensures { HandsOver self.now text.old text.new needed.old needed.new result }
     {
-        match self.kept.settlement() {
+        match self.till_state.settlement() {
             Settlement::Owed => ERRANDS,
             Settlement::Failed => DISK_FAILED,
             Settlement::InMemory | Settlement::Settled => code_of(
-                self.kept.outcome,
-                tell(self.kept.answer.as_slice(), text, needed),
-                self.kept.left,
+                self.till_state.outcome,
+                write_answer(self.till_state.answer.as_slice(), text, needed),
+                self.till_state.left,
             ),
         }
     }
@@ -205,7 +205,7 @@ impl Session {
     pub fn next_errand(&mut self, at: &mut u64, bytes: &mut [u8], needed: &mut usize) -> u32
         ensures { AnswersNextErrand self.old at.old at.new bytes.old bytes.new needed.old needed.new result self.new }
     {
-        self.kept.next_errand(at, bytes, needed)
+        self.till_state.next_errand(at, bytes, needed)
     }
 
     /// Keeps the orders of the device of a name for the host from now on, and returns OK.
@@ -216,7 +216,7 @@ impl Session {
     pub fn host(&self, name: &[u8]) -> u32
         ensures { IsHostCode self.now.profile.devices name.now result }
     {
-        host_device(&self.kept.profile, &self.tray, name)
+        host_device(&self.till_state.profile, &self.order_queue, name)
     }
 
     /// Makes the orders of the device of a name wait for the host from now on, and returns OK.
@@ -227,7 +227,7 @@ impl Session {
     pub fn drive(&mut self, name: &[u8]) -> u32
         ensures { Drives ⟦<Device as Awaits>⟧.course ⟦<Device as Peripheral>⟧ self.old name.now result self.new }
     {
-        drive_device(&mut self.kept, name)
+        drive_device(&mut self.till_state, name)
     }
 
     /// Takes the printed paper of the device of a name away, and returns OK.
@@ -238,7 +238,7 @@ impl Session {
     pub fn tear_off(&mut self, name: &[u8]) -> u32
         ensures { TearsOff ⟦<Device as Awaits>⟧.course ⟦<Device as Peripheral>⟧ self.old name.now result self.new }
     {
-        tear_off(&mut self.kept, name)
+        tear_off(&mut self.till_state, name)
     }
 
     /// Writes the next order of the devices that the host has, and removes it. It returns ORDER, or OK if none is left.
@@ -252,14 +252,14 @@ impl Session {
         ensures { NextOrder ⟦<Device as Awaits>⟧.course ⟦<Device as Peripheral>⟧ self.old text.old text.new needed.old
             needed.new result self.new }
     {
-        next_order(&mut self.kept, &self.tray, text, needed)
+        next_order(&mut self.till_state, &self.order_queue, text, needed)
     }
 
     /// Writes the bytes of the order that waits or that the host has, and returns OK.
     ///
     /// # Errors
     ///
-    /// SHORT, NO_ORDER, BAD_SETTINGS and NO_MEMORY as `tell_order_bytes` has them.
+    /// SHORT, NO_ORDER, BAD_SETTINGS and NO_MEMORY as `write_order_bytes` has them.
     pub fn order_bytes(
         &self,
         settings: &WireSettings,
@@ -271,7 +271,15 @@ impl Session {
         ensures { AnswersOrderBytes ⟦<Device as Awaits>⟧.course self.now settings.now is_new end bytes.old bytes.new
             needed.old needed.new result }
     {
-        tell_order_bytes(&self.kept, self.alloc, settings, is_new, end, bytes, needed)
+        write_order_bytes(
+            &self.till_state,
+            self.alloc,
+            settings,
+            is_new,
+            end,
+            bytes,
+            needed,
+        )
     }
 
     /// Reads what a printer sent up to the end of the first reply, writes its lines for the device of a name, and
@@ -279,7 +287,7 @@ impl Session {
     ///
     /// # Errors
     ///
-    /// SHORT, NO_DEVICE, BAD_SETTINGS and NO_MEMORY as `tell_reply` has them.
+    /// SHORT, NO_DEVICE, BAD_SETTINGS and NO_MEMORY as `write_reply` has them.
     pub fn replies(
         &self,
         name: &[u8],
@@ -294,8 +302,17 @@ impl Session {
         ensures { AnswersReplies ⟦<Device as Peripheral>⟧ self.now settings.now name.now asked bytes.now used.old
             used.new skipped.old skipped.new text.old text.new needed.old needed.new result }
     {
-        tell_reply(
-            &self.kept, self.alloc, name, settings, asked, bytes, used, skipped, text, needed,
+        write_reply(
+            &self.till_state,
+            self.alloc,
+            name,
+            settings,
+            asked,
+            bytes,
+            used,
+            skipped,
+            text,
+            needed,
         )
     }
 
@@ -307,7 +324,7 @@ impl Session {
     pub fn find_number(&self, name: &[u8], control: &mut usize) -> u32
         ensures { FindsNumber (number_named (names_of self.now.names) name.now) control.old control.new result }
     {
-        find_number(&self.kept.names, name, control)
+        find_number(&self.till_state.names, name, control)
     }
 
     /// Writes the lowest number, `from` or above, of a control that has an event to deliver, and returns EVENT; or
@@ -319,14 +336,14 @@ impl Session {
     pub fn next_event(&self, from: usize, control: &mut usize) -> u32
         ensures { NextEvent ⟦<Device as Peripheral>⟧ self.now from control.old control.new result }
     {
-        next_event(&self.kept, from, control)
+        next_event(&self.till_state, from, control)
     }
 
     /// Notes that an errand failed.
     pub fn fail(&mut self)
         ensures { Fails self.old self.new }
     {
-        self.kept.failed = true;
+        self.till_state.failed = true;
     }
 }
 
@@ -334,11 +351,11 @@ impl Drop for Session {
     fn drop(self) {
         let Session {
             alloc: _,
-            kept,
+            till_state,
             buffer: _,
-            tray: _,
+            order_queue: _,
         } = self;
-        let Kept {
+        let TillState {
             profile: _,
             counter,
             names: _,
@@ -351,7 +368,7 @@ impl Drop for Session {
             is_driven: _,
             held: _,
             left: _,
-        } = kept;
+        } = till_state;
         end_counter(counter);
         spares.park_all();
     }

@@ -1,14 +1,14 @@
 //! What the bytes of a totals file hold (docs/reference/console.md, "What a totals file holds").
-ghost use Rattle.kijolvar.specs.Surveys.{AnswersSurvey, TellsBreak};
+ghost use Rattle.kijolvar.specs.Surveys.{AnswersSurvey, WritesBreak};
 
-use crate::answers::tell_text;
+use crate::answers::write_text;
 use crate::codes::{DAMAGED, NO_MEMORY, OK, TOO_SMALL, UNFORMATTED};
 use pos_survey::{Survey, SurveyFault, words_of};
 use std::alloc::Global;
 
 // Writes which rule bytes break, and the place. Returns DAMAGED, SHORT, TOO_SMALL, UNFORMATTED or NO_MEMORY.
-fn tell_break(why: SurveyFault, at: &mut u64, text: &mut [u8], needed: &mut usize) -> u32
-    ensures { TellsBreak why at.old at.new text.old text.new needed.old needed.new result }
+fn write_break(why: SurveyFault, at: &mut u64, text: &mut [u8], needed: &mut usize) -> u32
+    ensures { WritesBreak why at.old at.new text.old text.new needed.old needed.new result }
 {
     match why {
         SurveyFault::NoMemory => NO_MEMORY,
@@ -16,7 +16,7 @@ fn tell_break(why: SurveyFault, at: &mut u64, text: &mut [u8], needed: &mut usiz
         SurveyFault::Unformatted => UNFORMATTED,
         SurveyFault::Damaged(place, rule) => {
             *at = place;
-            tell_text(words_of(rule).as_bytes(), DAMAGED, text, needed)
+            write_text(words_of(rule).as_bytes(), DAMAGED, text, needed)
         }
     }
 }
@@ -28,7 +28,7 @@ fn tell_break(why: SurveyFault, at: &mut u64, text: &mut [u8], needed: &mut usiz
 /// - DAMAGED if they break a rule: `text` says which, and `at` the place.
 /// - SHORT if `text` has less room for either. Then a front of it is written.
 /// - TOO_SMALL, UNFORMATTED, and NO_MEMORY if memory ran out.
-pub(crate) fn tell_survey(
+pub(crate) fn write_survey(
     alloc: Global,
     bytes: &[u8],
     at: &mut u64,
@@ -39,10 +39,10 @@ pub(crate) fn tell_survey(
 {
     let survey = match Survey::of(alloc, bytes) {
         Ok(survey) => survey,
-        Err(why) => return tell_break(why, at, text, needed),
+        Err(why) => return write_break(why, at, text, needed),
     };
     match survey.to_text(alloc) {
-        Ok(lines) => tell_text(&lines, OK, text, needed),
+        Ok(lines) => write_text(&lines, OK, text, needed),
         Err(_) => NO_MEMORY,
     }
 }

@@ -1,10 +1,10 @@
 //! A session behind a pointer, as C holds it.
 ghost use Rattle.std.specs.Prelude.{◌≡◌, Option, Some};
 ghost use Rattle.std.specs.Coded.{coded_option};
-ghost use Rattle.kijolvar.specs.contracts.kept.Kept as kept_row;
-ghost use Rattle.kijolvar.specs.declared.kept.Kept.{Kept};
+ghost use Rattle.kijolvar.specs.contracts.till_state.TillState as kept_row;
+ghost use Rattle.kijolvar.specs.declared.till_state.TillState.{TillState};
 
-use crate::loose::Loose;
+use crate::raw_box::RawBox;
 use crate::session::Session;
 use std::alloc::{Allocator, Global};
 use std::marker::Model;
@@ -14,7 +14,7 @@ use std::marker::Model;
 pub struct Till {
     at: *mut u8,
     alloc: Global,
-    ghost session: { Kept } by { kept_row.the_row.coded },
+    ghost session: { TillState } by { kept_row.the_row.coded },
 }
 
 impl Model for Till {
@@ -30,7 +30,7 @@ impl Model for Till {
 pub struct Slot {
     at: *mut u8,
     alloc: Global,
-    ghost left: { Option Kept } by { coded_option kept_row.the_row.coded },
+    ghost left: { Option TillState } by { coded_option kept_row.the_row.coded },
 }
 
 impl Model for Slot {
@@ -43,10 +43,10 @@ impl Model for Slot {
 }
 
 /// Returns the till of a session's pointer.
-fn wrap(loose: Loose<Session, Global>) -> Till
-    ensures { result.session ≡ loose.value }
+fn wrap(raw_box: RawBox<Session, Global>) -> Till
+    ensures { result.session ≡ raw_box.value }
 {
-    let Loose { at, alloc } = loose;
+    let RawBox { at, alloc } = raw_box;
     Till {
         at: at as *mut u8,
         alloc,
@@ -54,11 +54,11 @@ fn wrap(loose: Loose<Session, Global>) -> Till
 }
 
 /// Returns the pointer to a till's session.
-fn unwrap(till: Till) -> Loose<Session, Global>
+fn unwrap(till: Till) -> RawBox<Session, Global>
     ensures { result.value ≡ till.session }
 {
     let Till { at, alloc } = till;
-    Loose {
+    RawBox {
         at: at as *mut Session,
         alloc,
     }
@@ -68,7 +68,7 @@ fn unwrap(till: Till) -> Loose<Session, Global>
 pub(crate) fn hold(session: Box<Session>) -> Till
     ensures { result.session ≡ session.value }
 {
-    wrap(Loose::of(session))
+    wrap(RawBox::of(session))
 }
 
 /// Returns the session of a till.

@@ -1,19 +1,21 @@
 //! The bytes of driven devices' orders, and what printers reply.
 ghost use Rattle.std.specs.Prelude.{◌≡◌, IfOk, IsErrOf, false};
 ghost use Rattle.pos_service.specs.Peripherals.{signs_of};
-ghost use Rattle.pos_wire.specs.ReplyLines.{TellsReply, has_replies};
+ghost use Rattle.pos_wire.specs.ReplyLines.{ReplyHasText, has_replies};
 ghost use Rattle.pos_wire.specs.Settings.{settings_fit};
 ghost use Rattle.pos_wire.specs.declared.wire_fault.WireFault.TheVariants as fault;
 ghost use Rattle.kijolvar.specs.HeldLines.{IsTillSound};
-ghost use Rattle.kijolvar.specs.WireCalls.{AnswersOrderBytes, AnswersReplies, IsText, TellsWhole, asked_numbered, end_numbered};
+ghost use Rattle.kijolvar.specs.WireCalls.{AnswersOrderBytes, AnswersReplies, IsText, WritesWhole, asked_numbered, end_numbered};
 
 use crate::codes::{BAD_SETTINGS, NO_DEVICE, NO_MEMORY, NO_ORDER, OK, SHORT};
 use crate::device::Device;
-use crate::kept::Kept;
+use crate::till_state::TillState;
 use pos_drive::Awaits;
 use pos_escpos::{NowStatus, OrderStatus, PrinterReply};
 use pos_service::{Kind, Peripheral};
-use pos_wire::{Asked, JobEnd, WireFault, WireSettings, order_bytes, read_reply, reply_text};
+use pos_wire::{
+    AwaitedReply, JobEnd, WireFault, WireSettings, order_bytes, read_reply, reply_text,
+};
 use std::alloc::Global;
 
 /// Returns what is asked behind an order's bytes, by its number: 0 to 65,535 the end of a job of this number, 65,536
@@ -33,24 +35,24 @@ fn end_numbered(number: u32) -> JobEnd
 
 /// Returns what was asked of a printer, by its number: 1 to 4 a status at once, 5 the paper and 6 the drawer in order.
 /// Others ask nothing.
-fn asked_numbered(number: u32) -> Asked
+fn asked_numbered(number: u32) -> AwaitedReply
     ensures { result ≡ asked_numbered number }
 {
     match number {
-        1 => Asked::Now(NowStatus::Printer),
-        2 => Asked::Now(NowStatus::OfflineCause),
-        3 => Asked::Now(NowStatus::Fault),
-        4 => Asked::Now(NowStatus::Paper),
-        5 => Asked::InOrder(OrderStatus::Paper),
-        6 => Asked::InOrder(OrderStatus::Drawer),
-        _ => Asked::Nothing,
+        1 => AwaitedReply::Now(NowStatus::Printer),
+        2 => AwaitedReply::Now(NowStatus::OfflineCause),
+        3 => AwaitedReply::Now(NowStatus::Fault),
+        4 => AwaitedReply::Now(NowStatus::Paper),
+        5 => AwaitedReply::InOrder(OrderStatus::Paper),
+        6 => AwaitedReply::InOrder(OrderStatus::Drawer),
+        _ => AwaitedReply::Nothing,
     }
 }
 
 /// Writes all of these bytes if there is room for them, and to `needed` how many they are. Returns OK, or SHORT if
 /// there is less room.
-fn tell_whole(told: &[u8], out: &mut [u8], needed: &mut usize) -> u32
-    ensures { TellsWhole told.now out.old out.new needed.new result }
+fn write_whole(told: &[u8], out: &mut [u8], needed: &mut usize) -> u32
+    ensures { WritesWhole told.now out.old out.new needed.new result }
 {
     let count = told.len();
     *needed = count;
@@ -70,8 +72,8 @@ fn tell_whole(told: &[u8], out: &mut [u8], needed: &mut usize) -> u32
 /// - NO_ORDER if there is no such order, or it has no bytes.
 /// - BAD_SETTINGS if the settings of the device's kind are out of range.
 /// - NO_MEMORY if memory ran out.
-pub(crate) fn tell_order_bytes(
-    kept: &Kept,
+pub(crate) fn write_order_bytes(
+    till_state: &TillState,
     alloc: Global,
     settings: &WireSettings,
     is_new: u32,
@@ -79,10 +81,10 @@ pub(crate) fn tell_order_bytes(
     out: &mut [u8],
     needed: &mut usize,
 ) -> u32
-    ensures { AnswersOrderBytes ⟦<Device as Awaits>⟧.course kept.now settings.now is_new end out.old out.new needed.old
-        needed.new result }
+    ensures { AnswersOrderBytes ⟦<Device as Awaits>⟧.course till_state.now settings.now is_new end out.old out.new
+        needed.old needed.new result }
 {
-    let Some((_, device)) = kept.counter.pending() else {
+    let Some((_, device)) = till_state.counter.pending() else {
         return NO_ORDER;
     };
     let Some(order) = device.waiting() else {
@@ -96,7 +98,7 @@ pub(crate) fn tell_order_bytes(
         device.twin(),
         order,
     ) {
-        Ok(told) => tell_whole(&told, out, needed),
+        Ok(told) => write_whole(&told, out, needed),
         Err(WireFault::NoMemory) => NO_MEMORY,
         Err(WireFault::BadSettings) => BAD_SETTINGS,
         Err(WireFault::NoBytes) => NO_ORDER,
@@ -124,7 +126,7 @@ fn text_read(
 ) -> Result<Vec<u8>, WireFault>
     ensures text { let state = ⟦<Device as Peripheral>⟧.state device.now in
         IfOk result (λ text. IsText reply
-        (TellsReply settings.now name.now state.kind (signs_of state.kind state.plant)) text.items) }
+        (ReplyHasText settings.now name.now state.kind (signs_of state.kind state.plant)) text.items) }
     ensures bad_settings { let state = ⟦<Device as Peripheral>⟧.state device.now in
         IsErrOf result fault.BadSettings → settings_fit state.kind settings.now ≡ false }
     ensures no_bytes { let state = ⟦<Device as Peripheral>⟧.state device.now in
@@ -146,8 +148,8 @@ fn text_read(
 /// - NO_DEVICE if nothing serves the device of this name, or it is no printer and no drawer.
 /// - BAD_SETTINGS if the settings of the device's kind are out of range.
 /// - NO_MEMORY if memory ran out.
-pub(crate) fn tell_reply(
-    kept: &Kept,
+pub(crate) fn write_reply(
+    till_state: &TillState,
     alloc: Global,
     name: &[u8],
     settings: &WireSettings,
@@ -158,11 +160,11 @@ pub(crate) fn tell_reply(
     text: &mut [u8],
     needed: &mut usize,
 ) -> u32
-    requires { IsTillSound ⟦<Device as Peripheral>⟧ kept.now }
-    ensures { AnswersReplies ⟦<Device as Peripheral>⟧ kept.now settings.now name.now asked bytes.now used.old used.new
-        skipped.old skipped.new text.old text.new needed.old needed.new result }
+    requires { IsTillSound ⟦<Device as Peripheral>⟧ till_state.now }
+    ensures { AnswersReplies ⟦<Device as Peripheral>⟧ till_state.now settings.now name.now asked bytes.now used.old
+        used.new skipped.old skipped.new text.old text.new needed.old needed.new result }
 {
-    let Some(device) = kept.counter.served(name) else {
+    let Some(device) = till_state.counter.served(name) else {
         return NO_DEVICE;
     };
     if !has_replies(device.kind()) {
@@ -177,7 +179,7 @@ pub(crate) fn tell_reply(
         Err(WireFault::NoMemory) => return NO_MEMORY,
         Err(_) => return BAD_SETTINGS,
     };
-    let code = tell_whole(&told, text, needed);
+    let code = write_whole(&told, text, needed);
     if code == OK {
         *used = read.used;
         *skipped = read.skipped;

@@ -1,18 +1,20 @@
 -- What comes of a scan that a peripheral has taken.
-use Rattle.pos_common.proofs.Common.{AreCopies, Control, Fed, HasCopies, List, Ok, PeripheralState, Scan, Takes, TakesIn, all_listening, arith, hardware_of}
-use Rattle.pos_common.proofs.Common.{input_fits, read, refl, true, ℕ, ◌≡◌}
+use Rattle.pos_common.proofs.Common.{AreCopies, Control, Fed, HasCopies, List, Ok, PeripheralState, Scan, Takes}
+use Rattle.pos_common.proofs.Common.{TakesIn, all_listening, arith, hardware_of, input_fits, read, refl, true, ℕ, ◌≡◌}
 use Rattle.pos_service.specs.declared.input.Input.{Input}
 use Rattle.pos_service.specs.declared.plant.Plant.{Plant}
 use Rattle.pos_service.specs.declared.input.Input.TheVariants as input
 use Rattle.pos_service.specs.declared.input.Taken.TheVariants as taken
 
 -- nothing but a scan is taken as a scan
-scans : (i : Input) (p q : Plant) → Takes i p taken.Scan q → (scan : Scan) × (i ≡ input.Scan scan.kind scan.bytes scan.label)
+scans : (i : Input) (p q : Plant) → Takes i p taken.Scan q
+    → (scan : Scan) × (i ≡ input.Scan scan.kind scan.bytes scan.label)
 scans (input.Scan number bytes label) p q h = (record { kind = number; bytes = bytes; label = label }, refl)
 scans other p q h = absurd (grind arith)
 
 -- each control that listens has read it
-pub scan_taken : (before after : PeripheralState) (i : Input) (place : ℕ) (old mid new : List Control) (copies : List Scan)
+pub scan_taken : (before after : PeripheralState) (i : Input) (place : ℕ) (old mid new : List Control)
+    (copies : List Scan)
     → input_fits before.kind i ≡ true → Fed before i (Ok taken.Scan) after → mid ≡ old → HasCopies i place mid copies
     → ((scan : Scan) → AreCopies scan place mid copies → new ≡ all_listening place (read scan) mid)
     → TakesIn i place old (hardware_of before) new (hardware_of after)

@@ -1,22 +1,24 @@
 -- The calls of a category's own, by what their check decides and what they come to.
-use Rattle.pos_common.proofs.Common.{Answer, Control, Err, Hardware, IsTrue, List, MatchOption, MatchResult, NoMemory, None, Ok, Option, Result}
-use Rattle.pos_common.proofs.Common.{Row, SameHardware, Some, first_refusal, refl, slice_get, ℕ, ◌≡◌}
+use Rattle.pos_common.proofs.Common.{Answer, Control, Err, Hardware, IsTrue, List, MatchOption, MatchResult, NoMemory}
+use Rattle.pos_common.proofs.Common.{None, Ok, Option, Result, Row, SameHardware, Some, first_refusal, refl, slice_get}
+use Rattle.pos_common.proofs.Common.{ℕ, ◌≡◌}
 use Rattle.pos_common.specs.OwnCalls.{OwnCall, OwnOrders, own_refusals}
 use Rattle.pos_service.specs.Calls.{takes_memory}
-use Rattle.pos_service.specs.Deeds.{Does, MayWantFor, OrdersBy, may_want}
+use Rattle.pos_service.specs.Actions.{Does, MayWantFor, OrdersBy, may_want}
 use Rattle.pos_service.specs.Peripherals.{counted}
 use Rattle.pos_service.specs.declared.answer.Answer.TheVariants as answer
 use Rattle.pos_service.specs.declared.call.Call.{Call}
 use Rattle.pos_service.specs.declared.category.Category.{Category}
 use Rattle.pos_service.specs.declared.code.Code.{Code}
-use Rattle.pos_service.specs.declared.deed.Deed.{Deed}
-use Rattle.pos_service.specs.declared.deed.Deed.TheVariants as deed
+use Rattle.pos_service.specs.declared.action.Action.{Action}
+use Rattle.pos_service.specs.declared.action.Action.TheVariants as action
 use Rattle.std.proofs.Common.{inl}
 use Rattle.std.specs.Prelude.{◌⊎◌}
 use Rattle.pos_common.proofs.CheckLemmas.{refused}
 
-module _ (k : Category) (n : ℕ) (claims : List (Option ℕ)) (asked : Call) (olds : List Control) (one : Control) (rows : Control → List Row)
-    (comes_to : Control → Option Deed) (found : slice_get olds n ≡ Some one) where
+module _ (k : Category) (n : ℕ) (claims : List (Option ℕ)) (asked : Call) (olds : List Control) (one : Control)
+    (rows : Control → List Row)
+    (comes_to : Control → Option Action) (found : slice_get olds n ≡ Some one) where
   abbrev refusals : List Row
   refusals = own_refusals k (rows one) n claims asked one
 
@@ -49,8 +51,9 @@ module _ (k : Category) (n : ℕ) (claims : List (Option ℕ)) (asked : Call) (o
   pub wanting_orders : (want : NoMemory) (orders : ℕ) → first_refusal refusals ≡ None → Ordered (Err want) orders orders
   wanting_orders want orders none = rw (found, none) (inl refl)
 
-  -- it comes to a deed
-  pub done_call : (d : Deed) (place : ℕ) (outcome : Result Answer NoMemory) (new : List Control) (before after : Hardware)
+  -- it comes to an action
+  pub done_call : (d : Action) (place : ℕ) (outcome : Result Answer NoMemory) (new : List Control)
+      (before after : Hardware)
       → one.device ≡ Some place → first_refusal refusals ≡ None → comes_to one ≡ Some d → MayWantFor asked d
       → MatchResult outcome (λ result. Does d n place result olds before new after)
       (λ want. IsTrue (may_want d) × SameHardware olds before new after)
@@ -61,12 +64,13 @@ module _ (k : Category) (n : ℕ) (claims : List (Option ℕ)) (asked : Call) (o
       rw found (wants does.0, none, does.1)
 
   -- and gives its orders
-  pub done_orders : (d : Deed) (outcome : Result Answer NoMemory) (old new : ℕ) → first_refusal refusals ≡ None → comes_to one ≡ Some d
+  pub done_orders : (d : Action) (outcome : Result Answer NoMemory) (old new : ℕ) → first_refusal refusals ≡ None
+      → comes_to one ≡ Some d
       → OrdersBy d outcome old new → Ordered outcome old new
   done_orders d (Ok result) old new none comes gives = rw (found, none, comes) gives
-  done_orders d (Err want) old new none comes gives = rw (found, none) (by_deed d gives)
+  done_orders d (Err want) old new none comes gives = rw (found, none) (by_action d gives)
     where
-      by_deed : (d : Deed) → OrdersBy {T = Answer} d (Err want) old new → (new ≡ old) ⊎ (new ≡ counted old)
-      by_deed (deed.Gives given what) gives = gives
-      by_deed (deed.Changes what) gives = inl gives
-      by_deed (deed.Queues given) gives = inl gives
+      by_action : (d : Action) → OrdersBy {T = Answer} d (Err want) old new → (new ≡ old) ⊎ (new ≡ counted old)
+      by_action (action.Gives given what) gives = gives
+      by_action (action.Changes what) gives = inl gives
+      by_action (action.Queues given) gives = inl gives

@@ -1,5 +1,6 @@
 -- A control as the code holds it.
-use Rattle.std.specs.Prelude.{◌≡◌, ℕ, ◌≤◌, ◌+◌, Bool, List, [], ◌∷◌, None, Result, MatchResult, IsTrue, ⊤, count_by, length, map, All}
+use Rattle.std.specs.Prelude.{◌≡◌, ℕ, ◌≤◌, ◌+◌, Bool, List, [], ◌∷◌, None, Result, MatchResult, IsTrue, ⊤, count_by}
+use Rattle.std.specs.Prelude.{length, map, All}
 use Rattle.pos_service.specs.declared.answer.Answer.{Answer}
 use Rattle.pos_service.specs.declared.answer.Answer.TheVariants as answer
 use Rattle.pos_service.specs.declared.answer.Value.{Value}

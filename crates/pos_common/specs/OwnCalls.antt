@@ -5,12 +5,12 @@ use Rattle.pos_service.specs.declared.answer.Answer.TheVariants as answer
 use Rattle.pos_service.specs.declared.call.Call.{Call}
 use Rattle.pos_service.specs.declared.category.Category.{Category}
 use Rattle.pos_service.specs.declared.code.Code.{Code}
-use Rattle.pos_service.specs.declared.deed.Deed.{Deed}
+use Rattle.pos_service.specs.declared.action.Action.{Action}
 use Rattle.pos_service.specs.declared.faults.NoMemory.{NoMemory}
 use Rattle.pos_service.specs.Calls.{has_call, needs_of, takes_memory}
 use Rattle.pos_service.specs.Claims.{holder_at}
 use Rattle.pos_service.specs.Controls.{Control}
-use Rattle.pos_service.specs.Deeds.{Does, OrdersBy}
+use Rattle.pos_service.specs.Actions.{Does, OrdersBy}
 use Rattle.pos_service.specs.Hardware.{Effect, SameHardware}
 use Rattle.pos_service.specs.Needs.{table}
 use Rattle.pos_service.specs.Peripherals.{counted}
@@ -32,14 +32,14 @@ ChecksCall c number claims asked control outcome = MatchResult outcome
     first_refusal (own_refusals c rows number claims asked control) ≡ Some (answer.Refused code 0))
 
 -- what it does at the control's device: what it comes to
-abbrev pub OwnDoes : Option Deed → ℕ → Answer → Control → Effect
+abbrev pub OwnDoes : Option Action → ℕ → Answer → Control → Effect
 OwnDoes comes_to number result control old before new after = MatchOption control.device ⊥ (λ place.
-    MatchOption comes_to ⊥ (λ deed. Does deed number place result old before new after))
+    MatchOption comes_to ⊥ (λ action. Does action number place result old before new after))
 
 -- Such a call, by the category's rows and what it comes to: it is refused by its table, which changes nothing, or it
 -- does what it comes to. Only a call that may want memory and that nothing refuses may fail for want of it, and then
 -- nothing changes.
-abbrev pub OwnCall : Category → List Row → Option Deed → ℕ → List (Option ℕ) → Call → Result Answer NoMemory → Control
+abbrev pub OwnCall : Category → List Row → Option Action → ℕ → List (Option ℕ) → Call → Result Answer NoMemory → Control
     → Effect
 OwnCall c rows comes_to number claims asked outcome control old before new after =
     let refusals = own_refusals c rows number claims asked control in MatchResult outcome
@@ -49,10 +49,11 @@ OwnCall c rows comes_to number claims asked outcome control old before new after
 
 -- how many orders the peripheral was given before and after: none by a call that its table refuses, otherwise those of
 -- what it comes to
-abbrev pub OwnOrders : Category → List Row → Option Deed → ℕ → List (Option ℕ) → Call → Result Answer NoMemory → Control
+abbrev pub OwnOrders : Category → List Row → Option Action → ℕ → List (Option ℕ) → Call → Result Answer NoMemory
+    → Control
     → ℕ → ℕ → Type 0
 OwnOrders c rows comes_to number claims asked outcome control old new =
     MatchOption (first_refusal (own_refusals c rows number claims asked control))
-    (MatchResult outcome (λ result. MatchOption comes_to ⊥ (λ deed. OrdersBy deed outcome old new))
+    (MatchResult outcome (λ result. MatchOption comes_to ⊥ (λ action. OrdersBy action outcome old new))
     (λ want. (new ≡ old) ⊎ (new ≡ counted old)))
     (λ refusal. new ≡ old)

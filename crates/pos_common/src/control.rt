@@ -1,20 +1,20 @@
 //! A control: an application's hold of a device.
 ghost use Rattle.std.specs.Prelude.{◌≡◌};
 ghost use Rattle.pos_service.specs.Controls.{is_notified, new_control};
-ghost use Rattle.pos_service.specs.Deeds.{changed};
+ghost use Rattle.pos_service.specs.Actions.{changed};
 
 mod calls;
 mod events;
 mod output;
 mod properties;
 
-use crate::shown::Shown;
+use crate::shown::ShownScan;
 use crate::writer::Writer;
 pub use events::WORK_EVENTS;
 pub(crate) use events::{INPUT_EVENTS, SIGN_EVENTS};
 use pos_events::EventQueue;
 use pos_service::display_text::Cursor;
-use pos_service::{Category, Change, Settings};
+use pos_service::{Category, ControlUpdate, Settings};
 use std::alloc::Global;
 use std::marker::Model;
 
@@ -26,7 +26,7 @@ pub struct Control {
     device: Option<usize>,
     is_enabled: bool,
     settings: Settings,
-    shown: Shown,
+    shown: ShownScan,
     cursor: Cursor,
     writer: Writer,
     events: EventQueue,
@@ -62,7 +62,7 @@ impl Control {
             device: None,
             is_enabled: false,
             settings: Settings::new(),
-            shown: Shown::new(alloc),
+            shown: ShownScan::new(alloc),
             cursor: Cursor::new(),
             writer: Writer::new(alloc),
             events: EventQueue::new(alloc),
@@ -106,15 +106,15 @@ impl Control {
     }
 
     /// Applies what a call changes of its control, once the call is done.
-    pub(crate) fn change(&mut self, change: Change)
+    pub(crate) fn change(&mut self, change: ControlUpdate)
         ensures { self.new.control ≡ changed change self.old.control }
     {
         match change {
-            Change::Nothing => {}
-            Change::Cursor(place) => self.cursor.place = place,
-            Change::Input => self.clear_input(),
-            Change::InputProperties => self.clear_input_properties(),
-            Change::Output => self.clear_output(),
+            ControlUpdate::Nothing => {}
+            ControlUpdate::Cursor(place) => self.cursor.place = place,
+            ControlUpdate::Input => self.clear_input(),
+            ControlUpdate::InputProperties => self.clear_input_properties(),
+            ControlUpdate::Output => self.clear_output(),
         }
     }
 }

@@ -8,12 +8,12 @@ use std::marker::Model;
 
 /// The scan that a control shows in ScanData, ScanDataLabel and ScanDataType (chapter Scanner).
 #[derive(Drop)]
-pub(crate) struct Shown {
+pub(crate) struct ShownScan {
     alloc: Global,
     scan: Scan,
 }
 
-impl Model for Shown {
+impl Model for ShownScan {
     ghost use Rattle.pos_service.specs.declared.input.Scan.{Scan};
 
     ghost Value = { Scan };
@@ -21,12 +21,12 @@ impl Model for Shown {
     ghost view = { λ a. a.scan };
 }
 
-impl Shown {
+impl ShownScan {
     /// Returns no scan.
     pub(crate) fn new(alloc: Global) -> Self
         ensures { result ≡ no_scan }
     {
-        Shown {
+        ShownScan {
             alloc,
             scan: no_scan(alloc),
         }

@@ -12,19 +12,21 @@ use Rattle.pos_store.specs.Standing.{LeavesOneOf, Stands, StandsForOneOf}
 use Rattle.pos_store.proofs.DiskFileLemmas.{new_standing}
 use Rattle.pos_counter.specs.Steps.{Run}
 use Rattle.pos_run.specs.declared.scripts.RunFault.{RunFault}
-use Rattle.pos_run.specs.Running.{new_totals}
-use Rattle.pos_run.specs.Simulating.{FindsNoMemory, ProfileLeaves, ProfileRuns, RunsOverProfile}
+use Rattle.pos_run.specs.Runs.{new_totals}
+use Rattle.pos_run.specs.Simulations.{FindsNoMemory, ProfileLeaves, ProfileRuns, RunsOverProfile}
 use Rattle.pos_run.specs.Streams.{Streams}
 use Rattle.pos_run.specs.Transcript.{begun_session}
-use Rattle.pos_console.specs.Serving.{Serves, start, start_spares}
+use Rattle.pos_console.specs.Service.{Serves, start, start_spares}
 
 -- a disk that was formatted leaves no files, with sequence 1
 pub new_disk_leaves : (disk : DiskState) → HasNoFiles disk → LeavesOneOf (Stands Layout1 [] 1 ∷ []) disk
 new_disk_leaves disk new bytes may =
-    subst (StandsForOneOf (Stands Layout1 [] 1 ∷ [])) (sym (rest_leaves disk bytes new.at_rest may)) (inl (new_standing disk.reading new.image))
+    subst (StandsForOneOf (Stands Layout1 [] 1 ∷ [])) (sym (rest_leaves disk bytes new.at_rest may))
+    (inl (new_standing disk.reading new.image))
 
 -- where there was no memory, the program leaves what it leaves then, wherever it began
-pub served_nothing : (streams : Streams) (result : Result (Unit {0}) RunFault) → FindsNoMemory streams result → Serves streams result
+pub served_nothing : (streams : Streams) (result : Result (Unit {0}) RunFault) → FindsNoMemory streams result
+    → Serves streams result
 served_nothing streams result (same, (reader, writer)) =
     subst (λ (r : Result (Unit {0}) RunFault). Serves streams r) (sym same) (record {
       end = start;
@@ -37,16 +39,19 @@ served_nothing streams result (same, (reader, writer)) =
     })
 
 -- over the built profile and a new disk the program begins at the start
-pub serves_built : {D : Type 0} (bound : DiskGhosts D) (contents : Contents) (disk after : D) (streams : Streams) (result : Result (Unit {0}) RunFault)
+pub serves_built : {D : Type 0} (bound : DiskGhosts D) (contents : Contents) (disk after : D) (streams : Streams)
+    (result : Result (Unit {0}) RunFault)
     → contents ≡ built → bound.honest disk → HasNoFiles (bound.state disk) → (bound.state disk).failures ≡ 0
     → ProfileLeaves bound contents disk streams result after → Serves streams result
 serves_built {D} bound contents disk after streams result is honest new none leaves =
     from_start (subst (λ (c : Contents). ProfileLeaves bound c disk streams result after) is leaves)
   where
-    from_start : (FindsNoMemory streams result × (after ≡ disk)) ⊎ ProfileRuns bound built disk streams result after → Serves streams result
+    from_start : (FindsNoMemory streams result × (after ≡ disk)) ⊎ ProfileRuns bound built disk streams result after
+        → Serves streams result
     from_start (inl nothing) = served_nothing streams result nothing.0
     from_start (inr runs) =
         let left = Stands Layout1 [] 1 ∷ [] in
         let over : RunsOverProfile Run built (new_totals left 0) streams result =
-        subst (λ n. RunsOverProfile Run built (new_totals left n) streams result) none (runs.0 left honest (new_disk_leaves (bound.state disk) new)).0.text in
+        subst (λ n. RunsOverProfile Run built (new_totals left n) streams result) none
+        (runs.0 left honest (new_disk_leaves (bound.state disk) new)).0.text in
         record { end = over.end; left = over.left; run = over.run }

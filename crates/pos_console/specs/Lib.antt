@@ -1,4 +1,4 @@
 pub mod Program
-pub mod Serving
-pub mod Telling
+pub mod Service
+pub mod Surveys
 pub mod TotalsRuns

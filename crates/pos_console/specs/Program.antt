@@ -8,9 +8,9 @@ use Rattle.pos_mirror.specs.Mirror.{Mirror}
 use Rattle.pos_profile.specs.Entries.{Contents}
 use Rattle.pos_program.specs.Choices.{Chooses}
 use Rattle.pos_program.specs.Faults.{status_of}
-use Rattle.pos_program.specs.Formatting.{FormatsFile}
-use Rattle.pos_program.specs.Migrating.{MigratesFile}
-use Rattle.pos_program.specs.Opening.{OpensRun}
+use Rattle.pos_program.specs.Formats.{FormatsFile}
+use Rattle.pos_program.specs.Migrations.{MigratesFile}
+use Rattle.pos_program.specs.Openings.{OpensRun}
 use Rattle.pos_program.specs.TotalsDisks.{AreRead}
 use Rattle.pos_program.specs.declared.choice_fault.ChoiceFault.{ChoiceFault}
 use Rattle.pos_program.specs.declared.fault.Fault.{Fault}
@@ -22,8 +22,8 @@ use Rattle.pos_program.specs.declared.words.Task.TheVariants.{Demo, Run, Format,
 use Rattle.pos_run.specs.declared.scripts.RunFault.{RunFault}
 use Rattle.pos_run.specs.declared.scripts.RunFault.TheVariants as run
 use Rattle.pos_run.specs.Streams.{AreUntouched, IsFlushed, Streams, Writing}
-use Rattle.pos_console.specs.Serving.{Serves}
-use Rattle.pos_console.specs.Telling.{IsBroken, IsTold}
+use Rattle.pos_console.specs.Service.{Serves}
+use Rattle.pos_console.specs.Surveys.{IsBroken, IsTold}
 use Rattle.pos_console.specs.TotalsRuns.{TotalsLeave}
 
 -- what the end of a run is to the program
@@ -79,26 +79,26 @@ IsCutOff old new text = (front : List ℕ) × (back : List ℕ) × (text ≡ fro
 
 -- what it tells of the bytes of the totals in the file at a path, by how its writer stood before, and after: their
 -- survey's text, as far as it can be written; or why there is none, and then nothing is written
-abbrev pub TellsBytes : List ℕ → List ℕ → Writing → Writing → Result (Unit {0}) Fault → Type 0
-TellsBytes path bytes old new (Ok u) = (text : List ℕ) × IsTold bytes text × IsWritten old new text
-TellsBytes path bytes old new (Err fault.Write) = (text : List ℕ) × IsTold bytes text × IsCutOff old new text
-TellsBytes path bytes old new (Err (fault.Disk at cause)) = (at.now ≡ path) × IsBroken bytes cause × (new ≡ old)
-TellsBytes path bytes old new (Err other) = ⊥
+abbrev pub PrintsBytes : List ℕ → List ℕ → Writing → Writing → Result (Unit {0}) Fault → Type 0
+PrintsBytes path bytes old new (Ok u) = (text : List ℕ) × IsTold bytes text × IsWritten old new text
+PrintsBytes path bytes old new (Err fault.Write) = (text : List ℕ) × IsTold bytes text × IsCutOff old new text
+PrintsBytes path bytes old new (Err (fault.Disk at cause)) = (at.now ≡ path) × IsBroken bytes cause × (new ≡ old)
+PrintsBytes path bytes old new (Err other) = ⊥
 
 -- what it tells of totals that were only read: of the bytes that the one read of their file gave; or why they can't be
 -- read
-abbrev pub TellsOpened : {B : Type 0} → FileGhosts B → List ℕ → Result (Mirror (FileDisk B)) FileFault → Writing
+abbrev pub PrintsOpened : {B : Type 0} → FileGhosts B → List ℕ → Result (Mirror (FileDisk B)) FileFault → Writing
     → Writing → Result (Unit {0}) Fault → Type 0
-TellsOpened below path (Ok totals) old new result =
-    AreRead below.calls totals × TellsBytes path totals.memory.present.reading old new result
-TellsOpened below path (Err cause) old new result = EndsAtDisk path (Err cause) result × (new ≡ old)
+PrintsOpened below path (Ok totals) old new result =
+    AreRead below.calls totals × PrintsBytes path totals.memory.present.reading old new result
+PrintsOpened below path (Err cause) old new result = EndsAtDisk path (Err cause) result × (new ≡ old)
 
 -- it tells what the totals file at a path holds
-abbrev pub TellsFile : {F B : Type 0} → Ghosts F B → FileGhosts B → F → List ℕ → Writing → Writing
+abbrev pub PrintsFile : {F B : Type 0} → Ghosts F B → FileGhosts B → F → List ℕ → Writing → Writing
     → Result (Unit {0}) Fault → Type 0
-TellsFile {F} {B} files below them path old new result =
+PrintsFile {F} {B} files below them path old new result =
     (opened : Result (Mirror (FileDisk B)) FileFault) × files.reads_disk them path opened
-    × TellsOpened below path opened old new result
+    × PrintsOpened below path opened old new result
 
 -- what it does for a task, over these files: by how its reader and its writer stood before, and after
 abbrev pub Does : {F B : Type 0} → Ghosts F B → FileGhosts B → DiskGhosts (Mirror (FileDisk B)) → F → Task → Streams
@@ -111,7 +111,7 @@ Does files below mirrors them (Format disk) streams result =
 Does files below mirrors them (Migrate disk) streams result =
     EndsMove files below them disk.now result × AreUntouched streams
 Does files below mirrors them (Files disk) streams result =
-    TellsFile files below them disk.now streams.writer streams.writer_after result
+    PrintsFile files below them disk.now streams.writer streams.writer_after result
     × (streams.reader_after ≡ streams.reader)
 
 -- what it does for what the words ask for: nothing where they ask for nothing

@@ -7,8 +7,8 @@ use Rattle.pos_file.specs.declared.file_disk.FileDisk.{FileDisk}
 use Rattle.pos_mirror.specs.Mirror.{Mirror, mirror_state}
 use Rattle.pos_profile.specs.Entries.{Contents}
 use Rattle.pos_program.specs.MirroredFiles.{CutMayLeave, IsMirrored}
-use Rattle.pos_run.specs.Running.{script_steps}
-use Rattle.pos_run.specs.Simulating.{FindsNoMemory, RunsSimulated, RunsThroughProfile, begun_over}
+use Rattle.pos_run.specs.Runs.{script_steps}
+use Rattle.pos_run.specs.Simulations.{FindsNoMemory, RunsSimulated, RunsThroughProfile, begun_over}
 use Rattle.pos_run.specs.Streams.{Streams}
 use Rattle.pos_run.specs.declared.scripts.RunFault.{RunFault}
 use Rattle.pos_store.specs.Standing.{Standing, LeavesOneOf}

@@ -1,8 +1,8 @@
 //! Prints what a totals file holds.
 ghost use Rattle.std.specs.Prelude.{IfErr, IfOk, MatchResult};
 ghost use Rattle.pos_run.specs.Streams.{writing_of};
-ghost use Rattle.pos_console.specs.Program.{IsCutOff, IsWritten, TellsBytes, TellsFile};
-ghost use Rattle.pos_console.specs.Telling.{IsBroken, IsTold, TellsBreak};
+ghost use Rattle.pos_console.specs.Program.{IsCutOff, IsWritten, PrintsBytes, PrintsFile};
+ghost use Rattle.pos_console.specs.Surveys.{IsBroken, IsTold, PrintsBreak};
 
 use pos_file::BlockFile;
 use pos_program::{Fault, FileFault, NamedFiles};
@@ -14,7 +14,7 @@ use std::alloc::Global;
 
 /// Returns a survey's fault as a fault of the file.
 fn fault_of_survey(fault: SurveyFault) -> FileFault
-    ensures { TellsBreak fault result }
+    ensures { PrintsBreak fault result }
 {
     match fault {
         SurveyFault::NoMemory => FileFault::NoMemory,
@@ -53,13 +53,13 @@ fn write_text<W: Sink>(writer: &mut AnswerWriter<W>, text: &[u8]) -> Result<(), 
 }
 
 /// Writes what the bytes of the totals file at a path hold.
-fn tell_bytes<'a, W: Sink>(
+fn print_bytes<'a, W: Sink>(
     alloc: Global,
     writer: &mut AnswerWriter<W>,
     path: &'a str,
     bytes: &[u8],
 ) -> Result<(), Fault<'a>>
-    ensures { TellsBytes path.entry.now bytes.now
+    ensures { PrintsBytes path.entry.now bytes.now
         (writing_of W.Sink writer.old) (writing_of W.Sink writer.new) result }
 {
     let text = match survey_text(alloc, bytes) {
@@ -79,17 +79,17 @@ fn tell_bytes<'a, W: Sink>(
 ///
 /// - `Disk` if the file can't be read, or breaks a rule of the format: the fault says which rule, and where.
 /// - `Write` if the text can't be written.
-pub fn tell_file<'a, F: NamedFiles, W: Sink>(
+pub fn print_file<'a, F: NamedFiles, W: Sink>(
     alloc: Global,
     files: &F,
     writer: &mut AnswerWriter<W>,
     path: &'a str,
 ) -> Result<(), Fault<'a>>
-    ensures { TellsFile F.NamedFiles ⟦<F::File as BlockFile>⟧ files.now path.entry.now
+    ensures { PrintsFile F.NamedFiles ⟦<F::File as BlockFile>⟧ files.now path.entry.now
         (writing_of W.Sink writer.old) (writing_of W.Sink writer.new) result }
 {
     match files.read_disk(path) {
-        Ok(totals) => tell_bytes(alloc, writer, path, totals.bytes()),
+        Ok(totals) => print_bytes(alloc, writer, path, totals.bytes()),
         Err(cause) => Err(Fault::Disk { path, cause }),
     }
 }

@@ -2,7 +2,7 @@
 //!
 //! The script comes from standard input, and what each line prints goes to standard output. `perform` does what the
 //! words of the command line ask for, over the files that they name, and returns the exit status. `serve_built` runs a
-//! script over the built-in profile, `run_over_totals` over a profile and a totals file, and `tell_file` prints what
+//! script over the built-in profile, `run_over_totals` over a profile and a totals file, and `print_file` prints what
 //! such a file holds.
 //!
 //! Each part is generic over its files, its script and its writers, so a contract says what the program does for each

@@ -6,7 +6,7 @@ ghost use Rattle.pos_run.specs.Streams.{streams_of};
 ghost use Rattle.pos_console.specs.Program.{Does, DoesAsAsked, EndsAtDisk, EndsFormat, EndsMove, Performs, RunsFiles};
 ghost use Rattle.pos_console.specs.Program.{fault_of_run};
 
-use crate::files::tell_file;
+use crate::files::print_file;
 use crate::scripts::serve_built;
 use crate::totals_run::run_over_totals;
 use pos_disk::Disk;
@@ -76,7 +76,7 @@ fn migrate<'a, F: NamedFiles>(alloc: Global, files: &F, path: &'a str) -> Result
 }
 
 /// Does the task that the words of the command line ask for.
-fn carry_out<'a, F: NamedFiles, R: Source, W: Sink>(
+fn perform_task<'a, F: NamedFiles, R: Source, W: Sink>(
     alloc: Global,
     files: &F,
     reader: &mut ScriptReader<R>,
@@ -91,12 +91,12 @@ fn carry_out<'a, F: NamedFiles, R: Source, W: Sink>(
         Task::Run { profile, disk } => run_files(alloc, files, reader, writer, profile, disk),
         Task::Format { disk } => format(files, disk),
         Task::Migrate { disk } => migrate(alloc, files, disk),
-        Task::Files { disk } => tell_file(alloc, files, writer, disk),
+        Task::Files { disk } => print_file(alloc, files, writer, disk),
     }
 }
 
 /// Does what the words of the command line ask for, if they ask for something.
-fn carry_out_words<'a, F: NamedFiles, S: AsStr, R: Source, W: Sink>(
+fn perform_words<'a, F: NamedFiles, S: AsStr, R: Source, W: Sink>(
     alloc: Global,
     files: &F,
     reader: &mut ScriptReader<R>,
@@ -107,7 +107,7 @@ fn carry_out_words<'a, F: NamedFiles, S: AsStr, R: Source, W: Sink>(
         (map S.text words.entry.now) (streams_of R.Source reader.old reader.new W.Sink writer.old writer.new) result }
 {
     match choice(alloc, words) {
-        Ok(task) => carry_out(alloc, files, reader, writer, task),
+        Ok(task) => perform_task(alloc, files, reader, writer, task),
         Err(fault) => Err(Fault::Words(fault)),
     }
 }
@@ -140,7 +140,7 @@ pub fn perform<F: NamedFiles, E: Eprint, S: AsStr + Drop, R: Source, W: Sink>(
 {
     match words {
         Ok(words) => {
-            let outcome = carry_out_words(alloc, files, reader, writer, words.as_slice());
+            let outcome = perform_words(alloc, files, reader, writer, words.as_slice());
             end(errors, outcome)
         }
         Err(fault) => end(errors, Err(Fault::Words(fault))),

@@ -1,6 +1,6 @@
 //! What the program without words does with a script.
 ghost use Rattle.pos_run.specs.Streams.{streams_of};
-ghost use Rattle.pos_console.specs.Serving.{Serves};
+ghost use Rattle.pos_console.specs.Service.{Serves};
 
 use pos_image::new_disk;
 use pos_profile::Profile;

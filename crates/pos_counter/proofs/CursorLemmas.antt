@@ -1,15 +1,17 @@
 -- What calls come to: they leave a cursor at a place of its display, and want memory only where they may.
-use Rattle.pos_counter.proofs.Common.{◌++◌, ◌<◌, ◌==◌, AllByRecursion, Bool, Call, Category, Change, Changes, ClearText}
-use Rattle.pos_counter.proofs.Common.{Control, Cursor, Deed, Display, DisplayText, DisplayTextAt, Gives, IfSome, IsInRange, IsPlaceOn, Kind}
-use Rattle.pos_counter.proofs.Common.{List, None, Option, Place, Property, Queues, Refused, Row}
-use Rattle.pos_counter.proofs.Common.{ScrollText, Some, Strip, Value, [], and_from, arith, attribute_of, cond, cond_both, cursor_after, device_deed}
-use Rattle.pos_counter.proofs.Common.{device_rows, direction_of, false, fed, first_refusal, is_cursor_place, is_index, is_up_to, nat_abs, not}
-use Rattle.pos_counter.proofs.Common.{option_map, origin, place_left, refl, returned, rules, same_Some, serves, subst, takes, true, with_run}
-use Rattle.pos_counter.proofs.Common.{with_text, ℕ, ℤ, ◌∷◌, ◌≡◌, ◌≤◌, ⊤}
+use Rattle.pos_counter.proofs.Common.{◌++◌, ◌<◌, ◌==◌, AllByRecursion, Bool, Call, Category, ControlUpdate, Changes}
+use Rattle.pos_counter.proofs.Common.{ClearText, Control, Cursor, Action, Display, DisplayText, DisplayTextAt, Gives}
+use Rattle.pos_counter.proofs.Common.{IfSome, IsInRange, IsPlaceOn, Kind, List, None, Option, Place, Property, Queues}
+use Rattle.pos_counter.proofs.Common.{Refused, Row, ScrollText, Some, Strip, Value, [], and_from, arith, attribute_of}
+use Rattle.pos_counter.proofs.Common.{cond, cond_both, cursor_after, device_action, device_rows, direction_of, false}
+use Rattle.pos_counter.proofs.Common.{fed, first_refusal, is_cursor_place, is_index, is_up_to, nat_abs, not, option_map}
+use Rattle.pos_counter.proofs.Common.{origin, place_left, refl, returned, rules, same_Some, serves, subst, suc, takes}
+use Rattle.pos_counter.proofs.Common.{true, with_run, zero, with_text, ℕ, ℤ, ◌∷◌, ◌≡◌, ◌≤◌, ⊤}
 use Rattle.std.proofs.lemmas.Bool.Decides.{nat_tests}
 use Rattle.std.proofs.lemmas.Nat.{mod_below}
-use Rattle.pos_display.specs.DisplayCalls.{display_deed, display_rows, scrolls, shows}
-use Rattle.pos_service.specs.declared.deed.Change.TheVariants as change
+use Rattle.std.specs.Prelude.{drop}
+use Rattle.pos_display.specs.DisplayCalls.{display_action, display_rows, scrolls, shows}
+use Rattle.pos_service.specs.declared.action.ControlUpdate.TheVariants as change
 use Rattle.pos_service.specs.declared.display_text.Attribute.{Attribute}
 
 -- ---- tables of which no row applies
@@ -21,10 +23,17 @@ NoneApplies rows = AllByRecursion (λ (row : Row). row.applies ≡ false) rows
 pub none_applies : (rows : List Row) → first_refusal rows ≡ None → NoneApplies rows
 none_applies [] none = tt
 none_applies (row ∷ rows) none =
-    (elim row.applies as (λ b. cond b (Some (Refused row.code row.extended)) (first_refusal rows) ≡ None → (b ≡ false) × NoneApplies rows) [
+    (elim row.applies as (λ b. cond b (Some (Refused row.code row.extended)) (first_refusal rows) ≡ None
+    → (b ≡ false) × NoneApplies rows) [
       | true ↦ λ same. cc
       | false ↦ λ same. (refl, none_applies rows same)
     ]) none
+
+-- nor does one of those behind the first rows
+pub none_dropped : (count : ℕ) (rows : List Row) → NoneApplies rows → NoneApplies (drop count rows)
+none_dropped zero rows none = none
+none_dropped (suc count) [] none = tt
+none_dropped (suc count) (row ∷ rows) none = none_dropped count rows none.1
 
 pub unless_not : (b : Bool) → not b ≡ false → b ≡ true
 unless_not true is = refl
@@ -60,7 +69,8 @@ place_opened at range = grind (arith, first_place)
 
 -- ---- texts
 
-run_column : (columns : ℕ) (run : List ℕ) (strip : Strip) → 0 < columns → strip.place.column ≤ columns → (with_run columns run strip).place.column ≤ columns
+run_column : (columns : ℕ) (run : List ℕ) (strip : Strip) → 0 < columns → strip.place.column ≤ columns
+    → (with_run columns run strip).place.column ≤ columns
 run_column columns run strip some le = grind (arith, mod_below)
 
 -- a text leaves the place on the strip at most one right of the last column
@@ -69,12 +79,15 @@ text_column : (columns : ℕ) (run bytes : List ℕ) (strip : Strip) → 0 < col
 text_column columns run [] strip some le = run_column columns run strip some le
 text_column columns run (b ∷ bytes) strip some le =
     let within = λ (s : Strip). s.place.column ≤ columns in
-    cond_both (b == 10) _ _ within (λ feeds. text_column columns [] bytes (fed (with_run columns run strip)) some (omega arith))
-    (λ other. cond_both (b == 13) _ _ within (λ returns. text_column columns [] bytes (returned (with_run columns run strip)) some (omega arith))
+    cond_both (b == 10) _ _ within
+    (λ feeds. text_column columns [] bytes (fed (with_run columns run strip)) some (omega arith))
+    (λ other. cond_both (b == 13) _ _ within
+    (λ returns. text_column columns [] bytes (returned (with_run columns run strip)) some (omega arith))
     (λ plain. text_column columns (run ++ b ∷ []) bytes strip some le))
 
 -- a text leaves the cursor at a place
-pub text_place : (rows columns : ℕ) (update : Bool) (start : Place) (bytes : List ℕ) → 0 < rows → 0 < columns → IsPlace rows columns start
+pub text_place : (rows columns : ℕ) (update : Bool) (start : Place) (bytes : List ℕ) → 0 < rows → 0 < columns
+    → IsPlace rows columns start
     → IsPlace rows columns (place_left rows columns update start bytes)
 text_place rows columns false start bytes tall wide is = is
 text_place rows columns true start bytes tall wide is = grind (arith, nat_tests, and_from, text_column)
@@ -82,18 +95,19 @@ text_place rows columns true start bytes tall wide is = grind (arith, nat_tests,
 -- ---- what calls come to
 
 -- what a call changes of its control leaves the cursor at a place of what the device is
-abbrev pub StaysOn : Option Kind → Place → Change → Type 0
+abbrev pub StaysOn : Option Kind → Place → ControlUpdate → Type 0
 StaysOn at was (change.Cursor place) = IsPlaceOn at was → IsPlaceOn at place
 StaysOn at was what = ⊤
 
 -- so does what it comes to
-abbrev pub DeedStaysOn : Option Kind → Place → Deed → Type 0
+abbrev pub DeedStaysOn : Option Kind → Place → Action → Type 0
 DeedStaysOn at was (Gives given what) = StaysOn at was what
 DeedStaysOn at was (Changes what) = StaysOn at was what
 DeedStaysOn at was (Queues given) = ⊤
 
 -- what comes of an attribute, or of a direction, is one
-one_of : {A : Type 0} (f : A → Deed) (o : Option A) (d : Deed) (P : Deed → Type 0) → ((a : A) → P (f a)) → option_map f o ≡ Some d → P d
+one_of : {A : Type 0} (f : A → Action) (o : Option A) (d : Action) (P : Action → Type 0) → ((a : A) → P (f a))
+    → option_map f o ≡ Some d → P d
 one_of f o d P each is = grind (arith, same_Some)
 
 -- of a display
@@ -102,21 +116,31 @@ module _ (rows columns : ℕ) (cursor : Cursor) (tall : 1 ≤ rows) (wide : 1 �
   at = Some (Display rows columns)
 
   -- a text from a place leaves the cursor at one
-  text_stays : (start : Place) (text : List ℕ) (style : Option Attribute) (d : Deed) → (IsPlace rows columns cursor.place → IsPlace rows columns start)
+  text_stays : (start : Place) (text : List ℕ) (style : Option Attribute) (d : Action)
+      → (IsPlace rows columns cursor.place → IsPlace rows columns start)
       → option_map (shows at cursor start text) style ≡ Some d → DeedStaysOn at cursor.place d
   text_stays start text style d within is = search (rules, one_of, text_place)
 
-  display_stays : (asked : Call) (d : Deed) → NoneApplies (display_rows at asked) → display_deed at cursor asked ≡ Some d → DeedStaysOn at cursor.place d
-  display_stays (DisplayText text attribute) d allowed is = text_stays cursor.place text (attribute_of attribute) d (λ i. i) is
+  display_stays : (asked : Call) (d : Action) → NoneApplies (display_rows at asked)
+      → display_action at cursor asked ≡ Some d → DeedStaysOn at cursor.place d
+  display_stays (DisplayText text attribute) d allowed is =
+      text_stays cursor.place text (attribute_of attribute) d (λ i. i) is
   display_stays (DisplayTextAt row column text attribute) d allowed is =
-      let first = with_row rows columns origin row (unless_not (is_index rows row) allowed.0) (first_place rows columns tall) in
-      let start = with_column rows columns (record { row = nat_abs row; column = 0 }) column (unless_not (is_up_to columns column) allowed.1.0) first in
+      let first = with_row rows columns origin row (unless_not (is_index rows row) allowed.0)
+      (first_place rows columns tall) in
+      let start = with_column rows columns (record { row = nat_abs row; column = 0 }) column
+      (unless_not (is_up_to columns column) allowed.1.0) first in
       text_stays (record { row = nat_abs row; column = nat_abs column }) text (attribute_of attribute) d (λ i. start) is
-  display_stays ClearText d allowed is = subst (DeedStaysOn at cursor.place) (same_Some _ d is) (λ i display. first_place rows columns tall)
-  display_stays (ScrollText direction units) d allowed is = one_of (scrolls units) (direction_of direction) d (DeedStaysOn at cursor.place) (λ way. tt) is
+  display_stays ClearText d allowed is =
+      subst (DeedStaysOn at cursor.place) (same_Some _ d is) (λ i display. first_place rows columns tall)
+  display_stays (ScrollText direction units) d allowed is =
+      one_of (scrolls units) (direction_of direction) d (DeedStaysOn at cursor.place) (λ way. tt) is
   display_stays asked d allowed is = absurd cc
 
--- a call whose arguments are allowed comes to what leaves the cursor at a place of the device, which serves the category
-pub deed_called : (k : Category) (is : Kind) (c : Control) (asked : Call) (d : Deed) → serves k (Some is) ≡ true → IsInRange is
-    → NoneApplies (device_rows k (Some is) c asked) → device_deed k (Some is) c asked ≡ Some d → DeedStaysOn (Some is) c.cursor.place d
+-- a call whose arguments are allowed comes to what leaves the cursor at a place of the device, which serves the
+-- category
+pub deed_called : (k : Category) (is : Kind) (c : Control) (asked : Call) (d : Action) → serves k (Some is) ≡ true
+    → IsInRange is
+    → NoneApplies (device_rows k (Some is) c asked) → device_action k (Some is) c asked ≡ Some d
+    → DeedStaysOn (Some is) c.cursor.place d
 deed_called k is c asked d served range allowed e = grind (arith, display_stays)

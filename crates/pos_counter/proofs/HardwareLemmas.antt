@@ -1,46 +1,57 @@
 -- What is done at a device and by whom it is held, and the steps that it makes.
-use Rattle.pos_counter.proofs.Common.{◌<◌, Answer, Call, CallOf, CallsAt, Category, CategoryDoes, Control, Device, DeviceDoes, Does, Effect, Err}
-use Rattle.pos_counter.proofs.Common.{FindsWork, HardTotals, Hardware, IfSome, IfSome_then, IsDoneAt, IsSome, IsSound, IsTrue, KeptControl, Kind, List, Machine}
-use Rattle.pos_counter.proofs.Common.{MatchOption-at_some, MayBeCalled, NoMemory, None, Ok, OnHardware, Option, Result, Row, SameHardware, Some, Step}
-use Rattle.pos_counter.proofs.Common.{TotalsPart, WorksAt, answered, ap, arith, category_rows, claimed, claimed_by, controls_of, device_rows, dropped}
-use Rattle.pos_counter.proofs.Common.{due_request_at, false, first_refusal, get_or_from_slice_get, holder_at, holder_in, holder_of, inl, inr}
-use Rattle.pos_counter.proofs.Common.{is_common, is_foreign, is_none, is_some, is_taken, is_totals, kind_of, length, machine_with, needs_of, own_takes_memory}
-use Rattle.pos_counter.proofs.Common.{place_of, refl, refusals, released, released_by, rules, serves, set, set-get_or, slice_get, slice_get_within, sym, table}
-use Rattle.pos_counter.proofs.Common.{takes_memory, true, with_items_is, ◌||◌, ℕ, ◌∙◌, ◌≡◌}
-use Rattle.pos_counter.proofs.Common.{ap₂, device_deed, subst, MatchOption, Refused}
+use Rattle.pos_counter.proofs.Common.{◌<◌, Answer, Call, CallOf, CallsAt, Category, CategoryDoes, Control, Device}
+use Rattle.pos_counter.proofs.Common.{DeviceDoes, Does, Effect, Err, FindsWork, HardTotals, Hardware, IfSome}
+use Rattle.pos_counter.proofs.Common.{IfSome_then, IsDoneAt, IsSome, IsSound, IsTrue, KeptControl, Kind, List, Machine}
+use Rattle.pos_counter.proofs.Common.{MatchOption-at_some, MayBeCalled, NoMemory, None, Ok, OnHardware, Option, Result}
+use Rattle.pos_counter.proofs.Common.{Row, SameHardware, Some, Step, TotalsPart, WorksAt, answered, ap, arith}
+use Rattle.pos_counter.proofs.Common.{category_rows, claimed, claimed_by, controls_of, device_rows, dropped}
+use Rattle.pos_counter.proofs.Common.{due_request_at, false, first_refusal, get_or_from_slice_get, holder_at, holder_in}
+use Rattle.pos_counter.proofs.Common.{holder_of, inl, inr, is_common, is_foreign, is_none, is_some, is_taken, is_totals}
+use Rattle.pos_counter.proofs.Common.{kind_of, length, machine_with, needs_of, own_takes_memory, place_of, refl}
+use Rattle.pos_counter.proofs.Common.{refusals, released, released_by, rules, serves, set, set-get_or, slice_get}
+use Rattle.pos_counter.proofs.Common.{slice_get_within, sym, table, takes_memory, true, with_items_is, ◌||◌, ℕ, ◌∙◌}
+use Rattle.pos_counter.proofs.Common.{◌≡◌, ap₂, device_action, subst, MatchOption, Refused}
 use Rattle.pos_common.specs.OwnCalls.{OwnCall as OwnCalled, OwnDoes, own_refusals}
 use Rattle.pos_service.specs.declared.code.Code.TheVariants.{Closed}
 use Rattle.std.specs.Prelude.{Vec}
 use Rattle.std.specs.Vec.{with_items}
-use Rattle.pos_service.specs.declared.answer.Worked.TheVariants as worked
+use Rattle.pos_service.specs.declared.answer.WorkResult.TheVariants as worked
 use Rattle.pos_counter.proofs.LiftLemmas.{decided_step, match_cases, matched}
 use Rattle.pos_counter.proofs.SoundnessLemmas.{seated}
+use Rattle.pos_counter.specs.Steps.{IsServed}
 
 -- a device whose hardware is as it was
-same_device : (ds : List Device) (place : ℕ) (d : Device) (before after : Hardware) → slice_get ds place ≡ Some d → d.hardware ≡ Some before
+same_device : (ds : List Device) (place : ℕ) (d : Device) (before after : Hardware) → slice_get ds place ≡ Some d
+    → d.hardware ≡ Some before
     → after ≡ before → set ds place (record d { hardware = Some after }) ≡ ds
 same_device ds place d before after at is same =
-    ap (set ds place) (ap (λ (o : Option Hardware). let y : Device = record d { hardware = o } in y) (ap Some same ∙ sym is)
+    ap (set ds place) (ap (λ (o : Option Hardware). let y : Device = record d { hardware = o } in y)
+    (ap Some same ∙ sym is)
     ∙ sym (get_or_from_slice_get ds place d d at)) ∙ set-get_or ds place d
 
 -- an open control's device has a peripheral, where its category serves no device without one, and may be called
-pub served_there : (m : Machine) (n : ℕ) (c : Control) (place : ℕ) → IsSound m → slice_get m.controls n ≡ Some c → c.device ≡ Some place
+pub served_there : (m : Machine) (n : ℕ) (c : Control) (place : ℕ) → IsSound m → slice_get m.controls n ≡ Some c
+    → c.device ≡ Some place
     → serves c.category None ≡ false → MayBeCalled m.devices place m.controls n
 served_there m n c place sound found is peripheral =
-    let x = matched (slice_get m.devices place) _ (rw is at (seated m n c sound found)) in
+    let (device, there, served) = matched (slice_get m.devices place) (IsServed c)
+    (rw is at (seated m n c sound found)) in
+    let (fits, stands_there, on_it) = served in
     record {
-      attached = rw x.1 (stands x.0.kind x.0.hardware x.2.0 x.2.1);
-      may = rw found (record { served = rw x.1 x.2.0; cursor = rw x.1 x.2.2 });
+      attached = rw there (stands device.kind device.hardware fits stands_there);
+      may = rw found (record { served = rw there fits; cursor = rw there on_it });
     }
   where
-    stands : (o : Option Kind) (s : Option Hardware) → serves c.category o ≡ true → IsTrue (is_none o || is_some s) → IsSome s
+    stands : (o : Option Kind) (s : Option Hardware) → serves c.category o ≡ true → IsTrue (is_none o || is_some s)
+        → IsSome s
     stands None s served attached = let bad = sym peripheral ∙ served in cc
     stands (Some k) None served attached = cc
     stands (Some k) (Some s) served attached = refl
 
 -- A call of a category's own: what it is answered first, what it does, and that it may want memory.
 pub record OwnCall (m : Machine) (n : ℕ) (c : Control) (asked : Call) : Type 0 where
-  pub rows : refusals m n c asked ≡ table n (holder_of m c) c (needs_of c.category asked) (category_rows c.category m n c asked)
+  pub rows : refusals m n c asked ≡ table n (holder_of m c) c (needs_of c.category asked)
+      (category_rows c.category m n c asked)
   pub does : (r : Answer) (m' : Machine) → CategoryDoes c.category m n c asked r m' → Does m n c asked r m'
   pub takes : IsTrue (own_takes_memory asked) → IsTrue (takes_memory m c asked)
 
@@ -49,24 +60,33 @@ own_call m n c asked h = grind arith
 
 -- what the check of the control with a number decides of a call of its category's own
 abbrev pub IsLet : Machine → ℕ → Control → Call → Type 0
-IsLet m n c asked = (rest : List Row) → first_refusal (table n (holder_of m c) c (needs_of c.category asked) rest) ≡ first_refusal rest
+IsLet m n c asked = (rest : List Row)
+    → first_refusal (table n (holder_of m c) c (needs_of c.category asked) rest) ≡ first_refusal rest
 
 -- behind the check the rest of the table decides
 pub let_refusals : (m : Machine) (n : ℕ) (c : Control) (asked : Call) → is_common asked ≡ false → IsLet m n c asked
     → first_refusal (refusals m n c asked) ≡ first_refusal (category_rows c.category m n c asked)
-let_refusals m n c asked own lets = ap first_refusal (own_call m n c asked own).rows ∙ lets (category_rows c.category m n c asked)
+let_refusals m n c asked own lets =
+    ap first_refusal (own_call m n c asked own).rows ∙ lets (category_rows c.category m n c asked)
 
 -- The devices of a category have peripherals, and are held by the table of claims.
 pub record IsOfDevices (k : Category) : Type 0 where
   pub peripheral : serves k None ≡ false
-  pub rows : (m : Machine) (n : ℕ) (c : Control) (asked : Call) → category_rows k m n c asked ≡ device_rows k (kind_of m c) c asked
-  pub does : (m m' : Machine) (n : ℕ) (c : Control) (asked : Call) (r : Answer) → OnHardware m c.device (DeviceDoes k (kind_of m c) n c asked r) m'
+  pub rows : (m : Machine) (n : ℕ) (c : Control) (asked : Call)
+      → category_rows k m n c asked ≡ device_rows k (kind_of m c) c asked
+  pub does : (m m' : Machine) (n : ℕ) (c : Control) (asked : Call) (r : Answer)
+      → OnHardware m c.device (DeviceDoes k (kind_of m c) n c asked r) m'
       → CategoryDoes k m n c asked r m'
-  pub drops : (m : Machine) (n : ℕ) (c : Control) → dropped k m n c ≡ record m { claims = released_by m.claims c.device n }
-  pub releases : (m : Machine) (n : ℕ) (c : Control) → released k m n c ≡ record m { claims = released_by m.claims c.device n }
-  pub claims : (m : Machine) (n : ℕ) (c : Control) → claimed k m n c ≡ record m { claims = claimed_by m.claims c.device n }
-  pub takes : (m : Machine) (n : ℕ) (device : Option ℕ) → is_taken k m n device ≡ is_foreign n (holder_at m.claims device)
-  pub holds : (claims : List (Option ℕ)) (area device : Option ℕ) → holder_in k claims area device ≡ holder_at claims device
+  pub drops : (m : Machine) (n : ℕ) (c : Control)
+      → dropped k m n c ≡ record m { claims = released_by m.claims c.device n }
+  pub releases : (m : Machine) (n : ℕ) (c : Control)
+      → released k m n c ≡ record m { claims = released_by m.claims c.device n }
+  pub claims : (m : Machine) (n : ℕ) (c : Control)
+      → claimed k m n c ≡ record m { claims = claimed_by m.claims c.device n }
+  pub takes : (m : Machine) (n : ℕ) (device : Option ℕ)
+      → is_taken k m n device ≡ is_foreign n (holder_at m.claims device)
+  pub holds : (claims : List (Option ℕ)) (area device : Option ℕ)
+      → holder_in k claims area device ≡ holder_at claims device
 
 -- those of each category but Hard Totals do
 pub of_devices : (k : Category) → is_totals k ≡ false → IsOfDevices k
@@ -75,7 +95,8 @@ of_devices k is = grind arith
 -- ---- what is done with what stands at a place
 
 -- controls that were changed in place stand in the same list
-pub kept_in_place : {X Z : Type 0} (v : Vec X Z) (lent now : List X) → lent ≡ v.items → length now ≡ length lent → (with_items v now).items ≡ now
+pub kept_in_place : {X Z : Type 0} (v : Vec X Z) (lent now : List X) → lent ≡ v.items → length now ≡ length lent
+    → (with_items v now).items ≡ now
 kept_in_place v lent now is count = with_items_is v now (omega (arith, count, ap length is, v.ok.0))
 
 module _ (hs gs : List KeptControl) (ds es : List Device) (cl : List (Option ℕ)) (part : TotalsPart) (place : ℕ) where
@@ -86,18 +107,22 @@ module _ (hs gs : List KeptControl) (ds es : List Device) (cl : List (Option ℕ
   new = machine_with gs cl es part
 
   -- it is done at the device's hardware
-  pub on_hardware : (o : Option ℕ) (Does : ℕ → Effect) → o ≡ Some place → IsDoneAt ds place (Does place) hs gs es → OnHardware old o Does new
+  pub on_hardware : (o : Option ℕ) (Does : ℕ → Effect) → o ≡ Some place → IsDoneAt ds place (Does place) hs gs es
+      → OnHardware old o Does new
   on_hardware o Does is done = search rules
 
   -- what did nothing leaves the machine as it was
-  pub unchanged : {Does : Effect} (done : IsDoneAt ds place Does hs gs es) → SameHardware (controls_of hs) done.before (controls_of gs) done.after → new ≡ old
+  pub unchanged : {Does : Effect} (done : IsDoneAt ds place Does hs gs es)
+      → SameHardware (controls_of hs) done.before (controls_of gs) done.after → new ≡ old
   unchanged done same = search (rules, same_device)
 
   -- where work finds no memory, the name finds a request that is to be done
   pub want_finds_work : (name : List ℕ) (want : NoMemory) → Some place ≡ place_of ds name
-      → IsDoneAt ds place (WorksAt (holder_at cl (Some place)) place (Err want)) hs gs es → FindsWork old name × (new ≡ old)
+      → IsDoneAt ds place (WorksAt (holder_at cl (Some place)) place (Err want)) hs gs es
+      → FindsWork old name × (new ≡ old)
   want_finds_work name want finds done =
-      elim (match_cases (due_request_at done.before.kind place (holder_at cl (Some place)) (controls_of hs)) _ _ done.does) [
+      elim (match_cases (due_request_at done.before.kind place (holder_at cl (Some place)) (controls_of hs)) _ _
+      done.does) [
         | inl x ↦ absurd (let no : Err want ≡ Ok worked.Idle = x.1.0 in cc)
         | inr x ↦ (
           record {
@@ -112,12 +137,15 @@ module _ (hs gs : List KeptControl) (ds es : List Device) (cl : List (Option ℕ
       ]
 
   -- a call of a category's own is a step
-  pub device_step : (n : ℕ) (c : Control) (asked : Call) (r : Result Answer NoMemory) → is_common asked ≡ false → slice_get (controls_of hs) n ≡ Some c
+  pub device_step : (n : ℕ) (c : Control) (asked : Call) (r : Result Answer NoMemory) → is_common asked ≡ false
+      → slice_get (controls_of hs) n ≡ Some c
       → is_totals c.category ≡ false → c.device ≡ Some place → IsDoneAt ds place (CallsAt n cl asked r) hs gs es
       → Step old (CallOf n asked) (answered r) new
   device_step n c asked r own found is device done =
-      by_outcome r (MatchOption-at_some ⊥ (λ control. OwnCalled control.category (device_rows control.category (Some done.before.kind) control asked)
-      (device_deed control.category (Some done.before.kind) control asked) n cl asked r control (controls_of hs) done.before (controls_of gs) done.after)
+      by_outcome r (MatchOption-at_some ⊥
+      (λ control. OwnCalled control.category (device_rows control.category (Some done.before.kind) control asked)
+      (device_action control.category (Some done.before.kind) control asked) n cl asked r control
+      (controls_of hs) done.before (controls_of gs) done.after)
       c found done.does)
     where
       rows : List Row
@@ -127,30 +155,39 @@ module _ (hs gs : List KeptControl) (ds es : List Device) (cl : List (Option ℕ
       kind = rw (device, done.is_device, done.kind)
 
       unrefused : first_refusal (refusals old n c asked) ≡ first_refusal rows
-      unrefused = ap first_refusal ((own_call old n c asked own).rows ∙ same_table (holder_of old c) (holder_at cl c.device)
+      unrefused = ap first_refusal ((own_call old n c asked own).rows
+          ∙ same_table (holder_of old c) (holder_at cl c.device)
           (category_rows c.category old n c asked) (device_rows c.category (Some done.before.kind) c asked)
           ((of_devices c.category is).holds cl part.totals.area c.device)
-          ((of_devices c.category is).rows old n c asked ∙ ap (λ (at : Option Kind). device_rows c.category at c asked) kind))
+          ((of_devices c.category is).rows old n c asked
+          ∙ ap (λ (at : Option Kind). device_rows c.category at c asked) kind))
         where
           same_table : (a b : Option ℕ) (u v : List Row) → a ≡ b → u ≡ v
               → table n a c (needs_of c.category asked) u ≡ table n b c (needs_of c.category asked) v
-          same_table a b u v holder rest = ap₂ (λ (h : Option ℕ) (x : List Row). table n h c (needs_of c.category asked) x) holder rest
+          same_table a b u v holder rest =
+              ap₂ (λ (h : Option ℕ) (x : List Row). table n h c (needs_of c.category asked) x) holder rest
 
-      at_hardware : (result : Answer) → OwnDoes (device_deed c.category (Some done.before.kind) c asked) n result c (controls_of hs) done.before
+      at_hardware : (result : Answer)
+          → OwnDoes (device_action c.category (Some done.before.kind) c asked) n result c (controls_of hs) done.before
           (controls_of gs) done.after
           → OnHardware old c.device (DeviceDoes c.category (kind_of old c) n c asked result) new
       at_hardware result does =
-          let here = MatchOption-at_some ⊥ (λ place'. DeviceDoes c.category (Some done.before.kind) n c asked result place' (controls_of hs) done.before
+          let here = MatchOption-at_some ⊥
+          (λ place'. DeviceDoes c.category (Some done.before.kind) n c asked result place'
+          (controls_of hs) done.before
           (controls_of gs) done.after) place device does in
           on_hardware c.device (DeviceDoes c.category (kind_of old c) n c asked result) device
           (let there = rw (← kind) at here in search (done.is_device, done.is_attached, done.kind, there, done.changed))
 
-      by_outcome : (o : Result Answer NoMemory) → OwnCalled c.category (device_rows c.category (Some done.before.kind) c asked)
-          (device_deed c.category (Some done.before.kind) c asked) n cl asked o c (controls_of hs) done.before (controls_of gs) done.after
+      by_outcome : (o : Result Answer NoMemory)
+          → OwnCalled c.category (device_rows c.category (Some done.before.kind) c asked)
+          (device_action c.category (Some done.before.kind) c asked) n cl asked o c (controls_of hs) done.before
+          (controls_of gs) done.after
           → Step old (CallOf n asked) (answered o) new
       by_outcome (Ok result) h =
           decided_step old new n c asked result rows _ _ found unrefused (unchanged done)
-          (λ does. (own_call old n c asked own).does result new ((of_devices c.category is).does old new n c asked result (at_hardware result does))) h
+          (λ does. (own_call old n c asked own).does result new
+          ((of_devices c.category is).does old new n c asked result (at_hardware result does))) h
       by_outcome (Err want) h = rw found ((own_call old n c asked own).takes h.0, unrefused ∙ h.1, unchanged done h.2)
 
 -- a call of a category's own on a closed control is refused
@@ -165,17 +202,22 @@ closed_refuses m n c asked own closed = ap first_refusal (own_call m n c asked o
 
 -- what the check of a control of Hard Totals refuses, the table of its call refuses
 pub totals_refuse : (m : Machine) (n : ℕ) (c : Control) (asked : Call) (refusal : Answer) → c.category ≡ HardTotals
-    → ((rest : List Row) → first_refusal (table n m.totals.totals.area c (needs_of HardTotals asked) rest) ≡ Some refusal)
-    → first_refusal (table n (holder_of m c) c (needs_of c.category asked) (category_rows c.category m n c asked)) ≡ Some refusal
+    → ((rest : List Row) → first_refusal (table n m.totals.totals.area c (needs_of HardTotals asked) rest)
+    ≡ Some refusal)
+    → first_refusal (table n (holder_of m c) c (needs_of c.category asked) (category_rows c.category m n c asked))
+    ≡ Some refusal
 totals_refuse m n c asked refusal is refuses =
-    subst (λ k. first_refusal (table n (holder_in k m.claims m.totals.totals.area c.device) c (needs_of k asked) (category_rows k m n c asked)) ≡ Some refusal)
+    subst (λ k. first_refusal (table n (holder_in k m.claims m.totals.totals.area c.device) c (needs_of k asked)
+    (category_rows k m n c asked)) ≡ Some refusal)
     (sym is) (refuses (category_rows HardTotals m n c asked))
 
 -- what its check lets through, the rest of the table decides
 pub totals_let : (m : Machine) (n : ℕ) (c : Control) (asked : Call) → c.category ≡ HardTotals
-    → ((rest : List Row) → first_refusal (table n m.totals.totals.area c (needs_of HardTotals asked) rest) ≡ first_refusal rest) → IsLet m n c asked
+    → ((rest : List Row) → first_refusal (table n m.totals.totals.area c (needs_of HardTotals asked) rest)
+    ≡ first_refusal rest) → IsLet m n c asked
 totals_let m n c asked is lets =
-    subst (λ k. (rest : List Row) → first_refusal (table n (holder_in k m.claims m.totals.totals.area c.device) c (needs_of k asked) rest) ≡ first_refusal rest)
+    subst (λ k. (rest : List Row) → first_refusal
+    (table n (holder_in k m.claims m.totals.totals.area c.device) c (needs_of k asked) rest) ≡ first_refusal rest)
     (sym is) lets
 
 -- what is true of the control with a number
@@ -186,7 +228,8 @@ at_number controls n c Is found is = MatchOption-at_some ⊥ Is c found is
 -- ---- what holds a device
 
 -- the device of an open control has a claim
-pub covered : (m : Machine) (n : ℕ) (c : Control) → IsSound m → slice_get m.controls n ≡ Some c → IfSome c.device (λ place. place < length m.claims)
+pub covered : (m : Machine) (n : ℕ) (c : Control) → IsSound m → slice_get m.controls n ≡ Some c
+    → IfSome c.device (λ place. place < length m.claims)
 covered m n c sound at = IfSome_then c.device (seated m n c sound at) (λ place seat.
     let x = matched (slice_get m.devices place) _ seat in
     let there = slice_get_within m.devices place x.0 x.1 in omega (arith, there, sound.covers))

@@ -1,6 +1,7 @@
 -- Whether a delivery to a control gives an event.
-use Rattle.pos_counter.proofs.Common.{Control, Device, KeptControl, List, Machine, None, Option, Some, TotalsPart, arith, controls_of, false, get_or}
-use Rattle.pos_counter.proofs.Common.{is_some, length, length-map, machine_with, refl, slice_get, subst, true, ℕ, ◌+◌, ◌<◌, ◌≡◌, ◌≤◌, ⊎_elim}
+use Rattle.pos_counter.proofs.Common.{Control, Device, KeptControl, List, Machine, None, Option, Some, TotalsPart}
+use Rattle.pos_counter.proofs.Common.{arith, controls_of, false, get_or, is_some, length, length-map, machine_with}
+use Rattle.pos_counter.proofs.Common.{refl, slice_get, subst, true, ℕ, ◌+◌, ◌<◌, ◌≡◌, ◌≤◌, ⊎_elim}
 use Rattle.std.proofs.lemmas.Bool.{cases_lt}
 use Rattle.std.proofs.lemmas.Option.{slice_get_past}
 use Rattle.pos_counter.proofs.LiftLemmas.{kept_at}
@@ -27,27 +28,35 @@ past_none : (machine : Machine) (number : ℕ) → slice_get machine.controls nu
 past_none machine number is reply event after step = let given = rw is at step in given.0
 
 -- the same of the controls that a counter keeps
-pub kept_gives : (hs : List KeptControl) (cl : List (Option ℕ)) (ds : List Device) (part : TotalsPart) (number : ℕ) (h : KeptControl) → number < length hs
+pub kept_gives : (hs : List KeptControl) (cl : List (Option ℕ)) (ds : List Device) (part : TotalsPart) (number : ℕ)
+    (h : KeptControl) → number < length hs
     → h ≡ get_or hs number h → is_some (deliverable h.control) ≡ true → GivesEvent (machine_with hs cl ds part) number
-kept_gives hs cl ds part number h within is some = gives (machine_with hs cl ds part) number h.control (kept_at hs number h within is) some
+kept_gives hs cl ds part number h within is some =
+    gives (machine_with hs cl ds part) number h.control (kept_at hs number h within is) some
 
-pub kept_none : (hs : List KeptControl) (cl : List (Option ℕ)) (ds : List Device) (part : TotalsPart) (number : ℕ) (h : KeptControl) → number < length hs
+pub kept_none : (hs : List KeptControl) (cl : List (Option ℕ)) (ds : List Device) (part : TotalsPart) (number : ℕ)
+    (h : KeptControl) → number < length hs
     → h ≡ get_or hs number h → is_some (deliverable h.control) ≡ false → GivesNone (machine_with hs cl ds part) number
-kept_none hs cl ds part number h within is none = gives_none (machine_with hs cl ds part) number h.control (kept_at hs number h within is) none
+kept_none hs cl ds part number h within is none =
+    gives_none (machine_with hs cl ds part) number h.control (kept_at hs number h within is) none
 
-pub none_past : (hs : List KeptControl) (cl : List (Option ℕ)) (ds : List Device) (part : TotalsPart) (number : ℕ) → length hs ≤ number
+pub none_past : (hs : List KeptControl) (cl : List (Option ℕ)) (ds : List Device) (part : TotalsPart) (number : ℕ)
+    → length hs ≤ number
     → GivesNone (machine_with hs cl ds part) number
 none_past hs cl ds part number past =
-    past_none (machine_with hs cl ds part) number (slice_get_past (controls_of hs) number (rw (length-map hs (λ (held : KeptControl). held.control)) past))
+    past_none (machine_with hs cl ds part) number
+    (slice_get_past (controls_of hs) number (rw (length-map hs (λ (held : KeptControl). held.control)) past))
 
 -- what is so of each number before one, and of that one, is so of each before the next
 pub each_more : (P : ℕ → Type 0) (from number : ℕ) → ((lower : ℕ) → from ≤ lower → lower < number → P lower) → P number
     → (lower : ℕ) → from ≤ lower → lower < number + 1 → P lower
 each_more P from number before here lower above below =
-    ⊎_elim (λ less. before lower above less) (λ reached. subst P (omega (arith, below, reached)) here) (cases_lt lower number)
+    ⊎_elim (λ less. before lower above less) (λ reached. subst P (omega (arith, below, reached)) here)
+    (cases_lt lower number)
 
 -- what is so of each number before one, and of each from an earlier one on, is so of all
-pub each_all : (P : ℕ → Type 0) (from number end : ℕ) → ((lower : ℕ) → from ≤ lower → lower < number → P lower) → end ≤ number
+pub each_all : (P : ℕ → Type 0) (from number end : ℕ) → ((lower : ℕ) → from ≤ lower → lower < number → P lower)
+    → end ≤ number
     → ((later : ℕ) → end ≤ later → P later) → (any : ℕ) → from ≤ any → P any
 each_all P from number end before over past any above =
     ⊎_elim (λ less. before any above less) (λ reached. past any (omega (arith, over, reached))) (cases_lt any number)

@@ -1,6 +1,7 @@
 -- The printed paper of a device is taken away.
-use Rattle.pos_counter.proofs.Common.{Err, List, None, Ok, Option, PeripheralState, Registered, Result, Some, [], ap, false, refl, standing_at, suc}
-use Rattle.pos_counter.proofs.Common.{with_peripheral, zero, ℕ, ◌∙◌, ◌∷◌, ◌≡◌, AllByRecursion, IsServed, MatchResult, hardware_of}
+use Rattle.pos_counter.proofs.Common.{Err, List, None, Ok, Option, PeripheralState, Registered, Result, Some, [], ap}
+use Rattle.pos_counter.proofs.Common.{false, refl, standing_at, suc, with_peripheral, zero, ℕ, ◌∙◌, ◌∷◌, ◌≡◌}
+use Rattle.pos_counter.proofs.Common.{AllByRecursion, IsServed, MatchResult, hardware_of}
 use Rattle.pos_common.specs.KeptControls.{KeptControl}
 use Rattle.pos_counter.proofs.DeviceListLemmas.{done_there}
 use Rattle.pos_counter.proofs.HostsLemmas.{same_peripheral}
@@ -16,14 +17,17 @@ use Rattle.pos_service.specs.Hardware.{StaysInService}
 use Rattle.pos_service.specs.declared.faults.NoMemory.{NoMemory}
 
 -- a peripheral whose paper is taken away stays in service
-pub stays_in_service : (was now : PeripheralState) (outcome : Result (Unit {0}) NoMemory) → was.is_parked ≡ false → TearsOff was outcome now
+pub stays_in_service : (was now : PeripheralState) (outcome : Result (Unit {0}) NoMemory) → was.is_parked ≡ false
+    → TearsOff was outcome now
     → StaysInService was now
 stays_in_service was now (Ok done) unparked torn = rw torn (record { unparked = unparked; kind = refl })
 stays_in_service was now (Err want) unparked same = rw same (record { unparked = unparked; kind = refl })
 
 -- what becomes of the devices
-pub torn_there : (list new : List Registered) (totals : Option (List ℕ)) (place : ℕ) (was now : PeripheralState) (outcome : Result (Unit {0}) NoMemory)
-    → AllByRecursion IsServed list → standing_at list place ≡ Some was → new ≡ with_peripheral list place (Some now) → TearsOff was outcome now
+pub torn_there : (list new : List Registered) (totals : Option (List ℕ)) (place : ℕ) (was now : PeripheralState)
+    (outcome : Result (Unit {0}) NoMemory)
+    → AllByRecursion IsServed list → standing_at list place ≡ Some was → new ≡ with_peripheral list place (Some now)
+    → TearsOff was outcome now
     → (helds : List KeptControl) → MatchResult outcome
     (λ done. IsDoneAt (devices_of list totals) place IsTorn helds helds (devices_of new totals))
     (λ want. devices_of new totals ≡ devices_of list totals)

@@ -1,13 +1,17 @@
 -- Setting a property as a step of the machine, where it recovers the totals and where it doesn't.
-use Rattle.pos_counter.proofs.Common.{◌&&◌, ◌<◌, Answer, Answered, AreDevicesSound, CallOf, Code, Control, Counter, Device, DeviceEnabled, DiskGhosts}
-use Rattle.pos_counter.proofs.Common.{DiskRecovers, Done, Empty, Err, FindsFiles, Ghosts, HardTotals, IsCounterSound, IsErrOf, IsOneOf, IsRecovering}
-use Rattle.pos_counter.proofs.Common.{KeptControl, Kind, Leaves, List, Machine, Mode, NoMemory, None, Off, Ok, Option, OutOfMemory, Property, Recovers}
-use Rattle.pos_counter.proofs.Common.{RecoversAny, RecoversOneOf, Refused, Response, Result, Serves, Set, SetsByRecovery, SetsTo, Signs, Some, SparesDisk}
-use Rattle.pos_counter.proofs.Common.{Standing, Step, Totals, TotalsPart, TotalsView, Truth, Value, WhenOff, [], after_enabling, after_set, and_from, and_right}
-use Rattle.pos_counter.proofs.Common.{answered, ap, arith, asks_recovery, code_of, controls_of, device_at, enabling, false, first_refusal, get_or, hardware_in}
-use Rattle.pos_counter.proofs.Common.{holder_in, holder_of, inl, inr, is_none, is_ready, kind_in, kind_of, length, machine, machine_with, not, or_left}
-use Rattle.pos_counter.proofs.Common.{or_right, part_of, part_with, recovers, refl, refusals, rules, set, set_rows, settled, signs_at, signs_in, slice_get}
-use Rattle.pos_counter.proofs.Common.{subst, sym, tells_power, true, with_control, ℕ, ◌∙◌, ◌≡◌, ◌⊎◌}
+use Rattle.pos_counter.proofs.Common.{◌&&◌, ◌<◌, Answer, Answered, AreDevicesSound, CallOf, Code, Control, Counter}
+use Rattle.pos_counter.proofs.Common.{Device, DeviceEnabled, DiskGhosts, DiskRecovers, Done, Empty, Err, FindsFiles}
+use Rattle.pos_counter.proofs.Common.{Ghosts, HardTotals, IsCounterSound, IsErrOf, IsOneOf, IsRecovering, KeptControl}
+use Rattle.pos_counter.proofs.Common.{Kind, Leaves, List, Machine, Mode, NoMemory, None, Off, Ok, Option, OutOfMemory}
+use Rattle.pos_counter.proofs.Common.{Property, Recovers, RecoversAny, RecoversOneOf, Refused, Response, Result, Serves}
+use Rattle.pos_counter.proofs.Common.{Set, SetsByRecovery, SetsTo, Signs, Some, SparesDisk, Standing, Step, Totals}
+use Rattle.pos_counter.proofs.Common.{TotalsPart, TotalsView, Truth, Value, WhenOff, [], after_enabling, after_set}
+use Rattle.pos_counter.proofs.Common.{and_from, and_right, answered, ap, arith, asks_recovery, code_of, controls_of}
+use Rattle.pos_counter.proofs.Common.{device_at, enabling, false, first_refusal, get_or, hardware_in, holder_in}
+use Rattle.pos_counter.proofs.Common.{holder_of, inl, inr, is_none, is_ready, kind_in, kind_of, length, machine}
+use Rattle.pos_counter.proofs.Common.{machine_with, not, or_left, or_right, part_of, part_with, recovers, refl}
+use Rattle.pos_counter.proofs.Common.{refusals, rules, set, set_rows, settled, signs_at, signs_in, slice_get, subst}
+use Rattle.pos_counter.proofs.Common.{sym, tells_power, true, with_control, ℕ, ◌∙◌, ◌≡◌, ◌⊎◌}
 use Rattle.pos_totals.specs.declared.fault.RecoveryFault.TheVariants as fault
 use Rattle.pos_totals.specs.declared.fault.RecoveryFault.{RecoveryFault}
 use Rattle.pos_counter.proofs.CrashLemmas.{settled_twice}
@@ -16,18 +20,21 @@ use Rattle.pos_counter.proofs.ServiceLemmas.{same_sound}
 use Rattle.pos_counter.proofs.SoundnessLemmas.{seated, set_seat, with_control_sound}
 
 -- a property is set, or finds no memory, and nothing is recovered
-pub plain_set : (hs : List KeptControl) (cl : List (Option ℕ)) (ds : List Device) (part : TotalsPart) (n : ℕ) (g h : KeptControl) (p : Property) (v : Value)
+pub plain_set : (hs : List KeptControl) (cl : List (Option ℕ)) (ds : List Device) (part : TotalsPart) (n : ℕ)
+    (g h : KeptControl) (p : Property) (v : Value)
     (r : Result Answer NoMemory) → n < length hs → h ≡ get_or hs n h → recovers part h.control p v ≡ false
     → SetsTo (set_rows n (holder_in h.control.category cl part.totals.area h.control.device)
     (kind_in (device_at ds h.control.device)) h.control p v) (tells_power h.control p v) r h g
     (after_set (signs_in (hardware_in (device_at ds h.control.device))) h.control p v)
     → Step (machine_with hs cl ds part) (CallOf n (Set p v)) (answered r) (machine_with (set hs n g) cl ds part)
 plain_set hs cl ds part n g h p v (Ok r) lt is plain turns = rw (kept_at hs n h lt is) (decided_weaker
-    (λ done. rw plain (done.0, set_machine hs cl ds part n g _ done.1)) (λ same. kept_machine hs cl ds part n g h same is) turns)
+    (λ done. rw plain (done.0, set_machine hs cl ds part n g _ done.1))
+    (λ same. kept_machine hs cl ds part n g h same is) turns)
 plain_set hs cl ds part n g h p v (Err want) lt is plain wants = rw (kept_at hs n h lt is) (
   or_right _ _ wants.0,
   wants.1,
-  set_machine hs cl ds part n g h.control wants.2 ∙ sym (set_machine hs cl ds part n h h.control refl) ∙ kept_machine hs cl ds part n h h refl is,
+  set_machine hs cl ds part n g h.control wants.2 ∙ sym (set_machine hs cl ds part n h h.control refl)
+      ∙ kept_machine hs cl ds part n h h refl is,
 )
 
 -- ---- what asks for a recovery
@@ -43,7 +50,8 @@ pub record Asking (hs : List KeptControl) (n : ℕ) (p : Property) (v : Value) (
   pub opened : is_none control.device ≡ false
   pub totals : control.category ≡ HardTotals
 
-pub asks_there : (hs : List KeptControl) (n : ℕ) (p : Property) (v : Value) (mode : Mode) → IsRecovering hs n p v mode → Asking hs n p v mode
+pub asks_there : (hs : List KeptControl) (n : ℕ) (p : Property) (v : Value) (mode : Mode) → IsRecovering hs n p v mode
+    → Asking hs n p v mode
 asks_there hs n p v mode h = grind (arith, matched)
 
 module _ (c : Control) (totals : c.category ≡ HardTotals) where
@@ -53,7 +61,8 @@ module _ (c : Control) (totals : c.category ≡ HardTotals) where
   unrefused n holder at opened = rw (totals, opened)
 
   -- so it is enabled, without memory
-  pub done_set : (n : ℕ) (holder : Option ℕ) (kind : Option Kind) (s : Signs) (h g : KeptControl) (p : Property) (v : Value) (r : Result Answer NoMemory)
+  pub done_set : (n : ℕ) (holder : Option ℕ) (kind : Option Kind) (s : Signs) (h g : KeptControl) (p : Property)
+      (v : Value) (r : Result Answer NoMemory)
       → is_none c.device ≡ false → h.control ≡ c → p ≡ DeviceEnabled → v ≡ Truth true
       → SetsTo (set_rows n holder kind h.control p v) (tells_power h.control p v) r h g (after_set s h.control p v)
       → (r ≡ Ok (Done Empty)) × (g.control ≡ after_set s c DeviceEnabled (Truth true))
@@ -61,12 +70,14 @@ module _ (c : Control) (totals : c.category ≡ HardTotals) where
 
 -- ---- a recovery
 
-module _ {D : Type 0} (bound : DiskGhosts D) (old new : TotalsView D) (off : old.totals.mode ≡ Off) (r : Result (Unit {0}) RecoveryFault)
+module _ {D : Type 0} (bound : DiskGhosts D) (old new : TotalsView D) (off : old.totals.mode ≡ Off)
+    (r : Result (Unit {0}) RecoveryFault)
     (recovers : DiskRecovers bound old r new) (left : List Standing) (leaves : Leaves bound old left) where
   -- for all that the disk may leave, one of it is found
   found_one : RecoversOneOf left (bound.state old.disk) (bound.state new.disk) old.totals r new.totals
   found_one =
-      subst (λ mode. WhenOff mode (RecoversAny (bound.state old.disk) (bound.state new.disk) old.totals r new.totals)) off
+      subst (λ mode. WhenOff mode (RecoversAny (bound.state old.disk) (bound.state new.disk) old.totals r new.totals))
+      off
       (recovers.one_of leaves.honest) left leaves.leaves
 
   -- a recovery leaves the files that were found, and else what it was
@@ -83,7 +94,8 @@ module _ {D : Type 0} (bound : DiskGhosts D) (old new : TotalsView D) (off : old
 
 -- ---- a call that recovers totals that are off
 
-module _ {D P : Type 0} (bound : DiskGhosts D) (peripherals : Ghosts P) (old new : Counter D P) (sound : IsCounterSound peripherals old)
+module _ {D P : Type 0} (bound : DiskGhosts D) (peripherals : Ghosts P) (old new : Counter D P)
+    (sound : IsCounterSound peripherals old)
     (devices : AreDevicesSound peripherals new.devices) (n : ℕ) (p : Property) (v : Value)
     (there : Asking old.controls.items n p v old.totals.totals.mode) where
   abbrev c : Control
@@ -118,9 +130,12 @@ module _ {D P : Type 0} (bound : DiskGhosts D) (peripherals : Ghosts P) (old new
   -- it is a step for all that the disk may leave, and changes the totals alone, and its control
   serves : (r : Result (Unit {0}) RecoveryFault) (response : Response) → DiskRecovers bound old.totals r new.totals
       → ((left : List Standing) → Leaves bound old.totals left
-      → Step (before left) (CallOf n enabling) response (now (settled new.totals.totals.layout new.totals.totals.mode left)))
-      → ((part other : TotalsPart) → (machine peripherals new other ≡ record (machine peripherals old part) { totals = other })
-      ⊎ (machine peripherals new other ≡ record (with_control (machine peripherals old part) n enabled) { totals = other }))
+      → Step (before left) (CallOf n enabling) response
+      (now (settled new.totals.totals.layout new.totals.totals.mode left)))
+      → ((part other : TotalsPart)
+      → (machine peripherals new other ≡ record (machine peripherals old part) { totals = other })
+      ⊎ (machine peripherals new other
+      ≡ record (with_control (machine peripherals old part) n enabled) { totals = other }))
       → IsCounterSound peripherals new → Serves bound peripherals old (CallOf n (Set p v)) response new
   serves r response recovers step alone sound = rw (there.names, there.gives) (record {
     step = record {
@@ -142,7 +157,8 @@ module _ {D P : Type 0} (bound : DiskGhosts D) (peripherals : Ghosts P) (old new
   })
 
   -- the totals are recovered, and the control is enabled
-  pub recovered_serves : (o : Result Answer NoMemory) → o ≡ Ok (Done Empty) → DiskRecovers bound old.totals (Ok tt) new.totals
+  pub recovered_serves : (o : Result Answer NoMemory) → o ≡ Ok (Done Empty)
+      → DiskRecovers bound old.totals (Ok tt) new.totals
       → ((part : TotalsPart) → machine peripherals new part ≡ with_control (machine peripherals old part) n enabled)
       → Serves bound peripherals old (CallOf n (Set p v)) (answered o) new
   recovered_serves o is recovers same = rw is (serves (Ok tt) (Answered (Done Empty)) recovers
@@ -161,7 +177,8 @@ module _ {D P : Type 0} (bound : DiskGhosts D) (peripherals : Ghosts P) (old new
       (record {
         machine = λ part.
             let m = machine peripherals old part in
-            let seat = set_seat m.devices (signs_at m c) c DeviceEnabled (Truth true) refl (seated m n c (sound.machine part) there.at) in
+            let seat = set_seat m.devices (signs_at m c) c DeviceEnabled (Truth true) refl
+            (seated m n c (sound.machine part) there.at) in
             rw (same part) (with_control_sound m n enabled seat (sound.machine part));
         devices = devices;
       }))
@@ -172,14 +189,16 @@ module _ {D P : Type 0} (bound : DiskGhosts D) (peripherals : Ghosts P) (old new
     kept : new.totals.totals ≡ old.totals.totals
     kept = grind arith
 
-    fails : (response : Response) → ((left : List Standing) → Leaves bound old.totals left → Step (before left) (CallOf n enabling) response (now left))
+    fails : (response : Response) → ((left : List Standing) → Leaves bound old.totals left
+        → Step (before left) (CallOf n enabling) response (now left))
         → Serves bound peripherals old (CallOf n (Set p v)) response new
     fails response step = serves (Err x) response recovers
         (λ left leaves. subst (λ after. Step (before left) (CallOf n enabling) response (now after))
         (leaves.is_settled ∙ ap (λ (t : Totals). settled t.layout t.mode left) (sym kept)) (step left leaves))
         (λ part other. inl (same other)) (same_sound peripherals old new same sound devices)
 
-    same_part : (left : List Standing) → Leaves bound old.totals left → (IsErrOf {T = Unit {0}} (Err x) fault.Device → ⊥)
+    same_part : (left : List Standing) → Leaves bound old.totals left
+        → (IsErrOf {T = Unit {0}} (Err x) fault.Device → ⊥)
         → part_of bound new.totals left ≡ part_of bound old.totals left
     same_part left leaves other = search (rules, kept, never_failed)
 
@@ -187,11 +206,13 @@ module _ {D P : Type 0} (bound : DiskGhosts D) (peripherals : Ghosts P) (old new
     why : (left : List Standing) (k : Code) → Leaves bound old.totals left → Some k ≡ code_of x
         → Recovers (part_of bound old.totals left) (Refused k 0) (part_of bound new.totals left)
     why left k leaves is =
-        by x recovers is (found_one bound old.totals new.totals there.off (Err x) recovers left leaves).found (same_part left leaves)
+        by x recovers is (found_one bound old.totals new.totals there.off (Err x) recovers left leaves).found
+        (same_part left leaves)
       where
         by : (x : RecoveryFault) → DiskRecovers bound old.totals (Err x) new.totals → Some k ≡ code_of x
             → FindsFiles (IsOneOf left) old.totals.totals (Err x) new.totals.totals
-            → ((IsErrOf {T = Unit {0}} (Err x) fault.Device → ⊥) → part_of bound new.totals left ≡ part_of bound old.totals left)
+            → ((IsErrOf {T = Unit {0}} (Err x) fault.Device → ⊥)
+            → part_of bound new.totals left ≡ part_of bound old.totals left)
             → Recovers (part_of bound old.totals left) (Refused k 0) (part_of bound new.totals left)
         by fault.Unformatted recovers is found same = inl (cc, found.0, same (λ failed. cc))
         by fault.Damaged recovers is found same = inr (cc, inl (inl found.0, same (λ failed. cc)))
@@ -207,7 +228,8 @@ module _ {D P : Type 0} (bound : DiskGhosts D) (peripherals : Ghosts P) (old new
         )
 
     -- the recovery fails, and the control stays as it is
-    pub failed_serves : (k : Code) → Some k ≡ code_of x → Serves bound peripherals old (CallOf n (Set p v)) (Answered (Refused k 0)) new
+    pub failed_serves : (k : Code) → Some k ≡ code_of x
+        → Serves bound peripherals old (CallOf n (Set p v)) (Answered (Refused k 0)) new
     failed_serves k is = fails (Answered (Refused k 0))
         (λ left leaves. does (Refused k 0) left left (inr (why left k leaves is, same (part_of bound new.totals left))))
 
@@ -216,7 +238,8 @@ module _ {D P : Type 0} (bound : DiskGhosts D) (peripherals : Ghosts P) (old new
     starved_serves is = fails OutOfMemory (λ left leaves. rw there.at (
       or_left _ _ recovering,
       allowed left,
-      same (part_of bound new.totals left) ∙ ap (machine peripherals old) (same_part left leaves (λ failed. no_fault x is failed)),
+      same (part_of bound new.totals left)
+          ∙ ap (machine peripherals old) (same_part left leaves (λ failed. no_fault x is failed)),
     ))
       where
         no_fault : (x : RecoveryFault) → None ≡ code_of x → IsErrOf {T = Unit {0}} (Err x) fault.Device → ⊥

@@ -1,9 +1,11 @@
 -- What an enabling finds where a crash has left a disk that stands for some files.
-use Rattle.pos_counter.proofs.Common.{Answer, Answered, Applies, CallOf, Control, DeviceEnabled, Failure, FindsThem, Group, History, IsOneOf, Layout, Limits}
-use Rattle.pos_counter.proofs.Common.{List, Machine, Ok, PlainFile, Recovers, Refused, Request, Response, Rises, Run, SetsByRecovery, Some, Stands, StartsWith}
-use Rattle.pos_counter.proofs.Common.{Step, TotalsPart, Truth, [], after_groups, and_from, arith, asks_recovery, begun, enabling, event_of, first_refusal}
-use Rattle.pos_counter.proofs.Common.{history_along, history_of, history_with, inl, inr, length, limits_of, outcome_of_all, refl, refusals, rules, slice_get}
-use Rattle.pos_counter.proofs.Common.{subst, true, ℕ, ◌∙◌, ◌∷◌, ◌≡◌, ◌≤◌}
+use Rattle.pos_counter.proofs.Common.{Answer, Answered, Applies, CallOf, Control, DeviceEnabled, Failure, FindsThem}
+use Rattle.pos_counter.proofs.Common.{Group, History, IsOneOf, Layout, Limits, List, Machine, Ok, PlainFile, Recovers}
+use Rattle.pos_counter.proofs.Common.{Refused, Request, Response, Rises, Run, SetsByRecovery, Some, Stands, StartsWith}
+use Rattle.pos_counter.proofs.Common.{Step, TotalsPart, Truth, [], after_groups, and_from, arith, asks_recovery, begun}
+use Rattle.pos_counter.proofs.Common.{enabling, event_of, first_refusal, history_along, history_of, history_with, inl}
+use Rattle.pos_counter.proofs.Common.{inr, length, limits_of, outcome_of_all, refl, refusals, rules, slice_get, subst}
+use Rattle.pos_counter.proofs.Common.{true, ℕ, ◌∙◌, ◌∷◌, ◌≡◌, ◌≤◌}
 use Rattle.pos_dir.proofs.ChangeLemmas.{few_after_all}
 use Rattle.pos_counter.proofs.LiftLemmas.{match_cases, refused_undone}
 use Rattle.pos_counter.proofs.PrefixRunLemmas.{law_after, law_recovers}
@@ -12,7 +14,8 @@ use Rattle.pos_counter.proofs.StepLemmas.{plain_numbered}
 
 -- ---- an enabling
 
-module _ (layout : Layout) (start : List PlainFile) (sequence : ℕ) (old : Machine) (is : StartsWith layout start sequence old.totals) where
+module _ (layout : Layout) (start : List PlainFile) (sequence : ℕ) (old : Machine)
+    (is : StartsWith layout start sequence old.totals) where
   -- what is left is these files
   these : (other : Layout) (files : List PlainFile) (q : ℕ) → IsOneOf old.totals.left (Stands other files q)
       → (other ≡ layout) × (files ≡ start) × (q ≡ sequence)
@@ -20,16 +23,19 @@ module _ (layout : Layout) (start : List PlainFile) (sequence : ℕ) (old : Mach
 
   module _ (number : ℕ) (control : Control) (asks : asks_recovery control DeviceEnabled (Truth true) ≡ true) where
     -- a recovery finds them, or fails, for a cause
-    by_recovery : (result : Answer) (new : Machine) → SetsByRecovery old number control DeviceEnabled (Truth true) result new
+    by_recovery : (result : Answer) (new : Machine)
+        → SetsByRecovery old number control DeviceEnabled (Truth true) result new
         → FindsThem layout start sequence old number control (Answered result) new
     by_recovery result new h = grind (arith, these, plain_numbered, law_recovers)
 
-    refused : (refusal : Answer) (new : Machine) → first_refusal (refusals old number control enabling) ≡ Some refusal → new ≡ old
+    refused : (refusal : Answer) (new : Machine) → first_refusal (refusals old number control enabling) ≡ Some refusal
+        → new ≡ old
         → FindsThem layout start sequence old number control (Answered refusal) new
     refused refusal new first unchanged = grind (arith, refused_undone)
 
     pub finds_them : (response : Response) (new : Machine) → slice_get old.controls number ≡ Some control
-        → Step old (CallOf number enabling) response new → FindsThem layout start sequence old number control response new
+        → Step old (CallOf number enabling) response new
+        → FindsThem layout start sequence old number control response new
     finds_them response new found step = grind (arith, match_cases, by_recovery, and_from, refused)
 
 -- ---- how many files a disk stands for
@@ -42,7 +48,8 @@ few_applied limits base files (text ∷ texts) few is =
 
 few_groups : (limits : Limits) (files next : List PlainFile) (groups : List Group) → length files ≤ limits.files
     → after_groups limits files groups ≡ Ok next → length next ≤ limits.files
-few_groups limits files next [] few made = subst (λ (fs : List PlainFile). length fs ≤ limits.files) (same_Ok files next made) few
+few_groups limits files next [] few made =
+    subst (λ (fs : List PlainFile). length fs ≤ limits.files) (same_Ok files next made) few
 few_groups limits files next (group ∷ groups) few made =
     let there = made_then (outcome_of_all limits files group) (λ mid. after_groups limits mid groups) next made in
     few_groups limits there.0 next groups (few_after_all limits files there.0 group few there.1) there.2
@@ -51,7 +58,8 @@ few_groups limits files next (group ∷ groups) few made =
 abbrev HasStart : Layout → List PlainFile → History → Type 0
 HasStart layout files history = (history.layout ≡ layout) × (history.start ≡ files)
 
-along_start : (history : History) (old : Machine) (steps : List (Request × Response)) (new : Machine) (run : Run old steps new)
+along_start : (history : History) (old : Machine) (steps : List (Request × Response)) (new : Machine)
+    (run : Run old steps new)
     → HasStart history.layout history.start (history_along history old steps new run)
 along_start history old [] new run = (refl, refl)
 along_start history old (s ∷ steps) new run =
@@ -64,8 +72,10 @@ few_for_all : (layout : Layout) → (limits_of layout).files ≤ 250
 few_for_all layout = grind arith
 
 -- E_FAILURE of a recovery in a counter that has given no handle
-module _ (layout : Layout) (start : List PlainFile) (sequence : ℕ) (first last : Machine) (steps : List (Request × Response)) (run : Run first steps last)
-    (is : StartsWith layout start sequence first.totals) (few : length start ≤ (limits_of layout).files) (next : last.totals.totals.next ≡ 1) where
+module _ (layout : Layout) (start : List PlainFile) (sequence : ℕ) (first last : Machine)
+    (steps : List (Request × Response)) (run : Run first steps last)
+    (is : StartsWith layout start sequence first.totals) (few : length start ≤ (limits_of layout).files)
+    (next : last.totals.totals.next ≡ 1) where
   few_left : (other : Layout) (files : List PlainFile) (q : ℕ) → IsOneOf last.totals.left (Stands other files q)
       → length files ≤ (limits_of layout).files
   few_left other files q one =
@@ -73,7 +83,8 @@ module _ (layout : Layout) (start : List PlainFile) (sequence : ℕ) (first last
       let prefix = law_after layout start sequence first last steps run is (Stands other files q) one in
       let from = along_start (begun layout start) first steps last run in
       let same = same_stands other history.layout files prefix.files q prefix.sequence prefix.stands in
-      rw same.1 (few_groups (limits_of layout) start prefix.files prefix.prefix few (rw (from.0, from.1) at prefix.made))
+      rw same.1 (few_groups (limits_of layout) start prefix.files prefix.prefix few
+      (rw (from.0, from.1) at prefix.made))
 
   pub disk_failed : (result : Answer) (new : TotalsPart) → Recovers last.totals result new
       → (result ≡ Refused Failure 0) × Rises last.totals.failures new.failures
@@ -81,7 +92,8 @@ module _ (layout : Layout) (start : List PlainFile) (sequence : ℕ) (first last
       let failed = law_recovers layout start sequence first last steps run is result new h in (
         failed.0,
         elim failed.1 [
-          | inl many ↦ absurd (many.handles (omega (arith, few_left many.layout many.files many.sequence many.found, few_for_all layout, next)))
+          | inl many ↦ absurd (many.handles
+              (omega (arith, few_left many.layout many.files many.sequence many.found, few_for_all layout, next)))
           | inr rises ↦ rises
         ],
       )

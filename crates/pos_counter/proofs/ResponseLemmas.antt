@@ -15,11 +15,12 @@ use Rattle.pos_service.specs.declared.faults.NoMemory.{NoMemory}
 use Rattle.pos_service.specs.declared.peripheral.Peripheral.{Ghosts}
 use Rattle.pos_service.specs.declared.plant.Snapshot.{Snapshot}
 use Rattle.pos_service.specs.declared.request.Response.{Response}
-use Rattle.pos_service.specs.declared.answer.Worked.{Worked}
+use Rattle.pos_service.specs.declared.answer.WorkResult.{WorkResult}
 use Rattle.pos_counter.specs.Steps as machine
 
 -- a response has no peripheral in it, and is the machine's
-pub record IsPlain {P : Type 0} (peripherals : Ghosts P) (given : Response P) (response : machine.Response) : Type 0 where
+pub record IsPlain {P : Type 0} (peripherals : Ghosts P) (given : Response P)
+    (response : machine.Response) : Type 0 where
   pub same : response_of peripherals given ≡ response
   pub handed_out : HandsOut peripherals given
 
@@ -39,7 +40,7 @@ module _ {P : Type 0} (peripherals : Ghosts P) where
   plain_input (Err input_fault.WrongInput) = record { same = refl; handed_out = tt }
   plain_input (Err input_fault.NoMemory) = record { same = refl; handed_out = tt }
 
-  pub plain_work : (answer : Result Worked WorkFault) → IsPlain peripherals (worked answer) (worked answer)
+  pub plain_work : (answer : Result WorkResult WorkFault) → IsPlain peripherals (worked answer) (worked answer)
   plain_work (Ok result) = record { same = refl; handed_out = tt }
   plain_work (Err work_fault.NoDevice) = record { same = refl; handed_out = tt }
   plain_work (Err work_fault.NoMemory) = record { same = refl; handed_out = tt }

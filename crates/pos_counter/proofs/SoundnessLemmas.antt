@@ -1,28 +1,34 @@
 -- What keeps a machine sound: each control stays at its device, and each device of its kind.
-use Rattle.pos_counter.proofs.Common.{All, All-get_or, All-map, All-set, Answer, Call, CarriesOut, Category, Change, Changes, ChangesOne, Control, Deed, Device}
-use Rattle.pos_counter.proofs.Common.{DeviceDoes, Does, DueRequest, Effect, Err, Follows, Gives, Hardware, HasItsDevice, HasItsKind, IfSome, Input, IsAttached}
-use Rattle.pos_counter.proofs.Common.{IsDetached, IsInRange, IsPlaceOn, IsSound, IsTrue, List, Machine, MatchOption, MatchOption-at_some, MatchResult, NoMemory}
-use Rattle.pos_counter.proofs.Common.{None, Ok, OnHardware, Option, Ordered, Place, Property, Queues, Result, SameHardware, Signs, Some, TakesIn, Value}
-use Rattle.pos_counter.proofs.Common.{WorksAt, WorksOn, [], after_release, after_set, after_work, all_listening, ap, arith, changed, cond_both, device_at}
-use Rattle.pos_counter.proofs.Common.{device_deed, device_rows, due_request_at, eq-eqb, false≢true, found_at, get_or, get_or_from_slice_get, has_open}
-use Rattle.pos_counter.proofs.Common.{if_listening, inl, inr, is_exclusive, is_none, is_place, is_some, kind_in, kind_of, length-set, listens, option_map}
-use Rattle.pos_counter.proofs.Common.{or_right, origin, place_found, reaction, refl, rules, serves, set, signs_of, slice_get, slice_get-map, slice_get_within}
-use Rattle.pos_counter.proofs.Common.{slice_set, stopped, subst, suc, sym, takes, true, with_control, zero, ◌||◌, ℕ, ◌∙◌, ◌∷◌, ◌≡◌}
+use Rattle.pos_counter.proofs.Common.{All, All-get_or, All-map, All-set, Answer, Call, CarriesOut, Category}
+use Rattle.pos_counter.proofs.Common.{ControlUpdate, Changes, ChangesOne, Control, Action, Device, DeviceDoes, Does}
+use Rattle.pos_counter.proofs.Common.{DueRequest, Effect, Err, Follows, Gives, Hardware, HasItsDevice, HasItsKind}
+use Rattle.pos_counter.proofs.Common.{IfSome, Input, IsAttached, IsDetached, IsInRange, IsPlaceOn, IsSound, IsTrue}
+use Rattle.pos_counter.proofs.Common.{List, Machine, MatchOption, MatchOption-at_some, MatchResult, NoMemory, None, Ok}
+use Rattle.pos_counter.proofs.Common.{OnHardware, Option, Ordered, Place, Property, Queues, Result, SameHardware, Signs}
+use Rattle.pos_counter.proofs.Common.{Some, TakesIn, Value, WorksAt, WorksOn, [], after_release, after_set, after_work}
+use Rattle.pos_counter.proofs.Common.{all_listening, ap, arith, changed, cond_both, device_at, device_action}
+use Rattle.pos_counter.proofs.Common.{device_rows, due_request_at, eq-eqb, false≢true, found_at, get_or}
+use Rattle.pos_counter.proofs.Common.{get_or_from_slice_get, has_open, if_listening, inl, inr, is_exclusive, is_none}
+use Rattle.pos_counter.proofs.Common.{is_place, is_some, kind_in, kind_of, length-set, listens, option_map, or_right}
+use Rattle.pos_counter.proofs.Common.{origin, place_found, reaction, refl, rules, serves, set, signs_of, slice_get}
+use Rattle.pos_counter.proofs.Common.{slice_get-map, slice_get_within, slice_set, stopped, subst, suc, sym, takes, true}
+use Rattle.pos_counter.proofs.Common.{with_control, zero, ◌||◌, ℕ, ◌∙◌, ◌∷◌, ◌≡◌}
 use Rattle.std.proofs.lemmas.List.Folds.{list_any_at}
 use Rattle.pos_service.specs.Statuses.{heard_signs}
-use Rattle.pos_service.specs.declared.facts.Finding.{Finding}
+use Rattle.pos_service.specs.declared.context.OpenTarget.{OpenTarget}
 use Rattle.pos_service.specs.declared.input.Taken.{Taken}
 use Rattle.pos_service.specs.declared.order.Order.{Order}
 use Rattle.pos_service.specs.declared.order.Reply.TheVariants as reply
 use Rattle.pos_service.specs.declared.order.Reply.{Reply}
-use Rattle.pos_service.specs.declared.answer.Worked.{Worked as WorkResult}
+use Rattle.pos_service.specs.declared.answer.WorkResult.{WorkResult}
 use Rattle.pos_counter.proofs.CursorLemmas.{DeedStaysOn, NoneApplies, StaysOn, deed_called, place_opened, place_set}
 use Rattle.pos_counter.proofs.LiftLemmas.{match_cases, matched}
 
 -- the device is there, and serves a control of the category whose cursor is at a place
 abbrev pub Served : Category → Place → Option Device → Type 0
 Served category cursor o =
-    MatchOption o ⊥ (λ device. (serves category device.kind ≡ true) × IsTrue (is_none device.kind || is_some device.hardware) × IsPlaceOn device.kind cursor)
+    MatchOption o ⊥ (λ device. (serves category device.kind ≡ true)
+    × IsTrue (is_none device.kind || is_some device.hardware) × IsPlaceOn device.kind cursor)
 
 -- a category's control whose cursor is at a place may have the device at this one open
 abbrev Seat : List Device → Category → Place → Option ℕ → Type 0
@@ -30,7 +36,8 @@ Seat devices category cursor place = IfSome place (λ at. Served category cursor
 
 -- the cursor has moved to another place of the device
 moved_seat : (ds : List Device) (category : Category) (was now : Place) (device : Option ℕ)
-    → (IsPlaceOn (kind_in (device_at ds device)) was → IsPlaceOn (kind_in (device_at ds device)) now) → Seat ds category was device
+    → (IsPlaceOn (kind_in (device_at ds device)) was → IsPlaceOn (kind_in (device_at ds device)) now)
+    → Seat ds category was device
     → Seat ds category now device
 moved_seat ds category was now device moves h = grind (arith, matched)
 
@@ -39,11 +46,13 @@ all_at : {A : Type 0} (P : A → Type 0) (xs : List A) (n : ℕ) (x : A) → sli
 all_at P xs n x e all = subst P (get_or_from_slice_get xs n x x e) (All-get_or P xs n x (slice_get_within xs n x e) all)
 
 -- the control that a number has is one with its device
-pub seated : (m : Machine) (n : ℕ) (c : Control) → IsSound m → slice_get m.controls n ≡ Some c → HasItsDevice m.devices c
+pub seated : (m : Machine) (n : ℕ) (c : Control) → IsSound m → slice_get m.controls n ≡ Some c
+    → HasItsDevice m.devices c
 seated m n c s e = all_at (HasItsDevice m.devices) m.controls n c e s.places
 
 -- a control with its device in the place of another
-pub with_control_sound : (m : Machine) (n : ℕ) (c : Control) → HasItsDevice m.devices c → IsSound m → IsSound (with_control m n c)
+pub with_control_sound : (m : Machine) (n : ℕ) (c : Control) → HasItsDevice m.devices c → IsSound m
+    → IsSound (with_control m n c)
 with_control_sound m n c h s = record {
   kinds = s.kinds;
   places = All-set (HasItsDevice m.devices) m.controls n c h s.places;
@@ -56,7 +65,7 @@ pub found_seat : (ds : List Device) (category : Category) (place : Option ℕ) �
 found_seat ds category None kinds = tt
 found_seat ds category (Some i) kinds = there (slice_get ds i) refl
   where
-    seat : Finding → Type 0
+    seat : OpenTarget → Type 0
     seat found = Seat ds category origin (place_found found)
 
     there : (o : Option Device) → slice_get ds i ≡ o → seat (found_at category (Some i) o)
@@ -71,7 +80,8 @@ found_seat ds category (Some i) kinds = there (slice_get ds i) refl
 abbrev KeepsSeats : List Device → (Control → Control) → Type 0
 KeepsSeats ds change = (c : Control) → HasItsDevice ds c → HasItsDevice ds (change c)
 
-all_listening_keep : (ds : List Device) (place : ℕ) (change : Control → Control) (cs : List Control) → KeepsSeats ds change → All (HasItsDevice ds) cs
+all_listening_keep : (ds : List Device) (place : ℕ) (change : Control → Control) (cs : List Control)
+    → KeepsSeats ds change → All (HasItsDevice ds) cs
     → All (HasItsDevice ds) (all_listening place change cs)
 all_listening_keep ds place change cs keeps all =
     All-map (HasItsDevice ds) (if_listening place change) cs
@@ -83,26 +93,33 @@ reaction_keeps : (ds : List Device) (i : Input) (t : Taken) (was is : Signs) →
 reaction_keeps ds i t was is c h = grind (arith, cond_both)
 
 -- a device that has other hardware, or none, serves whom it served, unless it has lost its own
-served_with : (ds : List Device) (i k : ℕ) (d : Device) (now : Option Hardware) (category : Category) (cursor : Place) → slice_get ds i ≡ Some d
+served_with : (ds : List Device) (i k : ℕ) (d : Device) (now : Option Hardware) (category : Category) (cursor : Place)
+    → slice_get ds i ≡ Some d
     → (k ≡ i → is_some now ≡ true) → Served category cursor (slice_get ds k)
     → Served category cursor (slice_get (set ds i (record d { hardware = now })) k)
 served_with [] i k d now category cursor is stands h = absurd h
 served_with (x ∷ ds) zero zero d now category cursor is stands h = search (rules, or_right)
 served_with (x ∷ ds) zero (suc k) d now category cursor is stands h = h
 served_with (x ∷ ds) (suc i) zero d now category cursor is stands h = h
-served_with (x ∷ ds) (suc i) (suc k) d now category cursor is stands h = served_with ds i k d now category cursor is (λ e. stands (ap suc e)) h
+served_with (x ∷ ds) (suc i) (suc k) d now category cursor is stands h =
+    served_with ds i k d now category cursor is (λ e. stands (ap suc e)) h
 
-seat_with : (ds : List Device) (i : ℕ) (d : Device) (now : Option Hardware) → slice_get ds i ≡ Some d → (category : Category) (cursor : Place)
+seat_with : (ds : List Device) (i : ℕ) (d : Device) (now : Option Hardware) → slice_get ds i ≡ Some d
+    → (category : Category) (cursor : Place)
     (device : Option ℕ) → (device ≡ Some i → is_some now ≡ true) → Seat ds category cursor device
     → Seat (set ds i (record d { hardware = now })) category cursor device
 seat_with ds i d now is category cursor h stands k = grind (arith, served_with)
 
--- other hardware at a device, or none, keeps the machine sound, where it is of the device's kind, and is there where a control has the device open
-hardware_sound : (m : Machine) (cs : List Control) (i : ℕ) (d : Device) (now : Option Hardware) → slice_get m.devices i ≡ Some d
-    → IfSome now (λ hardware. d.kind ≡ Some hardware.kind) → All (λ c. c.device ≡ Some i → is_some now ≡ true) cs → All (HasItsDevice m.devices) cs
+-- other hardware at a device, or none, keeps the machine sound, where it is of the device's kind, and is there where a
+-- control has the device open
+hardware_sound : (m : Machine) (cs : List Control) (i : ℕ) (d : Device) (now : Option Hardware)
+    → slice_get m.devices i ≡ Some d
+    → IfSome now (λ hardware. d.kind ≡ Some hardware.kind) → All (λ c. c.device ≡ Some i → is_some now ≡ true) cs
+    → All (HasItsDevice m.devices) cs
     → IsSound m → IsSound (record m { controls = cs; devices = slice_set m.devices i (record d { hardware = now }) })
 hardware_sound m cs i d now is kind stands seats s = record {
-  kinds = All-set HasItsKind m.devices i (record d { hardware = now }) ((all_at HasItsKind m.devices i d is s.kinds).0, kind) s.kinds;
+  kinds = All-set HasItsKind m.devices i (record d { hardware = now })
+      ((all_at HasItsKind m.devices i d is s.kinds).0, kind) s.kinds;
   places = λ k e lt. seat_with m.devices i d now is _ _ _ (stands k e lt) (seats k e lt);
   covers = s.covers ∙ sym (length-set m.devices i (record d { hardware = now }));
 }
@@ -113,33 +130,40 @@ pub record StandsAt (ds : List Device) (at : Option ℕ) (hardware : Hardware) :
   pub range : IsInRange hardware.kind
 
 -- what is done at a device's hardware keeps its kind, and each control's device
-pub record Keeps (ds : List Device) (before : Hardware) (old : List Control) (after : Hardware) (new : List Control) : Type 0 where
+pub record Keeps (ds : List Device) (before : Hardware) (old : List Control) (after : Hardware)
+    (new : List Control) : Type 0 where
   pub kind : after.kind ≡ before.kind
   pub seats : All (HasItsDevice ds) old → All (HasItsDevice ds) new
 
 pub on_hardware_sound : (m m' : Machine) (at : Option ℕ) (Does : ℕ → Effect)
-    → ((place : ℕ) (before : Hardware) (new : List Control) (after : Hardware) → StandsAt m.devices at before → Does place m.controls before new after
+    → ((place : ℕ) (before : Hardware) (new : List Control) (after : Hardware) → StandsAt m.devices at before
+    → Does place m.controls before new after
     → Keeps m.devices before m.controls after new) → OnHardware m at Does m' → IsSound m → IsSound m'
 on_hardware_sound m m' at Does keeps o s =
     let here : HasItsKind o.device = all_at HasItsKind m.devices o.place o.device o.is_device s.kinds in
     let kind : o.device.kind ≡ Some o.before.kind = rw o.is_attached at here.1 in
-    let stands : StandsAt m.devices at o.before = record { kind = rw (o.is_at, o.is_device, kind); range = rw kind at here.0 } in
+    let stands : StandsAt m.devices at o.before =
+    record { kind = rw (o.is_at, o.is_device, kind); range = rw kind at here.0 } in
     let kept = keeps o.place o.before o.controls o.after stands o.does in
-    rw o.machine (hardware_sound m o.controls o.place o.device (Some o.after) o.is_device (kind ∙ ap Some (sym kept.kind)) (λ k e lt opens. refl)
+    rw o.machine (hardware_sound m o.controls o.place o.device (Some o.after) o.is_device
+    (kind ∙ ap Some (sym kept.kind)) (λ k e lt opens. refl)
     (kept.seats s.places) s)
 
 -- whatever has this effect does so
 abbrev AllKeep : List Device → Effect → Type 0
-AllKeep ds Does = (old : List Control) (before : Hardware) (new : List Control) (after : Hardware) → Does old before new after → Keeps ds before old after new
+AllKeep ds Does = (old : List Control) (before : Hardware) (new : List Control) (after : Hardware)
+    → Does old before new after → Keeps ds before old after new
 
-module _ (ds : List Device) (old : List Control) (before : Hardware) (new : List Control) (after now : Hardware) (is : after ≡ now)
+module _ (ds : List Device) (old : List Control) (before : Hardware) (new : List Control) (after now : Hardware)
+    (is : after ≡ now)
     (kind : now.kind ≡ before.kind) where
   -- controls are as they were
   unmoved : new ≡ old → Keeps ds before old after new
   unmoved same = record { kind = ap (λ (s : Hardware). s.kind) is ∙ kind; seats = λ all. rw same all }
 
   -- those that listen change
-  listening : (place : ℕ) (change : Control → Control) → KeepsSeats ds change → new ≡ all_listening place change old → Keeps ds before old after new
+  listening : (place : ℕ) (change : Control → Control) → KeepsSeats ds change → new ≡ all_listening place change old
+      → Keeps ds before old after new
   listening place change keeps same = search (rules, all_listening_keep)
 
 pub takes_keeps : (ds : List Device) (i : Input) (place : ℕ) → AllKeep ds (TakesIn i place)
@@ -150,7 +174,8 @@ one_keeps : (ds : List Device) (change : Control → Control) (number : ℕ) (ol
     → ChangesOne change number old new → All (HasItsDevice ds) old → All (HasItsDevice ds) new
 one_keeps ds change number old new keeps h all =
     let x = matched (slice_get old number) _ h in
-    rw x.2 (All-set (HasItsDevice ds) old number (change x.0) (keeps x.0 (all_at (HasItsDevice ds) old number x.0 x.1 all)) all)
+    rw x.2 (All-set (HasItsDevice ds) old number (change x.0)
+    (keeps x.0 (all_at (HasItsDevice ds) old number x.0 x.1 all)) all)
 
 -- where nothing has changed
 same_keeps : (ds : List Device) → AllKeep ds SameHardware
@@ -159,43 +184,54 @@ same_keeps ds old before new after h = unmoved ds old before new after before h.
 -- whatever a peripheral says to an order
 ordered_keeps : (ds : List Device) (given : Order) (place : ℕ) (told : Reply) → AllKeep ds (Ordered given place told)
 ordered_keeps ds given place reply.Done old before new after h = search (rules, listening)
-ordered_keeps ds given place reply.LineFault old before new after h = unmoved ds old before new after _ h.hardware refl h.controls
+ordered_keeps ds given place reply.LineFault old before new after h =
+    unmoved ds old before new after _ h.hardware refl h.controls
 ordered_keeps ds given place said old before new after h = same_keeps ds old before new after h.same
 
 -- a control that a call changes so has its device
-change_seat : (ds : List Device) (what : Change) (c : Control) → StaysOn (kind_in (device_at ds c.device)) c.cursor.place what → HasItsDevice ds c
+change_seat : (ds : List Device) (what : ControlUpdate) (c : Control)
+    → StaysOn (kind_in (device_at ds c.device)) c.cursor.place what → HasItsDevice ds c
     → HasItsDevice ds (changed what c)
 change_seat ds what c stays h = grind (arith, moved_seat)
 
 -- the control with a number, whose cursor a call leaves at a place of its device, keeps that
-changes_keep : (ds : List Device) (what : Change) (number : ℕ) (c : Control) (old new : List Control) → slice_get old number ≡ Some c
-    → StaysOn (kind_in (device_at ds c.device)) c.cursor.place what → ChangesOne (changed what) number old new → All (HasItsDevice ds) old
+changes_keep : (ds : List Device) (what : ControlUpdate) (number : ℕ) (c : Control) (old new : List Control)
+    → slice_get old number ≡ Some c
+    → StaysOn (kind_in (device_at ds c.device)) c.cursor.place what → ChangesOne (changed what) number old new
+    → All (HasItsDevice ds) old
     → All (HasItsDevice ds) new
 changes_keep ds what number c old new at stays h all =
-    let same : new ≡ slice_set old number (changed what c) = MatchOption-at_some ⊥ (λ control. new ≡ slice_set old number (changed what control)) c at h in
+    let same : new ≡ slice_set old number (changed what c) =
+    MatchOption-at_some ⊥ (λ control. new ≡ slice_set old number (changed what control)) c at h in
     rw same
-    (All-set (HasItsDevice ds) old number (changed what c) (change_seat ds what c stays (all_at (HasItsDevice ds) old number c at all)) all)
+    (All-set (HasItsDevice ds) old number (changed what c)
+    (change_seat ds what c stays (all_at (HasItsDevice ds) old number c at all)) all)
 
 -- what a call comes to keeps each control's device
-deed_keeps : (ds : List Device) (d : Deed) (r : Answer) (number place : ℕ) (c : Control) (old : List Control) (before : Hardware) (new : List Control)
+deed_keeps : (ds : List Device) (d : Action) (r : Answer) (number place : ℕ) (c : Control) (old : List Control)
+    (before : Hardware) (new : List Control)
     (after : Hardware) → slice_get old number ≡ Some c → DeedStaysOn (kind_in (device_at ds c.device)) c.cursor.place d
     → CarriesOut d number place r old before new after → Keeps ds before old after new
 deed_keeps ds (Gives given what) r number place c old before new after at stays h =
     let told = ordered_keeps ds given place h.said old before h.heard after h.ordered in
     record { kind = told.kind; seats = λ all. by h.said h.ordered h.follows (told.seats all) }
   where
-    by : (said : Reply) → Ordered given place said old before h.heard after → Follows said what number h.heard new → All (HasItsDevice ds) h.heard
+    by : (said : Reply) → Ordered given place said old before h.heard after → Follows said what number h.heard new
+        → All (HasItsDevice ds) h.heard
         → All (HasItsDevice ds) new
     by reply.Done ordered follows all =
         let signs = heard_signs (signs_of before.kind before.plant) (signs_of after.kind after.plant) in
         let hears = if_listening place signs in
-        let now = ap (λ (cs : List Control). slice_get cs number) ordered.controls ∙ slice_get-map hears old number ∙ ap (option_map hears) at in
+        let now = ap (λ (cs : List Control). slice_get cs number) ordered.controls ∙ slice_get-map hears old number
+        ∙ ap (option_map hears) at in
         changes_keep ds what number (hears c) h.heard new now
-        (cond_both (listens place c) (signs c) c (λ g. StaysOn (kind_in (device_at ds g.device)) g.cursor.place what) (λ on. stays) (λ off. stays))
+        (cond_both (listens place c) (signs c) c (λ g. StaysOn (kind_in (device_at ds g.device)) g.cursor.place what)
+        (λ on. stays) (λ off. stays))
         follows all
     by said ordered same all = rw same all
 deed_keeps ds (Changes what) r number place c old before new after at stays h = search (rules, changes_keep)
-deed_keeps ds (Queues given) r number place c old before new after at stays h = search (rules, match_cases, one_keeps, same_keeps)
+deed_keeps ds (Queues given) r number place c old before new after at stays h =
+    search (rules, match_cases, one_keeps, same_keeps)
 
 -- the control that is told what has come of its request
 work_keeps : (ds : List Device) (id : ℕ) (told : Reply) → KeepsSeats ds (after_work id told)
@@ -205,50 +241,66 @@ worked_keeps : (ds : List Device) (work : DueRequest) (place : ℕ) (r : WorkRes
 worked_keeps ds work place r old before new after h =
     let done = ordered_keeps ds work.given place h.said old before h.controls after h.ordered in record {
       kind = done.kind;
-      seats = λ all. one_keeps ds (after_work work.id h.said) work.holder h.controls new (work_keeps ds work.id h.said) h.worked (done.seats all);
+      seats = λ all. one_keeps ds (after_work work.id h.said) work.holder h.controls new
+          (work_keeps ds work.id h.said) h.worked (done.seats all);
     }
 
 -- work, or nothing to do
-pub works_keep : (ds : List Device) (holder : Option ℕ) (place : ℕ) (outcome : Result WorkResult NoMemory) → AllKeep ds (WorksAt holder place outcome)
+pub works_keep : (ds : List Device) (holder : Option ℕ) (place : ℕ) (outcome : Result WorkResult NoMemory)
+    → AllKeep ds (WorksAt holder place outcome)
 works_keep ds holder place outcome old before new after h =
-    elim (match_cases (due_request_at before.kind place holder old) _ _ h) [ inl x ↦ same_keeps ds old before new after x.1.1 | inr x ↦ by x.0 outcome x.2 ]
+    elim (match_cases (due_request_at before.kind place holder old) _ _ h) [
+      | inl x ↦ let (idle, left) = x in let (answered, same) = left in same_keeps ds old before new after same
+      | inr x ↦ let (work, due, works) = x in by work outcome works
+    ]
   where
     by : (work : DueRequest) (outcome : Result WorkResult NoMemory)
-        → MatchResult outcome (λ r. WorksOn work place r old before new after) (λ want. SameHardware old before new after) → Keeps ds before old after new
+        → MatchResult outcome (λ r. WorksOn work place r old before new after)
+        (λ want. SameHardware old before new after) → Keeps ds before old after new
     by work (Ok r) h = worked_keeps ds work place r old before new after h
     by work (Err want) h = same_keeps ds old before new after h
 
-pub device_keeps : (k : Category) (m : Machine) (asked : Call) (r : Answer) (n place : ℕ) (c : Control) (before : Hardware) (new : List Control)
-    (after : Hardware) → slice_get m.controls n ≡ Some c → serves k (kind_of m c) ≡ true → NoneApplies (device_rows k (kind_of m c) c asked)
+pub device_keeps : (k : Category) (m : Machine) (asked : Call) (r : Answer) (n place : ℕ) (c : Control)
+    (before : Hardware) (new : List Control)
+    (after : Hardware) → slice_get m.controls n ≡ Some c → serves k (kind_of m c) ≡ true
+    → NoneApplies (device_rows k (kind_of m c) c asked)
     → StandsAt m.devices c.device before → DeviceDoes k (kind_of m c) n c asked r place m.controls before new after
     → Keeps m.devices before m.controls after new
 device_keeps k m asked r n place c before new after at served allowed stands h =
-    let x = matched (device_deed k (kind_of m c) c asked) _ h in
-    let stays : (d : Deed) → device_deed k (kind_of m c) c asked ≡ Some d → DeedStaysOn (kind_of m c) c.cursor.place d =
-    rw stands.kind (λ d. deed_called k before.kind c asked d (rw stands.kind at served) stands.range (rw stands.kind at allowed)) in
+    let x = matched (device_action k (kind_of m c) c asked) _ h in
+    let stays : (d : Action) → device_action k (kind_of m c) c asked ≡ Some d
+    → DeedStaysOn (kind_of m c) c.cursor.place d =
+    rw stands.kind (λ d. deed_called k before.kind c asked d (rw stands.kind at served) stands.range
+    (rw stands.kind at allowed)) in
     deed_keeps m.devices x.0 r n place c m.controls before new after at (stays x.0 x.1) x.2
 
 -- an open control's category serves its device
 pub served_by : (ds : List Device) (category : Category) (cursor : Place) (device : Option ℕ) (before : Hardware)
-    → kind_in (device_at ds device) ≡ Some before.kind → Seat ds category cursor device → serves category (kind_in (device_at ds device)) ≡ true
+    → kind_in (device_at ds device) ≡ Some before.kind → Seat ds category cursor device
+    → serves category (kind_in (device_at ds device)) ≡ true
 served_by ds category cursor device before kind h = grind (arith, matched)
 
 -- a control with a property set to what it takes has its device
-pub set_seat : (ds : List Device) (s : Signs) (c : Control) (p : Property) (v : Value) → takes (kind_in (device_at ds c.device)) p v ≡ true
+pub set_seat : (ds : List Device) (s : Signs) (c : Control) (p : Property) (v : Value)
+    → takes (kind_in (device_at ds c.device)) p v ≡ true
     → HasItsDevice ds c → HasItsDevice ds (after_set s c p v)
 set_seat ds s c p v may h = search (rules, moved_seat, place_set)
 
 -- a control that has released its device still has it open
-pub released_seat : (ds : List Device) (k : Category) (c : Control) → HasItsDevice ds c → HasItsDevice ds (after_release k c)
+pub released_seat : (ds : List Device) (k : Category) (c : Control) → HasItsDevice ds c
+    → HasItsDevice ds (after_release k c)
 released_seat ds k c h = cond_both (is_exclusive k) (stopped c) c (HasItsDevice ds) (λ one. h) (λ many. h)
 
 -- a device that gets a peripheral of its kind keeps each control's device
-pub attached_sound : (m m' : Machine) (name : List ℕ) (hardware : Hardware) → IsAttached m name hardware m' → IsSound m → IsSound m'
+pub attached_sound : (m m' : Machine) (name : List ℕ) (hardware : Hardware) → IsAttached m name hardware m' → IsSound m
+    → IsSound m'
 attached_sound m m' name hardware o s =
-    rw o.machine (hardware_sound m m.controls o.place o.device (Some hardware) o.is_device o.kind (λ k e lt opens. refl) s.places s)
+    rw o.machine (hardware_sound m m.controls o.place o.device (Some hardware) o.is_device o.kind
+    (λ k e lt opens. refl) s.places s)
 
 -- a device that no control has open may lose its peripheral
-pub detached_sound : (m m' : Machine) (name : List ℕ) (hardware : Hardware) → IsDetached m name hardware m' → IsSound m → IsSound m'
+pub detached_sound : (m m' : Machine) (name : List ℕ) (hardware : Hardware) → IsDetached m name hardware m' → IsSound m
+    → IsSound m'
 detached_sound m m' name hardware o s =
     rw o.machine (hardware_sound m m.controls o.place o.device None o.is_device tt
     (λ k e lt opens. absurd (false≢true (sym o.is_closed ∙ list_any_at (has_open o.place) m.controls k e lt

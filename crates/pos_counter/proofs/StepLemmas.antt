@@ -1,23 +1,31 @@
 -- What each step of the machine leaves: a sound machine, and the files of the totals as its event says.
-use Rattle.pos_counter.proofs.Common.{◌+◌, ◌++◌, All-push, Answer, Answered, Arranges, Asks, Bool, Call, CallOf, Category, CategoryDoes, Claim, Close, Control}
-use Rattle.pos_counter.proofs.Common.{Delivered, Does, DoesTogether, Done, Effect, Failure, File, FileCall, Get, HardTotals, Hardware, HasItsDevice, History}
-use Rattle.pos_counter.proofs.Common.{IsAttached, IsDetached, IsOneGroup, IsOneOf, IsSettled, IsSound, IsUndone, Layout, List, Machine, MatchBool, Mode, None}
-use Rattle.pos_counter.proofs.Common.{Nothing, Off, Ok, OnHardware, Open, Option, OutOfMemory, PlainFile, Property, Ready, Recovered, Recovers, Refused}
-use Rattle.pos_counter.proofs.Common.{Release, Request, Response, Set, Sets, SetsByRecovery, Some, Standing, Stands, Step, Totals, TotalsChange, TotalsDo}
-use Rattle.pos_counter.proofs.Common.{TotalsPart, Value, WorkOn, Worked, [], after_disk_fault, after_release, after_set, and_parts, ap, arith, asks_recovery}
-use Rattle.pos_counter.proofs.Common.{category_rows, changes_asked, changes_of, closed, delivered, dropped, event_between, false, file_call, files_after_all}
-use Rattle.pos_counter.proofs.Common.{first_refusal, has_call, history_with, inl, inr, is_common, is_ready, is_totals, kind_of, left_after, length, length-set}
-use Rattle.pos_counter.proofs.Common.{limits_of, map, new_control, next_sequences, not, numbered, outcome_of_all, place_of, plain, recovers, refl, refusals}
-use Rattle.pos_counter.proofs.Common.{released, rules, serves, signs_at, slice_get, subst, sym, takes, true, with_control, with_place, with_totals, ℕ, ◌∷◌, ◌≡◌}
+use Rattle.pos_counter.proofs.Common.{◌+◌, ◌++◌, All-push, Answer, Answered, Arranges, Asks, Bool, Call, CallOf}
+use Rattle.pos_counter.proofs.Common.{Category, CategoryDoes, Claim, Close, Control, Delivered, Does, DoesTogether}
+use Rattle.pos_counter.proofs.Common.{Done, Effect, Failure, File, FileCall, Get, HardTotals, Hardware, HasItsDevice}
+use Rattle.pos_counter.proofs.Common.{History, IsAttached, IsDetached, IsOneGroup, IsOneOf, IsSettled, IsSound}
+use Rattle.pos_counter.proofs.Common.{IsUndone, Layout, List, Machine, MatchBool, Mode, None, Nothing, Off, Ok}
+use Rattle.pos_counter.proofs.Common.{OnHardware, Open, Option, OutOfMemory, PlainFile, Property, Ready, Recovered}
+use Rattle.pos_counter.proofs.Common.{Recovers, Refused, Release, Request, Response, Set, Sets, SetsByRecovery, Some}
+use Rattle.pos_counter.proofs.Common.{Standing, Stands, Step, Totals, TotalsChange, TotalsDo, TotalsPart, Value, WorkOn}
+use Rattle.pos_counter.proofs.Common.{Worked, [], after_disk_fault, after_release, after_set, and_parts, ap, arith}
+use Rattle.pos_counter.proofs.Common.{asks_recovery, category_rows, changes_asked, changes_of, closed, delivered}
+use Rattle.pos_counter.proofs.Common.{dropped, event_between, false, file_call, files_after_all, first_refusal}
+use Rattle.pos_counter.proofs.Common.{has_call, history_with, inl, inr, is_common, is_ready, is_totals, kind_of}
+use Rattle.pos_counter.proofs.Common.{left_after, length, length-set, limits_of, map, new_control, next_sequences, not}
+use Rattle.pos_counter.proofs.Common.{numbered, outcome_of_all, place_of, plain, recovers, refl, refusals, released}
+use Rattle.pos_counter.proofs.Common.{rules, serves, signs_at, slice_get, subst, sym, takes, true, with_control}
+use Rattle.pos_counter.proofs.Common.{with_place, with_totals, ℕ, ◌∷◌, ◌≡◌}
 use Rattle.pos_totals.specs.Groups.{group_of}
-use Rattle.pos_counter.proofs.CursorLemmas.{NoneApplies, none_applies, unless_not}
+use Rattle.pos_counter.proofs.CursorLemmas.{NoneApplies, none_applies, none_dropped, unless_not}
 use Rattle.pos_counter.proofs.FileCallLemmas.{Comes, Groups, Stays, puts_comes}
 use Rattle.pos_counter.proofs.HardwareLemmas.{own_call}
-use Rattle.pos_counter.proofs.CrashLemmas.{Rest, arranged_rest, kept_left, rest_settled, same_rest, settles, without_rest}
+use Rattle.pos_counter.proofs.CrashLemmas.{Rest, arranged_rest, kept_left, rest_settled, same_rest, settles}
+use Rattle.pos_counter.proofs.CrashLemmas.{without_rest}
 use Rattle.pos_counter.proofs.LiftLemmas.{decided_cases, match_cases, matched}
 use Rattle.pos_counter.proofs.PrefixLemmas.{AreAround, Fits, Happens, fits_next}
-use Rattle.pos_counter.proofs.SoundnessLemmas.{Keeps, StandsAt, attached_sound, detached_sound, device_keeps, found_seat, on_hardware_sound, released_seat, seated}
-use Rattle.pos_counter.proofs.SoundnessLemmas.{served_by, set_seat, takes_keeps, with_control_sound, works_keep}
+use Rattle.pos_counter.proofs.SoundnessLemmas.{Keeps, StandsAt, attached_sound, detached_sound, device_keeps}
+use Rattle.pos_counter.proofs.SoundnessLemmas.{found_seat, on_hardware_sound, released_seat, seated, served_by}
+use Rattle.pos_counter.proofs.SoundnessLemmas.{set_seat, takes_keeps, with_control_sound, works_keep}
 use Rattle.pos_counter.specs.Steps.{Deliver}
 
 -- ---- what happens to the files
@@ -27,7 +35,8 @@ abbrev Told : List TotalsChange → TotalsPart → Response → TotalsPart → T
 Told changes old response new =
     Happens old (event_between changes old.totals.mode response new.totals.mode) new × IsSettled new.totals new.left
 
-rests : (changes : List TotalsChange) (old new : TotalsPart) (response : Response) → ((changes ≡ [] → ⊥) → IsUndone response)
+rests : (changes : List TotalsChange) (old new : TotalsPart) (response : Response)
+    → ((changes ≡ [] → ⊥) → IsUndone response)
     → IsSettled old.totals old.left → Rest old new → Told changes old response new
 rests changes old new response undone is h = grind (arith, rest_settled)
 
@@ -41,13 +50,15 @@ with_some layout files (n ∷ sequences) left (inr is) = with_some layout files 
 -- changes that are put on the disk as one group, in which it may fail
 module _ (old new : TotalsPart) (is : IsSettled old.totals old.left) where
   module _ (change : TotalsChange) (others : List TotalsChange) (transactions : List (Option (List TotalsChange)))
-      (group : IsOneGroup old.totals (change ∷ others)) (left : new.left ≡ left_after old (change ∷ others) new.totals.mode) where
+      (group : IsOneGroup old.totals (change ∷ others))
+      (left : new.left ≡ left_after old (change ∷ others) new.totals.mode) where
     abbrev all : List TotalsChange
     all = change ∷ others
 
     -- what the group makes of the files
     made_at : (files : List File) (sequence : ℕ) → old.totals.mode ≡ Ready files sequence
-        → outcome_of_all (limits_of old.totals.layout) (plain files) (group_of files all) ≡ Ok (plain (files_after_all old.totals.next files all))
+        → outcome_of_all (limits_of old.totals.layout) (plain files) (group_of files all) ≡ Ok
+        (plain (files_after_all old.totals.next files all))
     made_at files sequence ready = search rules
 
     done_told : (given : Value) → DoesTogether (record old.totals { transactions = transactions }) all new.totals
@@ -64,7 +75,8 @@ module _ (old new : TotalsPart) (is : IsSettled old.totals old.left) where
             (rw (ready, still) (record { was = tt; is = tt; layout = layout; made = made }), search (rules, settles))
 
     failed_told : (result : Answer) → result ≡ Refused Failure 0
-        → new.totals ≡ after_disk_fault (record old.totals { transactions = transactions }) → Told all old (Answered result) new
+        → new.totals ≡ after_disk_fault (record old.totals { transactions = transactions })
+        → Told all old (Answered result) new
     failed_told result failed same = by old.totals.mode refl
       where
         off : new.totals.mode ≡ Off
@@ -74,13 +86,18 @@ module _ (old new : TotalsPart) (is : IsSettled old.totals old.left) where
         layout = ap (λ (t : Totals). t.layout) same
 
         by : (m : Mode) → old.totals.mode ≡ m → Told all old (Answered result) new
-        by Off was = (rw (was, off) (record { layout = layout; mode = refl; left = rw (off, was) at left }), search (rules, settles))
+        by Off was = (
+          rw (was, off) (record { layout = layout; mode = refl; left = rw (off, was) at left }),
+          search (rules, settles),
+        )
         by (Ready files sequence) ready =
-            let around : AreAround old.totals.layout (plain files) (Some (group_of files all)) new.left = λ standing one.
+            let around : AreAround old.totals.layout (plain files) (Some (group_of files all)) new.left =
+            λ standing one.
             elim (rw (rw (off, ready) at left) at one) [
               | inl e ↦ inl (sequence, e)
               | inr e ↦
-                  let found = with_some old.totals.layout (plain (files_after_all old.totals.next files all)) (next_sequences sequence) standing e in
+                  let found = with_some old.totals.layout (plain (files_after_all old.totals.next files all))
+                  (next_sequences sequence) standing e in
                   inr (record {
                     group = group_of files all;
                     files = plain (files_after_all old.totals.next files all);
@@ -93,15 +110,18 @@ module _ (old new : TotalsPart) (is : IsSettled old.totals old.left) where
             (rw (ready, off, failed) (record { was = tt; off = refl; around = around }), search (rules, settles))
 
   comes_told : (P : Type 0) (changes : List TotalsChange) (result : Answer) → IsOneGroup old.totals changes
-      → new.left ≡ left_after old changes new.totals.mode → Comes P old.totals result new.totals changes → Told changes old (Answered result) new
+      → new.left ≡ left_after old changes new.totals.mode → Comes P old.totals result new.totals changes
+      → Told changes old (Answered result) new
   comes_told P changes result group left (Stays transactions undone same) = search (rules, rests, kept_left)
   comes_told P changes result group left (Groups change others transactions given (inl done)) =
       rw done.0 (done_told change others transactions group left given done.1)
-  comes_told P changes result group left (Groups change others transactions given (inr failed)) = search (rules, failed_told)
+  comes_told P changes result group left (Groups change others transactions given (inr failed)) =
+      search (rules, failed_told)
 
 files_told : (asked : FileCall) (old new : TotalsPart) (n : ℕ) (result : Answer) → IsSettled old.totals old.left
     → TotalsDo asked old n result new → Told (changes_asked old.totals n asked) old (Answered result) new
-files_told (Asks question) old new n result is h = rests [] old new (Answered result) (λ some. absurd (some refl)) is (rw h.1 (same_rest old))
+files_told (Asks question) old new n result is h =
+    rests [] old new (Answered result) (λ some. absurd (some refl)) is (rw h.1 (same_rest old))
 files_told (Arranges arrangement) old new n result is h = search (rules, rests, arranged_rest)
 files_told Nothing old new n result is h = absurd h
 files_told asked old new n result is h =
@@ -112,7 +132,8 @@ pub plain_numbered : (next : ℕ) (files : List PlainFile) → plain (numbered n
 plain_numbered next [] = refl
 plain_numbered next (file ∷ files) = ap (λ fs. file ∷ fs) (plain_numbered (next + 1) files)
 
-found_told : (old new : TotalsPart) (response : Response) → old.totals.mode ≡ Off → Recovered old new → Told [] old response new
+found_told : (old new : TotalsPart) (response : Response) → old.totals.mode ≡ Off → Recovered old new
+    → Told [] old response new
 found_told old new response off h = search (rules, plain_numbered, settles)
 
 -- a recovery that recovers nothing leaves them
@@ -135,7 +156,8 @@ record StepLeaves (changes : List TotalsChange) (old : Machine) (response : Resp
   pub sound : IsSound old → IsSound new
   pub told : IsSettled old.totals.totals old.totals.left → Told changes old.totals response new.totals
 
-beside_leaves : (changes : List TotalsChange) (old new : Machine) (response : Response) → ((changes ≡ [] → ⊥) → IsUndone response) → Beside old new
+beside_leaves : (changes : List TotalsChange) (old new : Machine) (response : Response)
+    → ((changes ≡ [] → ⊥) → IsUndone response) → Beside old new
     → StepLeaves changes old response new
 beside_leaves changes old new response undone b = search (rules, rests)
 
@@ -152,31 +174,46 @@ other_totals m part s = record { kinds = s.kinds; places = s.places; covers = s.
 totals_beside : (m : Machine) (part : TotalsPart) → Rest m.totals part → Beside m (record m { totals = part })
 totals_beside m part rest = record { sound = other_totals m part; rest = rest }
 
-control_beside : (m : Machine) (n : ℕ) (c : Control) → (IsSound m → HasItsDevice m.devices c) → Beside m (with_control m n c)
+control_beside : (m : Machine) (n : ℕ) (c : Control) → (IsSound m → HasItsDevice m.devices c)
+    → Beside m (with_control m n c)
 control_beside m n c seat = record { sound = λ s. with_control_sound m n c (seat s) s; rest = same_rest m.totals }
 
-claims_beside : (m : Machine) (claims : List (Option ℕ)) → length claims ≡ length m.claims → Beside m (record m { claims = claims })
+claims_beside : (m : Machine) (claims : List (Option ℕ)) → length claims ≡ length m.claims
+    → Beside m (record m { claims = claims })
 claims_beside m claims same = search (rules, same_rest)
 
 hardware_beside : (old new : Machine) (at : Option ℕ) (Does : ℕ → Effect) → OnHardware old at Does new
-    → ((place : ℕ) (before : Hardware) (cs : List Control) (after : Hardware) → StandsAt old.devices at before → Does place old.controls before cs after
+    → ((place : ℕ) (before : Hardware) (cs : List Control) (after : Hardware) → StandsAt old.devices at before
+    → Does place old.controls before cs after
     → Keeps old.devices before old.controls after cs) → Beside old new
 hardware_beside old new at Does o keeps = search (rules, on_hardware_sound, same_rest)
 
 -- ---- requests that are no calls
 
 made_beside : (old new : Machine) (category : Category)
-    → new ≡ record (with_totals old (with_place old.totals.totals)) { controls = old.controls ++ new_control category ∷ [] } → Beside old new
+    → new ≡ record (with_totals old (with_place old.totals.totals)) {
+      controls =
+          old.controls ++ new_control category ∷ [];
+    } → Beside old new
 made_beside old new category h = rw h (record {
-  sound = λ s. record { kinds = s.kinds; places = All-push (HasItsDevice old.devices) old.controls (new_control category) s.places tt; covers = s.covers };
+  sound = λ s. record {
+    kinds = s.kinds;
+    places =
+        All-push (HasItsDevice old.devices) old.controls (new_control category) s.places tt;
+    covers = s.covers;
+  };
   rest = record { layout = refl; mode = refl; left = refl };
 })
 
-attached_beside : (old new : Machine) (name : List ℕ) (hardware : Hardware) → IsAttached old name hardware new → Beside old new
-attached_beside old new name hardware h = record { sound = attached_sound old new name hardware h; rest = rw h.machine (same_rest old.totals) }
+attached_beside : (old new : Machine) (name : List ℕ) (hardware : Hardware) → IsAttached old name hardware new
+    → Beside old new
+attached_beside old new name hardware h =
+    record { sound = attached_sound old new name hardware h; rest = rw h.machine (same_rest old.totals) }
 
-detached_beside : (old new : Machine) (name : List ℕ) (hardware : Hardware) → IsDetached old name hardware new → Beside old new
-detached_beside old new name hardware h = record { sound = detached_sound old new name hardware h; rest = rw h.machine (same_rest old.totals) }
+detached_beside : (old new : Machine) (name : List ℕ) (hardware : Hardware) → IsDetached old name hardware new
+    → Beside old new
+detached_beside old new name hardware h =
+    record { sound = detached_sound old new name hardware h; rest = rw h.machine (same_rest old.totals) }
 
 -- ---- calls
 
@@ -187,11 +224,13 @@ dropped_beside : (k : Category) (m : Machine) (n : ℕ) (c : Control) → Beside
 dropped_beside k m n c = grind (arith, totals_beside, without_rest, claims_beside, length-set)
 
 -- nor does a call of another category, or one that all have
-pub none_of_totals : (k : Category) (asked : Call) → is_totals k ≡ false → (is_common asked ≡ false → has_call k asked ≡ true) → file_call asked ≡ Nothing
+pub none_of_totals : (k : Category) (asked : Call) → is_totals k ≡ false
+    → (is_common asked ≡ false → has_call k asked ≡ true) → file_call asked ≡ Nothing
 none_of_totals k asked other has = grind arith
 
 -- a call of a category's own that nothing refuses is one of its control's category
-pub own_of : (m : Machine) (n : ℕ) (c : Control) (asked : Call) → is_common asked ≡ false → first_refusal (refusals m n c asked) ≡ None
+pub own_of : (m : Machine) (n : ℕ) (c : Control) (asked : Call) → is_common asked ≡ false
+    → first_refusal (refusals m n c asked) ≡ None
     → has_call c.category asked ≡ true
 own_of m n c asked own none = search (rules, unless_not, none_applies, own_call)
 
@@ -200,7 +239,8 @@ module _ (m m' : Machine) (n : ℕ) (c : Control) (r : Answer) (at : slice_get m
   unasked : Beside m m' → StepLeaves [] m (Answered r) m'
   unasked b = beside_leaves [] m m' (Answered r) (λ some. absurd (some refl)) b
 
-  set_leaves : (p : Property) (v : Value) → takes (kind_of m c) p v ≡ true → Does m n c (Set p v) r m' → StepLeaves [] m (Answered r) m'
+  set_leaves : (p : Property) (v : Value) → takes (kind_of m c) p v ≡ true → Does m n c (Set p v) r m'
+      → StepLeaves [] m (Answered r) m'
   set_leaves p v may = by (recovers m.totals c p v) refl
     where
       now : Control
@@ -209,16 +249,20 @@ module _ (m m' : Machine) (n : ℕ) (c : Control) (r : Answer) (at : slice_get m
       there : Beside m (with_control m n now)
       there = control_beside m n now (λ s. set_seat m.devices (signs_at m c) c p v may (seated m n c s at))
 
-      by : (b : Bool) → recovers m.totals c p v ≡ b → MatchBool b (SetsByRecovery m n c p v r m') (Sets m n c p v r m') → StepLeaves [] m (Answered r) m'
+      by : (b : Bool) → recovers m.totals c p v ≡ b → MatchBool b (SetsByRecovery m n c p v r m') (Sets m n c p v r m')
+          → StepLeaves [] m (Answered r) m'
       by false plain h = unasked (rw h.1 there)
       by true off (inl h) = record {
         sound = λ s. subst IsSound (sym h.2) (other_totals (with_control m n now) m'.totals (there.sound s));
         told = λ is. found_told m.totals m'.totals (Answered r)
-            (recovers_off m.totals.totals.mode (and_parts (asks_recovery c p v) (not (is_ready m.totals.totals.mode)) off).1) h.1;
+            (recovers_off m.totals.totals.mode
+            (and_parts (asks_recovery c p v) (not (is_ready m.totals.totals.mode)) off).1) h.1;
       }
-      by true off (inr h) = unasked (subst (Beside m) (sym h.1) (totals_beside m m'.totals (unrecovered m.totals m'.totals r h.0)))
+      by true off (inr h) =
+          unasked (subst (Beside m) (sym h.1) (totals_beside m m'.totals (unrecovered m.totals m'.totals r h.0)))
 
-  own_leaves : (k : Category) (own : Call) → (IsSound m → (before : Hardware) → StandsAt m.devices c.device before → serves k (kind_of m c) ≡ true)
+  own_leaves : (k : Category) (own : Call)
+      → (IsSound m → (before : Hardware) → StandsAt m.devices c.device before → serves k (kind_of m c) ≡ true)
       → NoneApplies (category_rows k m n c own) → has_call k own ≡ true → CategoryDoes k m n c own r m'
       → StepLeaves (changes_asked m.totals.totals n (file_call own)) m (Answered r) m'
   own_leaves HardTotals own served allowed has h = record {
@@ -230,51 +274,73 @@ module _ (m m' : Machine) (n : ℕ) (c : Control) (r : Answer) (at : slice_get m
       (λ some. absurd (some (ap (changes_asked m.totals.totals n) (none_of_totals k own refl (λ common. has)))))
       (record {
         sound = λ s. on_hardware_sound m m' c.device _
-            (λ place before new after stands. device_keeps k m own r n place c before new after at (served s before stands) allowed stands) h s;
+            (λ place before new after stands.
+            device_keeps k m own r n place c before new after at (served s before stands) allowed stands) h s;
         rest = rw h.machine (same_rest m.totals);
       })
 
   -- what a call leaves that nothing refuses
-  does_leaves : (q : Call) → NoneApplies (refusals m n c q) → (is_common q ≡ false → has_call c.category q ≡ true) → Does m n c q r m'
+  does_leaves : (q : Call) → NoneApplies (refusals m n c q) → (is_common q ≡ false → has_call c.category q ≡ true)
+      → Does m n c q r m'
       → StepLeaves (changes_asked m.totals.totals n (file_call q)) m (Answered r) m'
   does_leaves (Open name) none has h =
       unasked (rw h.1 (control_beside m n _ (λ s. found_seat m.devices c.category (place_of m.devices name) s.kinds)))
   does_leaves Close none has h =
-      unasked (rw h.1 (beside_then m _ _ (control_beside m n (closed c) (λ s. tt)) (dropped_beside c.category (with_control m n (closed c)) n c)))
+      unasked (rw h.1 (beside_then m _ _ (control_beside m n (closed c) (λ s. tt))
+      (dropped_beside c.category (with_control m n (closed c)) n c)))
   does_leaves (Claim timeout) none has h = search (rules, unasked, totals_beside, claims_beside, length-set)
   does_leaves Release none has h =
       let after = after_release c.category c in
-      unasked (rw h.1 (beside_then m _ _ (control_beside m n after (λ s. released_seat m.devices c.category c (seated m n c s at)))
+      unasked (rw h.1 (beside_then m _ _
+      (control_beside m n after (λ s. released_seat m.devices c.category c (seated m n c s at)))
       (released_beside c.category (with_control m n after) n c)))
   does_leaves (Set p v) none has h = search (rules, set_leaves, unless_not)
   does_leaves (Get p) none has h = unasked (same_beside m m' h.1)
   does_leaves own none has h =
       let served = λ (s : IsSound m) (before : Hardware) (stands : StandsAt m.devices c.device before).
       served_by m.devices c.category c.cursor.place c.device before stands.kind (seated m n c s at) in
-      own_leaves c.category own served none.1.1.1.1.1 (has refl) h
+      own_leaves c.category own served (none_dropped 5 (refusals m n c own) none) (has refl) h
 
 -- ---- steps
 
 -- each step leaves a sound machine, and the files as its event says
-step_leaves : (old new : Machine) (r : Response) (q : Request) → Step old q r new → StepLeaves (changes_of old q) old r new
+step_leaves : (old new : Machine) (r : Response) (q : Request) → Step old q r new
+    → StepLeaves (changes_of old q) old r new
 step_leaves old new (Answered result) (CallOf n asked) h =
     search (rules, match_cases, beside_leaves, same_beside, decided_cases, does_leaves, none_applies, own_of)
 step_leaves old new OutOfMemory (CallOf n asked) h = search (rules, matched, beside_leaves, same_beside)
 step_leaves old new r (CallOf n asked) h = absurd h
-step_leaves old new (Worked result) (WorkOn name) h = beside_leaves [] old new (Worked result) (λ some. absurd (some refl))
-    (hardware_beside old new _ _ h (λ place before cs after stands does. works_keep old.devices _ place (Ok result) old.controls before cs after does))
-step_leaves old new (Delivered event) (Deliver n reply) h = beside_leaves [] old new (Delivered event) (λ some. absurd (some refl))
+step_leaves old new (Worked result) (WorkOn name) h =
+    beside_leaves [] old new (Worked result) (λ some. absurd (some refl))
+    (hardware_beside old new _ _ h
+    (λ place before cs after stands does. works_keep old.devices _ place
+    (Ok result) old.controls before cs after does))
+step_leaves old new (Delivered event) (Deliver n reply) h =
+    beside_leaves [] old new (Delivered event) (λ some. absurd (some refl))
     (elim (match_cases (slice_get old.controls n) _ _ h) [
-      | inl x ↦ same_beside old new x.1.1
-      | inr x ↦ rw x.2.1 (control_beside old n (delivered reply x.0) (λ s. seated old n x.0 s x.1))
+      | inl x ↦ let (absent, left) = x in let (nothing, same) = left in same_beside old new same
+      | inr x ↦
+          let (control, found, delivers) = x in
+          let (event, taken) = delivers in
+          rw taken (control_beside old n (delivered reply control) (λ s. seated old n control s found))
     ])
 step_leaves old new r q h =
-    search (rules, beside_leaves, same_beside, made_beside, attached_beside, detached_beside, hardware_beside, takes_keeps)
+    search (
+      rules,
+      beside_leaves,
+      same_beside,
+      made_beside,
+      attached_beside,
+      detached_beside,
+      hardware_beside,
+      takes_keeps,
+    )
 
 pub step_sound : (old new : Machine) (q : Request) (r : Response) → Step old q r new → IsSound old → IsSound new
 step_sound old new q r step = (step_leaves old new r q step).sound
 
 -- where a history fits, it goes on fitting
-pub step_fits : (history : History) (old : Machine) (q : Request) (r : Response) (new : Machine) → Fits history old.totals → Step old q r new
+pub step_fits : (history : History) (old : Machine) (q : Request) (r : Response) (new : Machine)
+    → Fits history old.totals → Step old q r new
     → Fits (history_with history old q r new) new.totals
 step_fits history old q r new fits step = search (rules, step_leaves, fits_next)

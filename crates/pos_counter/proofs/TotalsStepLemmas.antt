@@ -1,13 +1,16 @@
 -- A call of the totals' own as a step of the machine.
-use Rattle.pos_counter.proofs.Common.{Answer, Call, CallOf, CallsFiles, Control, Counter, DiskGhosts, FilesCalled, Ghosts, HardTotals, IsCounterSound, IsDone}
-use Rattle.pos_counter.proofs.Common.{IsReady, IsUndone, List, Machine, Mode, NoMemory, Result, Serves, Some, SparesDisk, SparesFiles, Standing, Step}
-use Rattle.pos_counter.proofs.Common.{TotalsPart, TotalsView, TurnsOff, answered, ap, arith, category_rows, controls_of, false, file_call, file_rows}
-use Rattle.pos_counter.proofs.Common.{first_refusal, inl, inr, is_common, machine, part_of, part_with, refl, refusals, rules, slice_get, ℕ, ◌∙◌, ◌≡◌}
+use Rattle.pos_counter.proofs.Common.{Answer, Call, CallOf, CallsFiles, Control, Counter, DiskGhosts, FilesCalled}
+use Rattle.pos_counter.proofs.Common.{Ghosts, HardTotals, IsCounterSound, IsDone, IsReady, IsUndone, List, Machine}
+use Rattle.pos_counter.proofs.Common.{Mode, NoMemory, Result, Serves, Some, SparesDisk, SparesFiles, Standing, Step}
+use Rattle.pos_counter.proofs.Common.{TotalsPart, TotalsView, TurnsOff, answered, ap, arith, category_rows, controls_of}
+use Rattle.pos_counter.proofs.Common.{false, file_call, file_rows, first_refusal, inl, inr, is_common, machine, part_of}
+use Rattle.pos_counter.proofs.Common.{part_with, refl, refusals, rules, slice_get, ℕ, ◌∙◌, ◌≡◌}
 use Rattle.pos_counter.proofs.HardwareLemmas.{IsLet, let_refusals, own_call}
 use Rattle.pos_counter.proofs.LiftLemmas.{decided_step}
 use Rattle.pos_counter.proofs.ServiceLemmas.{OnlyNow, quiet_serves}
 
-module _ (m : Machine) (n : ℕ) (c : Control) (asked : Call) (own : is_common asked ≡ false) (found : slice_get m.controls n ≡ Some c)
+module _ (m : Machine) (n : ℕ) (c : Control) (asked : Call) (own : is_common asked ≡ false)
+    (found : slice_get m.controls n ≡ Some c)
     (is : c.category ≡ HardTotals) (lets : IsLet m n c asked) where
   -- behind the check of an open control of Hard Totals, the totals' refusals decide
   totals_refusals : first_refusal (refusals m n c asked) ≡ first_refusal (file_rows m.totals.totals n (file_call asked))
@@ -31,16 +34,20 @@ still_ready : (old new : Mode) → TurnsOff old new → IsReady new → ⊥
 still_ready old new turns ready = grind arith
 
 -- a call of the totals' own that its control may make
-pub files_serve : {D P : Type 0} (bound : DiskGhosts D) (peripherals : Ghosts P) (old : Counter D P) (now : TotalsView D) (n : ℕ) (c : Control)
+pub files_serve : {D P : Type 0} (bound : DiskGhosts D) (peripherals : Ghosts P) (old : Counter D P)
+    (now : TotalsView D) (n : ℕ) (c : Control)
     (asked : Call) (outcome : Result Answer NoMemory)
     → is_common asked ≡ false → slice_get (controls_of old.controls.items) n ≡ Some c → c.category ≡ HardTotals
-    → ((left : List Standing) (failures : ℕ) → IsLet (machine peripherals old (part_with old.totals.totals left failures)) n c asked)
+    → ((left : List Standing) (failures : ℕ)
+    → IsLet (machine peripherals old (part_with old.totals.totals left failures)) n c asked)
     → OnlyNow bound old.totals.disk → CallsFiles bound old.totals n asked outcome now → IsCounterSound peripherals old
     → Serves bound peripherals old (CallOf n asked) (answered outcome) (record old { totals = now })
 files_serve bound peripherals old now n c asked outcome own at is lets only (inl quiet) sound =
-    quiet_serves bound peripherals old (record old { totals = now }) (CallOf n asked) (answered outcome) now.totals only quiet.disk refl quiet.is_settled
+    quiet_serves bound peripherals old (record old { totals = now }) (CallOf n asked)
+    (answered outcome) now.totals only quiet.disk refl quiet.is_settled
     sound sound.devices
-    (λ left failures so. called_step (machine peripherals old (part_with old.totals.totals left failures)) n c asked own at is (lets left failures)
+    (λ left failures so. called_step
+    (machine peripherals old (part_with old.totals.totals left failures)) n c asked own at is (lets left failures)
     (part_with now.totals left failures) outcome (quiet.answer left failures so))
 files_serve bound peripherals old now n c asked outcome own found is lets only (inr puts) sound = record {
   step = record {
@@ -54,7 +61,9 @@ files_serve bound peripherals old now n c asked outcome own found is lets only (
           any_moment = f.any_moment;
         };
     spared = λ left failures spares.
-        absurd (puts.uses (spares_own (machine peripherals old (part_with old.totals.totals left failures)) n c asked own found is (lets left
+        absurd (puts.uses
+        (spares_own (machine peripherals old (part_with old.totals.totals left failures)) n c asked own found is
+        (lets left
         failures) spares));
     otherwise = λ left failures. inr (rw found (is, inl refl));
     unchanged = λ undone was ready. elim (puts.unchanged (not_done outcome undone)) [

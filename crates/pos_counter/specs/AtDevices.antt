@@ -11,7 +11,7 @@ use Rattle.pos_service.specs.Hardware.{Effect, Hardware}
 use Rattle.pos_common.specs.KeptControls.{KeptControl, controls_of}
 use Rattle.pos_common.specs.OwnCalls.{OwnCall}
 use Rattle.pos_counter.specs.Machine.{Device, device_at, kind_in, hardware_in}
-use Rattle.pos_counter.specs.Steps.{FindsFit, IsPlaceOn, device_deed, device_rows}
+use Rattle.pos_counter.specs.Steps.{FindsFit, IsPlaceOn, device_action, device_rows}
 
 -- the device at a place has a peripheral
 abbrev pub IsAttachedAt : List Device → ℕ → Type 0
@@ -49,4 +49,4 @@ abbrev pub CallsAt : ℕ → List (Option ℕ) → Call → Result Answer NoMemo
 CallsAt number claims asked outcome old before new after = MatchOption (slice_get old number) ⊥ (λ control.
     let at = Some before.kind in
     OwnCall control.category (device_rows control.category at control asked)
-    (device_deed control.category at control asked) number claims asked outcome control old before new after)
+    (device_action control.category at control asked) number claims asked outcome control old before new after)

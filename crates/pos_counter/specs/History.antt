@@ -1,5 +1,6 @@
 -- The history of the totals' files in a run: the groups of changes that were put on their disk (chapter Hard Totals).
-use Rattle.std.specs.Prelude.{ℕ, Bool, false, ◌&&◌, List, [], ◌∷◌, ◌++◌, Option, Some, None, Result, Ok, Err, bytes_eq, if◌then◌else◌}
+use Rattle.std.specs.Prelude.{ℕ, Bool, false, ◌&&◌, List, [], ◌∷◌, ◌++◌, Option, Some, None, Result, Ok, Err, bytes_eq}
+use Rattle.std.specs.Prelude.{if◌then◌else◌}
 use Rattle.std.specs.Cmp.Lexicographic.{pointwise}
 use Rattle.pos_dir.specs.Changes.{outcome_of_all, and_then}
 use Rattle.pos_dir.specs.declared.change.Change.{Change as FileChange}

@@ -1,5 +1,6 @@
 -- How the devices of a counter stand to their host, and what the host does with them.
-use Rattle.std.specs.Prelude.{◌≡◌, ◌<◌, ℕ, zero, suc, Bool, true, false, List, [], ◌∷◌, Option, Some, None, bytes_eq, map, if◌then◌else◌}
+use Rattle.std.specs.Prelude.{◌≡◌, ◌<◌, ℕ, zero, suc, Bool, true, false, List, [], ◌∷◌, Option, Some, None, bytes_eq}
+use Rattle.std.specs.Prelude.{map, if◌then◌else◌}
 use Rattle.std.specs.Option.{option_map}
 use Rattle.pos_drive.specs.Courses.{driven_course, handed_out_course, order_in, progress_of, reported_course}
 use Rattle.pos_drive.specs.declared.courses.Course.{Course}

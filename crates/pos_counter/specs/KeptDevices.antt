@@ -1,5 +1,6 @@
 -- The devices that a counter keeps, and those that it returns at its end.
-use Rattle.std.specs.Prelude.{◌≡◌, ℕ, List, [], ◌∷◌, Option, Some, None, map, option_map, is_some, ◌++◌, Bool, bytes_eq, if◌then◌else◌}
+use Rattle.std.specs.Prelude.{◌≡◌, ℕ, List, [], ◌∷◌, Option, Some, None, map, option_map, is_some, ◌++◌, Bool, bytes_eq}
+use Rattle.std.specs.Prelude.{if◌then◌else◌}
 use Rattle.std.specs.List.{filter, find}
 use Rattle.pos_service.specs.Hardware.{hardware_of}
 use Rattle.pos_counter.specs.Machine.{Device, Machine}
@@ -7,7 +8,8 @@ use Rattle.pos_counter.specs.declared.devices.Devices.{Devices}
 use Rattle.pos_profile.specs.declared.entry.Entry.{Entry}
 use Rattle.pos_profile.specs.declared.slot.Slot.{Slot}
 use Rattle.pos_profile.specs.Categories.{is_totals}
-use Rattle.pos_profile.specs.Registries.{AreParked, Device as Registered, IsRegistrySound, devices as registered, vacant_devices}
+use Rattle.pos_profile.specs.Registries.{AreParked, Device as Registered, IsRegistrySound, devices as registered}
+use Rattle.pos_profile.specs.Registries.{vacant_devices}
 use Rattle.pos_service.specs.declared.peripheral.Peripheral.{Ghosts}
 
 -- a device that may have a peripheral, and its peripheral, if it has one

@@ -1,9 +1,10 @@
 -- The state of the device machine: the controls of all applications, and the devices of the profile.
-use Rattle.std.specs.Prelude.{ℕ, ◌+◌, ◌||◌, List, [], ◌∷◌, Option, Some, None, is_none, is_some, slice_get, slice_set, bytes_eq, if◌then◌else◌}
+use Rattle.std.specs.Prelude.{ℕ, ◌+◌, ◌||◌, List, [], ◌∷◌, Option, Some, None, is_none, is_some, slice_get, slice_set}
+use Rattle.std.specs.Prelude.{bytes_eq, if◌then◌else◌}
 use Rattle.pos_service.specs.declared.category.Category.{Category}
 use Rattle.pos_service.specs.declared.category.Category.TheVariants as category
-use Rattle.pos_service.specs.declared.facts.Finding.{Finding}
-use Rattle.pos_service.specs.declared.facts.Finding.TheVariants as finding
+use Rattle.pos_service.specs.declared.context.OpenTarget.{OpenTarget}
+use Rattle.pos_service.specs.declared.context.OpenTarget.TheVariants as finding
 use Rattle.pos_service.specs.declared.kind.Kind.{Kind}
 use Rattle.pos_service.specs.declared.signs.Signs.{Signs}
 use Rattle.pos_service.specs.Categories.{serves}
@@ -68,7 +69,7 @@ abbrev pub kind_named : Machine → List ℕ → Option Kind
 kind_named machine name = kind_in (device_at machine.devices (place_of machine.devices name))
 
 -- what a control of a category finds at a place: a device of its kind, with a peripheral if it may have one
-abbrev pub found_at : Category → Option ℕ → Option Device → Finding
+abbrev pub found_at : Category → Option ℕ → Option Device → OpenTarget
 found_at category None device = finding.NotThere
 found_at category (Some place) None = finding.NotThere
 found_at category (Some place) (Some device) =
@@ -77,7 +78,7 @@ found_at category (Some place) (Some device) =
     else finding.NotThere
 
 -- what a control of a category finds under a name
-abbrev pub found_under : Machine → Category → List ℕ → Finding
+abbrev pub found_under : Machine → Category → List ℕ → OpenTarget
 found_under machine category name =
     let place = place_of machine.devices name in
     found_at category place (device_at machine.devices place)

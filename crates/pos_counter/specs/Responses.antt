@@ -8,7 +8,7 @@ use Rattle.pos_service.specs.declared.request.Request.{Request}
 use Rattle.pos_service.specs.declared.request.Request.TheVariants as request
 use Rattle.pos_service.specs.declared.request.Response.{Response}
 use Rattle.pos_service.specs.declared.request.Response.TheVariants as response
-use Rattle.pos_service.specs.declared.answer.Worked.{Worked}
+use Rattle.pos_service.specs.declared.answer.WorkResult.{WorkResult}
 use Rattle.pos_service.specs.declared.faults.AttachFault.{AttachFault}
 use Rattle.pos_service.specs.declared.faults.DetachFault.{DetachFault}
 use Rattle.pos_service.specs.Peripherals.{PeripheralState}
@@ -43,8 +43,8 @@ taken_in (Err input_fault.WrongInput) = response.WrongInput
 taken_in (Err input_fault.NoMemory) = response.OutOfMemory
 
 -- what `work` answers
-abbrev pub worked : {P : Type 0} → Result Worked WorkFault → Response P
-worked (Ok result) = response.Worked result
+abbrev pub worked : {P : Type 0} → Result WorkResult WorkFault → Response P
+worked (Ok result) = response.WorkResult result
 worked (Err work_fault.NoDevice) = response.NoDevice
 worked (Err work_fault.NoMemory) = response.OutOfMemory
 

@@ -1,8 +1,8 @@
 -- The steps of the device machine, and its runs.
 use Rattle.std.specs.Bool.{MatchBool}
 use Rattle.std.specs.List.{list_any}
-use Rattle.std.specs.Prelude.{◌≡◌, ◌⊎◌, ℕ, ◌++◌, ◌∷◌, Bool, true, false, List, [], Option, Some, None, Ok, MatchOption, IfSome, IsSome, All, IsTrue, length}
-use Rattle.std.specs.Prelude.{◌<◌, ◌≤◌, ◌||◌, slice_get, is_some, is_none, nat_eq}
+use Rattle.std.specs.Prelude.{◌≡◌, ◌⊎◌, ℕ, ◌++◌, ◌∷◌, Bool, true, false, List, [], Option, Some, None, Ok, MatchOption}
+use Rattle.std.specs.Prelude.{IfSome, IsSome, All, IsTrue, length, ◌<◌, ◌≤◌, ◌||◌, slice_get, is_some, is_none, nat_eq}
 use Rattle.pos_service.specs.declared.category.Category.{Category}
 use Rattle.pos_service.specs.declared.category.Category.TheVariants as category
 use Rattle.pos_service.specs.declared.call.Call.{Call}
@@ -14,32 +14,35 @@ use Rattle.pos_service.specs.declared.answer.Answer.{Answer}
 use Rattle.pos_service.specs.declared.answer.Answer.TheVariants as answer
 use Rattle.pos_service.specs.declared.answer.Value.TheVariants as value
 use Rattle.pos_service.specs.declared.code.Code.TheVariants as code
-use Rattle.pos_service.specs.declared.deed.Deed.{Deed}
+use Rattle.pos_service.specs.declared.action.Action.{Action}
 use Rattle.pos_service.specs.Displays.{is_cursor_place}
 use Rattle.pos_service.specs.Kinds.{is_display, rows_of, columns_of}
 use Rattle.pos_service.specs.Peripherals.{IsInRange, input_fits}
 use Rattle.pos_service.specs.Controls.{Control, new_control, opened, closed, deliverable, delivered}
-use Rattle.pos_service.specs.Claims.{is_own, is_foreign, holder_at, claimed_by, released_by, claim_rows, release_rows, after_release}
+use Rattle.pos_service.specs.Claims.{is_own, is_foreign, holder_at, claimed_by, released_by, claim_rows, release_rows}
+use Rattle.pos_service.specs.Claims.{after_release}
 use Rattle.pos_service.specs.Refusals.{Row, Decided, first_refusal}
-use Rattle.pos_service.specs.Calls.{takes_memory as own_takes_memory}
-use Rattle.pos_service.specs.Calls.{needs_of, place_found, open_rows, close_rows}
+use Rattle.pos_service.specs.Calls.{takes_memory as own_takes_memory, needs_of, place_found, open_rows, close_rows}
 use Rattle.pos_service.specs.Categories.{serves}
 use Rattle.pos_service.specs.Properties.{set_rows, after_set, tells_power, get_rows, is_of_bytes, property_of}
 use Rattle.pos_service.specs.Hardware.{Hardware, Effect, TakesIn}
-use Rattle.pos_service.specs.Deeds.{Does as CarriesOut}
-use Rattle.pos_display.specs.DisplayCalls.{display_rows, display_deed}
-use Rattle.pos_drawer.specs.DrawerCalls.{drawer_deed}
+use Rattle.pos_service.specs.Actions.{Does as CarriesOut}
+use Rattle.pos_display.specs.DisplayCalls.{display_rows, display_action}
+use Rattle.pos_drawer.specs.DrawerCalls.{drawer_action}
 use Rattle.pos_service.specs.Needs.{table}
-use Rattle.pos_printer.specs.PrinterCalls.{printer_rows, printer_deed, due_request_at, WorksAt}
-use Rattle.pos_scanner.specs.ScannerCalls.{scanner_deed}
+use Rattle.pos_printer.specs.PrinterCalls.{printer_rows, printer_action, due_request_at, WorksAt}
+use Rattle.pos_scanner.specs.ScannerCalls.{scanner_action}
 use Rattle.pos_service.specs.declared.property.Property.{Property}
 use Rattle.pos_service.specs.declared.answer.Value.{Value}
-use Rattle.pos_service.specs.declared.facts.Facts.{Facts}
+use Rattle.pos_service.specs.declared.context.PropertyContext.{PropertyContext}
 use Rattle.pos_service.specs.declared.request.Request.{Request as RequestOf}
-pub use Rattle.pos_service.specs.declared.request.Request.TheVariants.{NewControl, CallOf, InputTo, WorkOn, Deliver, Snapshot, Attach, Detach}
+pub use Rattle.pos_service.specs.declared.request.Request.TheVariants.{NewControl, CallOf, InputTo, WorkOn, Deliver}
+pub use Rattle.pos_service.specs.declared.request.Request.TheVariants.{Snapshot, Attach, Detach}
 use Rattle.pos_service.specs.declared.request.Response.{Response as ResponseOf}
-pub use Rattle.pos_service.specs.declared.request.Response.TheVariants.{Made, Full, Answered, TakenIn, NoDevice, WrongInput, Worked, Delivered, Shown, Attached}
-pub use Rattle.pos_service.specs.declared.request.Response.TheVariants.{NotAttached, Detached, NotDetached, OutOfMemory}
+pub use Rattle.pos_service.specs.declared.request.Response.TheVariants.{Made, Full, Answered, TakenIn, NoDevice}
+pub use Rattle.pos_service.specs.declared.request.Response.TheVariants.{WrongInput, WorkResult as Worked, Delivered, Shown}
+pub use Rattle.pos_service.specs.declared.request.Response.TheVariants.{Attached, NotAttached, Detached, NotDetached}
+pub use Rattle.pos_service.specs.declared.request.Response.TheVariants.{OutOfMemory}
 use Rattle.pos_service.specs.declared.faults.AttachFault.{AttachFault}
 use Rattle.pos_service.specs.declared.faults.AttachFault.TheVariants as attach
 use Rattle.pos_service.specs.declared.faults.DetachFault.{DetachFault}
@@ -47,9 +50,9 @@ use Rattle.pos_service.specs.declared.faults.DetachFault.TheVariants as detach
 use Rattle.pos_totals.specs.HardTotals.{totals_limits, in_transaction, with_control as with_place}
 use Rattle.pos_totals.specs.TotalsClaims.{is_area_taken, without_control}
 use Rattle.pos_totals.specs.TotalsCalls.{file_call, file_rows}
-use Rattle.pos_counter.specs.Totals.{TotalsDo, Recovered, Recovers, recovers, file_facts}
-use Rattle.pos_counter.specs.Machine.{Device, Machine, place_of, hardware_named, kind_named, found_under, holder_of, kind_of, signs_at, with_control}
-use Rattle.pos_counter.specs.Machine.{with_hardware, with_standing, with_totals}
+use Rattle.pos_counter.specs.Totals.{TotalsDo, Recovered, Recovers, recovers, files_summary}
+use Rattle.pos_counter.specs.Machine.{Device, Machine, place_of, hardware_named, kind_named, found_under, holder_of}
+use Rattle.pos_counter.specs.Machine.{kind_of, signs_at, with_control, with_hardware, with_standing, with_totals}
 
 -- What may be asked of the machine. Controls have numbers, not names, and a peripheral to be attached is the hardware
 -- that the device would have.
@@ -61,12 +64,12 @@ abbrev pub Response : Type 0
 Response = ResponseOf Hardware
 
 -- what is known of the control with a number and of its device, from which properties are read
-abbrev pub facts_of : Machine → ℕ → Control → Facts
-facts_of machine number control = record {
+abbrev pub context_of : Machine → ℕ → Control → PropertyContext
+context_of machine number control = record {
   kind = kind_of machine control;
   signs = signs_at machine control;
   totals_size = (totals_limits machine.totals.totals.layout).bytes;
-  files = file_facts machine.totals.totals.layout machine.totals.totals.mode;
+  files = files_summary machine.totals.totals.layout machine.totals.totals.mode;
   is_claimed = is_own number (holder_of machine control);
   in_transaction = in_transaction machine.totals.totals number;
 }
@@ -106,17 +109,18 @@ device_rows category.PosPrinter at control own = printer_rows control own
 device_rows c at control own = []
 
 -- what it comes to there
-abbrev pub device_deed : Category → Option Kind → Control → Call → Option Deed
-device_deed category.CashDrawer at control own = drawer_deed own
-device_deed category.Scanner at control own = scanner_deed own
-device_deed category.LineDisplay at control own = display_deed at control.cursor own
-device_deed category.PosPrinter at control own = printer_deed control own
-device_deed category.HardTotals at control own = None
+abbrev pub device_action : Category → Option Kind → Control → Call → Option Action
+device_action category.CashDrawer at control own = drawer_action own
+device_action category.Scanner at control own = scanner_action own
+device_action category.LineDisplay at control own = display_action at control.cursor own
+device_action category.PosPrinter at control own = printer_action control own
+device_action category.HardTotals at control own = None
 
 -- what it does at the hardware of the device, if nothing refuses it
 abbrev pub DeviceDoes : Category → Option Kind → ℕ → Control → Call → Answer → ℕ → Effect
 DeviceDoes c at number control own result place old before new after =
-    MatchOption (device_deed c at control own) ⊥ (λ deed. CarriesOut deed number place result old before new after)
+    MatchOption (device_action c at control own) ⊥
+    (λ action. CarriesOut action number place result old before new after)
 
 -- what each call of a category's own requires after the check of its control, in order
 abbrev pub category_rows : Category → Machine → ℕ → Control → Call → List Row
@@ -168,7 +172,7 @@ refusals machine number control call.Release =
 refusals machine number control (call.Set property v) =
     set_rows number (holder_of machine control) (kind_of machine control) control property v
 refusals machine number control (call.Get property) =
-    get_rows number (holder_of machine control) control (facts_of machine number control) property
+    get_rows number (holder_of machine control) control (context_of machine number control) property
 refusals machine number control own =
     table number (holder_of machine control) control (needs_of control.category own)
     (category_rows control.category machine number control own)
@@ -206,7 +210,7 @@ Does old number control (call.Set property v) result new =
     MatchBool (recovers old.totals control property v) (SetsByRecovery old number control property v result new)
     (Sets old number control property v result new)
 Does old number control (call.Get property) result new =
-    (result ≡ answer.Done (property_of control (facts_of old number control) property)) × (new ≡ old)
+    (result ≡ answer.Done (property_of control (context_of old number control) property)) × (new ≡ old)
 Does old number control own result new = CategoryDoes control.category old number control own result new
 
 -- A call on a control: by its table of refusals, and then by what it does.

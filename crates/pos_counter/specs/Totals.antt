@@ -1,6 +1,6 @@
 -- Hard Totals in the device machine (chapter Hard Totals).
-use Rattle.std.specs.Prelude.{◌≡◌, ◌≤◌, ◌⊎◌, ℕ, Bool, true, false, not, ◌&&◌, List, [], ◌∷◌, Option, Some, None, Result, MatchResult, IsTrue, is_some, length}
-use Rattle.std.specs.Prelude.{if◌then◌else◌}
+use Rattle.std.specs.Prelude.{◌≡◌, ◌≤◌, ◌⊎◌, ℕ, Bool, true, false, not, ◌&&◌, List, [], ◌∷◌, Option, Some, None, Result}
+use Rattle.std.specs.Prelude.{MatchResult, IsTrue, is_some, length, if◌then◌else◌}
 use Rattle.pos_disk.specs.State.{Rises}
 use Rattle.pos_image.specs.declared.layout.Layout.{Layout}
 use Rattle.pos_service.specs.declared.answer.Answer.{Answer}
@@ -12,7 +12,7 @@ use Rattle.pos_service.specs.declared.faults.NoMemory.{NoMemory}
 use Rattle.pos_service.specs.declared.category.Category.{Category}
 use Rattle.pos_service.specs.declared.category.Category.TheVariants as category
 use Rattle.pos_service.specs.declared.code.Code.TheVariants as code
-use Rattle.pos_service.specs.declared.facts.FileFacts.{FileFacts}
+use Rattle.pos_service.specs.declared.context.FilesSummary.{FilesSummary}
 use Rattle.pos_service.specs.declared.property.Property.{Property}
 use Rattle.pos_service.specs.declared.property.Property.TheVariants as property
 use Rattle.pos_service.specs.Controls.{Control}
@@ -40,9 +40,9 @@ pub record TotalsPart : Type 0 where
   pub failures : ℕ
 
 -- what is known of the files, from which properties are read
-abbrev pub file_facts : Layout → Mode → Option FileFacts
-file_facts layout Off = None
-file_facts layout (Ready files sequence) =
+abbrev pub files_summary : Layout → Mode → Option FilesSummary
+files_summary layout Off = None
+files_summary layout (Ready files sequence) =
     Some (record { free = free_data (totals_limits layout) files; count = length files })
 
 -- what a crash leaves after changes were put on the disk as one group, by the mode then

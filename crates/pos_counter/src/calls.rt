@@ -106,6 +106,7 @@ impl<D: Disk, P: Peripheral> Counter<D, P> {
 /// # Errors
 ///
 /// As of `Counter::call`.
+#[inline(always)]
 fn call_there<P: Peripheral>(
     alloc: Global,
     controls: &mut [Control],
@@ -132,6 +133,7 @@ fn call_there<P: Peripheral>(
 /// # Errors
 ///
 /// As of `Counter::call`.
+#[inline(always)]
 fn call_device<P: Peripheral>(
     alloc: Global,
     controls: &mut [Control],

@@ -126,6 +126,7 @@ impl<D: Disk, P: Peripheral> Counter<D, P> {
 
     /// Takes the event that may be delivered to a control, and returns it (common chapter, event queue). The reply is
     /// the application's, if it is an ErrorEvent. It is `None` if there is no such event, or no control of this number.
+    #[inline(always)]
     pub fn deliver(&mut self, number: usize, reply: ErrorReply) -> Option<Event>
         requires sound { IsCounterSound P.Peripheral self.old }
         ensures step { IsStepBeside P.Peripheral self.old (Deliver number reply) (Delivered result) self.new }
@@ -164,7 +165,7 @@ impl<D: Disk, P: Peripheral> Counter<D, P> {
         let mut waiting = requests;
         waiting.reverse();
         while let Some(request) = waiting.pop() {
-            let response = self.carry_out(request);
+            let response = self.respond(request);
             responses.push_reserved(response);
         }
         waiting.destroy_empty();
@@ -172,7 +173,7 @@ impl<D: Disk, P: Peripheral> Counter<D, P> {
     }
 
     /// Carries out a request, and returns its response. A peripheral that is to be attached is in service.
-    fn carry_out(&mut self, request: Request<'_, (), usize, P>) -> Response<P>
+    fn respond(&mut self, request: Request<'_, (), usize, P>) -> Response<P>
         requires sound { IsCounterSound P.Peripheral self.old }
         requires in_service { OffersInService P.Peripheral request }
         ensures step { IsStep D.Disk P.Peripheral self.old (request_of P.Peripheral request.entry)

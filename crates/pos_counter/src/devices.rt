@@ -6,7 +6,7 @@ ghost use Rattle.pos_counter.specs.Machine.{device_at, found_at, kind_in, place_
 ghost use Rattle.pos_counter.specs.KeptDevices.{AreDevicesSound, devices_in, profile_devices, totals_name, totals_place};
 
 use pos_profile::{Profile, Registry, Slot};
-use pos_service::{Bytes, Category, Finding, Kind, NoMemory, PaperLevel, Peripheral, Signs};
+use pos_service::{Bytes, Category, Kind, NoMemory, OpenTarget, PaperLevel, Peripheral, Signs};
 use std::alloc::Global;
 
 /// The devices of a profile. Those that may have a peripheral have the first places, in its order. The Hard Totals
@@ -91,31 +91,31 @@ impl<P: Peripheral> Devices<P> {
     }
 
     /// Returns what a control of a category finds under a name.
-    pub(crate) fn find_for(&self, category: Category, name: &[u8]) -> Finding
+    pub(crate) fn find_for(&self, category: Category, name: &[u8]) -> OpenTarget
         requires { AreDevicesSound P.Peripheral self.now }
         ensures { let devices = devices_in P.Peripheral self.now in
             result ≡ found_at category (place_of devices name.now) (device_at devices (place_of devices name.now)) }
     {
         let Some(place) = self.find(name) else {
-            return Finding::NotThere;
+            return OpenTarget::NotThere;
         };
         self.find_at(category, place)
     }
 
     /// Returns what a control of a category finds at the place of a device.
-    fn find_at(&self, category: Category, place: usize) -> Finding
+    fn find_at(&self, category: Category, place: usize) -> OpenTarget
         requires { IsSome (device_at (devices_in P.Peripheral self.now) (Some place)) }
         ensures { let devices = devices_in P.Peripheral self.now in
             result ≡ found_at category (Some place) (device_at devices (Some place)) }
     {
         let kind = self.kind_at(Some(place));
         if !category.serves(kind) {
-            return Finding::NotThere;
+            return OpenTarget::NotThere;
         }
         if kind.is_some() && self.registry.peripheral(place).is_none() {
-            return Finding::Vacant;
+            return OpenTarget::Vacant;
         }
-        Finding::At(place)
+        OpenTarget::At(place)
     }
 
     /// Returns the kind of the device at the place, if it may have a peripheral.

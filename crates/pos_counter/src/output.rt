@@ -13,7 +13,7 @@ use crate::devices::Devices;
 use crate::faults::WorkFault;
 use pos_common::{Claims, Control};
 use pos_disk::Disk;
-use pos_service::{NoMemory, Peripheral, Worked};
+use pos_service::{NoMemory, Peripheral, WorkResult};
 
 impl<D: Disk, P: Peripheral> Counter<D, P> {
     /// Works on the first request of the control that holds the device of this name (common chapter, asynchronous
@@ -28,7 +28,7 @@ impl<D: Disk, P: Peripheral> Counter<D, P> {
     ///
     /// `NoDevice` if no device has the name or it has no peripheral, and `NoMemory` if memory ran out. Then nothing has
     /// changed.
-    pub fn work(&mut self, device: &[u8]) -> Result<Worked, WorkFault>
+    pub fn work(&mut self, device: &[u8]) -> Result<WorkResult, WorkFault>
         requires sound { IsCounterSound P.Peripheral self.old }
         ensures step { IsStepBeside P.Peripheral self.old (WorkOn device.now) (worked result) self.new }
         ensures sound { IsCounterSound P.Peripheral self.new }
@@ -53,7 +53,7 @@ fn work_there<P: Peripheral>(
     place: usize,
     claims: &Claims,
     devices: &mut Devices<P>,
-) -> Result<Worked, NoMemory>
+) -> Result<WorkResult, NoMemory>
     requires sound { AreDevicesSound P.Peripheral devices.old }
     requires attached { IsAttachedAt (devices_in P.Peripheral devices.old) place }
     ensures done { IsDoneAt (devices_in P.Peripheral devices.old) place

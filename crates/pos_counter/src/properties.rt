@@ -11,9 +11,9 @@ ghost use Rattle.pos_service.specs.Properties.{after_set, set_rows, tells_power}
 ghost use Rattle.pos_counter.specs.KeptDevices.{devices_in};
 ghost use Rattle.pos_counter.specs.Machine.{device_at, hardware_in, holder_in, holder_of, kind_in};
 ghost use Rattle.pos_counter.specs.Responses.{answered};
-ghost use Rattle.pos_counter.specs.Steps.{Step, CallOf, facts_of};
+ghost use Rattle.pos_counter.specs.Steps.{Step, CallOf, context_of};
 ghost use Rattle.pos_counter.specs.FileCalls.{IsRecovering};
-ghost use Rattle.pos_counter.specs.Totals.{asks_recovery, file_facts};
+ghost use Rattle.pos_counter.specs.Totals.{asks_recovery, files_summary};
 
 use crate::counter::Counter;
 use crate::devices::Devices;
@@ -21,7 +21,7 @@ use crate::totals_calls::is_totals;
 use pos_common::{Claims, Control};
 use pos_disk::Disk;
 use pos_service::claims::is_own;
-use pos_service::{Answer, Facts, FileFacts, NoMemory, Peripheral, Property, Value};
+use pos_service::{Answer, FilesSummary, NoMemory, Peripheral, Property, PropertyContext, Value};
 use pos_totals::Totals;
 
 impl<D: Disk, P: Peripheral> Counter<D, P> {
@@ -30,6 +30,7 @@ impl<D: Disk, P: Peripheral> Counter<D, P> {
     /// # Errors
     ///
     /// [`NoMemory`] if there is none for a copy of bytes. Refused as of `Control::get`.
+    #[inline(always)]
     pub(crate) fn get(&self, number: usize, property: Property) -> Result<Answer, NoMemory>
         requires { number < length self.now.controls.items }
         ensures { (left : List Standing) (failures : ℕ) →
@@ -38,25 +39,25 @@ impl<D: Disk, P: Peripheral> Counter<D, P> {
     {
         let control = &self.controls[number];
         let holder = find_holder(control, &self.claims, self.totals.area());
-        let facts = self.find_facts(control, is_own(number, holder), number);
-        control.get(number, holder, property, &facts)
+        let context = self.find_context(control, is_own(number, holder), number);
+        control.get(number, holder, property, &context)
     }
 
     /// Returns what is known of the control with a number and of its device, by whether it holds that.
-    fn find_facts(&self, control: &Control, is_claimed: bool, number: usize) -> Facts
+    fn find_context(&self, control: &Control, is_claimed: bool, number: usize) -> PropertyContext
         ensures { (left : List Standing) (failures : ℕ) →
             let control = control.now.control in
             let machine = machine P.Peripheral self.now (part_with self.now.totals.totals left failures) in
-            is_claimed ≡ is_own number (holder_of machine control) → result ≡ facts_of machine number control }
+            is_claimed ≡ is_own number (holder_of machine control) → result ≡ context_of machine number control }
     {
         let device = control.device();
-        Facts {
+        PropertyContext {
             is_claimed,
             in_transaction: self.totals.in_transaction(number),
             kind: self.devices.kind_at(device),
             signs: self.devices.signs_at(device),
             totals_size: self.totals.size(),
-            files: find_file_facts(&self.totals),
+            files: find_files_summary(&self.totals),
         }
     }
 
@@ -161,13 +162,13 @@ fn set_control<P: Peripheral>(
 }
 
 /// Returns what is known of the files, or `None` while the totals are off.
-fn find_file_facts<D: Disk>(totals: &Totals<D>) -> Option<FileFacts>
-    ensures { result ≡ file_facts totals.now.totals.layout totals.now.totals.mode }
+fn find_files_summary<D: Disk>(totals: &Totals<D>) -> Option<FilesSummary>
+    ensures { result ≡ files_summary totals.now.totals.layout totals.now.totals.mode }
 {
     if !totals.is_ready() {
         return None;
     }
-    Some(FileFacts {
+    Some(FilesSummary {
         free: totals.free(),
         count: totals.count(),
     })

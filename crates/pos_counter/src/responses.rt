@@ -4,7 +4,7 @@ ghost use Rattle.pos_counter.specs.Responses.{HandsOut, attached, answered, deta
 
 use crate::faults::{ControlFault, InputFault, SnapshotFault, WorkFault};
 use pos_service::{
-    Answer, AttachFault, DetachFault, NoMemory, Peripheral, Response, Snapshot, Worked,
+    Answer, AttachFault, DetachFault, NoMemory, Peripheral, Response, Snapshot, WorkResult,
 };
 
 /// Returns the response of a result of `Counter::control`.
@@ -45,11 +45,11 @@ pub fn of_input<P>(answer: Result<(), InputFault>) -> Response<P>
 
 /// Returns the response of a result of `Counter::work`.
 #[inline(always)]
-pub fn of_work<P>(answer: Result<Worked, WorkFault>) -> Response<P>
+pub fn of_work<P>(answer: Result<WorkResult, WorkFault>) -> Response<P>
     ensures { result ≡ worked answer }
 {
     match answer {
-        Ok(worked) => Response::Worked(worked),
+        Ok(worked) => Response::WorkResult(worked),
         Err(WorkFault::NoDevice) => Response::NoDevice,
         Err(WorkFault::NoMemory) => Response::OutOfMemory,
     }

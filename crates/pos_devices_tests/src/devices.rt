@@ -2,16 +2,16 @@ use crate::steps::{Step, played};
 use pos_service::display_text::DisplayCell;
 use pos_service::receipt_text::{Alignment, Mark, PrintedCharacter};
 use pos_service::{
-    Bytes, Call, Code, Event, Form, Input, Locus, NoMemory, Property, Snapshot, Value,
+    Bytes, Call, Code, Event, Input, Locus, Mechanism, NoMemory, Property, Snapshot, Value,
 };
 use pos_sims::{PlainDisplay, PlainDrawer, PlainScanner, RollPrinter};
 use std::alloc::Global;
 use std::test::Fail;
 
 /// What a peripheral that is on is by its kind.
-fn form_of(shown: &Snapshot) -> Option<&Form> {
+fn mechanism_of(shown: &Snapshot) -> Option<&Mechanism> {
     if shown.0.powered {
-        Some(&shown.0.form)
+        Some(&shown.0.mechanism)
     } else {
         None
     }
@@ -28,7 +28,7 @@ fn a_drawer_opens_and_is_shut(rt: HostRuntime) -> Result<(), Fail> {
     let (opened, shut) = (Event::StatusUpdate(1), Event::StatusUpdate(0));
     let events = [opened, shut, opened];
     let shown = played(rt.alloc(), &mut drawer, &steps, &events)?;
-    assert!(rt; matches!(form_of(&shown), Some(Form::Drawer(true))));
+    assert!(rt; matches!(mechanism_of(&shown), Some(Mechanism::Drawer(true))));
     Ok(())
 }
 
@@ -49,7 +49,7 @@ fn a_control_is_told_of_its_devices_power(rt: HostRuntime) -> Result<(), Fail> {
     let (on, off) = (Event::StatusUpdate(2001), Event::StatusUpdate(2004));
     let events = [on, off, on, Event::StatusUpdate(1)];
     let shown = played(rt.alloc(), &mut drawer, &steps, &events)?;
-    assert!(rt; matches!(form_of(&shown), Some(Form::Drawer(true))));
+    assert!(rt; matches!(mechanism_of(&shown), Some(Mechanism::Drawer(true))));
     Ok(())
 }
 
@@ -73,7 +73,7 @@ fn a_scan_and_a_fault_reach_the_control(rt: HostRuntime) -> Result<(), Fail> {
         Event::Data,
     ];
     let shown = played(rt.alloc(), &mut scanner, &steps, &events)?;
-    assert!(rt; matches!(form_of(&shown), Some(Form::Scanner)));
+    assert!(rt; matches!(mechanism_of(&shown), Some(Mechanism::Scanner)));
     Ok(())
 }
 
@@ -92,7 +92,7 @@ pub fn display_steps(alloc: Global) -> Result<[Step; 4], NoMemory> {
 
 /// Whether a display shows these characters, row by row.
 fn has_characters(display: &Snapshot, characters: &[u8]) -> bool {
-    let Some(Form::Display(cells)) = form_of(display) else {
+    let Some(Mechanism::Display(cells)) = mechanism_of(display) else {
         return false;
     };
     let shown = cells.as_slice().iter();
@@ -128,7 +128,7 @@ pub fn printer_steps(alloc: Global) -> Result<[Step; 8], NoMemory> {
 
 /// Whether a printer has printed these lines, cuts and characters.
 fn has_printed(printer: &Snapshot, marks: &[Mark], bytes: &[u8]) -> bool {
-    let Some(Form::Printer(receipt)) = form_of(printer) else {
+    let Some(Mechanism::Printer(receipt)) = mechanism_of(printer) else {
         return false;
     };
     let (told, characters) = receipt.printed();

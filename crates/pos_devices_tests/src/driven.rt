@@ -1,7 +1,7 @@
 use pos_drive::{Awaits, Driven, Hosted, Preview, Progress};
 use pos_service::display_text::Attribute;
 use pos_service::receipt_text::{Alignment, Mark};
-use pos_service::{Bytes, Form, Input, NoMemory, Order, Peripheral, Reply};
+use pos_service::{Bytes, Input, Mechanism, NoMemory, Order, Peripheral, Reply};
 use pos_sims::{PlainDisplay, PlainDrawer, PrintPreview, RollPrinter};
 use std::alloc::Global;
 use std::test::Fail;
@@ -114,7 +114,7 @@ fn a_printer_foresees_what_an_order_adds(rt: HostRuntime) -> Result<(), Fail> {
     assert_eq!(rt; characters.len(), 7);
     assert!(rt; characters[0].byte == b't' && characters[6].byte == b'X');
     assert!(rt; matches!(printer.ask(&order), Ok(Reply::Done)));
-    if let Form::Printer(receipt) = &printer.snapshot()?.0.form {
+    if let Mechanism::Printer(receipt) = &printer.snapshot()?.0.mechanism {
         assert_eq!(rt; receipt.lines_left(), added.lines_left());
     }
     let _ = printer.feed(&Input::PowerMoved(false));

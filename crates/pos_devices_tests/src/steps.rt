@@ -8,8 +8,8 @@ ghost use Rattle.pos_service.specs.Peripherals.{input_fits};
 use pos_common::{Claims, Control};
 use pos_service::display_text::Place;
 use pos_service::{
-    Answer, Call, Category, Code, ErrorReply, Event, Finding, Input, Kind, NoMemory, PaperLevel,
-    Peripheral, Property, Signs, Snapshot, Value, Worked, columns_of, rows_of,
+    Answer, Call, Category, Code, ErrorReply, Event, Input, Kind, NoMemory, OpenTarget, PaperLevel,
+    Peripheral, Property, Signs, Snapshot, Value, WorkResult, columns_of, rows_of,
 };
 use std::alloc::Global;
 use std::test::Fail;
@@ -38,7 +38,7 @@ const NEW_SIGNS: Signs = Signs {
 /// A control that has the device at place 0 open and enabled, delivers data, and queues output.
 pub fn control(alloc: Global, category: Category) -> Control {
     let mut control = Control::new(alloc, category);
-    control.open(Finding::At(0));
+    control.open(OpenTarget::At(0));
     for property in [
         Property::DeviceEnabled,
         Property::DataEventEnabled,
@@ -129,7 +129,7 @@ fn does<P: Peripheral>(
         Step::Worked if device.kind().is_printer() => {
             matches!(
                 pos_printer::work(controls, 0, claims, device),
-                Ok(Worked::Done(_))
+                Ok(WorkResult::Done(_))
             )
         }
         _ => false,

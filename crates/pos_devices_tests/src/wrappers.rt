@@ -1,6 +1,8 @@
 use crate::steps::{Step, played};
 use pos_service::display_text::{Attribute, Direction};
-use pos_service::{Bytes, Call, Event, Form, Input, NoMemory, Order, Peripheral, Reply, Snapshot};
+use pos_service::{
+    Bytes, Call, Event, Input, Mechanism, NoMemory, Order, Peripheral, Reply, Snapshot,
+};
 use pos_sims::{Flaky, PlainDisplay, PlainDrawer, Recorder, RingDisplay, RollPrinter};
 use std::alloc::Global;
 use std::test::Fail;
@@ -35,7 +37,7 @@ fn a_failed_order_is_counted_and_done_when_it_comes_again(rt: HostRuntime) -> Re
     ];
     let events = [Event::StatusUpdate(1), Event::StatusUpdate(0)];
     let shown = played(rt.alloc(), &mut drawer, &steps, &events)?;
-    assert!(rt; matches!(shown.0.form, Form::Drawer(false)));
+    assert!(rt; matches!(shown.0.mechanism, Mechanism::Drawer(false)));
     assert_eq!(rt; drawer.asks(), 2);
     Ok(())
 }
@@ -106,8 +108,9 @@ fn shown_after<P: Peripheral>(display: &mut P, order: &Order) -> Option<Snapshot
 /// Whether two displays show the same.
 fn shows_same(one: Option<&Snapshot>, other: Option<&Snapshot>) -> bool {
     match (one, other) {
-        (Some(Snapshot(one)), Some(Snapshot(other))) => match (&one.form, &other.form) {
-            (Form::Display(one), Form::Display(other)) => one.as_slice() == other.as_slice(),
+        (Some(Snapshot(one)), Some(Snapshot(other))) => match (&one.mechanism, &other.mechanism) {
+            (Mechanism::Display(one), Mechanism::Display(other)) => one.as_slice()
+                == other.as_slice(),
             _ => false,
         },
         _ => false,

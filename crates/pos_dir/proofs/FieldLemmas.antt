@@ -1,8 +1,10 @@
 -- A field that is read is the field that was spelled, and what was spelled is read again.
-use Rattle.pos_dir.proofs.Common.{Bool, List, None, Option, Some, Width, [], ap, append_assoc, arith, byte_at, byte_len, cases_lt, cond, drop, drop_at, false}
-use Rattle.pos_dir.proofs.Common.{from_be_bytes, get_or, get_or-append-add, get_or-drop, get_or-take, get_or_past, inl, inr, is_name, le-ltb, length}
-use Rattle.pos_dir.proofs.Common.{length-append, length-take, ltb, name_at, name_spelling, nat_tests, number_at, part_at, refl, subst, take, take-append-drop}
-use Rattle.pos_dir.proofs.Common.{take_at, text_at, text_spelling, to_be_bytes, true, w16, w32, ℕ, ◌++◌, ◌+◌, ◌<◌, ◌>>=◌, ◌^◌, ◌∙◌, ◌∷◌, ◌≡◌}
+use Rattle.pos_dir.proofs.Common.{Bool, List, None, Option, Some, Width, [], ap, append_assoc, arith, byte_at, byte_len}
+use Rattle.pos_dir.proofs.Common.{cases_lt, cond, drop, drop_at, false, from_be_bytes, get_or, get_or-append-add}
+use Rattle.pos_dir.proofs.Common.{get_or-drop, get_or-take, get_or_past, inl, inr, is_name, le-ltb, length}
+use Rattle.pos_dir.proofs.Common.{length-append, length-take, ltb, name_at, name_spelling, nat_tests, number_at}
+use Rattle.pos_dir.proofs.Common.{part_at, refl, subst, take, take-append-drop, take_at, text_at, text_spelling}
+use Rattle.pos_dir.proofs.Common.{to_be_bytes, true, w16, w32, ℕ, ◌++◌, ◌+◌, ◌<◌, ◌>>=◌, ◌^◌, ◌∙◌, ◌∷◌, ◌≡◌}
 use Rattle.std.proofs.lemmas.Nat.{be_bytes_2, be_bytes_4, from_be_bytes-to_be_bytes_2, from_be_bytes-to_be_bytes_4}
 
 -- each is a byte
@@ -20,7 +22,8 @@ IsBytes-take n bytes h i =
     ]
 
 -- the value of a step that read something
-pub bind_some : {A B : Type 0} (o : Option A) (f : A → Option B) (y : B) → (o >>= f) ≡ Some y → (x : A) × (o ≡ Some x) × (f x ≡ Some y)
+pub bind_some : {A B : Type 0} (o : Option A) (f : A → Option B) (y : B) → (o >>= f) ≡ Some y
+    → (x : A) × (o ≡ Some x) × (f x ≡ Some y)
 bind_some None f y e = absurd cc
 bind_some (Some x) f y e = (x, refl, e)
 
@@ -33,12 +36,15 @@ pub passed : {A : Type 0} (b : Bool) (x y : A) → cond b (Some x) None ≡ Some
 passed b x y e = grind (arith, nat_tests)
 
 -- A reader finds what is spelled at the front, and nothing else.
-pub record IsReader {A : Type 0} (read : List ℕ → Option (A × List ℕ)) (spell : A → List ℕ) (Fits : A → Type 0) : Type 0 where
-  pub takes : (bytes : List ℕ) (x : A) (rest : List ℕ) → IsBytes bytes → read bytes ≡ Some (x, rest) → (bytes ≡ spell x ++ rest) × Fits x
+pub record IsReader {A : Type 0} (read : List ℕ → Option (A × List ℕ)) (spell : A → List ℕ)
+    (Fits : A → Type 0) : Type 0 where
+  pub takes : (bytes : List ℕ) (x : A) (rest : List ℕ) → IsBytes bytes → read bytes ≡ Some (x, rest)
+      → (bytes ≡ spell x ++ rest) × Fits x
   pub again : (x : A) (rest : List ℕ) → Fits x → read (spell x ++ rest) ≡ Some (x, rest)
 
 -- A step that read something, and what is read behind it.
-pub record Step {A B : Type 0} (spell : A → List ℕ) (Fits : A → Type 0) (bytes : List ℕ) (next : A × List ℕ → Option B) (y : B) : Type 0 where
+pub record Step {A B : Type 0} (spell : A → List ℕ) (Fits : A → Type 0) (bytes : List ℕ) (next : A × List ℕ → Option B)
+    (y : B) : Type 0 where
   pub x : A
   pub rest : List ℕ
   pub parts : bytes ≡ spell x ++ rest
@@ -47,8 +53,10 @@ pub record Step {A B : Type 0} (spell : A → List ℕ) (Fits : A → Type 0) (b
   pub on : next (x, rest) ≡ Some y
 
 -- what is read behind it is proved of its value and of the bytes that it left
-pub step : {A B G : Type 0} {read : List ℕ → Option (A × List ℕ)} {spell : A → List ℕ} {Fits : A → Type 0} {next : A × List ℕ → Option B} {y : B}
-    → IsReader read spell Fits → (bytes : List ℕ) → IsBytes bytes → (read bytes >>= next) ≡ Some y → (Step spell Fits bytes next y → G) → G
+pub step : {A B G : Type 0} {read : List ℕ → Option (A × List ℕ)} {spell : A → List ℕ} {Fits : A
+    → Type 0} {next : A × List ℕ → Option B} {y : B}
+    → IsReader read spell Fits → (bytes : List ℕ) → IsBytes bytes → (read bytes >>= next) ≡ Some y
+    → (Step spell Fits bytes next y → G) → G
 step {spell = spell} {next = next} {y = y} reads bytes fits e proved =
     let a = bind_some _ next y e in
     let t = reads.takes bytes a.0.0 a.0.1 fits a.1 in
@@ -67,7 +75,8 @@ step {spell = spell} {next = next} {y = y} reads bytes fits e proved =
 abbrev pub byte_spelling : ℕ → List ℕ
 byte_spelling byte = byte ∷ []
 
-byte_takes : (bytes : List ℕ) (x : ℕ) (rest : List ℕ) → IsBytes bytes → byte_at bytes ≡ Some (x, rest) → (bytes ≡ byte_spelling x ++ rest) × (x < 256)
+byte_takes : (bytes : List ℕ) (x : ℕ) (rest : List ℕ) → IsBytes bytes → byte_at bytes ≡ Some (x, rest)
+    → (bytes ≡ byte_spelling x ++ rest) × (x < 256)
 byte_takes [] x rest fits e = absurd cc
 byte_takes (byte ∷ bytes) x rest fits e = (grind arith, grind (arith, fits 0))
 
@@ -87,7 +96,8 @@ part_reads size = record {
 -- A width whose numbers are those below the limit.
 pub record IsWide (w : Width) (limit : ℕ) : Type 0 where
   pub len : (n : ℕ) → length (to_be_bytes w n) ≡ byte_len w
-  pub back : (bytes : List ℕ) → length bytes ≡ byte_len w → IsBytes bytes → to_be_bytes w (from_be_bytes w bytes) ≡ bytes
+  pub back : (bytes : List ℕ) → length bytes ≡ byte_len w → IsBytes bytes
+      → to_be_bytes w (from_be_bytes w bytes) ≡ bytes
   pub again : (n : ℕ) → n < limit → from_be_bytes w (to_be_bytes w n) ≡ n
   pub below : (bytes : List ℕ) → IsBytes bytes → from_be_bytes w bytes < limit
 
@@ -97,10 +107,23 @@ number_reads {w = w} {limit = limit} wide = record {
       let front = take (byte_len w) bytes in
       let front_fits = IsBytes-take (byte_len w) bytes fits in
       let back = λ (len : length front ≡ byte_len w). wide.back front len front_fits in
-      grind (arith, nat_tests, back, wide.below front front_fits, length-take (byte_len w) bytes, take-append-drop (byte_len w) bytes);
+      grind (
+        arith,
+        nat_tests,
+        back,
+        wide.below front front_fits,
+        length-take (byte_len w) bytes,
+        take-append-drop (byte_len w) bytes,
+      );
   again = λ n rest lt.
-      let long : ltb (length (to_be_bytes w n ++ rest)) (byte_len w) ≡ false = le-ltb _ _ (omega (arith, wide.len n, length-append (to_be_bytes w n) rest)) in
-      rw (long, take_at (to_be_bytes w n) rest (byte_len w) (wide.len n), drop_at (to_be_bytes w n) rest (byte_len w) (wide.len n), wide.again n lt) refl;
+      let long : ltb (length (to_be_bytes w n ++ rest)) (byte_len w) ≡ false =
+      le-ltb _ _ (omega (arith, wide.len n, length-append (to_be_bytes w n) rest)) in
+      rw (
+        long,
+        take_at (to_be_bytes w n) rest (byte_len w) (wide.len n),
+        drop_at (to_be_bytes w n) rest (byte_len w) (wide.len n),
+        wide.again n lt,
+      ) refl;
 }
 
 -- a number of two bytes is read as it is spelled
@@ -123,19 +146,26 @@ u32_reads = number_reads {w = w32} (record {
 
 -- ---- names and texts
 
-name_takes : (bytes x rest : List ℕ) → IsBytes bytes → name_at bytes ≡ Some (x, rest) → (bytes ≡ name_spelling x ++ rest) × (is_name x ≡ true)
+name_takes : (bytes x rest : List ℕ) → IsBytes bytes → name_at bytes ≡ Some (x, rest)
+    → (bytes ≡ name_spelling x ++ rest) × (is_name x ≡ true)
 unfolding name_at
-name_takes bytes x rest fits e = step byte_reads bytes fits e (λ size. step (part_reads size.x) size.rest size.bytes_left size.on (λ name. (
-  grind (arith, nat_tests),
-  grind (arith, nat_tests),
-)))
+name_takes bytes x rest fits e =
+    step byte_reads bytes fits e (λ size. step (part_reads size.x) size.rest size.bytes_left size.on (λ name. (
+      grind (arith, nat_tests),
+      grind (arith, nat_tests),
+    )))
 
 -- a good name is read as it is spelled
 pub name_reads : IsReader name_at name_spelling (λ name. is_name name ≡ true)
 unfolding name_at
-name_reads = record { takes = name_takes; again = λ x rest good. rw ((part_reads (length x)).again x rest refl, good) refl }
+name_reads = record {
+  takes = name_takes;
+  again =
+      λ x rest good. rw ((part_reads (length x)).again x rest refl, good) refl;
+}
 
-text_takes : (bytes x rest : List ℕ) → IsBytes bytes → text_at bytes ≡ Some (x, rest) → (bytes ≡ text_spelling x ++ rest) × (length x < 2 ^ 32)
+text_takes : (bytes x rest : List ℕ) → IsBytes bytes → text_at bytes ≡ Some (x, rest)
+    → (bytes ≡ text_spelling x ++ rest) × (length x < 2 ^ 32)
 unfolding text_at
 text_takes bytes x rest fits e = step u32_reads bytes fits e (λ size.
     let text = (part_reads size.x).takes size.rest x rest size.bytes_left size.on in
@@ -154,19 +184,30 @@ text_reads = record { takes = text_takes; again = text_again }
 -- ---- two fields
 
 -- one field behind another
-abbrev pub both : {A B C : Type 0} → (List ℕ → Option (A × List ℕ)) → (List ℕ → Option (B × List ℕ)) → (A → B → C) → List ℕ → Option (C × List ℕ)
+abbrev pub both : {A B C : Type 0} → (List ℕ → Option (A × List ℕ)) → (List ℕ → Option (B × List ℕ)) → (A → B → C)
+    → List ℕ → Option (C × List ℕ)
 both first second make bytes = first bytes >>= λ a. second a.1 >>= λ b. Some (make a.0 b.0, b.1)
 
-module _ {A B C : Type 0} {read_a : List ℕ → Option (A × List ℕ)} {spell_a : A → List ℕ} {FitsA : A → Type 0} {read_b : List ℕ → Option (B × List ℕ)}
-    {spell_b : B → List ℕ} {FitsB : B → Type 0} (make : A → B → C) (reads_a : IsReader read_a spell_a FitsA) (reads_b : IsReader read_b spell_b FitsB) where
-  -- what was made of two things that were read one behind the other is spelled as they are, behind a front that both have
-  pub both_take : (front : List ℕ) (spell : C → List ℕ) (Fits : C → Type 0) → ((a : A) (b : B) → spell (make a b) ≡ front ++ (spell_a a ++ spell_b b))
-      → ((a : A) (b : B) → FitsA a → FitsB b → Fits (make a b)) → (bytes : List ℕ) (x : C) (rest : List ℕ) → IsBytes bytes
+module _ {A B C : Type 0} {read_a : List ℕ → Option (A × List ℕ)} {spell_a : A → List ℕ} {FitsA : A
+    → Type 0} {read_b : List ℕ → Option (B × List ℕ)}
+    {spell_b : B → List ℕ} {FitsB : B → Type 0} (make : A → B → C) (reads_a : IsReader read_a spell_a FitsA)
+    (reads_b : IsReader read_b spell_b FitsB) where
+  -- what was made of two things that were read one behind the other is spelled as they are, behind a front that both
+  -- have
+  pub both_take : (front : List ℕ) (spell : C → List ℕ) (Fits : C → Type 0)
+      → ((a : A) (b : B) → spell (make a b) ≡ front ++ (spell_a a ++ spell_b b))
+      → ((a : A) (b : B) → FitsA a → FitsB b → Fits (make a b)) → (bytes : List ℕ) (x : C) (rest : List ℕ)
+      → IsBytes bytes
       → both read_a read_b make bytes ≡ Some (x, rest) → (front ++ bytes ≡ spell x ++ rest) × Fits x
-  both_take front spell Fits spelled fit bytes x rest fits e = step reads_a bytes fits e (λ a. step reads_b a.rest a.bytes_left a.on (λ b.
+  both_take front spell Fits spelled fit bytes x rest fits e =
+      step reads_a bytes fits e (λ a. step reads_b a.rest a.bytes_left a.on (λ b.
       let made : make a.x b.x ≡ x = grind arith in
       let left : b.rest ≡ rest = grind arith in (
-        cc (spelled a.x b.x, append_assoc front (spell_a a.x ++ spell_b b.x) rest, append_assoc (spell_a a.x) (spell_b b.x) rest),
+        cc (
+          spelled a.x b.x,
+          append_assoc front (spell_a a.x ++ spell_b b.x) rest,
+          append_assoc (spell_a a.x) (spell_b b.x) rest,
+        ),
         subst Fits made (fit a.x b.x a.fits b.fits),
       )))
 
@@ -174,4 +215,8 @@ module _ {A B C : Type 0} {read_a : List ℕ → Option (A × List ℕ)} {spell_
   pub both_again : (a : A) (b : B) (rest : List ℕ) → FitsA a → FitsB b
       → both read_a read_b make ((spell_a a ++ spell_b b) ++ rest) ≡ Some (make a b, rest)
   both_again a b rest fits_a fits_b =
-      rw (append_assoc (spell_a a) (spell_b b) rest, reads_a.again a (spell_b b ++ rest) fits_a, reads_b.again b rest fits_b) refl
+      rw (
+        append_assoc (spell_a a) (spell_b b) rest,
+        reads_a.again a (spell_b b ++ rest) fits_a,
+        reads_b.again b rest fits_b,
+      ) refl

@@ -1,7 +1,8 @@
 -- Items read one behind the other, and the loops that read them.
-use Rattle.pos_dir.proofs.Common.{AllByRecursion, Bool, File, List, None, Option, Some, [], ap, append-nil, append_assoc, arith, cond, end_within, flat_map}
-use Rattle.pos_dir.proofs.Common.{is_end, items_at, leb, length, nat_tests, number_at, option_map, refl, subst, suc, sum_by-cons, to_be_bytes, true, w16, zero}
-use Rattle.pos_dir.proofs.Common.{ℕ, ◌++◌, ◌+◌, ◌-◌, ◌<◌, ◌>>=◌, ◌^◌, ◌∙◌, ◌∷◌, ◌≡◌, ◌≤◌}
+use Rattle.pos_dir.proofs.Common.{AllByRecursion, Bool, File, List, None, Option, Some, [], ap, append-nil}
+use Rattle.pos_dir.proofs.Common.{append_assoc, arith, cond, end_within, flat_map, is_end, items_at, leb, length}
+use Rattle.pos_dir.proofs.Common.{nat_tests, number_at, option_map, refl, subst, suc, sum_by-cons, to_be_bytes, true}
+use Rattle.pos_dir.proofs.Common.{w16, zero, ℕ, ◌++◌, ◌+◌, ◌-◌, ◌<◌, ◌>>=◌, ◌^◌, ◌∙◌, ◌∷◌, ◌≡◌, ◌≤◌}
 use Rattle.pos_dir.proofs.FieldLemmas.{IsBytes, IsReader, bind_some, passed, step, u16_reads}
 
 -- an item before those that were read
@@ -14,9 +15,11 @@ with_front front read = read >>= λ others. Some (front ++ others.0, others.1)
 
 -- ---- what is read is what was spelled
 
-module _ {A : Type 0} {read : List ℕ → Option (A × List ℕ)} {spell : A → List ℕ} {Fits : A → Type 0} (reads : IsReader read spell Fits) where
+module _ {A : Type 0} {read : List ℕ → Option (A × List ℕ)} {spell : A → List ℕ} {Fits : A → Type 0}
+    (reads : IsReader read spell Fits) where
   -- items that were read are spelled so, one behind the other
-  pub items_take : (count : ℕ) (bytes : List ℕ) (xs : List A) (rest : List ℕ) → IsBytes bytes → items_at read count bytes ≡ Some (xs, rest)
+  pub items_take : (count : ℕ) (bytes : List ℕ) (xs : List A) (rest : List ℕ) → IsBytes bytes
+      → items_at read count bytes ≡ Some (xs, rest)
       → (bytes ≡ flat_map spell xs ++ rest) × (length xs ≡ count) × AllByRecursion Fits xs
   unfolding items_at
   items_take zero bytes xs rest fits e =
@@ -27,16 +30,23 @@ module _ {A : Type 0} {read : List ℕ → Option (A × List ℕ)} {spell : A �
       let second = items_take count first.rest others.0.0 others.0.1 first.bytes_left others.1 in
       let all : first.x ∷ others.0.0 ≡ xs = grind (arith, others.2) in
       let left : others.0.1 ≡ rest = grind (arith, others.2) in
-      subst (λ (ys : List A). (bytes ≡ flat_map spell ys ++ rest) × (length ys ≡ suc count) × AllByRecursion Fits ys) all
-      (cc (append_assoc (spell first.x) (flat_map spell others.0.0) others.0.1), ap suc second.1, (first.fits, second.2)))
+      subst (λ (ys : List A). (bytes ≡ flat_map spell ys ++ rest) × (length ys ≡ suc count) × AllByRecursion Fits ys)
+      all (
+        cc (append_assoc (spell first.x) (flat_map spell others.0.0) others.0.1),
+        ap suc second.1,
+        (first.fits, second.2),
+      ))
 
   -- items that are spelled one behind the other are read
-  pub items_again : (xs : List A) (rest : List ℕ) → AllByRecursion Fits xs → items_at read (length xs) (flat_map spell xs ++ rest) ≡ Some (xs, rest)
+  pub items_again : (xs : List A) (rest : List ℕ) → AllByRecursion Fits xs
+      → items_at read (length xs) (flat_map spell xs ++ rest) ≡ Some (xs, rest)
   unfolding items_at
   items_again [] rest fits = refl
   items_again (x ∷ xs) rest fits =
-      let regrouped : flat_map spell (x ∷ xs) ++ rest ≡ spell x ++ (flat_map spell xs ++ rest) = append_assoc (spell x) (flat_map spell xs) rest in
-      ap (items_at read (suc (length xs))) regrouped ∙ rw (reads.again x (flat_map spell xs ++ rest) fits.0, items_again xs rest fits.1) refl
+      let regrouped : flat_map spell (x ∷ xs) ++ rest ≡ spell x ++ (flat_map spell xs ++ rest) =
+      append_assoc (spell x) (flat_map spell xs) rest in
+      ap (items_at read (suc (length xs))) regrouped
+      ∙ rw (reads.again x (flat_map spell xs ++ rest) fits.0, items_again xs rest fits.1) refl
 
 -- where no bytes are left over there are none
 pub ended : (bytes : List ℕ) → is_end bytes ≡ true → bytes ≡ []
@@ -45,14 +55,18 @@ ended (byte ∷ bytes) test = absurd cc
 
 -- a count and as many items, which a test lets through
 abbrev pub counted : {A : Type 0} → (List ℕ → Option (A × List ℕ)) → (List A × List ℕ → Bool) → List ℕ → Option (List A)
-counted read keeps bytes = number_at w16 bytes >>= λ count. items_at read count.0 count.1 >>= λ x. cond (keeps x) (Some x.0) None
+counted read keeps bytes = number_at w16 bytes >>= λ count. items_at read count.0 count.1 >>= λ x. cond (keeps x)
+    (Some x.0) None
 
-module _ {A : Type 0} {read : List ℕ → Option (A × List ℕ)} {spell : A → List ℕ} {Fits : A → Type 0} (reads : IsReader read spell Fits)
+module _ {A : Type 0} {read : List ℕ → Option (A × List ℕ)} {spell : A → List ℕ} {Fits : A → Type 0}
+    (reads : IsReader read spell Fits)
     (keeps : List A × List ℕ → Bool) where
   -- are spelled so, where the test wants no bytes behind them
-  pub counted_take : ((x : List A × List ℕ) → keeps x ≡ true → is_end x.1 ≡ true) → (bytes : List ℕ) (xs : List A) → IsBytes bytes
+  pub counted_take : ((x : List A × List ℕ) → keeps x ≡ true → is_end x.1 ≡ true) → (bytes : List ℕ) (xs : List A)
+      → IsBytes bytes
       → counted read keeps bytes ≡ Some xs
-      → (keeps (xs, []) ≡ true) × AllByRecursion Fits xs × (length xs < 2 ^ 16) × (bytes ≡ to_be_bytes w16 (length xs) ++ flat_map spell xs)
+      → (keeps (xs, []) ≡ true) × AllByRecursion Fits xs × (length xs < 2 ^ 16)
+      × (bytes ≡ to_be_bytes w16 (length xs) ++ flat_map spell xs)
   counted_take ends bytes xs fits e = step u16_reads bytes fits e (λ count.
       let items = bind_some (items_at read count.x count.rest) _ xs count.on in
       let g = passed (keeps items.0) items.0.0 xs items.2 in
@@ -80,8 +94,10 @@ length_items read zero bytes x e = grind arith
 length_items read (suc count) bytes x e = grind (arith, length_items read count)
 
 -- one more item behind those that were read
-pub items_push : {A : Type 0} (read : List ℕ → Option (A × List ℕ)) (count : ℕ) (bytes : List ℕ) (xs : List A) (rest : List ℕ) (x : A) (after : List ℕ)
-    → items_at read count bytes ≡ Some (xs, rest) → read rest ≡ Some (x, after) → items_at read (suc count) bytes ≡ Some (xs ++ x ∷ [], after)
+pub items_push : {A : Type 0} (read : List ℕ → Option (A × List ℕ)) (count : ℕ) (bytes : List ℕ) (xs : List A)
+    (rest : List ℕ) (x : A) (after : List ℕ)
+    → items_at read count bytes ≡ Some (xs, rest) → read rest ≡ Some (x, after)
+    → items_at read (suc count) bytes ≡ Some (xs ++ x ∷ [], after)
 unfolding items_at
 items_push read zero bytes xs rest x after e more = grind arith
 items_push read (suc count) bytes xs rest x after e more = grind (arith, items_push read count)
@@ -96,14 +112,16 @@ some_read (Some x) end at = (x.0, grind arith)
 
 -- the next item is the first of those to come
 pub items_next : {A : Type 0} (read : List ℕ → Option (A × List ℕ)) (count i : ℕ) (bytes : List ℕ) → i < count
-    → items_at read (count - i) bytes ≡ (read bytes >>= λ first. with_first first.0 (items_at read (count - (i + 1)) first.1))
+    → items_at read (count - i) bytes
+    ≡ (read bytes >>= λ first. with_first first.0 (items_at read (count - (i + 1)) first.1))
 unfolding items_at
 items_next read count i bytes lt =
     let k : count - i ≡ suc (count - (i + 1)) = omega arith in
     rw k refl
 
 -- at the count nothing is to come
-pub no_more : {A : Type 0} (read : List ℕ → Option (A × List ℕ)) (count i : ℕ) (bytes : List ℕ) → count ≤ i → items_at read (count - i) bytes ≡ Some ([], bytes)
+pub no_more : {A : Type 0} (read : List ℕ → Option (A × List ℕ)) (count i : ℕ) (bytes : List ℕ) → count ≤ i
+    → items_at read (count - i) bytes ≡ Some ([], bytes)
 unfolding items_at
 no_more read count i bytes le =
     let k : count - i ≡ 0 = omega arith in
@@ -117,7 +135,8 @@ front_first {A = A} front x (Some others) = ap (λ (xs : List A). Some (xs, othe
 
 -- a file takes room from those behind it
 pub end_first : (room : ℕ) (file : File) (read : Option (List File × List ℕ))
-    → end_within room (with_first file read) ≡ cond (leb (length file.bytes) room) (end_within (room - length file.bytes) read) None
+    → end_within room (with_first file read) ≡ cond (leb (length file.bytes) room)
+    (end_within (room - length file.bytes) read) None
 end_first room file None = grind (arith, nat_tests)
 end_first room file (Some x) = grind (arith, nat_tests, sum_by-cons (λ (f : File). length f.bytes) file x.0)
 

@@ -1,6 +1,7 @@
 -- What changes do to files, and which groups of changes there are (Hard Totals).
-use Rattle.std.specs.Prelude.{◌≡◌, ℕ, ◌+◌, ◌<◌, ◌≤◌, ◌^◌, ◌&&◌, List, [], ◌∷◌, ◌++◌, length, take, drop, remove, replicate}
-use Rattle.std.specs.Prelude.{slice_get, slice_set, Option, Some, None, Result, Ok, Err, nat_lt, nat_le, if◌then◌else◌}
+use Rattle.std.specs.Prelude.{◌≡◌, ℕ, ◌+◌, ◌<◌, ◌≤◌, ◌^◌, ◌&&◌, List, [], ◌∷◌, ◌++◌, length, take, drop, remove}
+use Rattle.std.specs.Prelude.{replicate, slice_get, slice_set, Option, Some, None, Result, Ok, Err, nat_lt, nat_le}
+use Rattle.std.specs.Prelude.{if◌then◌else◌}
 use Rattle.std.specs.Result.{result_ok, result_err}
 use Rattle.std.specs.List.{AllByRecursion}
 use Rattle.pos_dir.specs.declared.file.File.{File}

@@ -1,5 +1,6 @@
 -- What a directory is: a list of files in index order, within the limits of the disk's layout (Hard Totals).
-use Rattle.std.specs.Prelude.{◌≡◌, ℕ, ◌≤◌, ◌<◌, ◌^◌, Bool, true, not, ◌&&◌, List, [], ◌∷◌, length, sum_by, nat_le, Option, position}
+use Rattle.std.specs.Prelude.{◌≡◌, ℕ, ◌≤◌, ◌<◌, ◌^◌, Bool, true, not, ◌&&◌, List, [], ◌∷◌, length, sum_by, nat_le}
+use Rattle.std.specs.Prelude.{Option, position}
 use Rattle.std.specs.List.{list_any, list_all}
 use Rattle.std.specs.Str.{bytes_eq}
 use Rattle.pos_dir.specs.declared.file.File.{File}

@@ -1,5 +1,6 @@
 -- Why bytes spell no directory, and where: the rules of docs/reference/totals-file.md, "The layouts", on a body.
-use Rattle.std.specs.Prelude.{◌≡◌, ◌≢◌, ◌⊎◌, ◌<◌, ◌≤◌, ◌+◌, ℕ, List, [], length, Bool, true, false, not, Option, Some, None}
+use Rattle.std.specs.Prelude.{◌≡◌, ◌≢◌, ◌⊎◌, ◌<◌, ◌≤◌, ◌+◌, ℕ, List, [], length, Bool, true, false, not, Option, Some}
+use Rattle.std.specs.Prelude.{None}
 use Rattle.std.specs.Int.{w16}
 use Rattle.std.specs.List.{flat_map}
 use Rattle.pos_dir.specs.declared.file.File.{File}

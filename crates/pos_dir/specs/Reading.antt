@@ -1,6 +1,6 @@
 -- Reading files and changes from left to right: an item and the bytes behind it, or none.
-use Rattle.std.specs.Prelude.{◌≡◌, ℕ, zero, suc, Bool, true, false, ◌&&◌, List, [], ◌∷◌, length, Option, Some, None, nat_le}
-use Rattle.std.specs.Prelude.{if◌then◌else◌}
+use Rattle.std.specs.Prelude.{◌≡◌, ℕ, zero, suc, Bool, true, false, ◌&&◌, List, [], ◌∷◌, length, Option, Some, None}
+use Rattle.std.specs.Prelude.{nat_le, if◌then◌else◌}
 use Rattle.std.specs.Int.{w16}
 use Rattle.pos_dir.specs.declared.file.File.{File}
 use Rattle.pos_dir.specs.declared.file.Limits.{Limits}

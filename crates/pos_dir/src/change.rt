@@ -119,8 +119,8 @@ pub(crate) fn find_least_size(change: &Change<'_>) -> Option<(u16, usize)>
     }
 }
 
-/// Carries out a change that is applicable, with the memory that it takes, if there is room for all files.
-pub(crate) fn carry_out_change(
+/// Applies a change that is applicable, with the memory that it takes, if there is room for all files.
+pub(crate) fn apply_change(
     limits: Limits,
     files: &mut Vec<File>,
     change: &Change<'_>,

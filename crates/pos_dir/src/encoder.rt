@@ -15,7 +15,7 @@ use crate::directory::Directory;
 use crate::fault::DirectoryFault;
 use crate::file::{File, Limits};
 use crate::group::Group;
-use crate::laws::is_directory;
+use crate::laws::{is_directory, is_group};
 use std::alloc::Global;
 
 /// The bytes of a count.
@@ -80,20 +80,37 @@ pub fn encode_group(alloc: Global, group: &Group<'_>) -> Result<Vec<u8>, Directo
     ensures spelling { MatchResult result (λ bytes. bytes.items ≡ group_spelling group.now)
         (λ fault. fault ≡ DirectoryFault.NoMemory) }
 {
-    let changes = group.changes.as_slice();
-    let mut out = Vec::with_capacity(alloc, COUNT_SIZE + measure_changes(changes))?;
-    put_u16(&mut out, changes.len() as u16);
-    for change in changes {
-        put_change(&mut out, change);
-    }
+    is_group(group);
+    let mut out = Vec::new(alloc);
+    encode_changes(&mut out, group.as_slice())?;
     Ok(out)
 }
 
-/// Returns how many bytes the spelling of a group has. It takes no memory.
-pub fn measure_group(group: &Group<'_>) -> usize
-    ensures { result ≡ length (group_spelling group.now) }
+/// Writes the one spelling of a group of these changes over a buffer, in the place of what the buffer has.
+///
+/// # Errors
+///
+/// `NoMemory` if the buffer is too small and memory ran out. The buffer is empty then.
+pub fn encode_changes(out: &mut Vec<u8>, changes: &[Change<'_>]) -> Result<(), DirectoryFault>
+    requires { IsGroup changes.now }
+    ensures spelling { MatchResult result (λ done. out.new.items ≡ group_spelling changes.now)
+        (λ fault. (fault ≡ DirectoryFault.NoMemory) × (out.new.items ≡ [])) }
 {
-    COUNT_SIZE + measure_changes(group.changes.as_slice())
+    out.clear();
+    out.reserve(COUNT_SIZE + measure_changes(changes))?;
+    put_u16(out, changes.len() as u16);
+    for change in changes {
+        put_change(out, change);
+    }
+    Ok(())
+}
+
+/// Returns how many bytes the spelling of a group of these changes has. It takes no memory.
+pub fn measure_group(changes: &[Change<'_>]) -> usize
+    requires { IsGroup changes.now }
+    ensures { result ≡ length (group_spelling changes.now) }
+{
+    COUNT_SIZE + measure_changes(changes)
 }
 
 /// Returns how many bytes the spellings of changes have in total.

@@ -25,7 +25,7 @@ fn has_bad_name(bytes: &[u8]) -> bool
 }
 
 /// Returns why there is no file at the start of the bytes.
-fn tell_file(bytes: &[u8]) -> Flaw
+fn file_flaw(bytes: &[u8]) -> Flaw
     ensures { (room : ℕ) (files : List File) → file_at bytes.now ≡ None → IsFileFlaw room files bytes.now result }
 {
     if has_bad_name(bytes) {
@@ -45,7 +45,7 @@ fn pass_files(count: u16, text: &[u8], room: usize) -> Result<&[u8], (&[u8], Fla
     let mut left = room;
     for i in 0..count {
         let Some((file, after)) = read_file(rest) else {
-            return Err((rest, tell_file(rest)));
+            return Err((rest, file_flaw(rest)));
         };
         if file.bytes.len() > left {
             return Err((rest, Flaw::TooManyBytes));

@@ -47,6 +47,13 @@ impl<'a> Group<'a> {
         self.changes.len()
     }
 
+    /// Returns the changes in order.
+    pub fn as_slice(&self) -> &[Change<'a>]
+        ensures { result.now ≡ self.now }
+    {
+        &self.changes
+    }
+
     /// Returns the first change, or `None` if there is none.
     pub fn first(&self) -> Option<&Change<'a>>
         ensures { option_copied result ≡ slice_get self.now 0 }

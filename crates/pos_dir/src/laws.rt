@@ -1,12 +1,13 @@
 //! Laws over the definitions, and what is true of each directory and each group.
-ghost use Rattle.std.specs.Prelude.{◌≡◌, ◌≤◌, List, length};
+ghost use Rattle.std.specs.Prelude.{◌≡◌, ◌≤◌, ◌∷◌, [], List, None, length};
 ghost use Rattle.pos_dir.specs.declared.file.File.{File};
 ghost use Rattle.pos_dir.specs.declared.file.Limits.{Limits};
 ghost use Rattle.pos_dir.specs.declared.change.Change.{Change};
 ghost use Rattle.pos_dir.specs.Files.{IsDirectory, AreWider, AreWritable};
-ghost use Rattle.pos_dir.specs.Changes.{IsGroup};
+ghost use Rattle.pos_dir.specs.Changes.{flaw_of, IsGroup};
 ghost use Rattle.pos_dir.specs.Spelling.{spelling, group_spelling, body_limit};
 
+use crate::change::{Change, find_flaw};
 use crate::directory::Directory;
 use crate::group::Group;
 
@@ -43,4 +44,12 @@ pub fn is_group(group: &Group<'_>)
     ensures { IsGroup group.now }
 {
     let _ = &group.changes;
+}
+
+/// Says that a change without a flaw is a group by itself.
+pub fn is_group_alone(change: &Change<'_>)
+    requires { flaw_of change.now ≡ None }
+    ensures { IsGroup (change.now ∷ []) }
+{
+    let _flaw = find_flaw(change);
 }

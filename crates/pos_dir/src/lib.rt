@@ -30,7 +30,7 @@ mod updates;
 pub use change::Change;
 pub use decoder::{decode, decode_group};
 pub use directory::Directory;
-pub use encoder::{encode, encode_group, measure_group};
+pub use encoder::{encode, encode_changes, encode_group, measure_group};
 pub use fault::DirectoryFault;
 pub use file::{File, LAYOUT_1, LAYOUT_2, Limits};
 pub use flaw::Flaw;

@@ -9,7 +9,6 @@ ghost use Rattle.pos_dir.specs.Supplies.{supplies_of, IsSupplied};
 use crate::change::Change;
 use crate::fault::DirectoryFault;
 use crate::file::File;
-use crate::group::Group;
 use pos_bytes::{Bytes, LentBytes};
 use std::alloc::Global;
 use std::vec::IntoIter;
@@ -23,13 +22,16 @@ pub(crate) enum Supply {
     NewName(Bytes),
 }
 
-/// What the changes of a group take of memory, in their order.
-pub(crate) fn make_supplies(alloc: Global, group: &Group<'_>) -> Result<Vec<Supply>, DirectoryFault>
-    ensures { MatchResult result (λ supplies. supplies.items ≡ flat_map supplies_of group.now)
+/// What changes take of memory, in their order.
+pub(crate) fn make_supplies(
+    alloc: Global,
+    changes: &[Change<'_>],
+) -> Result<Vec<Supply>, DirectoryFault>
+    ensures { MatchResult result (λ supplies. supplies.items ≡ flat_map supplies_of changes.now)
         (λ fault. fault ≡ DirectoryFault.NoMemory) }
 {
     let mut supplies = Vec::new(alloc);
-    for change in &group.changes {
+    for change in changes {
         if let Some(supply) = make_supply(alloc, change)? {
             supplies.push(supply)?;
         }

@@ -1,13 +1,15 @@
 -- What the calls of a disk in memory do, in the terms of every disk.
-use Rattle.pos_disk.proofs.Common.{Elapses, HasCause, InRange, LeftAt, LeftSince, List, Memory, Moment, Ok, Syncs, Writes, [], arith, cases_lt, common_steps}
-use Rattle.pos_disk.proofs.Common.{false, get_or, get_or_append_left, get_or_default, inl, inr, length, length-append, length-replicate, refl, replicate}
-use Rattle.pos_disk.proofs.Common.{splice, state_of, synced, true, written, ℕ, ⊎_elim, ◌++◌, ◌+◌, ◌<◌, ◌∙◌, ◌∷◌, ◌≡◌, ◌≤◌, ◌⊎◌}
+use Rattle.pos_disk.proofs.Common.{Elapses, HasCause, InRange, LeftAt, LeftSince, List, Memory, Moment, Ok, Syncs}
+use Rattle.pos_disk.proofs.Common.{Writes, [], arith, cases_lt, common_steps, false, get_or, get_or_append_left}
+use Rattle.pos_disk.proofs.Common.{get_or_default, inl, inr, length, length-append, length-replicate, refl, replicate}
+use Rattle.pos_disk.proofs.Common.{splice, state_of, synced, true, written, ℕ, ⊎_elim, ◌++◌, ◌+◌, ◌<◌, ◌∙◌, ◌∷◌, ◌≡◌}
+use Rattle.pos_disk.proofs.Common.{◌≤◌, ◌⊎◌}
 use Rattle.std.proofs.Math.Seq.{get_or-append_seam}
 use Rattle.pos_disk.proofs.ByteLemmas.{in_range, length-splice, spliced_elsewhere, spliced_within}
 
 -- one moment more has gone by
 module _ (past : List Moment) (present next : Moment) where
-  longer : length (past ++ present ∷ []) ≡ length past + 1
+  pub longer : length (past ++ present ∷ []) ≡ length past + 1
   longer = length-append past (present ∷ [])
 
   earlier : (k : ℕ) → k < length past → get_or (past ++ present ∷ []) k next ≡ get_or past k present
@@ -16,21 +18,23 @@ module _ (past : List Moment) (present next : Moment) where
   latest : get_or (past ++ present ∷ []) (length past) next ≡ present
   latest = get_or-append_seam past present [] next
 
-  keeps : (t : ℕ) (c : List ℕ) → t ≤ length past → LeftSince past present t c → LeftSince (past ++ present ∷ []) next t c
+  pub keeps : (t : ℕ) (c : List ℕ) → t ≤ length past → LeftSince past present t c
+      → LeftSince (past ++ present ∷ []) next t c
   keeps t c le left = grind (arith, longer, earlier, length, latest)
 
-  nothing_else : (t : ℕ) (c : List ℕ) → LeftSince (past ++ present ∷ []) next t c → LeftSince past present t c ⊎ LeftAt next c
+  nothing_else : (t : ℕ) (c : List ℕ) → LeftSince (past ++ present ∷ []) next t c
+      → LeftSince past present t c ⊎ LeftAt next c
   nothing_else t c left = grind (arith, cases_lt, length, earlier, longer, latest)
 
 -- a disk in memory keeps its moment before each change
 pub elapsed : (disk : Memory) (next : Moment) (settled : List ℕ)
-    → Elapses (state_of disk) (state_of (record { present = next; settled = settled; past = disk.past ++ disk.present ∷ [] }))
-elapsed disk next settled =
-    record {
-      later = omega (arith, longer disk.past disk.present next);
-      keeps = keeps disk.past disk.present next;
-      nothing_else = λ t c le left. ⊎_elim inl (λ now. inr assumption) (nothing_else disk.past disk.present next t c left);
-    }
+    → Elapses (state_of disk) (state_of
+    (record { present = next; settled = settled; past = disk.past ++ disk.present ∷ [] }))
+elapsed disk next settled = record {
+  later = omega (arith, longer disk.past disk.present next);
+  keeps = keeps disk.past disk.present next;
+  nothing_else = λ t c le left. ⊎_elim inl (λ now. inr assumption) (nothing_else disk.past disk.present next t c left);
+}
 
 no_failure : {T : Type 0} (old new : Memory) (x : T) → HasCause (state_of old) (state_of new) (Ok x)
 no_failure old new x = search arith
@@ -43,7 +47,8 @@ writes disk at bytes long fits =
     let marks = replicate (length bytes) true in
     let marked = length-replicate (length bytes) true in
     let room : at + length marks ≤ length disk.present.loose = omega (arith, long, marked) in
-    let hit : (i : ℕ) → InRange at (length bytes) i → get_or (splice disk.present.loose at marks) i false ≡ true = λ i inside.
+    let hit : (i : ℕ) → InRange at (length bytes) i → get_or (splice disk.present.loose at marks) i false ≡ true =
+    λ i inside.
     grind (arith, common_steps, spliced_within false disk.present.loose marks at i room) in
     let missed : (i : ℕ) → ¬ (InRange at (length bytes) i)
     → get_or (splice disk.present.loose at marks) i false ≡ get_or disk.present.loose i false = λ i outside.

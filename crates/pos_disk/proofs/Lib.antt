@@ -1,6 +1,7 @@
 pub mod Common
 pub mod ByteLemmas
-mod CallLemmas
+pub mod CallLemmas
+pub mod EmptyBodyLemmas
 pub mod MomentLemmas
 pub mod SameDiskLemmas
 pub mod SpoilLemmas

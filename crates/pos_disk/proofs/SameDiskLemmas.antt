@@ -1,5 +1,6 @@
 -- What holds of a disk holds of one that is the same.
-use Rattle.pos_disk.proofs.Common.{DiskState, Elapses, IsAtRest, IsSame, LeavesOnly, List, MayLeave, Watches, arith, rules, ℕ, ◌∙◌, ◌≡◌}
+use Rattle.pos_disk.proofs.Common.{DiskState, Elapses, IsAtRest, IsSame, LeavesOnly, List, MayLeave, Watches, arith}
+use Rattle.pos_disk.proofs.Common.{rules, ℕ, ◌≡◌}
 use Rattle.pos_disk.specs.Keeps.{KeepsDisk, KeepsState}
 use Rattle.pos_disk.specs.declared.device.Disk.{Ghosts}
 
@@ -16,7 +17,7 @@ same_on old mid new first second = grind arith
 
 -- it is at rest
 pub same_rest : (old new : DiskState) → IsSame old new → IsAtRest old → IsAtRest new
-same_rest old new same rest = λ i loose. rest i ((same.loose i).1 loose)
+same_rest old new same rest = grind arith
 
 -- a crash may leave the same of it
 pub same_may : (old new : DiskState) (bytes : List ℕ) → IsSame old new → MayLeave old bytes → MayLeave new bytes
@@ -27,29 +28,25 @@ pub same_time : (old new : DiskState) → IsSame old new → Elapses old new
 same_time old new same = grind arith
 
 -- a run before it, and one after it
-pub leaves_before : (old mid new : DiskState) (P : List ℕ → Type 0) → LeavesOnly old mid P → IsSame mid new → LeavesOnly old new P
+pub leaves_before : (old mid new : DiskState) (P : List ℕ → Type 0) → LeavesOnly old mid P → IsSame mid new
+    → LeavesOnly old new P
 leaves_before old mid new P run same = grind arith
 
-pub leaves_after : (old mid new : DiskState) (P : List ℕ → Type 0) → IsSame old mid → LeavesOnly mid new P → LeavesOnly old new P
+pub leaves_after : (old mid new : DiskState) (P : List ℕ → Type 0) → IsSame old mid → LeavesOnly mid new P
+    → LeavesOnly old new P
 leaves_after old mid new P same run = grind arith
 
 -- it was only looked at
-pub same_watches : (old new : DiskState) → ((c : List ℕ) → old.left_since old.moment c → MayLeave old c) → IsSame old new → Watches old new
+pub same_watches : (old new : DiskState) → ((c : List ℕ) → old.left_since old.moment c → MayLeave old c)
+    → IsSame old new → Watches old new
 same_watches old new only same = grind arith
 
 -- a disk of which all is as it was keeps what each call of a disk keeps
-pub keeps_disk : {D : Type 0} (bound : Ghosts D) (old new : D) → bound.fixed new ≡ bound.fixed old → KeepsState bound old new → KeepsDisk bound old new
-keeps_disk bound old new fixed keeps = record {
-  size = keeps.size;
-  honest = keeps.honest;
-  later = λ honest. let same = keeps.same honest in omega (arith, same.failures);
-  fixed = fixed;
-}
+pub keeps_disk : {D : Type 0} (bound : Ghosts D) (old new : D) → bound.fixed new ≡ bound.fixed old
+    → KeepsState bound old new → KeepsDisk bound old new
+keeps_disk bound old new fixed keeps = grind arith
 
 -- two such steps are one
-pub keeps_on : {D : Type 0} (bound : Ghosts D) (old mid new : D) → KeepsState bound old mid → KeepsState bound mid new → KeepsState bound old new
-keeps_on bound old mid new first second = record {
-  size = second.size ∙ first.size;
-  honest = (λ h. second.honest.0 (first.honest.0 h), λ h. first.honest.1 (second.honest.1 h));
-  same = λ h. same_on _ _ _ (first.same h) (second.same (first.honest.0 h));
-}
+pub keeps_on : {D : Type 0} (bound : Ghosts D) (old mid new : D) → KeepsState bound old mid → KeepsState bound mid new
+    → KeepsState bound old new
+keeps_on bound old mid new first second = grind (arith, same_on)

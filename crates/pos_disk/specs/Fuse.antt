@@ -1,6 +1,8 @@
 -- A disk that fails on demand, as contracts see it.
-use Rattle.std.specs.Prelude.{◌≡◌, ◌⊎◌, ◌≤◌, ◌+◌, ◌-◌, ◌/◌, ◌^◌, ◌&&◌, ℕ, List, Bool, true, false, min, leb, ltb, length, take, get_or, Result, Ok, Err}
-use Rattle.pos_disk.specs.State.{DiskState, Answer, MayLeave, CountsNow, OnlyNow, Elapses, InRange, Rises, Reads, Writes, Syncs, splice}
+use Rattle.std.specs.Prelude.{◌≡◌, ◌⊎◌, ◌≤◌, ◌+◌, ◌-◌, ◌/◌, ◌^◌, ◌&&◌, ℕ, List, Bool, true, false, min, leb, ltb}
+use Rattle.std.specs.Prelude.{length, take, get_or, Result, Ok, Err}
+use Rattle.pos_disk.specs.State.{DiskState, Answer, MayLeave, CountsNow, OnlyNow, Elapses, InRange, Rises, Reads}
+use Rattle.pos_disk.specs.State.{Writes, Syncs, splice}
 use Rattle.pos_disk.specs.declared.device.DiskFault.{DiskFault}
 use Rattle.pos_disk.specs.declared.device.Disk.{Ghosts}
 

@@ -1,5 +1,6 @@
 -- A disk in memory, as contracts see it.
-use Rattle.std.specs.Prelude.{◌≡◌, ◌⊎◌, ◌≤◌, ◌<◌, ◌++◌, ℕ, List, [], ◌∷◌, Bool, true, false, length, get_or, replicate, Ok}
+use Rattle.std.specs.Prelude.{◌≡◌, ◌⊎◌, ◌≤◌, ◌<◌, ◌++◌, ℕ, List, [], ◌∷◌, Bool, true, false, length, get_or, replicate}
+use Rattle.std.specs.Prelude.{Ok}
 use Rattle.pos_disk.specs.State.{DiskState, Answer, splice}
 use Rattle.pos_disk.specs.declared.memory.Fill.{Fill}
 use Rattle.pos_disk.specs.declared.memory.Fill.TheVariants.{Old, New, Byte}

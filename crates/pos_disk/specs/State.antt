@@ -1,5 +1,6 @@
 -- What a disk is at a moment, what its calls do, and what a crash may leave.
-use Rattle.std.specs.Prelude.{◌≡◌, ◌↔◌, ◌⊎◌, ◌≤◌, ◌<◌, ◌^◌, ℕ, ◌+◌, List, ◌++◌, length, take, drop, get_or, Result, OnOk, OnErr}
+use Rattle.std.specs.Prelude.{◌≡◌, ◌↔◌, ◌⊎◌, ◌≤◌, ◌<◌, ◌^◌, ℕ, ◌+◌, List, ◌++◌, length, take, drop, get_or, Result}
+use Rattle.std.specs.Prelude.{OnOk, OnErr}
 use Rattle.pos_disk.specs.declared.device.DiskFault.{DiskFault}
 
 -- what a read, a write or a sync answers

@@ -1,12 +1,13 @@
 -- The calls of a line display (chapter Line Display).
-use Rattle.std.specs.Prelude.{ℕ, ℤ, nat_abs, Bool, false, not, List, [], ◌∷◌, Option, Some, None, Result, MatchOption, is_none, slice_get}
+use Rattle.std.specs.Prelude.{ℕ, ℤ, nat_abs, Bool, false, not, List, [], ◌∷◌, Option, Some, None, Result, MatchOption}
+use Rattle.std.specs.Prelude.{is_none, slice_get}
 use Rattle.std.specs.Option.{option_map}
 use Rattle.pos_service.specs.declared.call.Call.{Call}
 use Rattle.pos_service.specs.declared.call.Call.TheVariants as call
 use Rattle.pos_service.specs.declared.code.Code.TheVariants as code
-use Rattle.pos_service.specs.declared.deed.Change.TheVariants as change
-use Rattle.pos_service.specs.declared.deed.Deed.{Deed}
-use Rattle.pos_service.specs.declared.deed.Deed.TheVariants as deed
+use Rattle.pos_service.specs.declared.action.ControlUpdate.TheVariants as change
+use Rattle.pos_service.specs.declared.action.Action.{Action}
+use Rattle.pos_service.specs.declared.action.Action.TheVariants as action
 use Rattle.pos_service.specs.declared.display_text.Attribute.{Attribute}
 use Rattle.pos_service.specs.declared.display_text.Cursor.{Cursor}
 use Rattle.pos_service.specs.declared.display_text.Direction.{Direction}
@@ -57,33 +58,33 @@ abbrev pub left_by : Option Kind → Cursor → Place → List ℕ → Place
 left_by at cursor start text = place_left (rows_of at) (columns_of at) cursor.update start text
 
 -- the order that shows a text from this place on
-abbrev pub shows : Option Kind → Cursor → Place → List ℕ → Attribute → Deed
+abbrev pub shows : Option Kind → Cursor → Place → List ℕ → Attribute → Action
 shows at cursor start text style =
-    deed.Gives (order.ShowText start.row start.column style text) (change.Cursor (left_by at cursor start text))
+    action.Gives (order.ShowText start.row start.column style text) (change.Cursor (left_by at cursor start text))
 
 -- the order that moves what is shown by this many units in a direction
-abbrev pub scrolls : ℤ → Direction → Deed
-scrolls units direction = deed.Gives (order.Scroll direction (nat_abs units)) change.Nothing
+abbrev pub scrolls : ℤ → Direction → Action
+scrolls units direction = action.Gives (order.Scroll direction (nat_abs units)) change.Nothing
 
 -- What each call comes to at a device of this kind, by the control's cursor. A text is shown, and leaves the cursor at
 -- its end or beginning. clearText leaves it at the first place, scrollText at its old one.
-abbrev pub display_deed : Option Kind → Cursor → Call → Option Deed
-display_deed at cursor (call.DisplayText text attribute) =
+abbrev pub display_action : Option Kind → Cursor → Call → Option Action
+display_action at cursor (call.DisplayText text attribute) =
     option_map (shows at cursor cursor.place text) (attribute_of attribute)
-display_deed at cursor (call.DisplayTextAt row column text attribute) =
+display_action at cursor (call.DisplayTextAt row column text attribute) =
     option_map (shows at cursor (place_at (nat_abs row) (nat_abs column)) text) (attribute_of attribute)
-display_deed at cursor call.ClearText = Some (deed.Gives order.ClearText (change.Cursor origin))
-display_deed at cursor (call.ScrollText direction units) = option_map (scrolls units) (direction_of direction)
-display_deed at cursor asked = None
+display_action at cursor call.ClearText = Some (action.Gives order.ClearText (change.Cursor origin))
+display_action at cursor (call.ScrollText direction units) = option_map (scrolls units) (direction_of direction)
+display_action at cursor asked = None
 
 -- A call of the control with a number at its display, by the claims of all devices.
 abbrev pub DisplayCall : ℕ → List (Option ℕ) → Call → Result Answer NoMemory → Effect
 DisplayCall number claims asked outcome old before new after = MatchOption (slice_get old number) ⊥ (λ control.
     OwnCall category.LineDisplay (display_rows (Some before.kind) asked)
-    (display_deed (Some before.kind) control.cursor asked) number claims asked outcome control old before new after)
+    (display_action (Some before.kind) control.cursor asked) number claims asked outcome control old before new after)
 
 -- how many orders the display was given before and after it
 abbrev pub DisplayOrders : Kind → ℕ → List (Option ℕ) → Call → Result Answer NoMemory → List Control → ℕ → ℕ → Type 0
 DisplayOrders is number claims asked outcome controls old new = MatchOption (slice_get controls number) ⊥ (λ control.
-    OwnOrders category.LineDisplay (display_rows (Some is) asked) (display_deed (Some is) control.cursor asked)
+    OwnOrders category.LineDisplay (display_rows (Some is) asked) (display_action (Some is) control.cursor asked)
     number claims asked outcome control old new)

@@ -3,20 +3,20 @@ ghost use Rattle.std.specs.Prelude.{◌≡◌, ◌<◌, ◌≤◌, false, true, 
 ghost use Rattle.std.specs.Option.{option_map};
 ghost use Rattle.pos_service.specs.declared.category.Category.TheVariants as category;
 ghost use Rattle.pos_service.specs.Calls.{has_call};
-ghost use Rattle.pos_service.specs.Deeds.{DeedFits, Plans};
-ghost use Rattle.pos_display.specs.DisplayCalls.{DisplayCall, DisplayOrders, display_deed, display_rows, left_by, scroll_rows, scrolls, shows, text_rows};
+ghost use Rattle.pos_service.specs.Actions.{ActionFits, Plans};
+ghost use Rattle.pos_display.specs.DisplayCalls.{DisplayCall, DisplayOrders, display_action, display_rows, left_by, scroll_rows, scrolls, shows, text_rows};
 ghost use Rattle.pos_service.specs.Displays.{attribute_of, direction_of, is_cursor_place};
 ghost use Rattle.pos_service.specs.Kinds.{is_display, rows_of, columns_of};
 ghost use Rattle.pos_service.specs.Hardware.{StaysInService, hardware_of};
 ghost use Rattle.pos_common.specs.KeptControls.{controls_of};
 
-use pos_common::{Claims, Control, carry_out};
+use pos_common::{Claims, Control, execute};
 use pos_service::display_text::{
     Attribute, Cursor, Direction, ORIGIN, Place, is_text_of_display, place_after,
 };
 use pos_service::numbers::{to_count, to_index};
 use pos_service::{
-    Answer, Bytes, Call, Category, Change, Code, Deed, Kind, NoMemory, Order, Peripheral,
+    Action, Answer, Bytes, Call, Category, Code, ControlUpdate, Kind, NoMemory, Order, Peripheral,
     columns_of, rows_of,
 };
 use std::alloc::Global;
@@ -71,7 +71,7 @@ pub fn call<P: Peripheral>(
         Err(code) => return Ok(Answer::Refused(code, 0)),
     };
     match plan(alloc, display.kind(), control.cursor(), call)? {
-        Ok(deed) => carry_out(controls, caller, place, display, deed),
+        Ok(action) => execute(controls, caller, place, display, action),
         Err(code) => Ok(Answer::Refused(code, 0)),
     }
 }
@@ -87,13 +87,13 @@ fn plan(
     kind: Kind,
     cursor: Cursor,
     call: &Call,
-) -> Result<Result<Deed, Code>, NoMemory>
+) -> Result<Result<Action, Code>, NoMemory>
     requires display { is_display kind ≡ true }
     requires rows { 1 ≤ rows_of (Some kind) }
     requires columns { 1 ≤ columns_of (Some kind) }
     requires cursor { is_cursor_place (rows_of (Some kind)) (columns_of (Some kind)) cursor.place ≡ true }
     requires own { has_call category.LineDisplay call.now ≡ true }
-    ensures { Plans (display_rows (Some kind) call.now) (display_deed (Some kind) cursor call.now) (DeedFits kind)
+    ensures { Plans (display_rows (Some kind) call.now) (display_action (Some kind) cursor call.now) (ActionFits kind)
         call.now result }
 {
     match call {
@@ -109,7 +109,7 @@ fn plan(
             };
             plan_text(alloc, kind, cursor, Place { row, column }, text, *attribute)
         }
-        Call::ClearText => Ok(Ok(Deed::Gives(Order::ClearText, Change::Cursor(ORIGIN)))),
+        Call::ClearText => Ok(Ok(Action::Gives(Order::ClearText, ControlUpdate::Cursor(ORIGIN)))),
         Call::ScrollText(direction, units) => Ok(plan_scroll(kind, *direction, *units)),
         _ => unreachable!(),
     }
@@ -128,12 +128,12 @@ fn plan_text(
     start: Place,
     text: &Bytes,
     attribute: i128,
-) -> Result<Result<Deed, Code>, NoMemory>
+) -> Result<Result<Action, Code>, NoMemory>
     requires display { is_display kind ≡ true }
     requires columns { 1 ≤ columns_of (Some kind) }
     requires start { is_cursor_place (rows_of (Some kind)) (columns_of (Some kind)) start ≡ true }
     ensures { Plans (text_rows text.now attribute)
-        (option_map (shows (Some kind) cursor start text.now) (attribute_of attribute)) (DeedFits kind)
+        (option_map (shows (Some kind) cursor start text.now) (attribute_of attribute)) (ActionFits kind)
         (Call.DisplayText text.now attribute) result }
 {
     if !is_text_of_display(text.as_slice()) {
@@ -150,7 +150,7 @@ fn plan_text(
         attribute,
         bytes,
     };
-    Ok(Ok(Deed::Gives(order, Change::Cursor(place))))
+    Ok(Ok(Action::Gives(order, ControlUpdate::Cursor(place))))
 }
 
 /// Returns where a text from a place on leaves the cursor.
@@ -170,10 +170,10 @@ fn left_by(kind: Kind, cursor: Cursor, start: Place, bytes: &[u8]) -> Place
 /// # Errors
 ///
 /// E_ILLEGAL if the direction is unknown, or the units are more than the rows or columns.
-fn plan_scroll(kind: Kind, direction: i128, units: i128) -> Result<Deed, Code>
+fn plan_scroll(kind: Kind, direction: i128, units: i128) -> Result<Action, Code>
     requires display { is_display kind ≡ true }
     ensures { Plans (scroll_rows (Some kind) direction units) (option_map (scrolls units) (direction_of direction))
-        (DeedFits kind) (Call.ScrollText direction units) (Ok result) }
+        (ActionFits kind) (Call.ScrollText direction units) (Ok result) }
 {
     let Some(direction) = Direction::from_number(direction) else {
         return Err(Code::Illegal);
@@ -182,5 +182,5 @@ fn plan_scroll(kind: Kind, direction: i128, units: i128) -> Result<Deed, Code>
     let Some(units) = to_count(units, most) else {
         return Err(Code::Illegal);
     };
-    Ok(Deed::Gives(Order::Scroll { direction, units }, Change::Nothing))
+    Ok(Action::Gives(Order::Scroll { direction, units }, ControlUpdate::Nothing))
 }

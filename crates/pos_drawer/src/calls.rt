@@ -3,14 +3,14 @@ ghost use Rattle.std.specs.Prelude.{◌≡◌, ◌<◌, false, true, Some, lengt
 ghost use Rattle.pos_service.specs.declared.category.Category.TheVariants as category;
 ghost use Rattle.pos_service.specs.declared.kind.Kind.{Kind};
 ghost use Rattle.pos_service.specs.Calls.{has_call};
-ghost use Rattle.pos_service.specs.Deeds.{DeedFits, MayWantFor};
+ghost use Rattle.pos_service.specs.Actions.{ActionFits, MayWantFor};
 ghost use Rattle.pos_service.specs.Kinds.{is_drawer};
 ghost use Rattle.pos_service.specs.Hardware.{StaysInService, hardware_of};
 ghost use Rattle.pos_common.specs.KeptControls.{controls_of};
-ghost use Rattle.pos_drawer.specs.DrawerCalls.{DrawerCall, DrawerOrders, drawer_deed};
+ghost use Rattle.pos_drawer.specs.DrawerCalls.{DrawerCall, DrawerOrders, drawer_action};
 
-use pos_common::{Claims, Control, carry_out};
-use pos_service::{Answer, Call, Category, Change, Deed, NoMemory, Order, Peripheral};
+use pos_common::{Claims, Control, execute};
+use pos_service::{Action, Answer, Call, Category, ControlUpdate, NoMemory, Order, Peripheral};
 
 /// Does a call of the control with a number on its drawer: `openDrawer` opens it (chapter Cash Drawer). Each control
 /// that has the drawer open and enabled gets a StatusUpdateEvent if the drawer was closed before.
@@ -45,20 +45,20 @@ pub fn call<P: Peripheral>(
         StaysInService (state drawer.old) (state drawer.new) }
 {
     match controls[caller].check_call(caller, claims, Category::CashDrawer, call) {
-        Ok(place) => carry_out(controls, caller, place, drawer, plan(call)),
+        Ok(place) => execute(controls, caller, place, drawer, plan(call)),
         Err(code) => Ok(Answer::Refused(code, 0)),
     }
 }
 
 /// Returns what a call that drawers have comes to.
-fn plan(call: &Call) -> Deed
+fn plan(call: &Call) -> Action
     requires { has_call category.CashDrawer call.now ≡ true }
-    ensures deed { drawer_deed call.now ≡ Some result }
-    ensures fits { (is : Kind) → is_drawer is ≡ true → DeedFits is result }
+    ensures action { drawer_action call.now ≡ Some result }
+    ensures fits { (is : Kind) → is_drawer is ≡ true → ActionFits is result }
     ensures wants { MayWantFor call.now result }
 {
     match call {
-        Call::OpenDrawer => Deed::Gives(Order::OpenDrawer, Change::Nothing),
+        Call::OpenDrawer => Action::Gives(Order::OpenDrawer, ControlUpdate::Nothing),
         _ => unreachable!(),
     }
 }

@@ -2,7 +2,6 @@
 ghost use Rattle.std.specs.Prelude.{◌≡◌, Bool, Some, option_map};
 ghost use Rattle.pos_drive.specs.Courses.{driven_course, handed_out_course, order_in, progress_of, reported_course, settled_course};
 
-use crate::order_copies::is_same_order;
 use pos_service::Order;
 
 /// How a peripheral stands to its host.
@@ -65,7 +64,7 @@ impl Course {
         ensures only { (is_done : Bool) → result ≡ Some is_done → self.now ≡ Course.Reported order.now is_done }
     {
         match self {
-            Course::Reported(kept, is_done) if is_same_order(kept, order) => Some(*is_done),
+            Course::Reported(kept, is_done) if kept.is_same(order) => Some(*is_done),
             _ => None,
         }
     }

@@ -7,7 +7,6 @@ ghost use Rattle.pos_drive.specs.DrivenPeripherals.{Answers, Keeps, Passes, Puts
 use crate::awaits::Awaits;
 use crate::courses::{Course, Progress};
 use crate::hosted::Hosted;
-use crate::order_copies::copy_order;
 use crate::paper::Tears;
 use crate::preview::Preview;
 use pos_service::{Ends, Input, Kind, NoMemory, Order, Peripheral, Reply, Signs, Snapshot, Taken};
@@ -125,7 +124,7 @@ impl<P: Preview> Peripheral for Driven<P> {
                 self.course = Course::Ready;
                 return Ok(Reply::LineFault);
             }
-            self.course = Course::Waits(copy_order(self.alloc, order)?);
+            self.course = Course::Waits(order.copy(self.alloc)?);
             return Err(NoMemory);
         }
         let reply = self.twin.ask(order)?;

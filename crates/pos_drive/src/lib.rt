@@ -14,7 +14,6 @@ mod awaits;
 mod courses;
 mod driven;
 mod hosted;
-mod order_copies;
 mod paper;
 mod preview;
 
@@ -22,6 +21,5 @@ pub use awaits::Awaits;
 pub use courses::{Course, Progress};
 pub use driven::Driven;
 pub use hosted::Hosted;
-pub use order_copies::{copy_order, is_same_order};
 pub use paper::Tears;
 pub use preview::Preview;

@@ -1,10 +1,11 @@
 -- What a device shows once it has taken the inputs of a status.
-use Rattle.std.proofs.Common.{◌≡◌, ℕ, Bool, true, false, refl, ap, ◌∙◌, arith, Option, Some, None, ◌==◌, unwrap_or, subst, ⊎_elim}
+use Rattle.std.proofs.Common.{◌≡◌, ℕ, Bool, true, false, refl, ap, ◌∙◌, arith, Option, Some, None, ◌==◌, unwrap_or}
+use Rattle.std.proofs.Common.{subst, ⊎_elim}
 use Rattle.std.proofs.lemmas.Bool.{ne_eqb, cases_Bool, le-leb, lt-leb}
 use Rattle.pos_service.specs.declared.input.Input.TheVariants as input
 use Rattle.pos_service.specs.declared.kind.Kind.TheVariants as kind
-use Rattle.pos_service.specs.declared.plant.Form.{Form}
-use Rattle.pos_service.specs.declared.plant.Form.TheVariants as form
+use Rattle.pos_service.specs.declared.plant.Mechanism.{Mechanism}
+use Rattle.pos_service.specs.declared.plant.Mechanism.TheVariants as mechanism
 use Rattle.pos_service.specs.declared.plant.Plant.{Plant}
 use Rattle.pos_service.specs.declared.signs.PaperLevel.{PaperLevel}
 use Rattle.pos_service.specs.declared.signs.PaperLevel.TheVariants as paper
@@ -13,28 +14,33 @@ use Rattle.pos_service.specs.Receipts.{Printer, paper_level}
 use Rattle.pos_service.specs.Peripherals.{IsPlantOf, signs_by, signs_of}
 use Rattle.pos_escpos.specs.declared.settings.SensorSettings.{SensorSettings}
 use Rattle.pos_escpos.specs.declared.statuses.Status.{Status}
-use Rattle.pos_escpos.specs.Inputs.{TakesAll, TakesMaybe, drawer_signs_after, drawer_table, level_after, level_input, level_shown, lines_for, moved_input, open_told, paper_input, power_input, printer_signs_after, printer_table}
+use Rattle.pos_escpos.specs.Inputs.{TakesAll, TakesMaybe, drawer_signs_after, drawer_table, level_after, level_input}
+use Rattle.pos_escpos.specs.Inputs.{level_shown, lines_for, moved_input, open_told, paper_input, power_input}
+use Rattle.pos_escpos.specs.Inputs.{printer_signs_after, printer_table}
 
 -- a plant that is on
-abbrev pub on : Form → Plant
-on its = record { powered = true; form = its }
+abbrev pub on : Mechanism → Plant
+on its = record { powered = true; mechanism = its }
 
-is_on : (its : Form) (plant : Plant) → (plant.powered ≡ true) × (plant.form ≡ its) → plant ≡ on its
-is_on its plant h = ap (λ powered. record { powered = powered; form = plant.form }) h.0 ∙ ap on h.1
+is_on : (its : Mechanism) (plant : Plant) → (plant.powered ≡ true) × (plant.mechanism ≡ its) → plant ≡ on its
+is_on its plant (powered, is) =
+    ap (λ powered. record { powered = powered; mechanism = plant.mechanism }) powered ∙ ap on is
 
 -- power is on then
-power_taken : (powered : Bool) (its : Form) (new : Plant) → TakesMaybe (power_input powered) (record { powered = powered; form = its }) new → new ≡ on its
+power_taken : (powered : Bool) (its : Mechanism) (new : Plant)
+    → TakesMaybe (power_input powered) (record { powered = powered; mechanism = its }) new → new ≡ on its
 power_taken true its new h = h
 power_taken false its new h = h
 
 -- the cover is as it was told then
 cover_taken : (shown : Bool) (r : Printer) (told : Option Bool) (new : Plant)
-    → TakesMaybe (moved_input input.CoverMoved shown told) (on (form.Printer (record r { is_cover_open = shown }))) new
-    → new ≡ on (form.Printer (record r { is_cover_open = unwrap_or told shown }))
+    → TakesMaybe (moved_input input.CoverMoved shown told)
+    (on (mechanism.Printer (record r { is_cover_open = shown }))) new
+    → new ≡ on (mechanism.Printer (record r { is_cover_open = unwrap_or told shown }))
 cover_taken shown r None new h = h
 cover_taken true r (Some true) new h = h
-cover_taken true r (Some false) new h = is_on (form.Printer (record r { is_cover_open = false })) new h
-cover_taken false r (Some true) new h = is_on (form.Printer (record r { is_cover_open = true })) new h
+cover_taken true r (Some false) new h = is_on (mechanism.Printer (record r { is_cover_open = false })) new h
+cover_taken false r (Some true) new h = is_on (mechanism.Printer (record r { is_cover_open = true })) new h
 cover_taken false r (Some false) new h = h
 
 -- the lines for a level are of that level
@@ -44,7 +50,8 @@ lines_show sensors paper.Good =
     rw (ne_eqb sensors.lines 0 (λ e. omega (arith, sensors.more)), lt-leb sensors.lines sensors.near sensors.more) refl
 lines_show sensors paper.NearEnd = ⊎_elim
     (λ (none : (sensors.near == 0) ≡ true).
-    rw (none, ne_eqb sensors.lines 0 (λ e. omega (arith, sensors.more)), lt-leb sensors.lines sensors.near sensors.more) refl)
+    rw (none, ne_eqb sensors.lines 0 (λ e. omega (arith, sensors.more)), lt-leb sensors.lines sensors.near sensors.more)
+    refl)
     (λ (some : (sensors.near == 0) ≡ false). rw (some, some, le-leb sensors.near sensors.near (omega arith)) refl)
     (cases_Bool (sensors.near == 0))
 lines_show sensors paper.Empty = refl
@@ -52,28 +59,28 @@ lines_show sensors paper.Empty = refl
 -- a printer with so much paper, which shows this level
 pub record HasPaper (near : ℕ) (r : Printer) (shown : PaperLevel) (new : Plant) : Type 0 where
   pub lines : ℕ
-  pub plant : new ≡ on (form.Printer (record r { left = lines }))
+  pub plant : new ≡ on (mechanism.Printer (record r { left = lines }))
   pub level : paper_level near lines ≡ shown
 
 -- paper that is loaded shows its level
 loaded : (sensors : SensorSettings) (r : Printer) (level : PaperLevel) (new : Plant)
     → paper_level sensors.near (lines_for sensors level) ≡ level
-    → (new.powered ≡ true) × (new.form ≡ form.Printer (record r { left = lines_for sensors level }))
+    → (new.powered ≡ true) × (new.mechanism ≡ mechanism.Printer (record r { left = lines_for sensors level }))
     → HasPaper sensors.near r level new
 loaded sensors r level new shows h = record {
   lines = lines_for sensors level;
-  plant = is_on (form.Printer (record r { left = lines_for sensors level })) new h;
+  plant = is_on (mechanism.Printer (record r { left = lines_for sensors level })) new h;
   level = shows;
 }
 
 -- a printer that shows the level is left alone
 left_alone : (sensors : SensorSettings) (r : Printer) (level : PaperLevel) (new : Plant)
-    → paper_level sensors.near r.left ≡ level → new ≡ on (form.Printer r) → HasPaper sensors.near r level new
+    → paper_level sensors.near r.left ≡ level → new ≡ on (mechanism.Printer r) → HasPaper sensors.near r level new
 left_alone sensors r level new shows h = record { lines = r.left; plant = h; level = shows }
 
 level_taken : (sensors : SensorSettings) (r : Printer) (shown level : PaperLevel) (new : Plant)
     → paper_level sensors.near r.left ≡ shown → paper_level sensors.near (lines_for sensors level) ≡ level
-    → TakesMaybe (level_input sensors shown level) (on (form.Printer r)) new → HasPaper sensors.near r level new
+    → TakesMaybe (level_input sensors shown level) (on (mechanism.Printer r)) new → HasPaper sensors.near r level new
 level_taken sensors r paper.Good paper.Good new is shows h = left_alone sensors r paper.Good new is h
 level_taken sensors r paper.Good paper.NearEnd new is shows h = loaded sensors r paper.NearEnd new shows h
 level_taken sensors r paper.Good paper.Empty new is shows h = loaded sensors r paper.Empty new shows h
@@ -85,27 +92,26 @@ level_taken sensors r paper.Empty paper.NearEnd new is shows h = loaded sensors 
 level_taken sensors r paper.Empty paper.Empty new is shows h = left_alone sensors r paper.Empty new is h
 
 paper_taken : (sensors : SensorSettings) (r : Printer) (told : Option PaperLevel) (new : Plant)
-    → TakesMaybe (paper_input sensors (paper_level sensors.near r.left) told) (on (form.Printer r)) new
+    → TakesMaybe (paper_input sensors (paper_level sensors.near r.left) told) (on (mechanism.Printer r)) new
     → HasPaper sensors.near r (level_after sensors.near (paper_level sensors.near r.left) told) new
 paper_taken sensors r None new h = left_alone sensors r (paper_level sensors.near r.left) new refl h
 paper_taken sensors r (Some level) new h =
-    level_taken sensors r (paper_level sensors.near r.left) (level_shown sensors.near level) new refl (lines_show sensors level) h
+    level_taken sensors r (paper_level sensors.near r.left) (level_shown sensors.near level) new refl
+    (lines_show sensors level) h
 
 -- a printer shows what its sensors tell
 printer_shows : (sensors : SensorSettings) (chars : ℕ) (powered : Bool) (r : Printer) (status : Status) (new : Plant)
-    → let is = kind.Printer chars sensors.near in let signs = signs_by powered is (form.Printer r) in
-    TakesAll (printer_table sensors signs status) (record { powered = powered; form = form.Printer r }) new
+    → let is = kind.Printer chars sensors.near in let signs = signs_by powered is (mechanism.Printer r) in
+    TakesAll (printer_table sensors signs status) (record { powered = powered; mechanism = mechanism.Printer r }) new
     → signs_of is new ≡ printer_signs_after sensors signs status
-printer_shows sensors chars powered r status new h =
+printer_shows sensors chars powered r status new (turned_on, powers, (opened, moves, (filled, loads, last))) =
     let is = kind.Printer chars sensors.near in
-    let one = power_taken powered (form.Printer r) h.0 h.1 in
+    let one = power_taken powered (mechanism.Printer r) turned_on powers in
     let cover = unwrap_or status.is_cover_open r.is_cover_open in
     let moved = record r { is_cover_open = cover } in
-    let two = cover_taken r.is_cover_open r status.is_cover_open h.2.0
-    (subst (λ (p : Plant). TakesMaybe (moved_input input.CoverMoved r.is_cover_open status.is_cover_open) p h.2.0) one h.2.1) in
-    let three = paper_taken sensors moved status.paper h.2.2.0
-    (subst (λ (p : Plant). TakesMaybe (paper_input sensors (paper_level sensors.near r.left) status.paper) p h.2.2.0) two h.2.2.1) in
-    ap (signs_of is) (h.2.2.2 ∙ three.plant)
+    let two = cover_taken r.is_cover_open r status.is_cover_open opened (rw one at moves) in
+    let three = paper_taken sensors moved status.paper filled (rw two at loads) in
+    ap (signs_of is) (last ∙ three.plant)
     ∙ ap (λ level. record { powered = true; drawer_open = false; cover_open = cover; paper = level }) three.level
 
 pub printer_told : (sensors : SensorSettings) (chars : ℕ) (old : Plant) (signs : Signs) (status : Status) (new : Plant)
@@ -113,15 +119,16 @@ pub printer_told : (sensors : SensorSettings) (chars : ℕ) (old : Plant) (signs
     → TakesAll (printer_table sensors signs status) old new → signs_of is new ≡ printer_signs_after sensors signs status
 printer_told sensors chars old signs status new fits is h =
     let kind_is = kind.Printer chars sensors.near in
-    (elim old.form as (λ its. IsPlantOf kind_is (record { powered = old.powered; form = its })
+    (elim old.mechanism as (λ its. IsPlantOf kind_is (record { powered = old.powered; mechanism = its })
     → signs_by old.powered kind_is its ≡ signs
-    → TakesAll (printer_table sensors signs status) (record { powered = old.powered; form = its }) new
+    → TakesAll (printer_table sensors signs status) (record { powered = old.powered; mechanism = its }) new
     → signs_of kind_is new ≡ printer_signs_after sensors signs status) [
-      | form.Drawer b ↦ (λ bad. absurd bad)
-      | form.Scanner ↦ (λ bad. absurd bad)
-      | form.Display d ↦ (λ bad. absurd bad)
-      | form.Printer r ↦ (λ _ e taken.
-          subst (λ (s : Signs). TakesAll (printer_table sensors s status) (record { powered = old.powered; form = form.Printer r }) new
+      | mechanism.Drawer b ↦ (λ bad. absurd bad)
+      | mechanism.Scanner ↦ (λ bad. absurd bad)
+      | mechanism.Display d ↦ (λ bad. absurd bad)
+      | mechanism.Printer r ↦ (λ _ e taken.
+          subst (λ (s : Signs). TakesAll (printer_table sensors s status)
+          (record { powered = old.powered; mechanism = mechanism.Printer r }) new
           → signs_of kind_is new ≡ printer_signs_after sensors s status) e
           (printer_shows sensors chars old.powered r status new) taken)
     ])
@@ -129,38 +136,39 @@ printer_told sensors chars old signs status new fits is h =
 
 -- a drawer is as it was told then
 drawer_taken : (shown : Bool) (told : Option Bool) (new : Plant)
-    → TakesMaybe (moved_input input.DrawerMoved shown told) (on (form.Drawer shown)) new → new ≡ on (form.Drawer (unwrap_or told shown))
+    → TakesMaybe (moved_input input.DrawerMoved shown told) (on (mechanism.Drawer shown)) new
+    → new ≡ on (mechanism.Drawer (unwrap_or told shown))
 drawer_taken shown None new h = h
 drawer_taken true (Some true) new h = h
-drawer_taken true (Some false) new h = is_on (form.Drawer false) new h
-drawer_taken false (Some true) new h = is_on (form.Drawer true) new h
+drawer_taken true (Some false) new h = is_on (mechanism.Drawer false) new h
+drawer_taken false (Some true) new h = is_on (mechanism.Drawer true) new h
 drawer_taken false (Some false) new h = h
 
 drawer_shows : (sensors : SensorSettings) (powered was : Bool) (status : Status) (new : Plant)
-    → let signs = signs_by powered kind.Drawer (form.Drawer was) in
-    TakesAll (drawer_table sensors signs status) (record { powered = powered; form = form.Drawer was }) new
+    → let signs = signs_by powered kind.Drawer (mechanism.Drawer was) in
+    TakesAll (drawer_table sensors signs status) (record { powered = powered; mechanism = mechanism.Drawer was }) new
     → signs_of kind.Drawer new ≡ drawer_signs_after sensors signs status
-drawer_shows sensors powered was status new h =
-    let told = open_told sensors status.is_pin_high in
-    let one = power_taken powered (form.Drawer was) h.0 h.1 in
-    let two = drawer_taken was told h.2.0
-    (subst (λ (p : Plant). TakesMaybe (moved_input input.DrawerMoved was told) p h.2.0) one h.2.1) in
-    ap (signs_of kind.Drawer) (h.2.2 ∙ two)
+drawer_shows sensors powered was status new (turned_on, powers, (moved, moves, last)) =
+    let one = power_taken powered (mechanism.Drawer was) turned_on powers in
+    let two = drawer_taken was (open_told sensors status.is_pin_high) moved (rw one at moves) in
+    ap (signs_of kind.Drawer) (last ∙ two)
 
 pub drawer_told : (sensors : SensorSettings) (old : Plant) (signs : Signs) (status : Status) (new : Plant)
     → IsPlantOf kind.Drawer old → signs_of kind.Drawer old ≡ signs
-    → TakesAll (drawer_table sensors signs status) old new → signs_of kind.Drawer new ≡ drawer_signs_after sensors signs status
+    → TakesAll (drawer_table sensors signs status) old new
+    → signs_of kind.Drawer new ≡ drawer_signs_after sensors signs status
 drawer_told sensors old signs status new fits is h =
-    (elim old.form as (λ its. IsPlantOf kind.Drawer (record { powered = old.powered; form = its })
+    (elim old.mechanism as (λ its. IsPlantOf kind.Drawer (record { powered = old.powered; mechanism = its })
     → signs_by old.powered kind.Drawer its ≡ signs
-    → TakesAll (drawer_table sensors signs status) (record { powered = old.powered; form = its }) new
+    → TakesAll (drawer_table sensors signs status) (record { powered = old.powered; mechanism = its }) new
     → signs_of kind.Drawer new ≡ drawer_signs_after sensors signs status) [
-      | form.Drawer was ↦ (λ _ e taken.
-          subst (λ (s : Signs). TakesAll (drawer_table sensors s status) (record { powered = old.powered; form = form.Drawer was }) new
+      | mechanism.Drawer was ↦ (λ _ e taken.
+          subst (λ (s : Signs). TakesAll (drawer_table sensors s status)
+          (record { powered = old.powered; mechanism = mechanism.Drawer was }) new
           → signs_of kind.Drawer new ≡ drawer_signs_after sensors s status) e
           (drawer_shows sensors old.powered was status new) taken)
-      | form.Scanner ↦ (λ bad. absurd bad)
-      | form.Display d ↦ (λ bad. absurd bad)
-      | form.Printer r ↦ (λ bad. absurd bad)
+      | mechanism.Scanner ↦ (λ bad. absurd bad)
+      | mechanism.Display d ↦ (λ bad. absurd bad)
+      | mechanism.Printer r ↦ (λ bad. absurd bad)
     ])
     fits is h

@@ -1,29 +1,48 @@
 -- Pieces of a stream of replies, the count of its bytes, and bytes that were lost.
-use Rattle.std.proofs.Common.{◌≡◌, ◌≢◌, ℕ, ◌+◌, ◌<◌, ◌≤◌, ◌/◌, ◌%◌, Bool, true, false, not, List, [], ◌∷◌, ◌++◌, length, refl, ap, sym, ◌∙◌, length-append, arith, cond, Option, Some, None, ◌==◌, ◌||◌, ◌&&◌, ⊎_elim}
+use Rattle.std.proofs.Common.{◌≡◌, ◌≢◌, ℕ, ◌+◌, ◌<◌, ◌≤◌, ◌/◌, ◌%◌, Bool, true, false, not, List, [], ◌∷◌, ◌++◌, length}
+use Rattle.std.proofs.Common.{refl, ap, sym, ◌∙◌, length-append, arith, cond, Option, Some, None, ◌==◌, ◌||◌, ◌&&◌}
+use Rattle.std.proofs.Common.{⊎_elim}
 use Rattle.std.proofs.lemmas.Bool.{ne_eqb, and_parts, eqb-true, cases_Bool}
 use Rattle.std.specs.List.{list_all}
 use Rattle.pos_escpos.specs.declared.printer_commands.OrderStatus.{OrderStatus}
 use Rattle.pos_escpos.specs.declared.printer_commands.NowStatus.{NowStatus}
 use Rattle.pos_escpos.specs.declared.statuses.PrinterReply.{PrinterReply}
 use Rattle.pos_escpos.specs.declared.statuses.PrinterReply.TheVariants as reply
-use Rattle.pos_escpos.specs.Replies.{Reader, Reading, Step, after_step, answers_now, begins_job, begins_status, byte_received, bytes_of_replies, bytes_told, continued, first_received, goes_on, is_first, is_long_reply, is_plain, job_reply, joined, kept, later_received, lone_received, now_received, reading_of, reads_none, reads_reply, replies_before, reply_size, order_status, skips_all, whole_reply}
-use Rattle.pos_escpos.proofs.ReplyLemmas.{first_step, job_character, plain_not_first, status_is_first, status_not_job, with_begun, IsCharacter}
+use Rattle.pos_escpos.specs.Replies.{Reader, Reading, Step, after_step, answers_now, begins_job, begins_status}
+use Rattle.pos_escpos.specs.Replies.{byte_received, bytes_of_replies, bytes_told, continued, first_received, goes_on}
+use Rattle.pos_escpos.specs.Replies.{is_first, is_long_reply, is_plain, job_reply, joined, kept, later_received}
+use Rattle.pos_escpos.specs.Replies.{lone_received, now_received, reading_of, reads_none, reads_reply, replies_before}
+use Rattle.pos_escpos.specs.Replies.{reply_size, order_status, skips_all, whole_reply}
+use Rattle.pos_escpos.proofs.ReplyLemmas.{first_step, job_character, plain_not_first, status_is_first, status_not_job}
+use Rattle.pos_escpos.proofs.ReplyLemmas.{with_begun, IsCharacter}
 
 -- a reply before two lists of replies
-before_append : (told : Option PrinterReply) (xs ys : List PrinterReply) → replies_before told (xs ++ ys) ≡ replies_before told xs ++ ys
+before_append : (told : Option PrinterReply) (xs ys : List PrinterReply)
+    → replies_before told (xs ++ ys) ≡ replies_before told xs ++ ys
 before_append None xs ys = refl
 before_append (Some one) xs ys = refl
 
 -- a step before two readings
 after_joined : (step : Step) (x y : Reading) → after_step step (joined x y) ≡ joined (after_step step x) y
 after_joined step x y =
-    ap (λ replies. record { replies = replies; skipped = step.received.skipped + (x.skipped + y.skipped); reader = y.reader })
+    ap (λ replies. record {
+      replies = replies;
+      skipped = step.received.skipped + (x.skipped + y.skipped);
+      reader =
+          y.reader;
+    })
     (before_append step.received.reply x.replies y.replies)
-    ∙ ap (λ k. record { replies = replies_before step.received.reply x.replies ++ y.replies; skipped = k; reader = y.reader }) (omega arith)
+    ∙ ap (λ k. record {
+      replies = replies_before step.received.reply x.replies ++ y.replies;
+      skipped = k;
+      reader =
+          y.reader;
+    }) (omega arith)
 
 -- a stream may come in any pieces
 pub reads_pieces : (reader : Reader) (first next : List ℕ)
-    → reading_of reader (first ++ next) ≡ joined (reading_of reader first) (reading_of (reading_of reader first).reader next)
+    → reading_of reader (first ++ next) ≡ joined (reading_of reader first)
+    (reading_of (reading_of reader first).reader next)
 reads_pieces reader [] next =
     let rest = reading_of reader next in
     ap (λ k. record { replies = rest.replies; skipped = k; reader = rest.reader }) (omega arith)
@@ -36,13 +55,15 @@ reads_pieces reader (b ∷ first) next =
 abbrev pub Accounts : ℕ → Step → Type 0
 Accounts n step = step.received.skipped + bytes_told step.received.reply + length step.reader.begun ≡ n + 1
 
-now_accounts : (asked : Option NowStatus) (begun : List ℕ) (b : ℕ) (reader : Reader) → Accounts (length begun) (now_received asked begun b reader)
+now_accounts : (asked : Option NowStatus) (begun : List ℕ) (b : ℕ) (reader : Reader)
+    → Accounts (length begun) (now_received asked begun b reader)
 now_accounts None begun b reader = omega arith
 now_accounts (Some status) begun b reader = omega arith
 
 first_accounts : (begun : List ℕ) (b : ℕ) (reader : Reader) → Accounts (length begun) (first_received begun b reader)
 first_accounts begun b reader = elim (begins_status b || begins_job b) as (λ starts. Accounts (length begun)
-    (cond starts (reads_none (length begun) (b ∷ []) reader) (cond (answers_now b) (now_received reader.asked_now begun b reader) (skips_all begun reader)))) [
+    (cond starts (reads_none (length begun) (b ∷ []) reader)
+    (cond (answers_now b) (now_received reader.asked_now begun b reader) (skips_all begun reader)))) [
       | true ↦ omega arith
       | false ↦ elim (answers_now b) as (λ answers. Accounts (length begun)
           (cond answers (now_received reader.asked_now begun b reader) (skips_all begun reader))) [
@@ -71,16 +92,20 @@ seven_told (a ∷ b ∷ c ∷ d ∷ e ∷ f ∷ []) is = omega arith
 seven_told (a ∷ b ∷ c ∷ d ∷ e ∷ f ∷ g ∷ []) is = refl
 seven_told (a ∷ b ∷ c ∷ d ∷ e ∷ f ∷ g ∷ h ∷ more) is = let bad : ⊥ = omega arith in absurd bad
 
-size_told : (first : ℕ) (bytes : List ℕ) → length bytes ≡ reply_size first → bytes_told (whole_reply bytes) ≡ length bytes
-size_told first bytes = elim (begins_job first) as (λ is_job. length bytes ≡ cond is_job 7 4 → bytes_told (whole_reply bytes) ≡ length bytes) [
-  | true ↦ (λ is. seven_told bytes is ∙ sym is)
-  | false ↦ (λ is. four_told bytes is ∙ sym is)
-]
+size_told : (first : ℕ) (bytes : List ℕ) → length bytes ≡ reply_size first
+    → bytes_told (whole_reply bytes) ≡ length bytes
+size_told first bytes = elim (begins_job first) as (λ is_job. length bytes ≡ cond is_job 7 4
+    → bytes_told (whole_reply bytes) ≡ length bytes) [
+      | true ↦ (λ is. seven_told bytes is ∙ sym is)
+      | false ↦ (λ is. four_told bytes is ∙ sym is)
+    ]
 
-continued_accounts : (begun : List ℕ) (first b : ℕ) (reader : Reader) → Accounts (length begun) (continued begun first b reader)
+continued_accounts : (begun : List ℕ) (first b : ℕ) (reader : Reader)
+    → Accounts (length begun) (continued begun first b reader)
 continued_accounts begun first b reader = ⊎_elim
     (λ (whole : (length begun + 1 == reply_size first) ≡ true).
-    let size = size_told first (begun ++ b ∷ []) (simp length-append (eqb-true (length begun + 1) (reply_size first) whole)) in
+    let size = size_told first (begun ++ b ∷ [])
+    (simp length-append (eqb-true (length begun + 1) (reply_size first) whole)) in
     rw whole (omega (arith, size, length-append begun (b ∷ []))))
     (λ (more : (length begun + 1 == reply_size first) ≡ false). rw more (omega (arith, length-append begun (b ∷ []))))
     (cases_Bool (length begun + 1 == reply_size first))
@@ -88,14 +113,16 @@ continued_accounts begun first b reader = ⊎_elim
 lone_accounts : (asked : Option OrderStatus) (b : ℕ) (reader : Reader) → Accounts 0 (lone_received asked b reader)
 lone_accounts None b reader = refl
 lone_accounts (Some status) b reader = elim (is_plain b) as (λ plain. Accounts 0
-    (cond plain (reads_reply 0 (reply.InOrder status (order_status status b)) (record reader { asked_in_order = None })) (skips_all [] reader))) [
+    (cond plain (reads_reply 0 (reply.InOrder status (order_status status b)) (record reader { asked_in_order = None }))
+    (skips_all [] reader))) [
       | true ↦ refl
       | false ↦ refl
     ]
 
 later_accounts : (begun : List ℕ) (b : ℕ) (reader : Reader) → Accounts (length begun) (later_received begun b reader)
 later_accounts [] b reader = lone_accounts reader.asked_in_order b reader
-later_accounts (first ∷ more) b reader = elim (goes_on first (length (first ∷ more)) b) as (λ goes. Accounts (length (first ∷ more))
+later_accounts (first ∷ more) b reader =
+    elim (goes_on first (length (first ∷ more)) b) as (λ goes. Accounts (length (first ∷ more))
     (cond goes (continued (first ∷ more) first b reader) (skips_all (first ∷ more) reader))) [
       | true ↦ continued_accounts (first ∷ more) first b reader
       | false ↦ omega arith
@@ -115,7 +142,8 @@ before_bytes None replies = omega arith
 before_bytes (Some one) replies = refl
 
 pub counts_all : (reader : Reader) (bytes : List ℕ)
-    → (reading_of reader bytes).skipped + bytes_of_replies (reading_of reader bytes).replies + length (reading_of reader bytes).reader.begun
+    → (reading_of reader bytes).skipped + bytes_of_replies (reading_of reader bytes).replies + length
+    (reading_of reader bytes).reader.begun
     ≡ length reader.begun + length bytes
 counts_all reader [] = omega arith
 counts_all reader (b ∷ bytes) =
@@ -142,12 +170,14 @@ not_first : (b : ℕ) → not (is_first b) ≡ true → is_first b ≡ false
 not_first b h = elim (is_first b) as (λ t. not t ≡ true → t ≡ false) [ true ↦ (λ bad. sym bad) | false ↦ (λ _. refl) ] h
 
 -- no reply comes of bytes that begin none and are too few to end what has begun
-no_reply : (begun : List ℕ) (reader : Reader) (bytes : List ℕ) → reader.asked_in_order ≡ None → none_first bytes ≡ true → IsShort begun bytes
+no_reply : (begun : List ℕ) (reader : Reader) (bytes : List ℕ) → reader.asked_in_order ≡ None → none_first bytes ≡ true
+    → IsShort begun bytes
     → (reading_of (with_begun begun reader) bytes).replies ≡ []
 no_reply begun reader [] none firsts short = refl
 no_reply [] reader (b ∷ bytes) none firsts short =
     let parts = and_parts (not (is_first b)) (none_first bytes) firsts in
-    ap (λ r. r.replies) (first_step (with_begun [] reader) b bytes (reads_none 1 [] reader) (rw (not_first b parts.0, none) refl))
+    ap (λ r. r.replies) (first_step (with_begun [] reader) b bytes (reads_none 1 [] reader)
+    (rw (not_first b parts.0, none) refl))
     ∙ no_reply [] reader bytes none parts.1 tt
 no_reply (first ∷ more) reader (b ∷ bytes) none firsts short =
     let parts = and_parts (not (is_first b)) (none_first bytes) firsts in
@@ -191,26 +221,33 @@ long_first b h = ⊎_elim
 
 -- no reply comes of a long reply of which bytes were lost, but not its first, whatever had begun before it
 pub begun_gives_none : (reader : Reader) (sent : List ℕ) (which : List Bool) → reader.asked_in_order ≡ None
-    → is_long_reply sent ≡ true → length (kept (true ∷ which) sent) ≢ length sent → (reading_of reader (kept (true ∷ which) sent)).replies ≡ []
+    → is_long_reply sent ≡ true → length (kept (true ∷ which) sent) ≢ length sent
+    → (reading_of reader (kept (true ∷ which) sent)).replies ≡ []
 begun_gives_none reader [] which none long lost = refl
 begun_gives_none reader (first ∷ more) which none long lost =
-    let parts = and_parts ((begins_status first || begins_job first) && length more + 1 == reply_size first) (none_first more) long in
+    let parts = and_parts ((begins_status first || begins_job first) && length more + 1 == reply_size first)
+    (none_first more) long in
     let ends = and_parts (begins_status first || begins_job first) (length more + 1 == reply_size first) parts.0 in
     let size = eqb-true (length more + 1) (reply_size first) ends.1 in
-    ap (λ r. r.replies) (first_step reader first (kept which more) (reads_none (length reader.begun) (first ∷ []) reader)
+    ap (λ r. r.replies) (first_step reader first (kept which more)
+    (reads_none (length reader.begun) (first ∷ []) reader)
     (rw (long_first first ends.0, ends.0) refl))
-    ∙ no_reply (first ∷ []) reader (kept which more) none (kept_none_first which more parts.1) (omega (arith, kept_le which more))
+    ∙ no_reply (first ∷ []) reader (kept which more) none (kept_none_first which more parts.1)
+    (omega (arith, kept_le which more))
 
 -- no reply comes of a long reply of which bytes were lost
-pub lost_gives_none : (reader : Reader) (sent : List ℕ) (which : List Bool) → reader.asked_in_order ≡ None → reader.begun ≡ []
-    → is_long_reply sent ≡ true → length (kept which sent) ≢ length sent → (reading_of reader (kept which sent)).replies ≡ []
+pub lost_gives_none : (reader : Reader) (sent : List ℕ) (which : List Bool) → reader.asked_in_order ≡ None
+    → reader.begun ≡ []
+    → is_long_reply sent ≡ true → length (kept which sent) ≢ length sent
+    → (reading_of reader (kept which sent)).replies ≡ []
 lost_gives_none reader [] [] none idle long lost = refl
 lost_gives_none reader [] (here ∷ which) none idle long lost = refl
 lost_gives_none reader (first ∷ more) [] none idle long lost = refl
 lost_gives_none reader (first ∷ more) (true ∷ which) none idle long lost =
     begun_gives_none reader (first ∷ more) which none long lost
 lost_gives_none reader (first ∷ more) (false ∷ which) none idle long lost =
-    let parts = and_parts ((begins_status first || begins_job first) && length more + 1 == reply_size first) (none_first more) long in
+    let parts = and_parts ((begins_status first || begins_job first) && length more + 1 == reply_size first)
+    (none_first more) long in
     ap (λ begun. (reading_of (with_begun begun reader) (kept which more)).replies) idle
     ∙ no_reply [] reader (kept which more) none (kept_none_first which more parts.1) tt
 
@@ -228,4 +265,5 @@ job_is_long number less =
 pub status_is_long : (a b c d : ℕ) → begins_status a ≡ true → is_plain b ≡ true → is_plain c ≡ true → is_plain d ≡ true
     → is_long_reply (a ∷ b ∷ c ∷ d ∷ []) ≡ true
 status_is_long a b c d begins second third fourth =
-    rw (begins, status_not_job a begins, plain_not_first b second, plain_not_first c third, plain_not_first d fourth) refl
+    rw (begins, status_not_job a begins, plain_not_first b second, plain_not_first c third, plain_not_first d fourth)
+    refl

@@ -1,5 +1,6 @@
 -- How a printer obeys what is sent to it.
-use Rattle.std.proofs.Common.{◌≡◌, ℕ, ◌+◌, ◌<◌, ◌≤◌, Bool, true, false, List, [], ◌∷◌, ◌++◌, length, refl, ap, sym, ◌∙◌, append_assoc, length-append, arith, cond, subst, Some, ◌==◌, nat_le}
+use Rattle.std.proofs.Common.{◌≡◌, ℕ, ◌+◌, ◌<◌, ◌≤◌, Bool, true, false, List, [], ◌∷◌, ◌++◌, length, refl, ap, sym, ◌∙◌}
+use Rattle.std.proofs.Common.{append_assoc, length-append, arith, cond, subst, Some, ◌==◌, nat_le}
 use Rattle.std.proofs.lemmas.Bool.{ne_eqb, le-leb, and_parts, leb-true}
 use Rattle.std.proofs.lemmas.List.{append-nil}
 use Rattle.std.proofs.lemmas.List.Concat.{flat_map-cons}
@@ -13,7 +14,9 @@ use Rattle.pos_escpos.specs.declared.settings.Cutter.{Cutter}
 use Rattle.pos_escpos.specs.declared.settings.Cutter.TheVariants as cutter
 use Rattle.pos_escpos.specs.declared.settings.CutSettings.{CutSettings}
 use Rattle.pos_escpos.specs.Printers.{OnPaper, PrintedLine, CutThrough, Press, IsReady, PrintsOnly, press_after, takes}
-use Rattle.pos_escpos.specs.PrinterBytes.{all_fit, all_on_paper, alignment_number_of, bold_bytes, cut_bytes, cut_on_paper, is_character, item_bytes, item_fits, items_bytes, line_bytes, on_paper, run_bytes}
+use Rattle.pos_escpos.specs.PrinterBytes.{all_fit, all_on_paper, alignment_number_of, bold_bytes, cut_bytes}
+use Rattle.pos_escpos.specs.PrinterBytes.{cut_on_paper, is_character, item_bytes, item_fits, items_bytes, line_bytes}
+use Rattle.pos_escpos.specs.PrinterBytes.{on_paper, run_bytes}
 
 -- a printer at work on a line
 abbrev pub at_line : Press → List OnPaper → List PrintedCharacter → Alignment → Bool → Press
@@ -21,9 +24,11 @@ at_line press paper line alignment is_bold =
     record press { paper = paper; line = line; alignment = alignment; is_bold = is_bold; begun = [] }
 
 -- a character within the line is put into the line buffer
-takes_character : (width b : ℕ) (press : Press) (paper : List OnPaper) (line : List PrintedCharacter) (a : Alignment) (bold : Bool)
+takes_character : (width b : ℕ) (press : Press) (paper : List OnPaper) (line : List PrintedCharacter) (a : Alignment)
+    (bold : Bool)
     → 32 ≤ b → length line < width
-    → takes width (at_line press paper line a bold) b ≡ at_line press paper (line ++ record { byte = b; is_bold = bold } ∷ []) a bold
+    → takes width (at_line press paper line a bold) b ≡ at_line press paper
+    (line ++ record { byte = b; is_bold = bold } ∷ []) a bold
 takes_character width b press paper line a bold le room =
     rw (
       ne_eqb b 27 (λ e. omega arith),
@@ -35,7 +40,8 @@ takes_character width b press paper line a bold le room =
     ) refl
 
 -- where bold changes, it is changed
-takes_bold : (width : ℕ) (press : Press) (paper : List OnPaper) (line : List PrintedCharacter) (a : Alignment) (was now : Bool)
+takes_bold : (width : ℕ) (press : Press) (paper : List OnPaper) (line : List PrintedCharacter) (a : Alignment)
+    (was now : Bool)
     → press_after width (at_line press paper line a was) (bold_bytes was now) ≡ at_line press paper line a now
 takes_bold width press paper line a true true = refl
 takes_bold width press paper line a true false = refl
@@ -43,7 +49,8 @@ takes_bold width press paper line a false true = refl
 takes_bold width press paper line a false false = refl
 
 -- the characters of a line are in the line buffer then, and bold is off
-takes_run : (width : ℕ) (press : Press) (paper : List OnPaper) (line : List PrintedCharacter) (a : Alignment) (was : Bool) (cs : List PrintedCharacter)
+takes_run : (width : ℕ) (press : Press) (paper : List OnPaper) (line : List PrintedCharacter) (a : Alignment)
+    (was : Bool) (cs : List PrintedCharacter)
     → list_all is_character cs ≡ true → length line + length cs ≤ width
     → press_after width (at_line press paper line a was) (run_bytes was cs) ≡ at_line press paper (line ++ cs) a false
 takes_run width press paper line a was [] fit room =
@@ -51,8 +58,10 @@ takes_run width press paper line a was [] fit room =
 takes_run width press paper line a was (c ∷ cs) fit room =
     let parts = and_parts (is_character c) (list_all is_character cs) fit in
     let bounds = and_parts (nat_le 32 c.byte) (nat_le c.byte 126) parts.0 in
-    fold-append (takes width) (at_line press paper line a was) (bold_bytes was c.is_bold) (c.byte ∷ run_bytes c.is_bold cs)
-    ∙ ap (λ p. fold (takes width) p (c.byte ∷ run_bytes c.is_bold cs)) (takes_bold width press paper line a was c.is_bold)
+    fold-append (takes width) (at_line press paper line a was) (bold_bytes was c.is_bold)
+    (c.byte ∷ run_bytes c.is_bold cs)
+    ∙ ap (λ p. fold (takes width) p (c.byte ∷ run_bytes c.is_bold cs))
+    (takes_bold width press paper line a was c.is_bold)
     ∙ ap (λ p. fold (takes width) p (run_bytes c.is_bold cs))
     (takes_character width c.byte press paper line a c.is_bold (leb-true 32 c.byte bounds.0) (omega arith))
     ∙ takes_run width press paper (line ++ c ∷ []) a c.is_bold cs parts.1 (simp length-append (omega arith))
@@ -60,7 +69,8 @@ takes_run width press paper line a was (c ∷ cs) fit room =
 
 -- the alignment is set at the beginning of the line
 takes_alignment : (width : ℕ) (press : Press) (paper : List OnPaper) (before a : Alignment)
-    → press_after width (at_line press paper [] before false) (27 ∷ 97 ∷ alignment_number_of a ∷ []) ≡ at_line press paper [] a false
+    → press_after width (at_line press paper [] before false) (27 ∷ 97 ∷ alignment_number_of a ∷ [])
+    ≡ at_line press paper [] a false
 takes_alignment width press paper before alignment.Left = refl
 takes_alignment width press paper before alignment.Center = refl
 takes_alignment width press paper before alignment.Right = refl
@@ -68,16 +78,19 @@ takes_alignment width press paper before alignment.Right = refl
 -- a line is on the paper then
 takes_line : (width : ℕ) (press : Press) (paper : List OnPaper) (before a : Alignment) (cs : List PrintedCharacter)
     → list_all is_character cs ≡ true → length cs ≤ width
-    → press_after width (at_line press paper [] before false) (line_bytes a cs) ≡ at_line press (paper ++ PrintedLine a cs ∷ []) [] a false
+    → press_after width (at_line press paper [] before false) (line_bytes a cs) ≡ at_line press
+    (paper ++ PrintedLine a cs ∷ []) [] a false
 takes_line width press paper before a cs fit room =
-    fold-append (takes width) (at_line press paper [] before false) (27 ∷ 97 ∷ alignment_number_of a ∷ []) (run_bytes false cs ++ 10 ∷ [])
+    fold-append (takes width) (at_line press paper [] before false) (27 ∷ 97 ∷ alignment_number_of a ∷ [])
+    (run_bytes false cs ++ 10 ∷ [])
     ∙ ap (λ p. fold (takes width) p (run_bytes false cs ++ 10 ∷ [])) (takes_alignment width press paper before a)
     ∙ fold-append (takes width) (at_line press paper [] a false) (run_bytes false cs) (10 ∷ [])
     ∙ ap (λ p. takes width p 10) (takes_run width press paper [] a false cs fit (omega arith))
 
 -- a cut is on the paper then
 takes_cut : (width : ℕ) (press : Press) (paper : List OnPaper) (a : Alignment) (way : Cutter) (feed n : ℕ)
-    → press_after width (at_line press paper [] a false) (cut_bytes way feed n) ≡ at_line press (paper ++ cut_on_paper way feed n ∷ []) [] a false
+    → press_after width (at_line press paper [] a false) (cut_bytes way feed n) ≡ at_line press
+    (paper ++ cut_on_paper way feed n ∷ []) [] a false
 takes_cut width press paper a cutter.Both feed n = elim (n == 100) as (λ full.
     press_after width (at_line press paper [] a false) (29 ∷ 86 ∷ cond full 65 66 ∷ feed ∷ [])
     ≡ at_line press (paper ++ CutThrough full (Some feed) ∷ []) [] a false) [ true ↦ refl | false ↦ refl ]
@@ -91,7 +104,8 @@ alignment_after now (Line a cs) = a
 alignment_after now (CutAt n) = now
 
 -- an item is on the paper then
-takes_item : (width columns : ℕ) (press : Press) (paper : List OnPaper) (now : Alignment) (cut : CutSettings) (item : Item)
+takes_item : (width columns : ℕ) (press : Press) (paper : List OnPaper) (now : Alignment) (cut : CutSettings)
+    (item : Item)
     → columns ≤ width → item_fits columns item ≡ true
     → press_after width (at_line press paper [] now false) (item_bytes cut item)
     ≡ at_line press (paper ++ on_paper cut item ∷ []) [] (alignment_after now item) false
@@ -100,7 +114,8 @@ takes_item width columns press paper now cut (Line a cs) within fit =
     let parts = and_parts (nat_le (length cs) columns) (list_all is_character cs) fit in
     let most = leb-true (length cs) columns parts.0 in
     takes_line width press paper now a cs parts.1 (omega arith)
-takes_item width columns press paper now cut (CutAt n) within fit = takes_cut width press paper now cut.cutter cut.feed n
+takes_item width columns press paper now cut (CutAt n) within fit =
+    takes_cut width press paper now cut.cutter cut.feed n
 
 -- the alignment in force after items
 alignment_at_end : Alignment → List Item → Alignment
@@ -108,7 +123,8 @@ alignment_at_end now [] = now
 alignment_at_end now (item ∷ items) = alignment_at_end (alignment_after now item) items
 
 -- all items are on the paper then
-takes_items : (width columns : ℕ) (press : Press) (paper : List OnPaper) (now : Alignment) (cut : CutSettings) (items : List Item)
+takes_items : (width columns : ℕ) (press : Press) (paper : List OnPaper) (now : Alignment) (cut : CutSettings)
+    (items : List Item)
     → columns ≤ width → all_fit columns items ≡ true
     → press_after width (at_line press paper [] now false) (items_bytes cut items)
     ≡ at_line press (paper ++ all_on_paper cut items) [] (alignment_at_end now items) false
@@ -119,8 +135,10 @@ takes_items width columns press paper now cut (item ∷ items) within fit =
     let parts = and_parts (item_fits columns item) (all_fit columns items) fit in
     ap (press_after width (at_line press paper [] now false)) (flat_map-cons (item_bytes cut) item items)
     ∙ fold-append (takes width) (at_line press paper [] now false) (item_bytes cut item) (items_bytes cut items)
-    ∙ ap (λ p. fold (takes width) p (items_bytes cut items)) (takes_item width columns press paper now cut item within parts.0)
-    ∙ takes_items width columns press (paper ++ on_paper cut item ∷ []) (alignment_after now item) cut items within parts.1
+    ∙ ap (λ p. fold (takes width) p (items_bytes cut items))
+    (takes_item width columns press paper now cut item within parts.0)
+    ∙ takes_items width columns press (paper ++ on_paper cut item ∷ [])
+    (alignment_after now item) cut items within parts.1
     ∙ ap (λ p. at_line press p [] (alignment_at_end (alignment_after now item) items) false)
     (append_assoc paper (on_paper cut item ∷ []) (all_on_paper cut items))
 
@@ -134,7 +152,8 @@ at_start press ready =
 -- from a ready printer all items are printed, and nothing else is done
 pub prints_items : (width columns : ℕ) (cut : CutSettings) (items : List Item)
     → columns ≤ width → all_fit columns items ≡ true
-    → (press : Press) → IsReady press → PrintsOnly press (all_on_paper cut items) (press_after width press (items_bytes cut items))
+    → (press : Press) → IsReady press
+    → PrintsOnly press (all_on_paper cut items) (press_after width press (items_bytes cut items))
 prints_items width columns cut items within fit press ready =
     let is = ap (λ p. press_after width p (items_bytes cut items)) (at_start press ready)
     ∙ takes_items width columns press press.paper press.alignment cut items within fit in

@@ -1,5 +1,6 @@
 -- How a stream of replies is read.
-use Rattle.std.proofs.Common.{◌≡◌, ℕ, ◌+◌, ◌/◌, ◌%◌, ◌<◌, true, false, List, [], ◌∷◌, length, refl, ap, sym, ◌∙◌, arith, subst, Some, None, bit_and}
+use Rattle.std.proofs.Common.{◌≡◌, ℕ, ◌+◌, ◌/◌, ◌%◌, ◌<◌, true, false, List, [], ◌∷◌, length, refl, ap, sym, ◌∙◌, arith}
+use Rattle.std.proofs.Common.{subst, Some, None, bit_and}
 use Rattle.std.proofs.lemmas.Bool.{ne_eqb, eqb-true, le-leb}
 use Rattle.std.proofs.lemmas.Nat.{and_assoc}
 use Rattle.std.proofs.lemmas.Nat.Bits.{and_pow}
@@ -7,7 +8,9 @@ use Rattle.pos_escpos.specs.declared.printer_commands.NowStatus.{NowStatus}
 use Rattle.pos_escpos.specs.declared.printer_commands.OrderStatus.{OrderStatus}
 use Rattle.pos_escpos.specs.declared.statuses.PrinterReply.{PrinterReply}
 use Rattle.pos_escpos.specs.declared.statuses.PrinterReply.TheVariants as reply
-use Rattle.pos_escpos.specs.Replies.{Reader, ReadsOne, Step, after_step, answers_now, automatic_status, begins_job, begins_status, byte_received, is_first, is_job_character, is_plain, job_number, job_reply, now_status, order_status, reading_of, reads_none, reads_reply}
+use Rattle.pos_escpos.specs.Replies.{Reader, ReadsOne, Step, after_step, answers_now, automatic_status, begins_job}
+use Rattle.pos_escpos.specs.Replies.{begins_status, byte_received, is_first, is_job_character, is_plain, job_number}
+use Rattle.pos_escpos.specs.Replies.{job_reply, now_status, order_status, reading_of, reads_none, reads_reply}
 
 -- the same bit 4, seen through a mask that has it
 seen_through : (mask value b : ℕ) → bit_and mask 16 ≡ 16 → bit_and b mask ≡ value → bit_and b 16 ≡ bit_and value 16
@@ -61,16 +64,19 @@ status_third : (reader : Reader) (a b c : ℕ) → begins_status a ≡ true → 
 status_third reader a b c begins plain = rw (plain_not_first c plain, status_not_job a begins, plain) refl
 
 status_fourth : (reader : Reader) (a b c d : ℕ) → begins_status a ≡ true → is_plain d ≡ true
-    → byte_received (with_begun (a ∷ b ∷ c ∷ []) reader) d ≡ reads_reply 0 (reply.Automatic (automatic_status a b c)) reader
+    → byte_received (with_begun (a ∷ b ∷ c ∷ []) reader) d ≡ reads_reply 0
+    (reply.Automatic (automatic_status a b c)) reader
 status_fourth reader a b c d begins plain = rw (plain_not_first d plain, status_not_job a begins, plain) refl
 
 -- one reply behind so many bytes that were none
 one_reply : (reader next : Reader) (told : PrinterReply) (skipped : ℕ) → skipped ≡ length reader.begun
     → ReadsOne reader told next (record { replies = told ∷ []; skipped = skipped; reader = with_begun [] next })
-one_reply reader next told skipped is = ap (λ k. record { replies = told ∷ []; skipped = k; reader = with_begun [] next }) is
+one_reply reader next told skipped is =
+    ap (λ k. record { replies = told ∷ []; skipped = k; reader = with_begun [] next }) is
 
 -- a whole automatic status is read
-pub reads_automatic : (reader : Reader) (a b c d : ℕ) → begins_status a ≡ true → is_plain b ≡ true → is_plain c ≡ true → is_plain d ≡ true
+pub reads_automatic : (reader : Reader) (a b c d : ℕ) → begins_status a ≡ true → is_plain b ≡ true → is_plain c ≡ true
+    → is_plain d ≡ true
     → ReadsOne reader (reply.Automatic (automatic_status a b c)) reader (reading_of reader (a ∷ b ∷ c ∷ d ∷ []))
 reads_automatic reader a b c d begins second third fourth =
     let told = reply.Automatic (automatic_status a b c) in
@@ -83,12 +89,14 @@ reads_automatic reader a b c d begins second third fourth =
     ∙ ap (after_step two)
     (first_step (with_begun (a ∷ b ∷ []) reader) c (d ∷ []) three (status_third reader a b c begins third)
     ∙ ap (after_step three)
-    (first_step (with_begun (a ∷ b ∷ c ∷ []) reader) d [] (reads_reply 0 told reader) (status_fourth reader a b c d begins fourth))))
+    (first_step (with_begun (a ∷ b ∷ c ∷ []) reader) d [] (reads_reply 0 told reader)
+    (status_fourth reader a b c d begins fourth))))
     ∙ one_reply reader reader told (length reader.begun + 0) (omega arith)
 
 -- a reply to DLE EOT is read, where one was asked for
 pub reads_now : (reader : Reader) (asked : NowStatus) (b : ℕ) → reader.asked_now ≡ Some asked → answers_now b ≡ true
-    → ReadsOne reader (reply.Now asked (now_status asked b)) (record reader { asked_now = None }) (reading_of reader (b ∷ []))
+    → ReadsOne reader (reply.Now asked (now_status asked b)) (record reader { asked_now = None })
+    (reading_of reader (b ∷ []))
 reads_now reader asked b is answers =
     let told = reply.Now asked (now_status asked b) in
     let next = record reader { asked_now = None } in
@@ -97,8 +105,10 @@ reads_now reader asked b is answers =
     ∙ one_reply reader next told (length reader.begun + 0) (omega arith)
 
 -- a reply to GS r is read, where one was asked for
-pub reads_in_order : (reader : Reader) (asked : OrderStatus) (b : ℕ) → reader.asked_in_order ≡ Some asked → reader.begun ≡ [] → is_plain b ≡ true
-    → ReadsOne reader (reply.InOrder asked (order_status asked b)) (record reader { asked_in_order = None }) (reading_of reader (b ∷ []))
+pub reads_in_order : (reader : Reader) (asked : OrderStatus) (b : ℕ) → reader.asked_in_order ≡ Some asked
+    → reader.begun ≡ [] → is_plain b ≡ true
+    → ReadsOne reader (reply.InOrder asked (order_status asked b)) (record reader { asked_in_order = None })
+    (reading_of reader (b ∷ []))
 reads_in_order reader asked b is none plain =
     let told = reply.InOrder asked (order_status asked b) in
     let next = record reader { asked_in_order = None } in
@@ -140,8 +150,10 @@ reads_characters reader a b c d first second third fourth =
 pub reads_job : (reader : Reader) (number : ℕ) → number < 65536
     → ReadsOne reader (reply.JobDone number) reader (reading_of reader (job_reply number))
 reads_job reader number less =
-    let same : job_number (64 + number / 4096) (64 + number / 256 % 16) (64 + number / 16 % 16) (64 + number % 16) ≡ number = omega arith in
+    let same : job_number (64 + number / 4096) (64 + number / 256 % 16) (64 + number / 16 % 16) (64 + number % 16)
+    ≡ number = omega arith in
     reads_characters reader (64 + number / 4096) (64 + number / 256 % 16) (64 + number / 16 % 16) (64 + number % 16)
     (job_character (number / 4096) (omega arith)) (job_character (number / 256 % 16) (omega arith))
     (job_character (number / 16 % 16) (omega arith)) (job_character (number % 16) (omega arith))
-    ∙ ap (λ n. record { replies = reply.JobDone n ∷ []; skipped = length reader.begun; reader = with_begun [] reader }) same
+    ∙ ap (λ n. record { replies = reply.JobDone n ∷ []; skipped = length reader.begun; reader = with_begun [] reader })
+    same

@@ -1,5 +1,6 @@
 -- What is sent to a customer display.
-use Rattle.std.specs.Prelude.{ℕ, zero, suc, ◌+◌, ◌*◌, Bool, List, [], ◌∷◌, ◌++◌, length, map, take, drop, nat_le, bytes_eq, ◌==◌, ◌&&◌, if◌then◌else◌}
+use Rattle.std.specs.Prelude.{ℕ, zero, suc, ◌+◌, ◌*◌, Bool, List, [], ◌∷◌, ◌++◌, length, map, take, drop, nat_le}
+use Rattle.std.specs.Prelude.{bytes_eq, ◌==◌, ◌&&◌, if◌then◌else◌}
 use Rattle.std.specs.List.{list_all}
 use Rattle.pos_service.specs.declared.display_text.DisplayCell.{DisplayCell}
 use Rattle.pos_service.specs.Displays.{Display}

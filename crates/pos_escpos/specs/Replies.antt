@@ -1,5 +1,6 @@
 -- What a printer sends: which bytes are a reply, and what it tells.
-use Rattle.std.specs.Prelude.{◌≡◌, ℕ, ◌+◌, ◌*◌, ◌%◌, Bool, false, not, List, [], ◌∷◌, ◌++◌, length, nat_le, bit_and, ◌==◌, ◌&&◌, ◌||◌, if◌then◌else◌, Option, Some, None}
+use Rattle.std.specs.Prelude.{◌≡◌, ℕ, ◌+◌, ◌*◌, ◌%◌, Bool, false, not, List, [], ◌∷◌, ◌++◌, length, nat_le, bit_and}
+use Rattle.std.specs.Prelude.{◌==◌, ◌&&◌, ◌||◌, if◌then◌else◌, Option, Some, None}
 use Rattle.std.specs.List.{list_all}
 use Rattle.pos_service.specs.declared.signs.PaperLevel.{PaperLevel}
 use Rattle.pos_service.specs.declared.signs.PaperLevel.TheVariants as paper

@@ -1,5 +1,6 @@
 -- What a customer display does with the bytes that reach it (CD5220, ESC/POS).
-use Rattle.std.specs.Prelude.{◌≡◌, ℕ, ◌+◌, ◌-◌, ◌*◌, Bool, true, false, List, [], ◌∷◌, ◌++◌, length, replicate, nat_le, ◌==◌, ◌&&◌, ◌||◌, if◌then◌else◌, Option, Some, None, slice_set}
+use Rattle.std.specs.Prelude.{◌≡◌, ℕ, ◌+◌, ◌-◌, ◌*◌, Bool, true, false, List, [], ◌∷◌, ◌++◌, length, replicate, nat_le}
+use Rattle.std.specs.Prelude.{◌==◌, ◌&&◌, ◌||◌, if◌then◌else◌, Option, Some, None, slice_set}
 use Rattle.std.specs.List.{fold}
 use Rattle.pos_service.specs.declared.display_text.Place.{Place}
 use Rattle.pos_escpos.specs.declared.settings.DisplayProtocol.{DisplayProtocol}

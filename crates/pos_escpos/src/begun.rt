@@ -7,7 +7,7 @@ use crate::statuses::{PrinterReply, automatic_status};
 
 /// The bytes of a reply that has begun.
 #[derive(Clone, Copy)]
-pub(crate) enum Begun {
+pub(crate) enum BegunReply {
     /// None has begun.
     Nothing,
     /// One byte of an automatic status.
@@ -32,11 +32,11 @@ pub(crate) enum Begun {
 
 /// What comes of the next byte.
 #[derive(Clone, Copy)]
-pub(crate) enum Next {
+pub(crate) enum ByteResult {
     /// The reply is whole.
     Whole(PrinterReply),
     /// It isn't yet.
-    More(Begun),
+    More(BegunReply),
     /// All of it is no reply.
     Broken,
 }
@@ -63,25 +63,25 @@ fn job_number(a: u8, b: u8, c: u8, d: u8) -> u16
     high + u16::from(c % 16) * 16 + u16::from(d % 16)
 }
 
-impl Begun {
+impl BegunReply {
     /// Returns how many bytes have come.
     pub fn len(self) -> u8
         ensures count { result ≡ length (bytes_begun self) }
         ensures most { result ≤ 6 }
     {
         match self {
-            Begun::Nothing => 0,
-            Begun::Status1(_) | Begun::Job1 => 1,
-            Begun::Status2(_, _) | Begun::Job2 => 2,
-            Begun::Status3(_, _, _) | Begun::Job3(_) => 3,
-            Begun::Job4(_, _) => 4,
-            Begun::Job5(_, _, _) => 5,
-            Begun::Job6(_, _, _, _) => 6,
+            BegunReply::Nothing => 0,
+            BegunReply::Status1(_) | BegunReply::Job1 => 1,
+            BegunReply::Status2(_, _) | BegunReply::Job2 => 2,
+            BegunReply::Status3(_, _, _) | BegunReply::Job3(_) => 3,
+            BegunReply::Job4(_, _) => 4,
+            BegunReply::Job5(_, _, _) => 5,
+            BegunReply::Job6(_, _, _, _) => 6,
         }
     }
 
     /// Returns what comes of the next byte of an automatic status.
-    pub fn with_status_byte(self, byte: u8) -> Next
+    pub fn with_status_byte(self, byte: u8) -> ByteResult
         requires begun { is_begun self ≡ true }
         requires status { is_status_begun self ≡ true }
         ensures next { (reader : Reader) →
@@ -89,37 +89,41 @@ impl Begun {
         ensures begun { is_begun_next result ≡ true }
     {
         if !is_plain(byte) {
-            return Next::Broken;
+            return ByteResult::Broken;
         }
         match self {
-            Begun::Status1(a) => Next::More(Begun::Status2(a, byte)),
-            Begun::Status2(a, b) => Next::More(Begun::Status3(a, b, byte)),
-            Begun::Status3(a, b, c) => {
-                Next::Whole(PrinterReply::Automatic(automatic_status(a, b, c)))
+            BegunReply::Status1(a) => ByteResult::More(BegunReply::Status2(a, byte)),
+            BegunReply::Status2(a, b) => ByteResult::More(BegunReply::Status3(a, b, byte)),
+            BegunReply::Status3(a, b, c) => {
+                ByteResult::Whole(PrinterReply::Automatic(automatic_status(a, b, c)))
             }
-            _ => Next::Broken,
+            _ => ByteResult::Broken,
         }
     }
 
     /// Returns what comes of the next byte of an acknowledgement.
-    pub fn with_job_byte(self, byte: u8) -> Next
+    pub fn with_job_byte(self, byte: u8) -> ByteResult
         requires job { is_job_begun self ≡ true }
         ensures next { (reader : Reader) →
             step_by (bytes_begun self) result reader ≡ later_received (bytes_begun self) byte reader }
         ensures begun { is_begun_next result ≡ true }
     {
         match self {
-            Begun::Job1 if byte == 0x22 => Next::More(Begun::Job2),
-            Begun::Job2 if is_job_character(byte) => Next::More(Begun::Job3(byte)),
-            Begun::Job3(a) if is_job_character(byte) => Next::More(Begun::Job4(a, byte)),
-            Begun::Job4(a, b) if is_job_character(byte) => Next::More(Begun::Job5(a, b, byte)),
-            Begun::Job5(a, b, c) if is_job_character(byte) => {
-                Next::More(Begun::Job6(a, b, c, byte))
+            BegunReply::Job1 if byte == 0x22 => ByteResult::More(BegunReply::Job2),
+            BegunReply::Job2 if is_job_character(byte) => ByteResult::More(BegunReply::Job3(byte)),
+            BegunReply::Job3(a) if is_job_character(byte) => ByteResult::More(BegunReply::Job4(
+                a, byte,
+            )),
+            BegunReply::Job4(a, b) if is_job_character(byte) => ByteResult::More(BegunReply::Job5(
+                a, b, byte,
+            )),
+            BegunReply::Job5(a, b, c) if is_job_character(byte) => {
+                ByteResult::More(BegunReply::Job6(a, b, c, byte))
             }
-            Begun::Job6(a, b, c, d) if byte == 0 => {
-                Next::Whole(PrinterReply::JobDone(job_number(a, b, c, d)))
+            BegunReply::Job6(a, b, c, d) if byte == 0 => {
+                ByteResult::Whole(PrinterReply::JobDone(job_number(a, b, c, d)))
             }
-            _ => Next::Broken,
+            _ => ByteResult::Broken,
         }
     }
 }

@@ -3,7 +3,7 @@ ghost use Rattle.std.specs.Prelude.{◌≡◌, ℕ, List, ◌++◌, ◌+◌, ◌
 ghost use Rattle.std.specs.Vec.{vec_capacity};
 ghost use Rattle.pos_escpos.specs.Replies.{replies_before};
 
-use crate::begun::{Begun, Next, is_plain};
+use crate::begun::{BegunReply, ByteResult, is_plain};
 use crate::printer_commands::{NowStatus, OrderStatus};
 use crate::statuses::{PrinterReply, Received, now_status, order_status};
 use std::alloc::{AllocError, Global};
@@ -17,7 +17,7 @@ use std::marker::Model;
 pub struct ReplyReader {
     asked_now: Option<NowStatus>,
     asked_in_order: Option<OrderStatus>,
-    begun: Begun,
+    begun: BegunReply,
 }
 
 impl Model for ReplyReader {
@@ -61,7 +61,7 @@ impl ReplyReader {
         ReplyReader {
             asked_now: None,
             asked_in_order: None,
-            begun: Begun::Nothing,
+            begun: BegunReply::Nothing,
         }
     }
 
@@ -106,7 +106,7 @@ impl ReplyReader {
         ensures reader { self.new ≡ record self.old { begun = [] } }
     {
         let count = self.begun.len();
-        self.begun = Begun::Nothing;
+        self.begun = BegunReply::Nothing;
         count
     }
 
@@ -116,7 +116,7 @@ impl ReplyReader {
         ensures { (begun : List ℕ) → skipped ≡ length begun →
             step_of result self.new ≡ now_received self.old.asked_now begun byte (idle self.old) }
     {
-        self.begun = Begun::Nothing;
+        self.begun = BegunReply::Nothing;
         let Some(asked) = self.asked_now else {
             return Received {
                 skipped: skipped + 1,
@@ -136,20 +136,20 @@ impl ReplyReader {
     {
         let skipped = self.begun.len();
         if byte & 0x93 == 0x10 {
-            self.begun = Begun::Status1(byte);
+            self.begun = BegunReply::Status1(byte);
             return Received {
                 skipped,
                 reply: None,
             };
         }
         if byte == 0x37 {
-            self.begun = Begun::Job1;
+            self.begun = BegunReply::Job1;
             return Received {
                 skipped,
                 reply: None,
             };
         }
-        self.begun = Begun::Nothing;
+        self.begun = BegunReply::Nothing;
         if byte & 0x93 == 0x12 {
             return self.take_now(skipped, byte);
         }
@@ -180,25 +180,25 @@ impl ReplyReader {
     }
 
     /// Takes what comes of a byte behind a reply that has begun.
-    fn take_next(&mut self, next: Next) -> Received
+    fn take_next(&mut self, next: ByteResult) -> Received
         requires { is_begun_next next ≡ true }
         ensures { step_of result self.new ≡ step_by self.old.begun next self.old }
     {
         let count = self.begun.len();
-        self.begun = Begun::Nothing;
+        self.begun = BegunReply::Nothing;
         match next {
-            Next::Whole(reply) => Received {
+            ByteResult::Whole(reply) => Received {
                 skipped: 0,
                 reply: Some(reply),
             },
-            Next::More(begun) => {
+            ByteResult::More(begun) => {
                 self.begun = begun;
                 Received {
                     skipped: 0,
                     reply: None,
                 }
             }
-            Next::Broken => Received {
+            ByteResult::Broken => Received {
                 skipped: count + 1,
                 reply: None,
             },
@@ -210,8 +210,8 @@ impl ReplyReader {
         ensures { step_of result self.new ≡ later_received self.old.begun byte self.old }
     {
         match self.begun {
-            Begun::Nothing => self.take_lone(byte),
-            Begun::Status1(_) | Begun::Status2(_, _) | Begun::Status3(_, _, _) => {
+            BegunReply::Nothing => self.take_lone(byte),
+            BegunReply::Status1(_) | BegunReply::Status2(_, _) | BegunReply::Status3(_, _, _) => {
                 self.take_next(self.begun.with_status_byte(byte))
             }
             _ => self.take_next(self.begun.with_job_byte(byte)),

@@ -1,5 +1,5 @@
 pub mod Common
-pub mod OthersLemmas
+pub mod ImmediateLemmas
 pub mod EnqueueLemmas
 pub mod DataCountLemmas
 pub mod ClearLemmas

@@ -8,8 +8,8 @@
 //! event is lost.
 #![tactic(auto)]
 
-mod others;
+mod immediate;
+mod immediate_event;
 mod queue;
-mod told;
 
 pub use queue::{Delivery, EventQueue};

@@ -2,12 +2,12 @@
 ghost use Rattle.std.specs.Prelude.{◌≡◌, ◌≤◌, ◌<◌, OnOk, OnErr, ◌+◌, true, false, is_some, option_map};
 ghost use Rattle.pos_service.specs.Events.{no_events, data_count, Status, Error, Complete, enqueued, scanned, input_failed, deliverable, delivered, split, left_by, after_reply, input_error, clears_input, input_cleared, output_cleared};
 ghost use Rattle.pos_service.specs.declared.event.Locus.TheVariants as locus;
-ghost use Rattle.pos_events.specs.QueueParts.{told_event};
+ghost use Rattle.pos_events.specs.QueueParts.{event_of_immediate};
 ghost use Rattle.pos_events.specs.Queue.{delivery_of};
 ghost use Rattle.pos_events.specs.Waiting.{first_waiting};
 
-use crate::others::Others;
-use crate::told::Told;
+use crate::immediate::ImmediateEvents;
+use crate::immediate_event::ImmediateEvent;
 use pos_service::{Code, ErrorReply, Event, Locus, NoMemory, Scan};
 use std::alloc::Global;
 use std::collections::VecDeque;
@@ -20,7 +20,7 @@ pub struct EventQueue {
     /// Of the DataEvents.
     scans: VecDeque<Scan>,
     /// The events that don't wait, in their places.
-    others: Others,
+    immediate: ImmediateEvents,
     /// Whether EL_INPUT_DATA is held: it is directly before the first DataEvent, and isn't counted.
     input_data: bool,
     /// Whether the control is in the input error state, and so EL_INPUT is held: it is the last of the waiting events.
@@ -37,13 +37,13 @@ impl Model for EventQueue {
     ghost use Rattle.pos_events.specs.QueueParts.{Fits, list_of};
 
     ghost view = { λ a. record {
-      list = list_of a.input_data a.in_error a.scans.items a.others.events.items;
+      list = list_of a.input_data a.in_error a.scans.items a.immediate.events.items;
       spare = min
           (deque_capacity a.scans - deque_len a.scans)
-          (deque_capacity a.others.events - deque_len a.others.events);
+          (deque_capacity a.immediate.events - deque_len a.immediate.events);
     } };
 
-    ghost invariant = { λ a. Fits a.input_data a.in_error a.scans.items a.others.events.items a.others.behind };
+    ghost invariant = { λ a. Fits a.input_data a.in_error a.scans.items a.immediate.events.items a.immediate.behind };
 }
 
 impl EventQueue {
@@ -53,7 +53,7 @@ impl EventQueue {
     {
         EventQueue {
             scans: VecDeque::new(alloc),
-            others: Others::new(alloc),
+            immediate: ImmediateEvents::new(alloc),
             input_data: false,
             in_error: false,
         }
@@ -71,7 +71,7 @@ impl EventQueue {
         ensures same { self.new.list ≡ self.old.list }
     {
         self.scans.reserve(count)?;
-        self.others.events.reserve(count)?;
+        self.immediate.events.reserve(count)?;
         Ok(())
     }
 
@@ -98,7 +98,7 @@ impl EventQueue {
         ensures enqueued { self.new.list ≡ enqueued (Status code) self.old.list }
         ensures room { self.old.spare ≤ self.new.spare + 1 }
     {
-        self.enqueue(Told::Status(code));
+        self.enqueue(ImmediateEvent::Status(code));
     }
 
     /// A scan has come: a DataEvent is enqueued, but not in the input error state (common chapter).
@@ -111,7 +111,7 @@ impl EventQueue {
     {
         if !self.in_error {
             self.scans.push_back_reserved(scan);
-            self.others.behind += 1;
+            self.immediate.behind += 1;
         }
     }
 
@@ -127,7 +127,7 @@ impl EventQueue {
         if self.in_error {
             return;
         }
-        self.others.behind += 1;
+        self.immediate.behind += 1;
         self.in_error = true;
         self.input_data = !self.scans.is_empty();
     }
@@ -139,7 +139,7 @@ impl EventQueue {
         ensures enqueued { self.new.list ≡ enqueued (Error code extended locus.Output) self.old.list }
         ensures room { self.old.spare ≤ self.new.spare + 1 }
     {
-        self.enqueue(Told::OutputError(code, extended));
+        self.enqueue(ImmediateEvent::OutputError(code, extended));
     }
 
     /// Enqueues an OutputCompleteEvent: the output request with this OutputID is done (common chapter).
@@ -148,17 +148,17 @@ impl EventQueue {
         ensures enqueued { self.new.list ≡ enqueued (Complete id) self.old.list }
         ensures room { self.old.spare ≤ self.new.spare + 1 }
     {
-        self.enqueue(Told::Complete(id));
+        self.enqueue(ImmediateEvent::Complete(id));
     }
 
     /// Puts an event that doesn't wait at the end.
     #[tactic(auto, using(crate::proofs::EnqueueLemmas::events_push, crate::proofs::EnqueueLemmas::fits_push))]
-    fn enqueue(&mut self, event: Told)
+    fn enqueue(&mut self, event: ImmediateEvent)
         requires { 1 ≤ self.old.spare }
-        ensures enqueued { self.new.list ≡ enqueued (told_event event) self.old.list }
+        ensures enqueued { self.new.list ≡ enqueued (event_of_immediate event) self.old.list }
         ensures room { self.old.spare ≤ self.new.spare + 1 }
     {
-        self.others.push(event);
+        self.immediate.push(event);
     }
 }
 
@@ -198,7 +198,7 @@ impl EventQueue {
     pub fn has_deliverable(&self, data_enabled: bool, frozen: bool) -> bool
         ensures { result ≡ is_some (deliverable data_enabled frozen self.now.list) }
     {
-        if !self.others.events.is_empty() {
+        if !self.immediate.events.is_empty() {
             return !frozen;
         }
         !frozen && data_enabled && (self.in_error || !self.scans.is_empty())
@@ -211,11 +211,11 @@ impl EventQueue {
         ensures rest { self.new.list ≡ record self.old.list { events = left_by false self.old.list.events } }
         ensures room { self.old.spare ≤ self.new.spare }
     {
-        let event = self.others.pop()?;
+        let event = self.immediate.pop()?;
         Some(event.delivery())
     }
 
-    /// Takes the first event, and does to the others what the reply asks.
+    /// Takes the first event, and does to the rest what the reply asks.
     #[tactic(auto, using(crate::proofs::DeliveryLemmas::first_is_input_data))]
     fn take_first(&mut self, reply: ErrorReply) -> Option<Delivery>
         ensures event { result ≡ option_map delivery_of (split true self.old.list.events).deliverable }
@@ -223,7 +223,7 @@ impl EventQueue {
             self.new.list ≡ after_reply (split true self.old.list.events).deliverable reply list }
         ensures room { self.old.spare ≤ self.new.spare }
     {
-        if self.others.before_first() == 0 {
+        if self.immediate.before_first() == 0 {
             return self.take_told();
         }
         match first_waiting(self.input_data, self.scans.is_empty()) {
@@ -241,7 +241,7 @@ impl EventQueue {
             }
             Waiting::Data => {}
         }
-        self.others.one_less();
+        self.immediate.one_less();
         let scan = self.scans.pop_front();
         Some(Delivery {
             event: Event::Data,
@@ -304,7 +304,7 @@ impl EventQueue {
         self.scans.clear();
         self.in_error = false;
         self.input_data = false;
-        self.others.forget_waiting();
+        self.immediate.forget_waiting();
     }
 
     /// Deletes the ErrorEvents of output (common chapter, clearOutput). OutputCompleteEvents stay.
@@ -313,7 +313,7 @@ impl EventQueue {
         ensures cleared { self.new.list ≡ output_cleared self.old.list }
         ensures room { self.old.spare ≤ self.new.spare }
     {
-        self.others.remove_errors();
+        self.immediate.remove_errors();
     }
 
     /// Deletes all events, and ends the input error state.
@@ -322,8 +322,8 @@ impl EventQueue {
         ensures room { self.old.spare ≤ self.new.spare }
     {
         self.scans.clear();
-        self.others.events.clear();
-        self.others.behind = 0;
+        self.immediate.events.clear();
+        self.immediate.behind = 0;
         self.input_data = false;
         self.in_error = false;
     }

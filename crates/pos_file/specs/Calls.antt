@@ -1,5 +1,5 @@
 -- What a file was asked, and what it answered.
-use Rattle.std.specs.Prelude.{ℕ, List, [], Bool, true, false, cond, ◌==◌, Option, Some, None, Result, Ok, Err}
+use Rattle.std.specs.Prelude.{ℕ, List, [], Bool, false, ◌==◌, Option, Some, None, Result, Ok, Err}
 use Rattle.std.specs.declared.fs.locks.TryLockError.{TryLockError}
 use Rattle.std.specs.declared.fs.locks.TryLockError.TheVariants as lock
 use Rattle.pos_file.specs.declared.history.CallKind.{CallKind}

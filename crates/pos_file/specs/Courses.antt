@@ -1,8 +1,7 @@
 -- What the calls of a file make of a disk, taken as the crash model takes them (docs/proofs/crashes.md, "The model of a
 -- disk").
 use Rattle.std.specs.Prelude.{◌≡◌, ◌++◌, ℕ, List, [], ◌∷◌, Bool, true, false, length, Option, Some, None}
-use Rattle.std.specs.Bool.{MatchBool}
-use Rattle.pos_disk.specs.Memory.{Memory, fresh, state_of, synced, written}
+use Rattle.pos_disk.specs.Memory.{Memory, state_of, synced, written}
 use Rattle.pos_disk.specs.State.{MayLeave, part}
 use Rattle.pos_file.specs.Calls.{Call, is_whole}
 use Rattle.pos_file.specs.declared.history.CallKind.{CallKind}

@@ -5,9 +5,9 @@ use Rattle.std.specs.declared.fs.locks.TryLockError.{TryLockError}
 use Rattle.pos_disk.specs.State.{Answer}
 use Rattle.pos_disk.specs.Unkept.{is_fault, unknown_state}
 use Rattle.pos_disk.specs.declared.device.Disk.{Ghosts}
-use Rattle.pos_disk.specs.declared.device.DiskFault.{DiskFault}
 use Rattle.pos_file.specs.Answers.{answer_of, lock_fault, synced_of}
-use Rattle.pos_file.specs.Calls.{Call, lock_call, measure_call, read_call, resize_call, share_call, sync_call, write_call}
+use Rattle.pos_file.specs.Calls.{Call, lock_call, measure_call, read_call, resize_call, share_call, sync_call}
+use Rattle.pos_file.specs.Calls.{write_call}
 use Rattle.pos_file.specs.declared.fault.DiskFileFault.{DiskFileFault}
 use Rattle.pos_file.specs.declared.fault.DiskFileFault.TheVariants as fault
 use Rattle.pos_file.specs.declared.file_disk.FileDisk.{FileDisk}

@@ -1,11 +1,13 @@
 -- The log span of the current slot.
-use Rattle.pos_image.proofs.Common.{HasImage, HasNewImage, IsCurrent, List, Slot, Stages, ap, arith, get_or, get_or-part, kept_part, layout_of, log_in, log_of}
-use Rattle.pos_image.proofs.Common.{log_place, log_size, refl, start, ℕ, ◌+◌, ◌∙◌, ◌≡◌}
+use Rattle.pos_image.proofs.Common.{HasImage, HasNewImage, IsCurrent, List, Slot, Stages, ap, arith, get_or}
+use Rattle.pos_image.proofs.Common.{get_or-part, kept_part, layout_of, log_in, log_of, log_place, log_size, refl, start}
+use Rattle.pos_image.proofs.Common.{ℕ, ◌+◌, ◌∙◌, ◌≡◌}
 use Rattle.pos_image.proofs.CurrentImageLemmas.{current_chosen, current_stands, stage_current}
 use Rattle.pos_image.proofs.PlaceLemmas.{IsApart, places}
 
 -- the log lies behind the current image
-pub log_here : {slot : Slot} {bytes body : List ℕ} {sequence : ℕ} → IsCurrent bytes slot body sequence → log_of bytes ≡ log_in bytes slot
+pub log_here : {slot : Slot} {bytes body : List ℕ} {sequence : ℕ} → IsCurrent bytes slot body sequence
+    → log_of bytes ≡ log_in bytes slot
 unfolding log_of
 log_here {bytes = bytes} current = ap (log_in bytes) (current_chosen current).place
 
@@ -15,13 +17,15 @@ pub image_here : {slot : Slot} {bytes body : List ℕ} {sequence : ℕ} → IsCu
 image_here current = record { image = current_stands current; log = refl }
 
 -- what happens to another slot leaves the log
-pub kept_image : {slot target : Slot} {old new body : List ℕ} {sequence : ℕ} → IsApart slot target → IsCurrent old slot body sequence
+pub kept_image : {slot target : Slot} {old new body : List ℕ} {sequence : ℕ} → IsApart slot target
+    → IsCurrent old slot body sequence
     → Stages target old new → HasImage (layout_of slot) body sequence (log_of old) new
 kept_image {slot = slot} apart was stages =
     let is = stage_current apart was stages in
     let here = places slot in
     let whole = was.whole in
-    let log = kept_part stages.same (start slot + log_place (layout_of slot)) (log_size (layout_of slot)) (omega arith) (omega arith) in
+    let log = kept_part stages.same (start slot + log_place (layout_of slot)) (log_size (layout_of slot)) (omega arith)
+    (omega arith) in
     grind (arith, current_stands is, log_here is, log_here was)
 
 -- a new image, whose log has 0 in its first gate

@@ -1,17 +1,21 @@
 -- What formatting leaves.
-use Rattle.pos_image.proofs.Common.{First, GATES, HasClosedGates, HasFields, IsCurrent, IsNewDisk, List, SameBut, [], ap, arith, cases_lt, get_or, is_open}
-use Rattle.pos_image.proofs.Common.{length, no_files, part, part-part, part-splice, splice, true, ℕ, ◌<◌, ◌∙◌, ◌∷◌, ◌≡◌, ◌≤◌}
+use Rattle.pos_image.proofs.Common.{First, GATES, HasClosedGates, HasFields, IsCurrent, IsNewDisk, List, SameBut, []}
+use Rattle.pos_image.proofs.Common.{ap, arith, cases_lt, get_or, is_open, length, no_files, part, part-part}
+use Rattle.pos_image.proofs.Common.{part-splice, splice, true, ℕ, ◌<◌, ◌∙◌, ◌∷◌, ◌≡◌, ◌≤◌}
 use Rattle.pos_image.proofs.ChangeLemmas.{opened_gate}
 use Rattle.pos_image.proofs.CurrentImageLemmas.{HasBody, first_here, kept_body}
 use Rattle.pos_image.proofs.FieldLemmas.{fields}
 use Rattle.pos_image.proofs.LogLemmas.{new_image}
 
 -- a gate stays 0 while 0 is written to another one, or to itself
-pub stays_closed : (old new : List ℕ) (at place : ℕ) → SameBut at 1 old new → get_or new at 0 ≡ 0 → get_or old place 0 ≡ 0 → get_or new place 0 ≡ 0
+pub stays_closed : (old new : List ℕ) (at place : ℕ) → SameBut at 1 old new → get_or new at 0 ≡ 0
+    → get_or old place 0 ≡ 0 → get_or new place 0 ≡ 0
 stays_closed old new at place same shut was = grind (arith, same.elsewhere place, cases_lt place at, cases_lt at place)
 
-module _ (closed mid new : List ℕ) (large : 327680 ≤ length closed) (gates : (k : ℕ) → k < 6 → get_or closed (get_or GATES k 0) 0 ≡ 0)
-    (image : mid ≡ splice closed 1 (0 ∷ 0 ∷ 0 ∷ 0 ∷ 0 ∷ 0 ∷ 0 ∷ 1 ∷ 0 ∷ 0 ∷ 0 ∷ 2 ∷ 0 ∷ 0 ∷ [])) (same : SameBut 1 14 closed mid)
+module _ (closed mid new : List ℕ) (large : 327680 ≤ length closed)
+    (gates : (k : ℕ) → k < 6 → get_or closed (get_or GATES k 0) 0 ≡ 0)
+    (image : mid ≡ splice closed 1 (0 ∷ 0 ∷ 0 ∷ 0 ∷ 0 ∷ 0 ∷ 0 ∷ 1 ∷ 0 ∷ 0 ∷ 0 ∷ 2 ∷ 0 ∷ 0 ∷ []))
+    (same : SameBut 1 14 closed mid)
     (gate : new ≡ splice mid 0 (165 ∷ [])) where
   long : 327680 ≤ length mid
   long = omega (arith, same.same_length, large)

@@ -1,6 +1,6 @@
 -- Where slots and their fields lie.
-use Rattle.pos_image.proofs.Common.{First, Fourth, IsBeside, Layout, Prepared, Second, Slot, Third, arith, layout_of, log_place, log_size, longest, other}
-use Rattle.pos_image.proofs.Common.{slot_size, start, ℕ, ◌+◌, ◌<◌, ◌≡◌, ◌≤◌, ◌⊎◌}
+use Rattle.pos_image.proofs.Common.{First, Fourth, IsBeside, Layout, Prepared, Second, Slot, Third, arith, layout_of}
+use Rattle.pos_image.proofs.Common.{log_place, log_size, longest, other, slot_size, start, ℕ, ◌+◌, ◌<◌, ◌≡◌, ◌≤◌, ◌⊎◌}
 
 -- In a slot the log follows the longest body, up to the end of the slot, which is on the disk.
 pub record HasPlaces (slot : Slot) : Type 0 where

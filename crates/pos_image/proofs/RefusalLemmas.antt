@@ -1,6 +1,7 @@
 -- The bytes on which no image is found.
-use Rattle.pos_image.proofs.Common.{DamagedImage, HasHeads, Head, Layout, List, NoImage, Slot, arith, false, first_of, image_on, is_open, layout_of, layout_on}
-use Rattle.pos_image.proofs.Common.{length, length_at, longest, lt-leb, lt-ltb, nat_tests, other, sequence_at, start, true, ℕ, ◌<◌, ◌∙◌, ◌≡◌, ◌≤◌}
+use Rattle.pos_image.proofs.Common.{DamagedImage, HasHeads, Head, Layout, List, NoImage, Slot, arith, false, first_of}
+use Rattle.pos_image.proofs.Common.{image_on, is_open, layout_of, layout_on, length, length_at, longest, lt-leb, lt-ltb}
+use Rattle.pos_image.proofs.Common.{nat_tests, other, sequence_at, start, true, ℕ, ◌<◌, ◌∙◌, ◌≡◌, ◌≤◌}
 use Rattle.pos_image.proofs.CurrentImageLemmas.{chosen, chosen_stands}
 use Rattle.pos_image.proofs.PlaceLemmas.{same_layout}
 
@@ -10,11 +11,14 @@ unfolding image_on
 short_stands bytes short = rw (lt-ltb (length bytes) 327680 short)
 
 -- an open slot has too long a body, and the one beside it is closed or has the lesser sequence: damage
-long_found : (bytes : List ℕ) (slot : Slot) → 327680 ≤ length bytes → layout_on bytes ≡ layout_of slot → is_open bytes (start slot) ≡ true
-    → (is_open bytes (start (other slot)) ≡ true → sequence_at bytes (start (other slot)) < sequence_at bytes (start slot))
+long_found : (bytes : List ℕ) (slot : Slot) → 327680 ≤ length bytes → layout_on bytes ≡ layout_of slot
+    → is_open bytes (start slot) ≡ true
+    → (is_open bytes (start (other slot)) ≡ true
+    → sequence_at bytes (start (other slot)) < sequence_at bytes (start slot))
     → longest (layout_of slot) < length_at bytes (start slot) → image_on bytes ≡ DamagedImage
 long_found bytes slot whole layout here lesser over =
-    chosen_stands bytes slot whole (chosen bytes slot layout here lesser) ∙ rw (lt-leb (length_at bytes (start slot)) (longest (layout_of slot)) over)
+    chosen_stands bytes slot whole (chosen bytes slot layout here lesser)
+    ∙ rw (lt-leb (length_at bytes (start slot)) (longest (layout_of slot)) over)
 
 -- what the heads of both slots say
 module _ {bytes : List ℕ} {layout : Layout} {first second : Head} (heads : HasHeads bytes layout first second) where
@@ -24,12 +28,14 @@ module _ {bytes : List ℕ} {layout : Layout} {first second : Head} (heads : Has
   none_found shut shut_too = grind (arith, nat_tests)
 
   -- both gates are open with one sequence: damage
-  pub tie_found : first.gate ≡ true → second.gate ≡ true → first.sequence ≡ second.sequence → image_on bytes ≡ DamagedImage
+  pub tie_found : first.gate ≡ true → second.gate ≡ true → first.sequence ≡ second.sequence
+      → image_on bytes ≡ DamagedImage
   unfolding image_on
   tie_found one two tie = grind (arith, true, nat_tests)
 
   -- the first slot has too long a body
-  pub first_long : first.gate ≡ true → (second.gate ≡ true → second.sequence < first.sequence) → longest (layout_of (first_of layout)) < first.length
+  pub first_long : first.gate ≡ true → (second.gate ≡ true → second.sequence < first.sequence)
+      → longest (layout_of (first_of layout)) < first.length
       → image_on bytes ≡ DamagedImage
   first_long opened lesser over = grind (arith, long_found)
 

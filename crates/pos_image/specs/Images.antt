@@ -7,8 +7,8 @@ use Rattle.pos_disk.specs.declared.device.Disk.{Ghosts}
 use Rattle.pos_image.specs.Layout.{disk_size, log_place, longest, start, other, layout_of}
 use Rattle.pos_image.specs.DiskCalls.{Keeps, ClosesGate, KeepsBeside}
 use Rattle.pos_image.specs.Slots.{IsCurrent, IsPrepared}
-use Rattle.pos_image.specs.Standing.{HasImage, HasNewImage, ShowsImage, NoImage, DamagedImage}
-use Rattle.pos_image.specs.Standing.{image_on, is_marked, log_of}
+use Rattle.pos_image.specs.Standing.{HasImage, HasNewImage, ShowsImage, NoImage, DamagedImage, image_on, is_marked}
+use Rattle.pos_image.specs.Standing.{log_of}
 use Rattle.pos_image.specs.declared.fault.ImageFault.{ImageFault}
 use Rattle.pos_image.specs.declared.fault.ImageFault.TheVariants as fault
 use Rattle.pos_image.specs.declared.layout.Layout.TheVariants.{Layout1}

@@ -1,6 +1,6 @@
 -- What image the bytes of a disk hold.
-use Rattle.std.specs.Prelude.{◌≡◌, ◌+◌, ℕ, List, length, get_or, nat_lt, nat_le, nat_eq}
-use Rattle.std.specs.Prelude.{Bool, not, ◌&&◌, ◌||◌, if◌then◌else◌}
+use Rattle.std.specs.Prelude.{◌≡◌, ◌+◌, ℕ, List, length, get_or, nat_lt, nat_le, nat_eq, Bool, not, ◌&&◌, ◌||◌}
+use Rattle.std.specs.Prelude.{if◌then◌else◌}
 use Rattle.pos_disk.specs.State.{DiskState, IsAtRest, part}
 use Rattle.pos_image.specs.Layout.{disk_size, longest, log_place, log_size, start, other, first_of, layout_of}
 use Rattle.pos_image.specs.Layout.{layout_on, is_open, is_migrated, sequence_at, length_at, body_at}

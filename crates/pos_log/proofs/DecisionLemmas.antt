@@ -1,7 +1,8 @@
 -- Whether a span holds records is decided by reading them.
-use Rattle.pos_log.proofs.Common.{BeginsWith, HasLength, HoldsSome, List, [], ap, arith, cases_Bool, cases_lt, from_be_bytes, from_be_bytes-to_be_bytes_4}
-use Rattle.pos_log.proofs.Common.{get_or, inl, inr, length, nat_eq, not_from_Decides, part, refl, subst, suc, sym, w32, zero, ℕ, ⊎_elim, ◌++◌, ◌+◌, ◌<◌, ◌∙◌}
-use Rattle.pos_log.proofs.Common.{◌∷◌, ◌≡◌, ◌≤◌, ◌⊎◌}
+use Rattle.pos_log.proofs.Common.{BeginsWith, HasLength, HoldsSome, List, [], ap, arith, cases_Bool, cases_lt}
+use Rattle.pos_log.proofs.Common.{from_be_bytes, from_be_bytes-to_be_bytes_4, get_or, inl, inr, length, nat_eq}
+use Rattle.pos_log.proofs.Common.{not_from_Decides, part, refl, subst, suc, sym, w32, zero, ℕ, ⊎_elim, ◌++◌, ◌+◌, ◌<◌}
+use Rattle.pos_log.proofs.Common.{◌∙◌, ◌∷◌, ◌≡◌, ◌≤◌, ◌⊎◌}
 use Rattle.std.proofs.lemmas.Slice.Eq.{bytes_eq-Decides}
 use Rattle.pos_log.proofs.RecordLemmas.{all_read, begins_more, open_byte}
 use Rattle.pos_log.proofs.ReadLemmas.{begins, none_held}
@@ -22,7 +23,8 @@ length_or_none span at = ⊎_elim
     (has_or_not span at (from_be_bytes w32 (part (at + 1) 4 span)))
 
 -- reading on from a place
-read_on : (left : ℕ) (groups : List (List ℕ)) (at : ℕ) (span : List ℕ) → BeginsWith groups at span → length span ≤ at + left
+read_on : (left : ℕ) (groups : List (List ℕ)) (at : ℕ) (span : List ℕ) → BeginsWith groups at span
+    → length span ≤ at + left
     → HoldsSome span ⊎ (HoldsSome span → ⊥)
 read_on zero groups at span begins end = absurd (let inside = begins.inside in omega arith)
 read_on (suc left) groups at span begins end =

@@ -1,6 +1,7 @@
 -- The records that a span begins with, as they are read.
-use Rattle.pos_log.proofs.Common.{AllByRecursion, BeginsWith, HasLength, HoldsSome, IsShort, List, [], ap, append-nil, arith, drop, drop-drop, false, get_or}
-use Rattle.pos_log.proofs.Common.{get_or-drop, length, length-append, length-drop, nat_eq, nat_tests, part, record_spelling, refl, spelling, suc, sym, take}
+use Rattle.pos_log.proofs.Common.{AllByRecursion, BeginsWith, HasLength, HoldsSome, IsShort, List, [], ap, append-nil}
+use Rattle.pos_log.proofs.Common.{arith, drop, drop-drop, false, get_or, get_or-drop, length, length-append}
+use Rattle.pos_log.proofs.Common.{length-drop, nat_eq, nat_tests, part, record_spelling, refl, spelling, suc, sym, take}
 use Rattle.pos_log.proofs.Common.{take-append-drop, take_at, ℕ, ◌++◌, ◌<◌, ◌∙◌, ◌∷◌, ◌≡◌}
 use Rattle.pos_log.proofs.UniquenessLemmas.{others_follow, span_split}
 use Rattle.std.proofs.lemmas.Grind.{common_steps}
@@ -9,7 +10,8 @@ use Rattle.std.proofs.lemmas.Grind.{common_steps}
 pub begins : (span : List ℕ) → 0 < length span → BeginsWith [] 0 span
 begins span some = record { short = tt; end_is = refl; front = refl; inside = some }
 
-refused : (others : List (List ℕ)) (at : ℕ) (span : List ℕ) (gate : ℕ) (behind : List ℕ) → at < length span → AllByRecursion IsShort others
+refused : (others : List (List ℕ)) (at : ℕ) (span : List ℕ) (gate : ℕ) (behind : List ℕ) → at < length span
+    → AllByRecursion IsShort others
     → drop at span ≡ spelling others ++ gate ∷ behind → nat_eq gate 165 ≡ false → get_or span at 0 ≡ 165
     → ((n : ℕ) → HasLength span at n → ⊥) → ⊥
 refused [] at span gate behind inside short is shut byte none = grind (arith, common_steps, nat_tests, get_or-drop)
@@ -35,4 +37,5 @@ none_held groups at span begins byte none (all, holds) =
 -- a span that was read whole
 pub whole_read : (read out items span : List ℕ) (n size : ℕ) → n ≡ size → length out ≡ size → length span ≡ size
     → read ≡ take n (out ++ drop (length out) items) → out ≡ part 0 (length out) span → read ≡ span
-whole_read read out items span n size n_is out_long span_long read_is out_is = grind (arith, common_steps, take_at, append-nil)
+whole_read read out items span n size n_is out_long span_long read_is out_is =
+    grind (arith, common_steps, take_at, append-nil)

@@ -1,6 +1,6 @@
 -- What the calls of a mirror do, in the terms of every disk.
-use Rattle.pos_disk.proofs.Common.{DiskState, Elapses, Err, HasCause, List, Ok, Reads, Result, Rises, Spoils, Syncs, Writes}
-use Rattle.pos_disk.proofs.Common.{arith, cases_lt, inl, inr, length, refl, ℕ, ⊎_elim, ◌+◌, ◌<◌, ◌^◌, ◌≡◌}
+use Rattle.pos_disk.proofs.Common.{DiskState, Elapses, Err, HasCause, List, Ok, Reads, Result, Rises, Spoils, Syncs}
+use Rattle.pos_disk.proofs.Common.{Writes, arith, cases_lt, length, refl, ℕ, ◌+◌, ◌<◌, ◌^◌, ◌≡◌}
 use Rattle.std.proofs.Common.{subst, sym}
 use Rattle.std.specs.Result.{is_err}
 use Rattle.pos_disk.specs.State.{Answer}
@@ -16,91 +16,48 @@ pub fault_is : (answer : Answer) → is_err answer ≡ is_fault answer
 fault_is (Ok x) = refl
 fault_is (Err e) = refl
 
--- no time has gone by
-pub no_time : (disk : DiskState) → Elapses disk disk
-no_time disk = record { later = omega arith; keeps = λ t bytes le left. left; nothing_else = λ t bytes le left. inl left }
-
 -- time goes on under other counts of failures
 pub time_under : {old new : DiskState} (f g : ℕ) → Elapses old new → Elapses (with_failures old f) (with_failures new g)
-time_under {new = new} f g time = record {
-  later = time.later;
-  keeps = time.keeps;
-  nothing_else = λ t bytes le left. ⊎_elim inl (λ may. inr (may_under new g bytes may)) (time.nothing_else t bytes le left);
-}
+time_under {new = new} f g time = grind (arith, may_under)
 
 -- a write leaves any bytes in its range
-pub spoils_of : {T : Type 0} {old new : DiskState} {at : ℕ} {bytes : List ℕ} {result : Result T DiskFault} → Writes old new at bytes result
+pub spoils_of : {T : Type 0} {old new : DiskState} {at : ℕ} {bytes : List ℕ} {result : Result T DiskFault}
+    → Writes old new at bytes result
     → Spoils old new at (length bytes)
-spoils_of writes = record {
-  same_length = writes.same_length;
-  elsewhere = writes.elsewhere;
-  loose = writes.loose;
-  reached = writes.reached;
-  time = writes.time;
-}
+spoils_of writes = grind arith
 
 -- one failure more is a rise
 rises : (f : ℕ) → f < 2 ^ 64 → Rises f (counted f)
-rises f last = ⊎_elim (λ below. inl (omega arith)) (λ above. inr (omega arith)) (cases_lt (f + 1) (2 ^ 64))
+rises f last = grind (arith, cases_lt (f + 1) (2 ^ 64))
 
 -- the mirror's own count has its cause
 cause_under : {T : Type 0} (old new : DiskState) (f : ℕ) (result : Result T DiskFault) → f < 2 ^ 64
     → HasCause (with_failures old f) (with_failures new (failures_after f result)) result
-cause_under old new f (Ok x) last = record { later = omega arith; last = last; rises = tt; same = refl }
-cause_under old new f (Err e) last = record { later = omega arith; last = omega arith; rises = rises f last; same = tt }
+cause_under old new f (Ok x) last = grind arith
+cause_under old new f (Err e) last = grind (arith, rises)
 
 module _ {T : Type 0} {old new : DiskState} (f : ℕ) (last : f < 2 ^ 64) where
   -- a read from memory
-  pub reads_under : (at : ℕ) (out : List ℕ) (result : Result T DiskFault) (x : T) → result ≡ Ok x → Reads old new at out result
+  pub reads_under : (at : ℕ) (out : List ℕ) (result : Result T DiskFault) (x : T) → result ≡ Ok x
+      → Reads old new at out result
       → Reads (with_failures old f) (with_failures new f) at out result
-  reads_under at out (Err e) x done reads = cc
-  reads_under at out (Ok y) x done reads = record {
-    bytes = reads.bytes;
-    reading = reads.reading;
-    loose = reads.loose;
-    still_loose = reads.still_loose;
-    time = time_under f f reads.time;
-    cause = cause_under old new f (Ok y) last;
-  }
+  reads_under at out result x done reads = grind (arith, time_under, cause_under)
 
   -- a write that succeeded below and in memory
-  pub writes_under : (at : ℕ) (bytes : List ℕ) (result : Result T DiskFault) (x : T) → result ≡ Ok x → Writes old new at bytes result
+  pub writes_under : (at : ℕ) (bytes : List ℕ) (result : Result T DiskFault) (x : T) → result ≡ Ok x
+      → Writes old new at bytes result
       → Writes (with_failures old f) (with_failures new f) at bytes result
-  writes_under at bytes (Err e) x done writes = cc
-  writes_under at bytes (Ok y) x done writes = record {
-    written = writes.written;
-    same_length = writes.same_length;
-    elsewhere = writes.elsewhere;
-    loose = writes.loose;
-    reached = writes.reached;
-    time = time_under f f writes.time;
-    cause = cause_under old new f (Ok y) last;
-  }
+  writes_under at bytes result x done writes = grind (arith, time_under, cause_under)
 
   -- a write that failed, after which memory has any bytes in its range
   pub fails_under : (at : ℕ) (bytes : List ℕ) (e : DiskFault) → Spoils old new at (length bytes)
       → Writes {T = T} (with_failures old f) (with_failures new (counted f)) at bytes (Err e)
-  fails_under at bytes e spoils = record {
-    written = tt;
-    same_length = spoils.same_length;
-    elsewhere = spoils.elsewhere;
-    loose = spoils.loose;
-    reached = spoils.reached;
-    time = time_under f (counted f) spoils.time;
-    cause = cause_under {T = T} old new f (Err e) last;
-  }
+  fails_under at bytes e spoils = grind (arith, time_under, cause_under)
 
   -- a sync that succeeded below and in memory
   pub syncs_under : (result : Result T DiskFault) (x : T) → result ≡ Ok x → Syncs old new result
       → Syncs (with_failures old f) (with_failures new f) result
-  syncs_under (Err e) x done syncs = cc
-  syncs_under (Ok y) x done syncs = record {
-    at_rest = syncs.at_rest;
-    reading = syncs.reading;
-    loose = syncs.loose;
-    time = time_under f f syncs.time;
-    cause = cause_under old new f (Ok y) last;
-  }
+  syncs_under result x done syncs = grind (arith, time_under, cause_under)
 
 -- a crash at any moment of some calls leaves of the disk below what it may have left of the mirror
 module _ {D : Type 0} (bound : Ghosts D) (first : Mirror D) (s t : ℕ) where
@@ -108,12 +65,10 @@ module _ {D : Type 0} (bound : Ghosts D) (first : Mirror D) (s t : ℕ) where
   Goes new = bound.honest new.below × Follows (bound.state new.below) s (mirror_state new) t
 
   recounted : (old : Mirror D) (failures : ℕ) → Goes old → Goes (record old { failures = failures })
-  recounted old failures so_far = (
-    so_far.0,
-    record { later_below = so_far.1.later_below; later = so_far.1.later; leaves = so_far.1.leaves },
-  )
+  recounted old failures so_far = grind arith
 
-  pub calls_follow : (new : Mirror D) → Calls bound first new → bound.honest first.below × Follows (bound.state first.below) s (mirror_state first) t
+  pub calls_follow : (new : Mirror D) → Calls bound first new
+      → bound.honest first.below × Follows (bound.state first.below) s (mirror_state first) t
       → bound.honest new.below × Follows (bound.state new.below) s (mirror_state new) t
   calls_follow _ none begins = begins
   calls_follow _ (and_read old new at before after answer calls reads) begins =

@@ -1,5 +1,4 @@
 pub mod AskedLemmas
 mod CallLemmas
 mod MirrorLemmas
-mod ShownLemmas
 mod StepLemmas

@@ -1,29 +1,29 @@
 -- The calls of a receipt printer, and the work on the output that waits for it (chapter POS Printer, and common
 -- chapter, asynchronous output and error handling).
-use Rattle.std.specs.Prelude.{◌≡◌, ℕ, ℤ, pos, negsuc, nat_abs, Bool, false, not, ◌&&◌, ◌==◌, List, [], ◌∷◌, Option, Some, None, Result, Ok, MatchOption}
-use Rattle.std.specs.Prelude.{MatchResult, slice_get, if◌then◌else◌}
+use Rattle.std.specs.Prelude.{◌≡◌, ℕ, ℤ, pos, negsuc, nat_abs, Bool, false, not, ◌&&◌, ◌==◌, List, [], ◌∷◌, Option}
+use Rattle.std.specs.Prelude.{Some, None, Result, Ok, MatchOption, MatchResult, slice_get, if◌then◌else◌}
 use Rattle.std.specs.Option.{option_map, option_and_then}
 use Rattle.pos_service.specs.declared.answer.Answer.{Answer}
 use Rattle.pos_service.specs.declared.call.Call.{Call}
 use Rattle.pos_service.specs.declared.call.Call.TheVariants as call
 use Rattle.pos_service.specs.declared.category.Category.TheVariants as category
 use Rattle.pos_service.specs.declared.code.Code.TheVariants as code
-use Rattle.pos_service.specs.declared.deed.Change.TheVariants as change
-use Rattle.pos_service.specs.declared.deed.Deed.{Deed}
-use Rattle.pos_service.specs.declared.deed.Deed.TheVariants as deed
+use Rattle.pos_service.specs.declared.action.ControlUpdate.TheVariants as change
+use Rattle.pos_service.specs.declared.action.Action.{Action}
+use Rattle.pos_service.specs.declared.action.Action.TheVariants as action
 use Rattle.pos_service.specs.declared.kind.Kind.{Kind}
 use Rattle.pos_service.specs.declared.faults.NoMemory.{NoMemory}
 use Rattle.pos_service.specs.declared.order.Order.{Order}
 use Rattle.pos_service.specs.declared.order.Order.TheVariants as order
 use Rattle.pos_service.specs.declared.order.Reply.{Reply}
 use Rattle.pos_service.specs.declared.order.Reply.TheVariants as reply
-use Rattle.pos_service.specs.declared.answer.Worked.{Worked}
-use Rattle.pos_service.specs.declared.answer.Worked.TheVariants as worked
+use Rattle.pos_service.specs.declared.answer.WorkResult.{WorkResult}
+use Rattle.pos_service.specs.declared.answer.WorkResult.TheVariants as worked
 use Rattle.pos_service.specs.Codes.{code_by, extended_by}
 use Rattle.pos_common.specs.DueRequests.{first_request}
 use Rattle.pos_common.specs.OwnCalls.{OwnCall, OwnOrders}
 use Rattle.pos_service.specs.Controls.{Control, completed, output_failed}
-use Rattle.pos_service.specs.Deeds.{ChangesOne, GivesOne, Ordered}
+use Rattle.pos_service.specs.Actions.{ChangesOne, GivesOne, Ordered}
 use Rattle.pos_service.specs.Kinds.{is_printer}
 use Rattle.pos_service.specs.Numbers.{is_up_to}
 use Rattle.pos_service.specs.Output.{is_outstanding}
@@ -60,31 +60,33 @@ printer_rows control (call.CutPaper percentage) =
 printer_rows control asked = []
 
 -- a request: it is queued if AsyncMode is true, otherwise done at once
-abbrev pub request_of : Control → Order → Deed
-request_of control given = if control.settings.async_mode then deed.Queues given else deed.Gives given change.Nothing
+abbrev pub request_of : Control → Order → Action
+request_of control given = if control.settings.async_mode then action.Queues given
+    else action.Gives given change.Nothing
 
 -- a text is printed at once
-abbrev pub immediately : List ℕ → Deed
-immediately text = deed.Gives (order.Print text) change.Nothing
+abbrev pub immediately : List ℕ → Action
+immediately text = action.Gives (order.Print text) change.Nothing
 
 -- what each call of a control comes to
-abbrev pub printer_deed : Control → Call → Option Deed
-printer_deed control (call.PrintNormal station text) = Some (request_of control (order.Print text))
-printer_deed control (call.PrintImmediate station text) = Some (immediately text)
-printer_deed control (call.CutPaper percentage) = Some (request_of control (order.Cut (nat_abs percentage)))
-printer_deed control call.ClearOutput = Some (deed.Changes change.Output)
-printer_deed control asked = None
+abbrev pub printer_action : Control → Call → Option Action
+printer_action control (call.PrintNormal station text) = Some (request_of control (order.Print text))
+printer_action control (call.PrintImmediate station text) = Some (immediately text)
+printer_action control (call.CutPaper percentage) = Some (request_of control (order.Cut (nat_abs percentage)))
+printer_action control call.ClearOutput = Some (action.Changes change.Output)
+printer_action control asked = None
 
 -- A call of the control with a number at its printer, by the claims of all devices.
 abbrev pub PrinterCall : ℕ → List (Option ℕ) → Call → Result Answer NoMemory → Effect
 PrinterCall number claims asked outcome old before new after = MatchOption (slice_get old number) ⊥ (λ control.
-    OwnCall category.PosPrinter (printer_rows control asked) (printer_deed control asked) number claims asked outcome
+    OwnCall category.PosPrinter (printer_rows control asked) (printer_action control asked) number claims asked outcome
     control old before new after)
 
 -- how many orders the printer was given before and after it
 abbrev pub PrinterOrders : ℕ → List (Option ℕ) → Call → Result Answer NoMemory → List Control → ℕ → ℕ → Type 0
 PrinterOrders number claims asked outcome controls old new = MatchOption (slice_get controls number) ⊥ (λ control.
-    OwnOrders category.PosPrinter (printer_rows control asked) (printer_deed control asked) number claims asked outcome
+    OwnOrders category.PosPrinter (printer_rows control asked)
+    (printer_action control asked) number claims asked outcome
     control old new)
 
 -- The work on output.
@@ -109,7 +111,7 @@ due_request_at is place (Some holder) controls =
     else None
 
 -- what is reported of a request with an OutputID, by the printer's reply to its order
-abbrev pub worked_by : ℕ → Reply → Worked
+abbrev pub worked_by : ℕ → Reply → WorkResult
 worked_by id reply.Done = worked.Done id
 worked_by id said = worked.Failed (code_by said) (extended_by said)
 
@@ -120,7 +122,7 @@ after_work id said control = output_failed (code_by said) (extended_by said) con
 
 -- A request is worked on: the printer is given its order, and then it is done or has failed. So the statuses that have
 -- changed come before its OutputCompleteEvent.
-pub record WorksOn (due : DueRequest) (place : ℕ) (result : Worked)
+pub record WorksOn (due : DueRequest) (place : ℕ) (result : WorkResult)
     (old : List Control) (before : Hardware) (new : List Control) (after : Hardware) : Type 0 where
   pub said : Reply
   pub controls : List Control
@@ -129,13 +131,13 @@ pub record WorksOn (due : DueRequest) (place : ℕ) (result : Worked)
   pub answer : result ≡ worked_by due.id said
 
 -- how many orders the printer was given before and after: work on a request gives one, and idle work none
-abbrev pub OrdersOfWork : Result Worked NoMemory → ℕ → ℕ → Type 0
+abbrev pub OrdersOfWork : Result WorkResult NoMemory → ℕ → ℕ → Type 0
 OrdersOfWork (Ok worked.Idle) old new = new ≡ old
 OrdersOfWork outcome old new = GivesOne outcome old new
 
 -- Work at a place whose device this control holds: on the request that is to be done there now, if there is one.
 -- Memory is wanted only for such a request, and then nothing changes.
-abbrev pub WorksAt : Option ℕ → ℕ → Result Worked NoMemory → Effect
+abbrev pub WorksAt : Option ℕ → ℕ → Result WorkResult NoMemory → Effect
 WorksAt holder place outcome old before new after = MatchOption (due_request_at before.kind place holder old)
     ((outcome ≡ Ok worked.Idle) × SameHardware old before new after)
     (λ work. MatchResult outcome

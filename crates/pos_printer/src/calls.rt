@@ -2,17 +2,19 @@
 ghost use Rattle.std.specs.Prelude.{◌≡◌, ◌<◌, false, true, Ok, Some, length};
 ghost use Rattle.pos_service.specs.declared.category.Category.TheVariants as category;
 ghost use Rattle.pos_service.specs.Calls.{has_call};
-ghost use Rattle.pos_service.specs.Deeds.{Plans, PrintersDo};
+ghost use Rattle.pos_service.specs.Actions.{Plans, PrintersDo};
 ghost use Rattle.pos_service.specs.Kinds.{is_printer};
 ghost use Rattle.pos_service.specs.Peripherals.{PrintersTake};
 ghost use Rattle.pos_service.specs.Hardware.{StaysInService, hardware_of};
 ghost use Rattle.pos_common.specs.KeptControls.{controls_of};
-ghost use Rattle.pos_printer.specs.PrinterCalls.{PrinterCall, PrinterOrders, immediately, is_busy, is_receipt, printer_deed, printer_rows, request_of, text_rows};
+ghost use Rattle.pos_printer.specs.PrinterCalls.{PrinterCall, PrinterOrders, immediately, is_busy, is_receipt, printer_action, printer_rows, request_of, text_rows};
 
-use pos_common::{Claims, Control, carry_out};
+use pos_common::{Claims, Control, execute};
 use pos_service::numbers::{to_count, to_natural};
 use pos_service::receipt_text::is_printable;
-use pos_service::{Answer, Bytes, Call, Category, Change, Code, Deed, NoMemory, Order, Peripheral};
+use pos_service::{
+    Action, Answer, Bytes, Call, Category, Code, ControlUpdate, NoMemory, Order, Peripheral,
+};
 use std::alloc::Global;
 
 /// Does a call of the control with a number on its printer (chapter POS Printer):
@@ -61,7 +63,7 @@ pub fn call<P: Peripheral>(
         Err(code) => return Ok(Answer::Refused(code, 0)),
     };
     match plan(alloc, control, call)? {
-        Ok(deed) => carry_out(controls, caller, place, printer, deed),
+        Ok(action) => execute(controls, caller, place, printer, action),
         Err(code) => Ok(Answer::Refused(code, 0)),
     }
 }
@@ -75,16 +77,16 @@ pub fn call<P: Peripheral>(
 ///
 /// - E_ILLEGAL: the station isn't the receipt's, printers don't take the text, or the percentage isn't 0 to 100.
 /// - E_BUSY: the request is synchronous, isn't `printImmediate`, and others are queued.
-fn plan(alloc: Global, control: &Control, call: &Call) -> Result<Result<Deed, Code>, NoMemory>
+fn plan(alloc: Global, control: &Control, call: &Call) -> Result<Result<Action, Code>, NoMemory>
     requires { has_call category.PosPrinter call.now ≡ true }
-    ensures { Plans (printer_rows control.now.control call.now) (printer_deed control.now.control call.now) PrintersDo
+    ensures { Plans (printer_rows control.now.control call.now) (printer_action control.now.control call.now) PrintersDo
         call.now result }
 {
     match call {
         Call::PrintNormal(station, text) => print_normal(alloc, control, *station, text),
         Call::PrintImmediate(station, text) => print_immediate(alloc, *station, text),
         Call::CutPaper(percentage) => Ok(cut_paper(control, *percentage)),
-        Call::ClearOutput => Ok(Ok(Deed::Changes(Change::Output))),
+        Call::ClearOutput => Ok(Ok(Action::Changes(ControlUpdate::Output))),
         _ => unreachable!(),
     }
 }
@@ -99,9 +101,9 @@ fn print_normal(
     control: &Control,
     station: i128,
     text: &Bytes,
-) -> Result<Result<Deed, Code>, NoMemory>
+) -> Result<Result<Action, Code>, NoMemory>
     ensures { let asked = Call.PrintNormal station text.now in
-        Plans (printer_rows control.now.control asked) (printer_deed control.now.control asked) PrintersDo
+        Plans (printer_rows control.now.control asked) (printer_action control.now.control asked) PrintersDo
         asked result }
 {
     if !is_receipt(station) || !is_printable(text.as_slice()) {
@@ -123,7 +125,7 @@ fn print_immediate(
     alloc: Global,
     station: i128,
     text: &Bytes,
-) -> Result<Result<Deed, Code>, NoMemory>
+) -> Result<Result<Action, Code>, NoMemory>
     ensures { let asked = Call.PrintImmediate station text.now in
         Plans (text_rows station text.now) (Some (immediately text.now)) PrintersDo asked result }
 {
@@ -131,7 +133,7 @@ fn print_immediate(
         return Ok(Err(Code::Illegal));
     }
     let bytes = Bytes::from_slice(alloc, text.as_slice())?;
-    Ok(Ok(Deed::Gives(Order::Print { bytes }, Change::Nothing)))
+    Ok(Ok(Action::Gives(Order::Print { bytes }, ControlUpdate::Nothing)))
 }
 
 /// Returns what `cutPaper` comes to, with 0 to 100 percent.
@@ -139,9 +141,9 @@ fn print_immediate(
 /// # Errors
 ///
 /// E_ILLEGAL if the percentage is another one, and E_BUSY if it is synchronous and requests are queued.
-fn cut_paper(control: &Control, percentage: i128) -> Result<Deed, Code>
+fn cut_paper(control: &Control, percentage: i128) -> Result<Action, Code>
     ensures { let asked = Call.CutPaper percentage in
-        Plans (printer_rows control.now.control asked) (printer_deed control.now.control asked) PrintersDo asked
+        Plans (printer_rows control.now.control asked) (printer_action control.now.control asked) PrintersDo asked
         (Ok result) }
 {
     let Some(percentage) = to_count(percentage, 100) else {
@@ -157,15 +159,15 @@ fn cut_paper(control: &Control, percentage: i128) -> Result<Deed, Code>
 }
 
 /// Returns what a request comes to: it is queued if AsyncMode is true, otherwise done at once.
-fn request(control: &Control, order: Order) -> Deed
+fn request(control: &Control, order: Order) -> Action
     requires { PrintersTake order }
-    ensures deed { result ≡ request_of control.now.control order }
+    ensures action { result ≡ request_of control.now.control order }
     ensures fits { PrintersDo result }
 {
     if control.is_async() {
-        return Deed::Queues(order);
+        return Action::Queues(order);
     }
-    Deed::Gives(order, Change::Nothing)
+    Action::Gives(order, ControlUpdate::Nothing)
 }
 
 /// Returns whether a station is the receipt's: PTR_S_RECEIPT, 2.

@@ -13,7 +13,7 @@ ghost use Rattle.pos_common.specs.KeptControls.{controls_of};
 ghost use Rattle.pos_printer.specs.Requests.{HasRequest};
 
 use pos_common::{Claims, Control, WORK_EVENTS, hear_all, room_all};
-use pos_service::{Code, NoMemory, Peripheral, Reply, Worked};
+use pos_service::{Code, NoMemory, Peripheral, Reply, WorkResult};
 
 /// Works on the first request of the control that holds the printer at a place (common chapter, asynchronous output).
 /// It does nothing at another device, if nobody holds the printer, or if the holder is disabled. The same holds if
@@ -38,7 +38,7 @@ pub fn work<P: Peripheral>(
     place: usize,
     claims: &Claims,
     printer: &mut P,
-) -> Result<Worked, NoMemory>
+) -> Result<WorkResult, NoMemory>
     requires unparked { (P.Peripheral.state printer.old).is_parked ≡ false }
     ensures worked { let state = P.Peripheral.state in
         WorksAt (holder_at claims.now (Some place)) place result
@@ -50,13 +50,13 @@ pub fn work<P: Peripheral>(
         StaysInService (state printer.old) (state printer.new) }
 {
     if !printer.kind().is_printer() {
-        return Ok(Worked::Idle);
+        return Ok(WorkResult::Idle);
     }
     let Some(holder) = claims.holder(Some(place)) else {
-        return Ok(Worked::Idle);
+        return Ok(WorkResult::Idle);
     };
     if !has_work(controls, holder, place) {
-        return Ok(Worked::Idle);
+        return Ok(WorkResult::Idle);
     }
     room_all(controls, place, WORK_EVENTS)?;
     let old = printer.signs();
@@ -105,24 +105,24 @@ fn ask_for<P: Peripheral>(
 }
 
 /// Notes that the request that the control with a number had to be done now is done.
-fn complete(controls: &mut [Control], holder: usize) -> Worked
+fn complete(controls: &mut [Control], holder: usize) -> WorkResult
     requires within { holder < length controls.old }
     requires request { HasRequest holder controls.old }
     ensures { MatchOption (slice_get (controls_of controls.old) holder) ⊥ (λ control.
-        MatchOption (request_to_do control.writer.output) ⊥ (λ request. (result ≡ Worked.Done request.0)
+        MatchOption (request_to_do control.writer.output) ⊥ (λ request. (result ≡ WorkResult.Done request.0)
         × (controls_of controls.new ≡ slice_set (controls_of controls.old) holder (completed request.0 control)))) }
 {
-    Worked::Done(controls[holder].complete_request())
+    WorkResult::Done(controls[holder].complete_request())
 }
 
 /// Notes that the request that the control with a number had to be done now has failed.
-fn fail(controls: &mut [Control], holder: usize, code: Code, extended: u32) -> Worked
+fn fail(controls: &mut [Control], holder: usize, code: Code, extended: u32) -> WorkResult
     requires within { holder < length controls.old }
     requires request { HasRequest holder controls.old }
-    ensures said { result ≡ Worked.Failed code extended }
+    ensures said { result ≡ WorkResult.Failed code extended }
     ensures failed { MatchOption (slice_get (controls_of controls.old) holder) ⊥ (λ control.
         controls_of controls.new ≡ slice_set (controls_of controls.old) holder (output_failed code extended control)) }
 {
     controls[holder].fail_request(code, extended);
-    Worked::Failed(code, extended)
+    WorkResult::Failed(code, extended)
 }

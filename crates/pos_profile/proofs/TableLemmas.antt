@@ -1,6 +1,7 @@
 -- A table's keys and values, as the map has them and as the document's members.
-use Rattle.pos_profile.proofs.Common.{Bool, Data, Equal, Global, List, Option, Ordering, Some, String, Value, [], arith, data_of, get_member, has_only, is_some}
-use Rattle.pos_profile.proofs.Common.{items_view, keys_of, list_all, map, members_view, nat_cmp, refl, string_bytes, true, view, ℕ, ◌∷◌, ◌≡◌}
+use Rattle.pos_profile.proofs.Common.{Bool, Data, Equal, Global, List, Option, Ordering, Some, String, Value, [], arith}
+use Rattle.pos_profile.proofs.Common.{data_of, get_member, has_only, is_some, items_view, keys_of, list_all, map}
+use Rattle.pos_profile.proofs.Common.{members_view, nat_cmp, refl, string_bytes, true, view, ℕ, ◌∷◌, ◌≡◌}
 use Rattle.std.proofs.lemmas.Cmp.{nat_list_cmp_total}
 use Rattle.std.specs.Cmp.{tied_itself}
 use Rattle.std.specs.Cmp.Lexicographic.{slice_cmp}
@@ -18,11 +19,13 @@ data_of_values [] = refl
 data_of_values (value ∷ values) = cc (data_of_values values)
 
 -- what is found stays found behind one more member
-found_after : (order : Ordering) (found : Option Data) (first : Data) → is_some found ≡ true → is_some (match_ordering order found (Some first) found) ≡ true
+found_after : (order : Ordering) (found : Option Data) (first : Data) → is_some found ≡ true
+    → is_some (match_ordering order found (Some first) found) ≡ true
 found_after order found first is = grind arith
 
 -- all pass a weaker test
-all_weaken : {A : Type 0} (test weaker : A → Bool) (xs : List A) → ((x : A) → test x ≡ true → weaker x ≡ true) → list_all test xs ≡ true
+all_weaken : {A : Type 0} (test weaker : A → Bool) (xs : List A) → ((x : A) → test x ≡ true → weaker x ≡ true)
+    → list_all test xs ≡ true
     → list_all weaker xs ≡ true
 all_weaken test weaker [] weakens all = refl
 all_weaken test weaker (x ∷ xs) weakens all = grind (arith, weakens x, all_weaken test weaker xs weakens)
@@ -37,5 +40,6 @@ keys_there (entry ∷ entries) =
     rw same
     (all_weaken (λ key. is_some (get_member (string_bytes key) (members_view entries)))
     (λ key. is_some (get_member (string_bytes key) (members_view (entry ∷ entries)))) (keys_of entries)
-    (λ key is. found_after (slice_cmp nat_cmp (string_bytes key) first) (get_member (string_bytes key) (members_view entries)) (view entry.1) is)
+    (λ key is. found_after (slice_cmp nat_cmp (string_bytes key) first)
+    (get_member (string_bytes key) (members_view entries)) (view entry.1) is)
     (keys_there entries))

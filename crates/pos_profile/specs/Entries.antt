@@ -1,5 +1,6 @@
 -- The entries of a profile, each read by itself (docs/reference/profile.md).
-use Rattle.std.specs.Prelude.{◌≡◌, ℕ, List, Option, Some, None, Bool, true, false, Result, Ok, Err, option_and_then, if◌then◌else◌}
+use Rattle.std.specs.Prelude.{◌≡◌, ℕ, List, Option, Some, None, Bool, true, false, Result, Ok, Err, option_and_then}
+use Rattle.std.specs.Prelude.{if◌then◌else◌}
 use Rattle.toml.specs.Data.{Data, Members, as_table}
 use Rattle.pos_service.specs.declared.category.Category.{Category}
 use Rattle.pos_profile.specs.declared.entry.Entry.{Entry}

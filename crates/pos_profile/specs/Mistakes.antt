@@ -1,6 +1,6 @@
 -- What isn't sound in a document, and why (docs/reference/profile.md).
-use Rattle.std.specs.Prelude.{◌≡◌, ◌<◌, ◌+◌, ◌^◌, ℕ, zero, suc, List, Option, Some, None, true, false, IsSomeAnd, Result, Ok, Err, map, slice_get, take, length}
-use Rattle.std.specs.Prelude.{Vec, ⊤}
+use Rattle.std.specs.Prelude.{◌≡◌, ◌<◌, ◌+◌, ◌^◌, ℕ, zero, suc, List, Option, Some, None, true, false, IsSomeAnd}
+use Rattle.std.specs.Prelude.{Result, Ok, Err, map, slice_get, take, length, Vec, ⊤}
 use Rattle.std.specs.List.{list_any}
 use Rattle.std.specs.declared.alloc.Global.{Global}
 use Rattle.toml.specs.Data.{Data, Members, as_table, get_member}

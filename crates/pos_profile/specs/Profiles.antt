@@ -1,6 +1,6 @@
 -- What a document is as a profile (docs/reference/profile.md).
-use Rattle.std.specs.Prelude.{◌≡◌, ◌<◌, ℕ, zero, suc, List, ◌++◌, Option, Some, None, Bool, true, false, not, ◌&&◌, map, bytes_eq, slice_get, take, Result, Ok}
-use Rattle.std.specs.Prelude.{Err, ⊤}
+use Rattle.std.specs.Prelude.{◌≡◌, ◌<◌, ℕ, zero, suc, List, ◌++◌, Option, Some, None, Bool, true, false, not, ◌&&◌, map}
+use Rattle.std.specs.Prelude.{bytes_eq, slice_get, take, Result, Ok, Err, ⊤}
 use Rattle.std.specs.List.{list_any}
 use Rattle.toml.specs.Data.{Members, get_member}
 use Rattle.pos_profile.specs.declared.entry.Entry.{Entry}

@@ -1,5 +1,6 @@
 -- What contracts see of a registry: its devices in the profile's order, each with the peripheral that serves it.
-use Rattle.std.specs.Prelude.{◌≡◌, ℕ, zero, suc, All, Bool, true, false, List, [], ◌∷◌, Option, Some, None, Result, Ok, Err, IfSome, map, option_and_then, slice_get, slice_set}
+use Rattle.std.specs.Prelude.{◌≡◌, ℕ, zero, suc, All, Bool, true, false, List, [], ◌∷◌, Option, Some, None, Result, Ok}
+use Rattle.std.specs.Prelude.{Err, IfSome, map, option_and_then, slice_get, slice_set}
 use Rattle.std.specs.List.{AllByRecursion, filter_map}
 use Rattle.std.specs.Option.{option_map}
 use Rattle.pos_service.specs.declared.kind.Kind.{Kind}

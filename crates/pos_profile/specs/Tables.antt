@@ -1,7 +1,8 @@
 -- What a profile asks of a table (docs/reference/profile.md).
-use Rattle.std.specs.Prelude.{◌≡◌, ℕ, ℤ, pos, negsuc, List, [], ◌∷◌, is_some, Option, Some, None, Bool, true, false, ◌&&◌, ◌||◌, codes, nat_le, bytes_eq}
-use Rattle.std.specs.Prelude.{option_and_then, option_map, if◌then◌else◌}
-use Rattle.toml.specs.Data.{Data, Items, no_items, item, Members, no_members, member, as_array, as_bool, as_str, as_integer, get_member}
+use Rattle.std.specs.Prelude.{◌≡◌, ℕ, ℤ, pos, negsuc, List, [], ◌∷◌, is_some, Option, Some, None, Bool, true, false}
+use Rattle.std.specs.Prelude.{◌&&◌, ◌||◌, codes, nat_le, bytes_eq, option_and_then, option_map, if◌then◌else◌}
+use Rattle.toml.specs.Data.{Data, Items, no_items, item, Members, no_members, member, as_array, as_bool, as_str}
+use Rattle.toml.specs.Data.{as_integer, get_member}
 use Rattle.pos_service.specs.declared.category.Category.{Category}
 use Rattle.pos_service.specs.declared.category.Category.TheVariants.{HardTotals}
 use Rattle.pos_service.specs.Names.{is_device_name}

@@ -35,6 +35,7 @@ pub use explanation::find_mistake;
 pub use mistake::{Mistake, Place, Reason};
 pub use number::NumberKey;
 pub use optional::OptionalKey;
+pub use places::find_name;
 pub use profile::{Profile, ProfileFault};
 pub use registry::Registry;
 pub use slot::{Slot, end_all};

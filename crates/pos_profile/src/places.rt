@@ -1,16 +1,66 @@
 //! The places of a registry's devices by their names.
-ghost use Rattle.std.specs.Prelude.{◌≡◌, IfOk, OnOk, map};
-ghost use Rattle.pos_profile.specs.Places.{IsIndexOf, IsNoted, found_in};
+ghost use Rattle.std.specs.Prelude.{◌≡◌, IfOk, OnOk, bytes_eq, map};
+ghost use Rattle.pos_profile.specs.Places.{IsIndexOf, IsNoted, found_in, looked_up};
 
 use crate::plans::Planned;
 use indexmap::IndexMap;
 use pos_service::NoMemory;
 use std::alloc::Global;
+use std::cell::Cell;
 
-/// The place of each name.
+/// The place of each name, and where among them the one is that was found last.
 #[derive(Drop)]
 pub(crate) struct Places {
     places: IndexMap<Vec<u8>, usize>,
+    last: Cell<usize>,
+}
+
+/// Returns whether two names are the same. It is inlined, since names are short.
+#[inline(always)]
+fn is_same(one: &[u8], other: &[u8]) -> bool
+    ensures { result ≡ bytes_eq one.now other.now }
+{
+    if one.len() != other.len() {
+        return false;
+    }
+    for place in 0..one.len() {
+        if one[place] != other[place] {
+            return false;
+        }
+    }
+    true
+}
+
+/// Returns what a map has under a name, and keeps where it was found. It is a function of its own, since this is rare.
+#[inline(never)]
+fn look_up(numbers: &IndexMap<Vec<u8>, usize>, last: &Cell<usize>, name: &[u8]) -> Option<usize>
+    ensures { result ≡ looked_up numbers.now name.now }
+{
+    match numbers.get_full(name) {
+        Some((place, _, number)) => {
+            last.set(place);
+            Some(*number)
+        }
+        None => None,
+    }
+}
+
+/// Returns what a map has under a name. The name that was found last isn't hashed again, since a line mostly has the
+/// name of the line before.
+#[inline(always)]
+pub fn find_name(
+    numbers: &IndexMap<Vec<u8>, usize>,
+    last: &Cell<usize>,
+    name: &[u8],
+) -> Option<usize>
+    ensures { result ≡ looked_up numbers.now name.now }
+{
+    if let Some((found, number)) = numbers.get_index(last.get()) {
+        if is_same(found.as_slice(), name) {
+            return Some(*number);
+        }
+    }
+    look_up(numbers, last, name)
 }
 
 /// Notes the place of a name that has none yet.
@@ -43,13 +93,16 @@ impl Places {
         for (place, planned) in plan.iter().enumerate() {
             note(alloc, &mut places, planned.name.as_slice(), place)?;
         }
-        Ok(Places { places })
+        Ok(Places {
+            places,
+            last: Cell::new(0),
+        })
     }
 
     /// Returns the place of a name.
     pub(crate) fn find(&self, name: &[u8]) -> Option<usize>
         ensures { result ≡ found_in self.now name.now }
     {
-        self.places.get(name).copied()
+        find_name(&self.places, &self.last, name)
     }
 }

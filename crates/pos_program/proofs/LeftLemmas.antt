@@ -1,6 +1,6 @@
 -- What the calls of a file have made, once the mirror over it is at rest.
-use Rattle.std.proofs.Common.{Bool, List, [], ap, append_assoc, arith, drop, false, get_or, length, refl, replicate, subst, sym, take, true, ℕ}
-use Rattle.std.proofs.Common.{◌++◌, ◌+◌, ◌∙◌, ◌∷◌, ◌≡◌}
+use Rattle.std.proofs.Common.{Bool, List, [], ap, append_assoc, arith, drop, false, get_or, length, refl, replicate}
+use Rattle.std.proofs.Common.{subst, sym, take, true, ℕ, ◌++◌, ◌+◌, ◌∙◌, ◌∷◌, ◌≡◌}
 use Rattle.std.proofs.Math.Seq.{get_or-append_seam}
 use Rattle.std.proofs.lemmas.Grind.{common_steps}
 use Rattle.std.proofs.lemmas.List.{take-append-drop}
@@ -16,8 +16,8 @@ use Rattle.pos_mirror.specs.Mirror.{Mirror, mirror_state}
 use Rattle.pos_file.specs.Calls.{Call}
 use Rattle.pos_image.specs.NewDisk.{KeepsRest}
 use Rattle.pos_program.proofs.MirroredLemmas.{cut_left}
-use Rattle.pos_program.specs.Formatting.{IsFormatted, IsUnformatted, LeavesFormatted}
-use Rattle.pos_program.specs.Migrating.{LeavesMoved}
+use Rattle.pos_program.specs.Formats.{IsFormatted, IsUnformatted, LeavesFormatted}
+use Rattle.pos_program.specs.Migrations.{LeavesMoved}
 use Rattle.pos_store.specs.MovedDisks.{AnswersMove, AreMoved, MovesAny}
 use Rattle.pos_program.specs.MirroredFiles.{CutMayLeave, IsMirrored}
 use Rattle.pos_program.specs.TotalsDisks.{IsNewMirror}
@@ -30,9 +30,11 @@ nothing_put : {A : Type 0} (old : List A) (at : ℕ) → splice old at [] ≡ ol
 nothing_put old at = grind (arith, common_steps, take-append-drop at old)
 
 -- a place in the range of a write is loose
-loose_there : (loose : List Bool) (at : ℕ) (marks rest : List Bool) → get_or ((take at loose ++ true ∷ marks) ++ rest) (length (take at loose)) false ≡ true
+loose_there : (loose : List Bool) (at : ℕ) (marks rest : List Bool)
+    → get_or ((take at loose ++ true ∷ marks) ++ rest) (length (take at loose)) false ≡ true
 loose_there loose at marks rest =
-    ap (λ (all : List Bool). get_or all (length (take at loose)) false) (append_assoc (take at loose) (true ∷ marks) rest)
+    ap (λ (all : List Bool). get_or all (length (take at loose)) false)
+    (append_assoc (take at loose) (true ∷ marks) rest)
     ∙ get_or-append_seam (take at loose) true (marks ++ rest) false
 
 -- a disk that is at rest after a write was asked to write nothing
@@ -40,28 +42,34 @@ module _ (memory : Memory) (at : ℕ) where
   wrote_nothing : (bytes : List ℕ) → IsAtRest (state_of (written at bytes memory)) → bytes ≡ []
   wrote_nothing [] rest = refl
   wrote_nothing (byte ∷ bytes) rest =
-      absurd (rest (length (take at memory.present.loose)) (loose_there memory.present.loose at (replicate (length bytes) true)
+      absurd (rest (length (take at memory.present.loose))
+      (loose_there memory.present.loose at (replicate (length bytes) true)
       (drop (at + length (replicate (length (byte ∷ bytes)) true)) memory.present.loose)))
 
   as_before : (bytes : List ℕ) → bytes ≡ [] → (written at bytes memory).present ≡ memory.present
-  as_before bytes nothing = rw (nothing, nothing_put memory.present.reading at, nothing_put memory.present.loose at) refl
+  as_before bytes nothing = rw (nothing, nothing_put memory.present.reading at, nothing_put memory.present.loose at)
+      refl
 
 -- So what the calls of a file made is at rest if the mirror is, and has the same bytes.
-pub same_at_rest : (asked memory : Memory) → Continues asked memory → IsAtRest (state_of memory) → asked.present ≡ memory.present
+pub same_at_rest : (asked memory : Memory) → Continues asked memory → IsAtRest (state_of memory)
+    → asked.present ≡ memory.present
 same_at_rest asked _ no_more rest = refl
 same_at_rest asked _ (and_write memory at bytes so_far) rest =
     let same = as_before memory at bytes (wrote_nothing memory at bytes rest) in
-    same_at_rest asked memory so_far (λ i loose. rest i (subst (λ (now : Moment). get_or now.loose i false ≡ true) (sym same) loose)) ∙ sym same
+    same_at_rest asked memory so_far
+    (λ i loose. rest i (subst (λ (now : Moment). get_or now.loose i false ≡ true) (sym same) loose)) ∙ sym same
 
 -- no place of a new mirror is loose
 none_loose : (n i : ℕ) → ¬ (get_or (replicate n false) i false ≡ true)
 none_loose n i is = grind (arith, common_steps)
 
-module _ {F : Type 0} {calls : F → List Call} (totals after : Mirror (FileDisk F)) (new : IsNewMirror totals) (mirrored : IsMirrored calls after) where
+module _ {F : Type 0} {calls : F → List Call} (totals after : Mirror (FileDisk F)) (new : IsNewMirror totals)
+    (mirrored : IsMirrored calls after) where
   rests : IsAtRest (mirror_state totals)
   rests i loose =
       none_loose (length totals.memory.present.reading) i
-      (subst (λ (all : List Bool). get_or all i false ≡ true) (ap (λ (m : Mirror (FileDisk F)). m.memory.present.loose) new) loose)
+      (subst (λ (all : List Bool). get_or all i false ≡ true)
+      (ap (λ (m : Mirror (FileDisk F)). m.memory.present.loose) new) loose)
 
   -- a new mirror begins time
   begins : 0 ≡ (mirror_state totals).moment
@@ -73,15 +81,18 @@ module _ {F : Type 0} {calls : F → List Call} (totals after : Mirror (FileDisk
   cut_since is bytes cut = subst (λ (t : ℕ). (mirror_state after).left_since t bytes) begins (cut_left is bytes cut)
 
   -- what a crash leaves of the disk that the calls make, it leaves of the mirror, if that is at rest
-  may_after : (is : IsMirrored calls after) → IsAtRest (mirror_state after) → (bytes : List ℕ) → MayLeave (state_of is.asked) bytes
+  may_after : (is : IsMirrored calls after) → IsAtRest (mirror_state after) → (bytes : List ℕ)
+      → MayLeave (state_of is.asked) bytes
       → MayLeave (mirror_state after) bytes
   may_after is rest bytes may =
       may_under (state_of after.memory) after.failures bytes (from_moment after.memory bytes
-      (subst (λ (now : Moment). LeftAt now bytes) (same_at_rest is.asked after.memory is.continues rest) (to_moment is.asked bytes may)))
+      (subst (λ (now : Moment). LeftAt now bytes) (same_at_rest is.asked after.memory is.continues rest)
+      (to_moment is.asked bytes may)))
 
   rest_after : (is : IsMirrored calls after) → IsAtRest (mirror_state after) → IsAtRest (state_of is.asked)
   rest_after is rest i loose =
-      rest i (subst (λ (now : Moment). get_or now.loose i false ≡ true) (same_at_rest is.asked after.memory is.continues rest) loose)
+      rest i (subst (λ (now : Moment). get_or now.loose i false ≡ true)
+      (same_at_rest is.asked after.memory is.continues rest) loose)
 
   formatted_asked : IsFormatted (mirror_state totals) (mirror_state after) → (is : IsMirrored calls after)
       → IsFormatted (mirror_state totals) (state_of is.asked)
@@ -97,7 +108,8 @@ module _ {F : Type 0} {calls : F → List Call} (totals after : Mirror (FileDisk
 
   module _ (rest : KeepsRest totals.memory.present.reading after.memory.present.reading) where
     -- totals were formatted
-    pub leaves_formatted : IsFormatted (mirror_state totals) (mirror_state after) → LeavesFormatted calls totals after (Ok tt)
+    pub leaves_formatted : IsFormatted (mirror_state totals) (mirror_state after)
+        → LeavesFormatted calls totals after (Ok tt)
     leaves_formatted formatted = record {
       file = mirrored;
       answer = formatted;
@@ -119,7 +131,8 @@ module _ {F : Type 0} {calls : F → List Call} (totals after : Mirror (FileDisk
           rest_leaves (mirror_state totals) bytes rests (watches.any_moment.each bytes (cut_since is bytes cut));
     }
 
-  moved_asked : (candidates : List Standing) (outcome : Result (Unit {0}) StoreFault) → AnswersMove candidates (mirror_state totals) outcome (mirror_state after)
+  moved_asked : (candidates : List Standing) (outcome : Result (Unit {0}) StoreFault)
+      → AnswersMove candidates (mirror_state totals) outcome (mirror_state after)
       → (is : IsMirrored calls after) → OnOk outcome (AreMoved candidates (state_of is.asked))
   moved_asked candidates (Ok u) answer is = record {
     files = answer.files;
@@ -131,7 +144,8 @@ module _ {F : Type 0} {calls : F → List Call} (totals after : Mirror (FileDisk
   moved_asked candidates (Err why) answer is = tt
 
   -- totals were moved, or not
-  pub leaves_moved : (outcome : Result (Unit {0}) StoreFault) → MovesAny (mirror_state totals) (mirror_state after) outcome
+  pub leaves_moved : (outcome : Result (Unit {0}) StoreFault)
+      → MovesAny (mirror_state totals) (mirror_state after) outcome
       → LeavesMoved calls totals after outcome
   leaves_moved outcome moves = record {
     file = mirrored;

@@ -12,7 +12,7 @@ use Rattle.pos_mirror.specs.Mirror.{Mirror}
 use Rattle.pos_mirror.specs.declared.mirror.MirrorFault.{MirrorFault}
 use Rattle.pos_program.proofs.MirroredLemmas.{all_moved, unfailed}
 use Rattle.pos_program.specs.Answers.{Passes}
-use Rattle.pos_program.specs.TotalsDisks.{AreRead, MirrorsDisk, OpensDisk, TellsDisk, TellsMirror}
+use Rattle.pos_program.specs.TotalsDisks.{AreRead, MirrorsDisk, OpensDisk, ReportsDisk, ReportsMirror}
 use Rattle.pos_program.specs.declared.file_fault.FileFault.{FileFault}
 
 -- a sync that succeeded
@@ -21,15 +21,17 @@ sync_done (Some n) is = (n, refl)
 sync_done None is = cc
 
 -- one call after another
-four_calls : (none locked synced read : List Call) (lock measure sync sync' look look' : Call) → none ≡ [] → locked ≡ none ++ lock ∷ measure ∷ []
-    → synced ≡ locked ++ sync ∷ [] → read ≡ synced ++ look ∷ [] → sync ≡ sync' → look ≡ look' → read ≡ lock ∷ measure ∷ sync' ∷ look' ∷ []
+four_calls : (none locked synced read : List Call) (lock measure sync sync' look look' : Call) → none ≡ []
+    → locked ≡ none ++ lock ∷ measure ∷ []
+    → synced ≡ locked ++ sync ∷ [] → read ≡ synced ++ look ∷ [] → sync ≡ sync' → look ≡ look'
+    → read ≡ lock ∷ measure ∷ sync' ∷ look' ∷ []
 four_calls none locked synced read lock measure sync sync' look look' begins first second third same_sync same_look =
     rw (third, second, first, begins, same_sync, same_look) refl
 
 module _ {F : Type 0} (calls : F → List Call) (file : F) (disk : FileDisk F) where
   -- the disk is what was answered
   opened : (answer : Result (FileDisk F) (DiskFileFault × F)) → OpensBy share_call calls file answer
-      → Passes {E = FileFault} (λ refusal. TellsDisk refusal.0) answer (Ok disk)
+      → Passes {E = FileFault} (λ refusal. ReportsDisk refusal.0) answer (Ok disk)
       → Asks calls file disk.file (share_call (Some 1) ∷ measure_call (Some disk.size) ∷ []) × (disk.has_failed ≡ false)
   opened (Ok other) opens is = let same : disk ≡ other = cc in rw same opens
   opened (Err refusal) opens is = absurd is
@@ -37,13 +39,14 @@ module _ {F : Type 0} (calls : F → List Call) (file : F) (disk : FileDisk F) w
   -- and so is the mirror
   mirrored : (totals : Mirror (FileDisk F)) (answer : Result (Mirror (FileDisk F)) (MirrorFault × FileDisk F))
       → MirrorOpens (file_disks calls) disk (min disk.size disk_size) answer
-      → Passes {E = FileFault} (λ refusal. TellsMirror refusal.0) answer (Ok totals)
+      → Passes {E = FileFault} (λ refusal. ReportsMirror refusal.0) answer (Ok totals)
       → MirrorOpens (file_disks calls) disk (min disk.size disk_size) (Ok totals)
   mirrored totals (Ok other) opens is = let same : totals ≡ other = cc in rw same opens
   mirrored totals (Err refusal) opens is = absurd is
 
   -- the four calls
-  pub are_read : calls file ≡ [] → OpensDisk share_call calls file (Ok disk) → (result : Result (Mirror (FileDisk F)) FileFault)
+  pub are_read : calls file ≡ [] → OpensDisk share_call calls file (Ok disk)
+      → (result : Result (Mirror (FileDisk F)) FileFault)
       → MirrorsDisk (file_disks calls) disk result → IfOk result (AreRead calls)
   are_read none opens (Err why) mirrors = tt
   are_read none opens (Ok totals) mirrors =

@@ -2,7 +2,8 @@
 use Rattle.std.specs.Prelude.{◌≡◌, ◌≢◌, ◌⊎◌, List, [], Option, Some, None, true, codes, Result, Ok, Err, unwrap_or}
 use Rattle.std.specs.declared.io.ErrorKind.{ErrorKind as IoKind}
 use Rattle.std.specs.declared.io.ErrorKind.TheVariants as io
-use Rattle.clap.specs.Words.{App, IsAmong, Row, Rule, Text, fault_of, first_of, kind_of, new_app, new_rule, subcommand_of, with_rule, with_subcommand}
+use Rattle.clap.specs.Words.{App, IsAmong, Row, Rule, Text, fault_of, first_of, kind_of, new_app, new_rule}
+use Rattle.clap.specs.Words.{subcommand_of, with_rule, with_subcommand}
 use Rattle.clap.specs.Simple.{on_top}
 use Rattle.clap.specs.declared.builder.ArgAction.TheVariants.{Set}
 use Rattle.clap.specs.declared.error.Error.{Error}
@@ -77,17 +78,17 @@ Chooses words (Err (Words NotUtf8)) = ⊥
 Chooses words (Err NoMemory) = words ≢ []
 
 -- what an error of `clap` is told as: want of memory, a call for help, or itself
-abbrev pub TellsWhy : Error → ChoiceFault → Type 0
-TellsWhy error (Words Help) = kind_of error ≡ DisplayHelp
-TellsWhy error (Words (Refused told)) = (told ≡ error) × (kind_of error ≢ OutOfMemory)
-TellsWhy error (Words NotUtf8) = ⊥
-TellsWhy error NoMemory = kind_of error ≡ OutOfMemory
+abbrev pub ReportsWhy : Error → ChoiceFault → Type 0
+ReportsWhy error (Words Help) = kind_of error ≡ DisplayHelp
+ReportsWhy error (Words (Refused told)) = (told ≡ error) × (kind_of error ≢ OutOfMemory)
+ReportsWhy error (Words NotUtf8) = ⊥
+ReportsWhy error NoMemory = kind_of error ≡ OutOfMemory
 
 -- what an error of the system is told as that reads the words: want of memory, or that one of them is no UTF-8
-abbrev pub TellsUnread : IoKind → ChoiceFault → Type 0
-TellsUnread kind (Words NotUtf8) = kind ≢ io.OutOfMemory
-TellsUnread kind NoMemory = kind ≡ io.OutOfMemory
-TellsUnread kind other = ⊥
+abbrev pub ReportsUnread : IoKind → ChoiceFault → Type 0
+ReportsUnread kind (Words NotUtf8) = kind ≢ io.OutOfMemory
+ReportsUnread kind NoMemory = kind ≡ io.OutOfMemory
+ReportsUnread kind other = ⊥
 
 -- the words couldn't be read, for this reason: one is no UTF-8, or there was no memory
 abbrev pub AreUnread : ChoiceFault → Type 0

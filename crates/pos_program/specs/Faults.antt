@@ -43,13 +43,13 @@ status_of (Ok done) = 0
 status_of (Err why) = status why
 
 -- why a file can't be opened as a disk: want of memory, or what the system says
-abbrev pub TellsOpen : Error → FileFault → Type 0
-TellsOpen cause file.NoMemory = error_kind cause ≡ OutOfMemory
-TellsOpen cause (file.Open told) = (told ≡ cause) × (error_kind cause ≢ OutOfMemory)
-TellsOpen cause other = ⊥
+abbrev pub ReportsOpen : Error → FileFault → Type 0
+ReportsOpen cause file.NoMemory = error_kind cause ≡ OutOfMemory
+ReportsOpen cause (file.Open told) = (told ≡ cause) × (error_kind cause ≢ OutOfMemory)
+ReportsOpen cause other = ⊥
 
 -- why a file can't be read: want of memory, or what the system says
-abbrev pub TellsUnreadable : Error → FileFault → Type 0
-TellsUnreadable cause file.NoMemory = error_kind cause ≡ OutOfMemory
-TellsUnreadable cause (file.Unreadable told) = (told ≡ cause) × (error_kind cause ≢ OutOfMemory)
-TellsUnreadable cause other = ⊥
+abbrev pub ReportsUnreadable : Error → FileFault → Type 0
+ReportsUnreadable cause file.NoMemory = error_kind cause ≡ OutOfMemory
+ReportsUnreadable cause (file.Unreadable told) = (told ≡ cause) × (error_kind cause ≢ OutOfMemory)
+ReportsUnreadable cause other = ⊥

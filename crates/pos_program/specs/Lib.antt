@@ -1,10 +1,10 @@
 pub mod Answers
 pub mod Choices
 pub mod Faults
-pub mod Formatting
+pub mod Formats
 pub mod Locks
-pub mod Migrating
+pub mod Migrations
 pub mod MirroredFiles
-pub mod Opening
+pub mod Openings
 pub mod ProfileFiles
 pub mod TotalsDisks

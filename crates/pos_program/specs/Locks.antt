@@ -7,7 +7,7 @@ use Rattle.pos_program.specs.declared.file_fault.FileFault.{FileFault}
 use Rattle.pos_program.specs.declared.file_fault.FileFault.TheVariants as file
 
 -- why a file isn't locked: want of memory, or what the system says
-abbrev pub TellsUnlocked : Error → FileFault → Type 0
-TellsUnlocked cause file.NoMemory = error_kind cause ≡ OutOfMemory
-TellsUnlocked cause (file.Lock told) = (told ≡ cause) × (error_kind cause ≢ OutOfMemory)
-TellsUnlocked cause other = ⊥
+abbrev pub ReportsUnlocked : Error → FileFault → Type 0
+ReportsUnlocked cause file.NoMemory = error_kind cause ≡ OutOfMemory
+ReportsUnlocked cause (file.Lock told) = (told ≡ cause) × (error_kind cause ≢ OutOfMemory)
+ReportsUnlocked cause other = ⊥

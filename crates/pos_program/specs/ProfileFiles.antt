@@ -40,16 +40,16 @@ ReadsBytes bytes (Err (fault.NotUtf8 line)) = ¬ (IsUtf8 bytes) × (line ≡ lin
 ReadsBytes bytes result = IsUtf8 bytes × Reads (parse_document bytes) result
 
 -- why a file that can't be read gives no profile: want of memory, or what the system says
-abbrev pub TellsRead : Error → ProfileFileFault → Type 0
-TellsRead cause fault.NoMemory = error_kind cause ≡ OutOfMemory
-TellsRead cause (fault.Unreadable told) = (told ≡ cause) × (error_kind cause ≢ OutOfMemory)
-TellsRead cause other = ⊥
+abbrev pub ReportsRead : Error → ProfileFileFault → Type 0
+ReportsRead cause fault.NoMemory = error_kind cause ≡ OutOfMemory
+ReportsRead cause (fault.Unreadable told) = (told ≡ cause) × (error_kind cause ≢ OutOfMemory)
+ReportsRead cause other = ⊥
 
 -- what reading a file gives: what its bytes give, or why it can't be read
 abbrev pub ReadsFile : Result (List ℕ) Error → Result Contents ProfileFileFault → Type 0
 ReadsFile (Ok bytes) result = ReadsBytes bytes result
 ReadsFile (Err cause) (Ok contents) = ⊥
-ReadsFile (Err cause) (Err why) = TellsRead cause why
+ReadsFile (Err cause) (Err why) = ReportsRead cause why
 
 -- what reading the profile in the file at a path gives: what is made of what the file system answers
 abbrev pub ReadsProfile : {S F : Type 0} → Ghosts S F → S → List ℕ → Result Contents ProfileFileFault → Type 0

@@ -1,5 +1,6 @@
 -- How the disk of the totals in a file is opened (docs/reference/console.md, "The program").
-use Rattle.std.specs.Prelude.{◌≡◌, ◌∷◌, [], ℕ, List, Bool, true, false, max, min, nat_lt, Option, Some, Result, Ok, length}
+use Rattle.std.specs.Prelude.{◌≡◌, ◌∷◌, [], ℕ, List, Bool, true, false, max, min, nat_lt, Option, Some, Result, Ok}
+use Rattle.std.specs.Prelude.{length}
 use Rattle.std.specs.Bool.{MatchBool}
 use Rattle.std.specs.Fs.{new_options, with_create, with_read, with_write}
 use Rattle.std.specs.Path.{cur_dir, path_parent}
@@ -18,8 +19,8 @@ use Rattle.pos_mirror.specs.Mirror.{Mirror, mirror_of}
 use Rattle.pos_mirror.specs.declared.mirror.MirrorFault.{MirrorFault}
 use Rattle.pos_mirror.specs.declared.mirror.MirrorFault.TheVariants as mirror
 use Rattle.pos_program.specs.Answers.{AnswersFor, Passes}
-use Rattle.pos_program.specs.Faults.{TellsOpen, TellsUnreadable}
-use Rattle.pos_program.specs.Locks.{TellsUnlocked}
+use Rattle.pos_program.specs.Faults.{ReportsOpen, ReportsUnreadable}
+use Rattle.pos_program.specs.Locks.{ReportsUnlocked}
 use Rattle.pos_program.specs.declared.file_fault.FileFault.{FileFault}
 use Rattle.pos_program.specs.declared.file_fault.FileFault.TheVariants as file
 use Rattle.pos_program.specs.declared.file_system.FileSystem.{Ghosts as SystemGhosts}
@@ -54,36 +55,36 @@ SyncsFolder system them path result =
     × Passes (λ cause why. why ≡ file.Folder cause) answer result
 
 -- why a file can't serve as a disk
-abbrev pub TellsDisk : DiskFileFault → FileFault → Type 0
-TellsDisk disk.InUse result = result ≡ file.InUse
-TellsDisk (disk.Lock cause) result = TellsUnlocked cause result
-TellsDisk (disk.Measure cause) result = result ≡ file.Measure cause
-TellsDisk (disk.Lengthen cause) result = result ≡ file.Lengthen cause
-TellsDisk (disk.Sync cause) result = result ≡ file.Sync cause
+abbrev pub ReportsDisk : DiskFileFault → FileFault → Type 0
+ReportsDisk disk.InUse result = result ≡ file.InUse
+ReportsDisk (disk.Lock cause) result = ReportsUnlocked cause result
+ReportsDisk (disk.Measure cause) result = result ≡ file.Measure cause
+ReportsDisk (disk.Lengthen cause) result = result ≡ file.Lengthen cause
+ReportsDisk (disk.Sync cause) result = result ≡ file.Sync cause
 
 -- what opening a file as a disk comes to, with this call for a lock
 abbrev pub OpensDisk : {F : Type 0} → (Option ℕ → Call) → (F → List Call) → F → Result (FileDisk F) FileFault → Type 0
 OpensDisk {F} lock calls them result =
     (answer : Result (FileDisk F) (DiskFileFault × F)) × OpensBy lock calls them answer
-    × Passes (λ refusal. TellsDisk refusal.0) answer result
+    × Passes (λ refusal. ReportsDisk refusal.0) answer result
 
 -- what lengthening a disk to that of totals comes to
 abbrev pub LengthensDisk : {F : Type 0} → (F → List Call) → FileDisk F → Result (FileDisk F) FileFault → Type 0
 LengthensDisk {F} calls old result =
     (answer : Result (FileDisk F) (DiskFileFault × F)) × Lengthens calls old disk_size answer
-    × Passes (λ refusal. TellsDisk refusal.0) answer result
+    × Passes (λ refusal. ReportsDisk refusal.0) answer result
 
 -- why a disk can't be mirrored
-abbrev pub TellsMirror : MirrorFault → FileFault → Type 0
-TellsMirror mirror.NoMemory result = result ≡ file.NoMemory
-TellsMirror mirror.Sync result = result ≡ file.NotSynced
-TellsMirror mirror.Read result = result ≡ file.NotRead
+abbrev pub ReportsMirror : MirrorFault → FileFault → Type 0
+ReportsMirror mirror.NoMemory result = result ≡ file.NoMemory
+ReportsMirror mirror.Sync result = result ≡ file.NotSynced
+ReportsMirror mirror.Read result = result ≡ file.NotRead
 
 -- what mirroring a disk of totals comes to
 abbrev pub MirrorsDisk : {D : Type 0} → Ghosts D → D → Result (Mirror D) FileFault → Type 0
 MirrorsDisk {D} bound below result =
     (answer : Result (Mirror D) (MirrorFault × D)) × MirrorOpens bound below (min (bound.size below) disk_size) answer
-    × Passes (λ refusal. TellsMirror refusal.0) answer result
+    × Passes (λ refusal. ReportsMirror refusal.0) answer result
 
 -- a mirror that was asked nothing yet: it has the bytes that were read, and is at rest
 abbrev pub IsNewMirror : {D : Type 0} → Mirror D → Type 0
@@ -113,14 +114,14 @@ MirrorsFile {F} lock calls them result =
 abbrev pub OpensTotals : {S F : Type 0} → SystemGhosts S F → (F → List Call) → S → List ℕ
     → Result (Mirror (FileDisk F)) FileFault → Type 0
 OpensTotals {F = F} system calls them path result =
-    (opened : Result F FileFault) × OpensFile system TellsOpen them (to_write false) path opened
+    (opened : Result F FileFault) × OpensFile system ReportsOpen them (to_write false) path opened
     × AnswersFor (MirrorsFile lock_call calls) opened result
 
 -- opening the totals in a file that is there, to be read alone
 abbrev pub ReadsTotals : {S F : Type 0} → SystemGhosts S F → (F → List Call) → S → List ℕ
     → Result (Mirror (FileDisk F)) FileFault → Type 0
 ReadsTotals {F = F} system calls them path result =
-    (opened : Result F FileFault) × OpensFile system TellsUnreadable them to_read path opened
+    (opened : Result F FileFault) × OpensFile system ReportsUnreadable them to_read path opened
     × AnswersFor (MirrorsFile share_call calls) opened result
 
 -- a disk of a file is made long enough, and mirrored
@@ -134,7 +135,7 @@ MirrorsLong {F = F} system calls them path disk result =
 abbrev pub MakesTotals : {S F : Type 0} → SystemGhosts S F → (F → List Call) → S → List ℕ
     → Result (Mirror (FileDisk F)) FileFault → Type 0
 MakesTotals {F = F} system calls them path result =
-    (opened : Result F FileFault) × OpensFile system TellsOpen them (to_write true) path opened
+    (opened : Result F FileFault) × OpensFile system ReportsOpen them (to_write true) path opened
     × AnswersFor (λ file answer. (disk : Result (FileDisk F) FileFault) × OpensDisk lock_call calls file disk
     × AnswersFor (MirrorsLong system calls them path) disk answer) opened result
 

@@ -5,7 +5,7 @@ ghost use Rattle.pos_disk.specs.State.{HasNotFailed};
 ghost use Rattle.pos_store.specs.Migrations.{KeepsFirstLayout};
 ghost use Rattle.pos_store.specs.MovedDisks.{MovesAny};
 ghost use Rattle.pos_store.specs.declared.fault.StoreFault.TheVariants.{Device};
-ghost use Rattle.pos_program.specs.Migrating.{MigratesFile, MigratesTotals, told_as, told_of};
+ghost use Rattle.pos_program.specs.Migrations.{MigratesFile, MigratesTotals, told_as, told_of};
 ghost use Rattle.pos_program.specs.TotalsDisks.{IsNewMirror};
 
 use crate::file_fault::FileFault;
@@ -47,7 +47,7 @@ pub fn migrate_disk<D: Disk>(alloc: Global, disk: D) -> (D, Result<(), StoreFaul
 }
 
 // Returns a store's fault of a move as a fault of the disk's file.
-fn tell_fault(fault: StoreFault) -> FileFault
+fn file_fault_of(fault: StoreFault) -> FileFault
     ensures { result ≡ told_as fault }
 {
     match fault {
@@ -60,12 +60,12 @@ fn tell_fault(fault: StoreFault) -> FileFault
 }
 
 // Returns what a move answers, as an answer of the disk's file.
-fn tell_outcome(outcome: Result<(), StoreFault>) -> Result<(), FileFault>
+fn file_result(outcome: Result<(), StoreFault>) -> Result<(), FileFault>
     ensures { result ≡ told_of outcome }
 {
     match outcome {
         Ok(()) => Ok(()),
-        Err(fault) => Err(tell_fault(fault)),
+        Err(fault) => Err(file_fault_of(fault)),
     }
 }
 
@@ -86,7 +86,7 @@ pub fn migrate_totals<F: BlockFile + Drop>(
 {
     let (after, outcome) = migrate_disk(alloc, totals);
     file_is_mirrored(&after);
-    tell_outcome(outcome)
+    file_result(outcome)
 }
 
 /// Moves the totals in the file at a path, which is there, to layout 2.

@@ -2,7 +2,7 @@
 ghost use Rattle.std.specs.Prelude.{◌≤◌, IfErr, IfOk, length};
 ghost use Rattle.pos_image.specs.Layout.{disk_size};
 ghost use Rattle.pos_image.specs.NewDisk.{KeepsRest};
-ghost use Rattle.pos_program.specs.Formatting.{FormatsFile, FormatsTotals, IsFormatted, IsUnformatted, disk_of};
+ghost use Rattle.pos_program.specs.Formats.{FormatsFile, FormatsTotals, IsFormatted, IsUnformatted, disk_of};
 ghost use Rattle.pos_program.specs.TotalsDisks.{IsNewMirror};
 
 use crate::file_fault::FileFault;

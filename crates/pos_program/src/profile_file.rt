@@ -2,7 +2,7 @@
 ghost use Rattle.std.specs.Prelude.{◌≡◌, ◌≤◌, length, None, Err};
 ghost use Rattle.toml.specs.Parse.{parse_document};
 ghost use Rattle.pos_profile.specs.Mistakes.{Explains};
-ghost use Rattle.pos_program.specs.ProfileFiles.{Reads, ReadsBytes, ReadsFile, ReadsProfile, TellsRead, line_at};
+ghost use Rattle.pos_program.specs.ProfileFiles.{Reads, ReadsBytes, ReadsFile, ReadsProfile, ReportsRead, line_at};
 ghost use Rattle.pos_program.specs.Answers.{bytes_of};
 
 use crate::file_system::FileSystem;
@@ -73,7 +73,7 @@ pub fn profile_of_text(alloc: Global, text: &str) -> Result<Profile, ProfileFile
 
 // Returns why a file can't be read.
 fn fault_of_read(cause: io::Error) -> ProfileFileFault
-    ensures { TellsRead cause result }
+    ensures { ReportsRead cause result }
 {
     if cause.kind() == io::ErrorKind::OutOfMemory {
         return ProfileFileFault::NoMemory;

@@ -1,6 +1,6 @@
 //! What a run needs of files.
 ghost use Rattle.std.specs.Prelude.{IfOk};
-ghost use Rattle.pos_program.specs.Opening.{FirstFault, OpensRun};
+ghost use Rattle.pos_program.specs.Openings.{FirstFault, OpensRun};
 ghost use Rattle.pos_program.specs.TotalsDisks.{IsNewMirror};
 
 use crate::fault::Fault;

@@ -2,9 +2,9 @@
 ghost use Rattle.std.specs.Prelude.{◌≡◌, ◌≤◌, IfOk, false, length, List, ℕ};
 ghost use Rattle.pos_file.specs.Calls.{lock_call, share_call};
 ghost use Rattle.pos_image.specs.Layout.{disk_size};
-ghost use Rattle.pos_program.specs.Faults.{TellsOpen};
-ghost use Rattle.pos_program.specs.TotalsDisks.{IsLongEnough, IsNewMirror, LengthensDisk, MakesLong, MakesTotals, MirrorsDisk, OpensDisk, OpensFile, OpensTotals, SyncsFolder, TellsDisk, folder_of, to_write};
-ghost use Rattle.pos_program.specs.Locks.{TellsUnlocked};
+ghost use Rattle.pos_program.specs.Faults.{ReportsOpen};
+ghost use Rattle.pos_program.specs.TotalsDisks.{IsLongEnough, IsNewMirror, LengthensDisk, MakesLong, MakesTotals, MirrorsDisk, OpensDisk, OpensFile, OpensTotals, SyncsFolder, ReportsDisk, folder_of, to_write};
+ghost use Rattle.pos_program.specs.Locks.{ReportsUnlocked};
 ghost use Rattle.pos_mirror.specs.Mirror.{mirror_state};
 ghost use Rattle.pos_program.specs.MirroredFiles.{CutMayLeave, IsMirrored};
 
@@ -35,7 +35,7 @@ fn options(may_make: bool) -> OpenOptions
 
 // Returns why a file can't be opened.
 fn fault_of_open(cause: io::Error) -> FileFault
-    ensures { TellsOpen cause result }
+    ensures { ReportsOpen cause result }
 {
     if cause.kind() == io::ErrorKind::OutOfMemory {
         return FileFault::NoMemory;
@@ -45,7 +45,7 @@ fn fault_of_open(cause: io::Error) -> FileFault
 
 // Opens a file and returns it. It is made if it isn't there and may be made.
 fn open_file<S: FileSystem>(files: &S, path: &str, may_make: bool) -> Result<S::File, FileFault>
-    ensures { OpensFile S.FileSystem TellsOpen files.now (to_write may_make) path.now result }
+    ensures { OpensFile S.FileSystem ReportsOpen files.now (to_write may_make) path.now result }
 {
     match files.open(&options(may_make), path) {
         Ok(file) => Ok(file),
@@ -79,7 +79,7 @@ pub fn sync_folder<S: FileSystem>(files: &S, path: &str) -> Result<(), FileFault
 
 // Returns why a file can't serve as a disk.
 fn fault_of_disk(cause: DiskFileFault) -> FileFault
-    ensures { TellsDisk cause result }
+    ensures { ReportsDisk cause result }
 {
     match cause {
         DiskFileFault::InUse => FileFault::InUse,
@@ -208,7 +208,7 @@ pub fn make_totals<S: FileSystem + AllocGlobal>(
 
 /// Returns why a file isn't locked: `NoMemory` if memory ran out, and otherwise `Lock` with the system's error.
 pub(crate) fn fault_of_lock(cause: io::Error) -> FileFault
-    ensures { TellsUnlocked cause result }
+    ensures { ReportsUnlocked cause result }
 {
     if cause.kind() == io::ErrorKind::OutOfMemory {
         return FileFault::NoMemory;

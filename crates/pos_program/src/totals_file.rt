@@ -1,6 +1,6 @@
 //! The totals in a file that is only read.
 ghost use Rattle.std.specs.Prelude.{◌≡◌, [], IfOk};
-ghost use Rattle.pos_program.specs.Faults.{TellsUnreadable};
+ghost use Rattle.pos_program.specs.Faults.{ReportsUnreadable};
 ghost use Rattle.pos_program.specs.TotalsDisks.{AreRead, OpensFile, ReadsTotals, to_read};
 
 use crate::file_fault::FileFault;
@@ -12,7 +12,7 @@ use std::io;
 
 // Returns why a file can't be read.
 fn fault_of_read(cause: io::Error) -> FileFault
-    ensures { TellsUnreadable cause result }
+    ensures { ReportsUnreadable cause result }
 {
     if cause.kind() == io::ErrorKind::OutOfMemory {
         return FileFault::NoMemory;
@@ -35,7 +35,7 @@ fn options() -> OpenOptions
 ///
 /// `Unreadable` if it can't be opened, and `NoMemory` if memory ran out.
 pub fn open_file<S: FileSystem>(files: &S, path: &str) -> Result<S::File, FileFault>
-    ensures opens { OpensFile S.FileSystem TellsUnreadable files.now to_read path.now result }
+    ensures opens { OpensFile S.FileSystem ReportsUnreadable files.now to_read path.now result }
     ensures new { IfOk result (λ file. ⟦<S::File as BlockFile>⟧.calls file ≡ []) }
 {
     match files.open(&options(), path) {

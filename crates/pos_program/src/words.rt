@@ -3,7 +3,7 @@ ghost use Rattle.std.specs.Prelude.{◌≡◌, IfErr, IfOk, codes, false, map};
 ghost use Rattle.std.specs.IoError.{error_kind};
 ghost use Rattle.clap.specs.Words.{app_of, found_of, rows_of, rule_of, subcommand_rows_of};
 ghost use Rattle.clap.specs.declared.builder.command.Command.TheViews.{out-Command as fields_of};
-ghost use Rattle.pos_program.specs.Choices.{AreUnread, Asks, Chooses, IsKnown, TellsUnread, TellsWhy};
+ghost use Rattle.pos_program.specs.Choices.{AreUnread, Asks, Chooses, IsKnown, ReportsUnread, ReportsWhy};
 ghost use Rattle.pos_program.specs.Choices.{disk_line, path_in, path_rule, program_line, run_line};
 
 use crate::choice_fault::{ChoiceFault, WordsFault};
@@ -31,7 +31,7 @@ pub enum Task<'a> {
 
 // Returns why the words can't be read.
 fn fault_of_unread(cause: &io::Error) -> ChoiceFault
-    ensures { TellsUnread (error_kind cause.now) result }
+    ensures { ReportsUnread (error_kind cause.now) result }
 {
     if cause.kind() == io::ErrorKind::OutOfMemory {
         return ChoiceFault::NoMemory;
@@ -100,7 +100,7 @@ fn program_line<'a>(alloc: Global) -> Result<Command<'a>, AllocError>
 
 // Returns why `clap` gave no matches.
 fn fault_of_error(error: clap::Error) -> ChoiceFault
-    ensures { TellsWhy error result }
+    ensures { ReportsWhy error result }
 {
     let kind = error.kind();
     if kind == ErrorKind::OutOfMemory {

@@ -11,7 +11,8 @@ pub begins : (source copy lost : List ℕ) → copy ≡ padded source → lost �
 begins source copy lost same none = record { found = []; broken = tt; bytes_are = same; lost_is = none }
 
 -- one gate more
-pub goes_on : (source old said new told : List ℕ) → IsClosed source old said → Steps old said (Ok false) new told → IsClosed source new told
+pub goes_on : (source old said new told : List ℕ) → IsClosed source old said → Steps old said (Ok false) new told
+    → IsClosed source new told
 goes_on source old said new told is (at, broken, breaks, new_is, told_is) = record {
   found = (at, broken) ∷ is.found;
   broken = (is.broken, subst (λ bytes. Breaks bytes (Damaged at broken)) is.bytes_are breaks);
@@ -20,13 +21,16 @@ goes_on source old said new told is (at, broken, breaks, new_is, told_is) = reco
 }
 
 -- nothing is damaged any more
-pub ends : (source old said new told : List ℕ) → IsClosed source old said → Steps old said (Ok true) new told → IsSalvaged source new told
+pub ends : (source old said new told : List ℕ) → IsClosed source old said → Steps old said (Ok true) new told
+    → IsSalvaged source new told
 ends source old said new told is (survey, new_is, told_is) = record {
-  closes = subst (λ bytes. IsClosed source bytes told) (sym new_is) (subst (λ text. IsClosed source old text) (sym told_is) is);
+  closes = subst (λ bytes. IsClosed source bytes told) (sym new_is)
+      (subst (λ text. IsClosed source old text) (sym told_is) is);
   survey = survey.0;
   tells = survey.1;
 }
 
 -- nothing sound is left
-pub fails : (source old said : List ℕ) (fault : SurveyFault) → IsClosed source old said → Breaks old fault → IsUnsalvaged source fault
+pub fails : (source old said : List ℕ) (fault : SurveyFault) → IsClosed source old said → Breaks old fault
+    → IsUnsalvaged source fault
 fails source old said fault is breaks = record { bytes = old; lost = said; closes = is; breaks = breaks }

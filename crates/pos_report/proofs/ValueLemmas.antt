@@ -1,5 +1,6 @@
 -- The values of files, one after another, and how deep they nest.
-use Rattle.std.proofs.Common.{◌≡◌, ◌+◌, ◌++◌, ◌≤◌, ℕ, List, [], ◌∷◌, take, map, Option, Some, None, refl, sym, ap, ◌∙◌, arith}
+use Rattle.std.proofs.Common.{◌≡◌, ◌+◌, ◌++◌, ◌≤◌, ℕ, List, [], ◌∷◌, take, map, Option, Some, None, refl, sym, ap, ◌∙◌}
+use Rattle.std.proofs.Common.{arith}
 use Rattle.std.specs.Prelude.{flat_map, slice_get}
 use Rattle.std.specs.Option.{option_map}
 use Rattle.std.proofs.lemmas.List.{append-nil, map-append, take_more}
@@ -17,7 +18,8 @@ value_of file = file_data file.name file.bytes
 
 -- the value of one file more
 pub one_value_more : (files : List File) (i : ℕ) (name bytes : List ℕ) (found : Option File) → slice_get files i ≡ found
-    → Some name ≡ option_map (λ (file : File). file.name) found → Some bytes ≡ option_map (λ (file : File). file.bytes) found
+    → Some name ≡ option_map (λ (file : File). file.name) found
+    → Some bytes ≡ option_map (λ (file : File). file.bytes) found
     → map value_of (take (i + 1) files) ≡ map value_of (take i files) ++ file_data name bytes ∷ []
 one_value_more files i name bytes None is named sized = absurd cc
 one_value_more files i name bytes (Some file) is named sized =
@@ -25,11 +27,13 @@ one_value_more files i name bytes (Some file) is named sized =
     take_more files i file (slice_get_within files i file is)
     ∙ ap (λ (f : File). take i files ++ f ∷ []) (get_or_from_slice_get files i file file is) in
     ap (map value_of) more ∙ map-append value_of (take i files) (file ∷ [])
-    ∙ ap (λ (n : List ℕ). map value_of (take i files) ++ file_data n file.bytes ∷ []) (sym (some_is name file.name named))
+    ∙ ap (λ (n : List ℕ). map value_of (take i files) ++ file_data n file.bytes ∷ [])
+    (sym (some_is name file.name named))
     ∙ ap (λ (b : List ℕ). map value_of (take i files) ++ file_data name b ∷ []) (sym (some_is bytes file.bytes sized))
 
 -- the text of one file more
-pub one_text_more : (text_of : List ℕ → List ℕ → List ℕ) (files : List File) (i : ℕ) (name bytes : List ℕ) (found : Option File)
+pub one_text_more : (text_of : List ℕ → List ℕ → List ℕ) (files : List File) (i : ℕ) (name bytes : List ℕ)
+    (found : Option File)
     → slice_get files i ≡ found → Some name ≡ option_map (λ (file : File). file.name) found
     → Some bytes ≡ option_map (λ (file : File). file.bytes) found
     → flat_map (λ (file : File). text_of file.name file.bytes) (take (i + 1) files)

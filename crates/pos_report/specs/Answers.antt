@@ -3,7 +3,7 @@ use Rattle.std.specs.Prelude.{◌≡◌, ◌++◌, ℕ, Bool, true, false, List,
 use Rattle.hex.specs.Hex.{encode_lower}
 use Rattle.pos_dir.specs.declared.file.File.{File}
 use Rattle.pos_survey.specs.Damages.{Breaks}
-use Rattle.pos_survey.specs.Tellings.{Tells}
+use Rattle.pos_survey.specs.Descriptions.{Describes}
 use Rattle.pos_survey.specs.Texts.{survey_text}
 use Rattle.pos_survey.specs.declared.fault.SurveyFault.{SurveyFault}
 use Rattle.pos_survey.specs.declared.fault.SurveyFault.TheVariants as fault
@@ -67,7 +67,7 @@ RefusesBroken other cause why = why ≡ Totals cause
 -- The answer to a question about bytes that are sound totals, which is told of a survey of them.
 pub record IsAnswer (question : Question) (bytes text : List ℕ) : Type 0 where
   pub survey : Survey
-  pub tells : Tells bytes survey
+  pub tells : Describes bytes survey
   pub answer : AnswersSound question survey text
 
 -- What a check finds of bytes that break a rule.
@@ -84,7 +84,7 @@ Answers question bytes finding text = IsFound question bytes finding text
 -- No file has the name that is asked for, in totals that are sound.
 pub record IsLacking (question : Question) (bytes : List ℕ) : Type 0 where
   pub survey : Survey
-  pub tells : Tells bytes survey
+  pub tells : Describes bytes survey
   pub lacks : RefusesSound question survey NoFile
 
 -- a question isn't answered for this reason: a check is, but for want of memory

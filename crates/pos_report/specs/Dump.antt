@@ -1,5 +1,6 @@
 -- The files of totals as text, and how two totals differ (docs/reference/tool.md, "dump" and "diff").
-use Rattle.std.specs.Prelude.{ℕ, ◌++◌, ◌∷◌, List, [], Option, Some, None, bytes_eq, codes, decimal, flat_map, if◌then◌else◌}
+use Rattle.std.specs.Prelude.{ℕ, ◌++◌, ◌∷◌, List, [], Option, Some, None, bytes_eq, codes, decimal, flat_map}
+use Rattle.std.specs.Prelude.{if◌then◌else◌}
 use Rattle.hex.specs.Hex.{encode_lower}
 use Rattle.pos_dir.specs.declared.file.File.{File}
 use Rattle.pos_image.specs.Layout.{layout_of}

@@ -1,9 +1,9 @@
 -- What can be had of damaged totals (docs/reference/tool.md, "salvage").
-use Rattle.std.specs.Prelude.{◌≡◌, ◌++◌, ◌∷◌, ◌-◌, ℕ, List, [], length, true, false, Option, Some, None, Result, Ok, Err, codes, decimal, if◌then◌else◌}
-use Rattle.std.specs.Prelude.{Bool, nat_lt, replicate, slice_set, ⊤}
+use Rattle.std.specs.Prelude.{◌≡◌, ◌++◌, ◌∷◌, ◌-◌, ℕ, List, [], length, true, false, Option, Some, None, Result, Ok}
+use Rattle.std.specs.Prelude.{Err, codes, decimal, if◌then◌else◌, Bool, nat_lt, replicate, slice_set, ⊤}
 use Rattle.pos_image.specs.Layout.{disk_size}
 use Rattle.pos_survey.specs.Damages.{Breaks}
-use Rattle.pos_survey.specs.Tellings.{Tells}
+use Rattle.pos_survey.specs.Descriptions.{Describes}
 use Rattle.pos_survey.specs.Words.{words_of}
 use Rattle.pos_survey.specs.declared.fault.Rule.{Rule}
 use Rattle.pos_survey.specs.declared.fault.Rule.TheVariants as rule
@@ -55,13 +55,13 @@ AreBroken (found ∷ earlier) bytes =
 
 -- what is found in bytes: nothing that is damaged, in sound totals; or this rule is broken there
 abbrev pub Finds : List ℕ → Result (Option (ℕ × Rule)) SurveyFault → Type 0
-Finds bytes (Ok None) = (survey : Survey) × Tells bytes survey
+Finds bytes (Ok None) = (survey : Survey) × Describes bytes survey
 Finds bytes (Ok (Some found)) = Breaks bytes (Damaged found.0 found.1)
 Finds bytes (Err fault) = Breaks bytes fault
 
 -- what one step comes to: nothing is damaged; or something is, its gate is closed, and a line says so
 abbrev pub Steps : List ℕ → List ℕ → Result Bool SurveyFault → List ℕ → List ℕ → Type 0
-Steps old said (Ok true) new told = ((survey : Survey) × Tells new survey) × (new ≡ old) × (told ≡ said)
+Steps old said (Ok true) new told = ((survey : Survey) × Describes new survey) × (new ≡ old) × (told ≡ said)
 Steps old said (Ok false) new told = (at : ℕ) × (broken : Rule) × Breaks old (Damaged at broken)
     × (new ≡ slice_set old (gate_of at broken) 0) × (told ≡ said ++ lost_line at broken)
 Steps old said (Err fault) new told = Breaks old fault × (new ≡ old)
@@ -78,7 +78,7 @@ pub record IsClosed (source bytes lost : List ℕ) : Type 0 where
 pub record IsSalvaged (source bytes lost : List ℕ) : Type 0 where
   pub closes : IsClosed source bytes lost
   pub survey : Survey
-  pub tells : Tells bytes survey
+  pub tells : Describes bytes survey
 
 -- Why no sound bytes are made: such bytes break a rule.
 pub record IsUnsalvaged (source : List ℕ) (fault : SurveyFault) : Type 0 where

@@ -1,5 +1,6 @@
 -- What a check and an explanation print (docs/reference/tool.md).
-use Rattle.std.specs.Prelude.{ℕ, ◌∷◌, ◌++◌, ◌||◌, Bool, List, [], length, if◌then◌else◌, bytes_eq, codes, decimal, flat_map}
+use Rattle.std.specs.Prelude.{ℕ, ◌∷◌, ◌++◌, ◌||◌, Bool, List, [], length, if◌then◌else◌, bytes_eq, codes, decimal}
+use Rattle.std.specs.Prelude.{flat_map}
 use Rattle.pos_image.specs.Layout.{layout_of}
 use Rattle.pos_image.specs.declared.layout.Layout.{Layout}
 use Rattle.pos_image.specs.declared.layout.Layout.TheVariants.{Layout1, Layout2}

@@ -1,10 +1,12 @@
 -- The devices of a profile, which are served one after another by what is simulated for them.
-use Rattle.pos_run.proofs.Common.{Attach, Attached, Device, Entry, Hardware, Kind, List, Machine, None, NotAttached, Option, PeripheralState, Response, Some}
-use Rattle.pos_run.proofs.Common.{Step, TotalsPart, [], ap, append-nil, append_assoc, arith, begun_with, bytes_eq, bytes_eq-Decides, cond, device_at}
-use Rattle.pos_run.proofs.Common.{device_for, device_with, drop, drop_all, drop_more, false, false≢true, get_or, hardware_in, hardware_named, hardware_of, inl}
-use Rattle.pos_run.proofs.Common.{inr, is_some, kind_in, kind_named, kind_of, length, machine_with, map, new_device, or_parts, place_from, place_of, refl}
-use Rattle.pos_run.proofs.Common.{replicate, simulated_devices, simulated_for, slice_get, suc, sym, take, take-map, take_all, true, with_standing, ℕ, ◌++◌, ◌+◌}
-use Rattle.pos_run.proofs.Common.{◌<◌, ◌∙◌, ◌∷◌, ◌≡◌, ◌≤◌, ◌⊎◌}
+use Rattle.pos_run.proofs.Common.{Attach, Attached, Device, Entry, Hardware, Kind, List, Machine, None, NotAttached}
+use Rattle.pos_run.proofs.Common.{Option, PeripheralState, Response, Some, Step, TotalsPart, [], ap, append-nil}
+use Rattle.pos_run.proofs.Common.{append_assoc, arith, begun_with, bytes_eq, bytes_eq-Decides, cond, device_at}
+use Rattle.pos_run.proofs.Common.{device_for, device_with, drop, drop_all, drop_more, false, false≢true, get_or}
+use Rattle.pos_run.proofs.Common.{hardware_in, hardware_named, hardware_of, inl, inr, is_some, kind_in, kind_named}
+use Rattle.pos_run.proofs.Common.{kind_of, length, machine_with, map, new_device, or_parts, place_from, place_of, refl}
+use Rattle.pos_run.proofs.Common.{replicate, simulated_devices, simulated_for, slice_get, suc, sym, take, take-map}
+use Rattle.pos_run.proofs.Common.{take_all, true, with_standing, ℕ, ◌++◌, ◌+◌, ◌<◌, ◌∙◌, ◌∷◌, ◌≡◌, ◌≤◌, ◌⊎◌}
 use Rattle.pos_counter.specs.KeptDevices.{device_of, profile_devices, totals_devices, totals_name}
 use Rattle.pos_profile.proofs.ListLemmas.{name_at}
 use Rattle.pos_profile.specs.Profiles.{is_repeated, names_of}
@@ -29,23 +31,31 @@ some_or_none (Some x) = inr (x, refl)
 
 -- a peripheral of its kind isn't refused at a vacant device
 no_refusal : (old new : Machine) (name : List ℕ) (hardware : Hardware) (fault : AttachFault) (given : Hardware)
-    → kind_named old name ≡ Some hardware.kind → hardware_named old name ≡ None → Step old (Attach name hardware) (NotAttached fault given) new → ⊥
-no_refusal old new name hardware attach.Unknown given is vacant (none, gave, same) = none-some hardware.kind (sym none ∙ is)
-no_refusal old new name hardware attach.KindDiffers given is vacant (other, gave, same) = other.differs (the_same (sym is ∙ other.named))
-no_refusal old new name hardware attach.InUse given is vacant (there, gave, same) = false≢true (ap is_some (sym vacant) ∙ there)
+    → kind_named old name ≡ Some hardware.kind → hardware_named old name ≡ None
+    → Step old (Attach name hardware) (NotAttached fault given) new → ⊥
+no_refusal old new name hardware attach.Unknown given is vacant (none, gave, same) =
+    none-some hardware.kind (sym none ∙ is)
+no_refusal old new name hardware attach.KindDiffers given is vacant (other, gave, same) =
+    other.differs (the_same (sym is ∙ other.named))
+no_refusal old new name hardware attach.InUse given is vacant (there, gave, same) =
+    false≢true (ap is_some (sym vacant) ∙ there)
 
-module _ (old new : Machine) (name : List ℕ) (hardware : Hardware) (place : ℕ) (device : Device) (found : place_of old.devices name ≡ Some place)
-    (there : slice_get old.devices place ≡ Some device) (is : device.kind ≡ Some hardware.kind) (vacant : device.hardware ≡ None) where
+module _ (old new : Machine) (name : List ℕ) (hardware : Hardware) (place : ℕ) (device : Device)
+    (found : place_of old.devices name ≡ Some place)
+    (there : slice_get old.devices place ≡ Some device) (is : device.kind ≡ Some hardware.kind)
+    (vacant : device.hardware ≡ None) where
   named : device_at old.devices (place_of old.devices name) ≡ Some device
   named = ap (device_at old.devices) found ∙ there
 
   -- so it stands there then
-  stands : (response : Response) → Step old (Attach name hardware) response new → new ≡ with_standing old place device (Some hardware)
+  stands : (response : Response) → Step old (Attach name hardware) response new
+      → new ≡ with_standing old place device (Some hardware)
   stands Attached done =
       let at : done.place ≡ place = the_same (sym done.is_at ∙ found) in
       let of : done.device ≡ device = the_same (sym done.is_device ∙ ap (slice_get old.devices) at ∙ there) in
       done.machine ∙ rw (at, of)
-  stands (NotAttached fault given) step = absurd (no_refusal old new name hardware fault given (ap kind_in named ∙ is) (ap hardware_in named ∙ vacant) step)
+  stands (NotAttached fault given) step =
+      absurd (no_refusal old new name hardware fault given (ap kind_in named ∙ is) (ap hardware_in named ∙ vacant) step)
   stands _ step = absurd step
 
 -- the device of an entry, served
@@ -77,11 +87,15 @@ pub vacant_profile : (entries : List Entry) → profile_devices entries ≡ part
 vacant_profile entries = ap (λ (ds : List Device). ds ++ totals_devices (totals_name entries)) (all_vacant entries)
 
 pub begins_partly : (entries : List Entry) (part : TotalsPart)
-    → machine_with [] (replicate (length (profile_devices entries)) None) (profile_devices entries) part ≡ begun_partly entries 0 part
-begins_partly entries part = ap (λ (ds : List Device). machine_with [] (replicate (length (profile_devices entries)) None) ds part) (vacant_profile entries)
+    → machine_with [] (replicate (length (profile_devices entries)) None) (profile_devices entries) part
+    ≡ begun_partly entries 0 part
+begins_partly entries part =
+    ap (λ (ds : List Device). machine_with [] (replicate (length (profile_devices entries)) None) ds part)
+    (vacant_profile entries)
 
 -- as many are served in the end as were vacant at first
-as_many : (entries : List Entry) (rest : List Device) → length (filter_map unserved entries ++ rest) ≡ length (filter_map served entries ++ rest)
+as_many : (entries : List Entry) (rest : List Device)
+    → length (filter_map unserved entries ++ rest) ≡ length (filter_map served entries ++ rest)
 as_many [] rest = refl
 as_many (entry ∷ entries) rest = elim (some_or_none (kind_of entry)) [
   | inl none ↦ rw none (as_many entries rest)
@@ -101,21 +115,25 @@ ends_whole entries i part all =
 found_behind : (name : List ℕ) (front : List Entry) (at : ℕ) (device : Device) (back : List Device)
     → list_any (bytes_eq name) (names_of front) ≡ false → bytes_eq name device.name ≡ true
     → place_from at name (filter_map served front ++ device ∷ back) ≡ Some (at + length (filter_map served front))
-found_behind name [] at device back none same = ap (λ b. cond b (Some at) (place_from (at + 1) name back)) same ∙ ap (λ (n : ℕ). Some n) (omega arith)
+found_behind name [] at device back none same =
+    ap (λ b. cond b (Some at) (place_from (at + 1) name back)) same ∙ ap (λ (n : ℕ). Some n) (omega arith)
 found_behind name (entry ∷ front) at device back none same =
     let parts = or_parts (bytes_eq name entry.name) _ none in
     elim (some_or_none (kind_of entry)) [
       | inl nothing ↦ rw nothing (found_behind name front at device back parts.1 same)
-      | inr some ↦ rw (some.1, parts.0) (found_behind name front (at + 1) device back parts.1 same ∙ ap (λ (n : ℕ). Some n) (omega arith))
+      | inr some ↦ rw (some.1, parts.0)
+          (found_behind name front (at + 1) device back parts.1 same ∙ ap (λ (n : ℕ). Some n) (omega arith))
     ]
 
 -- what stands behind some devices
-there_behind : (front : List Device) (device : Device) (back : List Device) → slice_get (front ++ device ∷ back) (length front) ≡ Some device
+there_behind : (front : List Device) (device : Device) (back : List Device)
+    → slice_get (front ++ device ∷ back) (length front) ≡ Some device
 there_behind [] device back = refl
 there_behind (first ∷ front) device back = there_behind front device back
 
 -- what is simulated of a kind is of that kind, and there is nothing only where there is no kind
-kind_fits : (kind : Option Kind) (lines : ℕ) (state : PeripheralState) → option_map (λ is. new_device is lines) kind ≡ Some state → kind ≡ Some state.kind
+kind_fits : (kind : Option Kind) (lines : ℕ) (state : PeripheralState)
+    → option_map (λ is. new_device is lines) kind ≡ Some state → kind ≡ Some state.kind
 kind_fits kind lines state is = grind arith
 
 no_kind : (kind : Option Kind) (lines : ℕ) → option_map (λ is. new_device is lines) kind ≡ None → kind ≡ None
@@ -127,7 +145,8 @@ unnamed_before : (entries : List Entry) (i : ℕ) (entry : Entry) → i < length
 unnamed_before entries i entry lt is single =
     rw (← take-map (λ (e : Entry). e.name) i entries) (rw (name_at entries i entry entry.name lt is refl) at single)
 
-module _ (entries : List Entry) (i : ℕ) (entry : Entry) (lt : i < length entries) (is : entry ≡ get_or entries i entry) where
+module _ (entries : List Entry) (i : ℕ) (entry : Entry) (lt : i < length entries)
+    (is : entry ≡ get_or entries i entry) where
   abbrev totals : Option (List ℕ)
   totals = totals_name entries
 
@@ -142,17 +161,21 @@ module _ (entries : List Entry) (i : ℕ) (entry : Entry) (lt : i < length entri
   one_less = drop_more entries i entry lt ∙ ap (λ (e : Entry). e ∷ drop (i + 1) entries) (sym is)
 
   served_more : filter_map served (take (i + 1) entries) ≡ front ++ filter_map served (entry ∷ [])
-  served_more = ap (filter_map served) (one_more entries i entry lt is) ∙ filter_map-append served (take i entries) (entry ∷ [])
+  served_more = ap (filter_map served) (one_more entries i entry lt is)
+      ∙ filter_map-append served (take i entries) (entry ∷ [])
 
   -- Hard Totals are served by nothing
-  pub skips : (part : TotalsPart) → simulated_for entry ≡ None → begun_partly entries i part ≡ begun_partly entries (i + 1) part
+  pub skips : (part : TotalsPart) → simulated_for entry ≡ None
+      → begun_partly entries i part ≡ begun_partly entries (i + 1) part
   skips part simulated =
       let none : kind_of entry ≡ None = no_kind (kind_of entry) entry.lines simulated in
       rw (one_less, served_more, none, append-nil)
 
   -- one more device is served
-  pub serves_more : (part : TotalsPart) (old new : Machine) (state : PeripheralState) (response : Response) → simulated_for entry ≡ Some state
-      → is_repeated (names_of entries) i ≡ false → old ≡ begun_partly entries i part → Step old (Attach entry.name (hardware_of state)) response new
+  pub serves_more : (part : TotalsPart) (old new : Machine) (state : PeripheralState) (response : Response)
+      → simulated_for entry ≡ Some state
+      → is_repeated (names_of entries) i ≡ false → old ≡ begun_partly entries i part
+      → Step old (Attach entry.name (hardware_of state)) response new
       → new ≡ begun_partly entries (i + 1) part
   serves_more part old new state response simulated single begun step =
       let kind : kind_of entry ≡ Some state.kind = kind_fits (kind_of entry) entry.lines state simulated in
@@ -166,5 +189,6 @@ module _ (entries : List Entry) (i : ℕ) (entry : Entry) (lt : i < length entri
       ((bytes_eq-Decides entry.name entry.name).1 refl) ∙ ap (λ (n : ℕ). Some n) (omega arith) in
       let stood = stands (over (front ++ vacant ∷ back)) new entry.name (hardware_of state) (length front) vacant found
       (there_behind front vacant back) refl refl response (rw before at step) in
-      let after : front ++ full ∷ back ≡ partly (take (i + 1) entries) (drop (i + 1) entries) totals = rw (served_more, one, append_assoc) in
+      let after : front ++ full ∷ back ≡ partly (take (i + 1) entries) (drop (i + 1) entries) totals =
+      rw (served_more, one, append_assoc) in
       stood ∙ ap over (set-append_seam front vacant back full ∙ after)

@@ -1,12 +1,13 @@
 -- What serves the devices of a counter, and the spares, is mounted for entries of a profile.
-use Rattle.pos_run.proofs.Common.{Counter, Device, Entry, Ghosts, IfSome, List, None, Option, Some, [], ap, device_for, get_or, inl, inr, kind_of}
-use Rattle.pos_run.proofs.Common.{length, map, new_totals, option_map, refl, set, subst, suc, sym, zero, ℕ, ◌++◌, ◌<◌, ◌∙◌, ◌∷◌, ◌≡◌}
+use Rattle.pos_run.proofs.Common.{Counter, Device, Entry, Ghosts, IfSome, List, None, Option, Some, [], ap, device_for}
+use Rattle.pos_run.proofs.Common.{get_or, inl, inr, kind_of, length, map, new_totals, option_map, refl, set, subst, suc}
+use Rattle.pos_run.proofs.Common.{sym, zero, ℕ, ◌++◌, ◌<◌, ◌∙◌, ◌∷◌, ◌≡◌}
 use Rattle.pos_counter.specs.KeptDevices.{device_of, slots_in, totals_devices, totals_name}
 use Rattle.pos_counter.specs.Machine.{Machine}
 use Rattle.pos_counter.specs.Counters.{Begins}
 use Rattle.pos_profile.specs.Registries.{devices_of}
 use Rattle.pos_profile.specs.declared.slot.Slot.{Slot}
-use Rattle.pos_run.specs.Simulating.{AreSparesMounted, HasMounted, IsMountedAs, IsMountedFor, Mounts, Offers}
+use Rattle.pos_run.specs.Simulations.{AreSparesMounted, HasMounted, IsMountedAs, IsMountedFor, Mounts, Offers}
 use Rattle.pos_service.specs.Hardware.{hardware_of}
 use Rattle.std.proofs.lemmas.Option.{slice_get-get_or}
 use Rattle.std.proofs.Common.{⊎_elim}
@@ -32,7 +33,8 @@ entries_vacant (entry ∷ entries) totals = elim (some_or_none (kind_of entry)) 
 
 module _ {P : Type 0} (mounts : Mounts P) (entries : List Entry) where
   -- a slot of a vacant device has nothing
-  has_none : (peripherals : Ghosts P) (slot : Slot P) → option_map hardware_of (option_map peripherals.state slot.peripheral) ≡ None
+  has_none : (peripherals : Ghosts P) (slot : Slot P)
+      → option_map hardware_of (option_map peripherals.state slot.peripheral) ≡ None
       → HasMounted mounts entries slot
   has_none peripherals slot none = by slot.peripheral refl
     where
@@ -41,34 +43,41 @@ module _ {P : Type 0} (mounts : Mounts P) (entries : List Entry) where
       by (Some peripheral) is = absurd (let bad = rw is at none in cc)
 
   front_vacant : (peripherals : Ghosts P) (slots : List (Slot P)) (rest : List Device)
-      → AllByRecursion IsVacant (map device_of (devices_of peripherals slots) ++ rest) → AllByRecursion (HasMounted mounts entries) slots
+      → AllByRecursion IsVacant (map device_of (devices_of peripherals slots) ++ rest)
+      → AllByRecursion (HasMounted mounts entries) slots
   front_vacant peripherals [] rest all = tt
-  front_vacant peripherals (slot ∷ slots) rest all = (has_none peripherals slot all.0, front_vacant peripherals slots rest all.1)
+  front_vacant peripherals (slot ∷ slots) rest all =
+      (has_none peripherals slot all.0, front_vacant peripherals slots rest all.1)
 
-  pub vacant_mounted : {D : Type 0} (peripherals : Ghosts P) (counter : Counter D P) (disk : D) → Begins peripherals entries disk counter
+  pub vacant_mounted : {D : Type 0} (peripherals : Ghosts P) (counter : Counter D P) (disk : D)
+      → Begins peripherals entries disk counter
       → AllByRecursion (HasMounted mounts entries) (slots_in counter.devices)
   vacant_mounted peripherals counter disk begins =
       let same = ap (λ (m : Machine). m.devices) (begins.machine (new_totals [] 0)) in
       front_vacant peripherals (slots_in counter.devices) (totals_devices counter.devices.totals)
-      (subst (AllByRecursion IsVacant) (sym (same ∙ vacant_profile entries)) (entries_vacant entries (totals_name entries)))
+      (subst (AllByRecursion IsVacant) (sym (same ∙ vacant_profile entries))
+      (entries_vacant entries (totals_name entries)))
 
   -- ---- one more device is served
 
-  all_set : (slots : List (Slot P)) (place : ℕ) (slot : Slot P) → AllByRecursion (HasMounted mounts entries) slots → HasMounted mounts entries slot
+  all_set : (slots : List (Slot P)) (place : ℕ) (slot : Slot P) → AllByRecursion (HasMounted mounts entries) slots
+      → HasMounted mounts entries slot
       → AllByRecursion (HasMounted mounts entries) (set slots place slot)
   all_set [] place slot all one = tt
   all_set (first ∷ slots) zero slot all one = (one, all.1)
   all_set (first ∷ slots) (suc place) slot all one = (all.0, all_set slots place slot all.1 one)
 
   pub offered_mounted : (old new : List (Slot P)) (name : List ℕ) (peripheral : P) → Offers old name peripheral new
-      → IsMountedAs mounts entries name peripheral → AllByRecursion (HasMounted mounts entries) old → AllByRecursion (HasMounted mounts entries) new
+      → IsMountedAs mounts entries name peripheral → AllByRecursion (HasMounted mounts entries) old
+      → AllByRecursion (HasMounted mounts entries) new
   offered_mounted old new name peripheral offers mounted all = ⊎_elim
       (λ placed. rw placed.1.is (all_set old placed.0 (record placed.1.slot { peripheral = Some peripheral }) all
       (subst (λ (n : List ℕ). IsMountedAs mounts entries n peripheral) (sym placed.2) mounted)))
       (λ same. rw same all) offers
 
   -- what is mounted for an entry serves as that of its name
-  pub mounted_as : (i : ℕ) (entry : Entry) (name : List ℕ) (peripheral : P) → i < length entries → entry ≡ get_or entries i entry → name ≡ entry.name
+  pub mounted_as : (i : ℕ) (entry : Entry) (name : List ℕ) (peripheral : P) → i < length entries
+      → entry ≡ get_or entries i entry → name ≡ entry.name
       → IsMountedFor mounts entry peripheral → IsMountedAs mounts entries name peripheral
   mounted_as i entry name peripheral lt is named mounted = record {
     place = i;
@@ -80,10 +89,12 @@ module _ {P : Type 0} (mounts : Mounts P) (entries : List Entry) where
 
 -- ---- one more spare is there
 
-pub spares_mounted : {P : Type 0} (mounts : Mounts P) (entries : List Entry) (spares : List (Option P)) (entry : Entry) (spare : Option P)
+pub spares_mounted : {P : Type 0} (mounts : Mounts P) (entries : List Entry) (spares : List (Option P)) (entry : Entry)
+    (spare : Option P)
     → AreSparesMounted mounts entries spares → IfSome spare (IsMountedFor mounts entry)
     → AreSparesMounted mounts (entries ++ entry ∷ []) (spares ++ spare ∷ [])
 spares_mounted mounts [] [] entry spare all one = (one, tt)
-spares_mounted mounts (first ∷ entries) (one_there ∷ spares) entry spare all one = (all.0, spares_mounted mounts entries spares entry spare all.1 one)
+spares_mounted mounts (first ∷ entries) (one_there ∷ spares) entry spare all one =
+    (all.0, spares_mounted mounts entries spares entry spare all.1 one)
 spares_mounted mounts [] (one_there ∷ spares) entry spare all one = absurd all
 spares_mounted mounts (first ∷ entries) [] entry spare all one = absurd all

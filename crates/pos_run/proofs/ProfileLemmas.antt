@@ -1,7 +1,9 @@
 -- The entries of a profile, what is simulated for them in its wrappers, and the spares.
-use Rattle.pos_run.proofs.Common.{All, Bool, Category, Entry, HoldsOnlyIf, IsDeviceFor, IsInService, IsSimulable, Kind, List, None, Option, PeripheralState}
-use Rattle.pos_run.proofs.Common.{Some, Wrapped, [], ap, arith, false, get_or, kind_of, length, map-append, min, new_device, refl, simulated_all, simulated_for}
-use Rattle.pos_run.proofs.Common.{state_of, subst, sym, take, take_more, true, wrapped_by, wrapped_state, ℕ, ◌++◌, ◌+◌, ◌-◌, ◌<◌, ◌^◌, ◌∙◌, ◌∷◌, ◌≡◌, ◌≤◌}
+use Rattle.pos_run.proofs.Common.{All, Bool, Category, Entry, HoldsOnlyIf, IsDeviceFor, IsInService, IsSimulable, Kind}
+use Rattle.pos_run.proofs.Common.{List, None, Option, PeripheralState, Some, Wrapped, [], ap, arith, false, get_or}
+use Rattle.pos_run.proofs.Common.{kind_of, length, map-append, min, new_device, refl, simulated_all, simulated_for}
+use Rattle.pos_run.proofs.Common.{state_of, subst, sym, take, take_more, true, wrapped_by, wrapped_state, ℕ, ◌++◌, ◌+◌}
+use Rattle.pos_run.proofs.Common.{◌-◌, ◌<◌, ◌^◌, ◌∙◌, ◌∷◌, ◌≡◌, ◌≤◌}
 use Rattle.pos_profile.specs.Numbers.{has_number}
 use Rattle.pos_profile.specs.OptionalKeys.{has_option}
 use Rattle.pos_profile.specs.Soundness.{IsInItsRange, IsSoundEntry}
@@ -15,13 +17,15 @@ use Rattle.std.proofs.lemmas.List.Elements.{All-map}
 use Rattle.std.proofs.lemmas.Option.{same_Some}
 use Rattle.std.specs.Option.{option_map}
 
-module _ (entries : List Entry) (i : ℕ) (entry : Entry) (lt : i < length entries) (is : entry ≡ get_or entries i entry) where
+module _ (entries : List Entry) (i : ℕ) (entry : Entry) (lt : i < length entries)
+    (is : entry ≡ get_or entries i entry) where
   -- the entries up to this one
   pub one_more : take (i + 1) entries ≡ take i entries ++ entry ∷ []
   one_more = take_more entries i entry lt ∙ ap (λ (e : Entry). take i entries ++ e ∷ []) (sym is)
 
   -- one more spare is there
-  pub spares_more : (front : List (Option PeripheralState)) (spare : Option PeripheralState) → front ≡ simulated_all (take i entries)
+  pub spares_more : (front : List (Option PeripheralState)) (spare : Option PeripheralState)
+      → front ≡ simulated_all (take i entries)
       → spare ≡ simulated_for entry → front ++ spare ∷ [] ≡ simulated_all (take (i + 1) entries)
   spares_more front spare so_far same =
       rw (so_far, same, one_more, map-append simulated_for (take i entries) (entry ∷ []))
@@ -30,21 +34,25 @@ module _ (entries : List Entry) (i : ℕ) (entry : Entry) (lt : i < length entri
 new_serves : (kind : Option Kind) (lines : ℕ) → IsInService (option_map (λ is. new_device is lines) kind)
 new_serves kind lines = grind arith
 
-new_is_fresh : (kind : Option Kind) (lines : ℕ) (state : PeripheralState) → Some state ≡ option_map (λ is. new_device is lines) kind → state.orders ≡ 0
+new_is_fresh : (kind : Option Kind) (lines : ℕ) (state : PeripheralState)
+    → Some state ≡ option_map (λ is. new_device is lines) kind → state.orders ≡ 0
 new_is_fresh kind lines state is = grind arith
 
 pub state_is_fresh : (entry : Entry) (state : PeripheralState) → Some state ≡ simulated_for entry → state.orders ≡ 0
 state_is_fresh entry state is = new_is_fresh (kind_of entry) entry.lines state is
 
-new_never_failed : (kind : Option Kind) (lines : ℕ) (state : PeripheralState) → Some state ≡ option_map (λ is. new_device is lines) kind
+new_never_failed : (kind : Option Kind) (lines : ℕ) (state : PeripheralState)
+    → Some state ≡ option_map (λ is. new_device is lines) kind
     → state.failures ≡ 0
 new_never_failed kind lines state is = grind arith
 
-pub state_never_failed : (entry : Entry) (state : PeripheralState) → Some state ≡ simulated_for entry → state.failures ≡ 0
+pub state_never_failed : (entry : Entry) (state : PeripheralState) → Some state ≡ simulated_for entry
+    → state.failures ≡ 0
 state_never_failed entry state is = new_never_failed (kind_of entry) entry.lines state is
 
 pub all_serve : (entries : List Entry) → All IsInService (simulated_all entries)
-all_serve entries = All-map IsInService simulated_for entries (λ k entry lt. new_serves (kind_of (get_or entries k entry)) (get_or entries k entry).lines)
+all_serve entries = All-map IsInService simulated_for entries
+    (λ k entry lt. new_serves (kind_of (get_or entries k entry)) (get_or entries k entry).lines)
 
 -- the lines of paper are in their range
 lines_within : (category : Category) (lines : ℕ) → IsInItsRange Lines (has_number category Lines) lines → lines ≤ 100000
@@ -55,7 +63,8 @@ lines_within _ lines none = omega (arith, none)
 only_if : (may holds : Bool) → (holds ≡ true → may ≡ true) → HoldsOnlyIf may holds
 only_if may holds is = grind arith
 
-pub simulable : (role : Role) (entries : List Entry) (i : ℕ) (entry : Entry) → All (IsSoundEntry role) entries → i < length entries
+pub simulable : (role : Role) (entries : List Entry) (i : ℕ) (entry : Entry) → All (IsSoundEntry role) entries
+    → i < length entries
     → entry ≡ get_or entries i entry → IsSimulable entry
 simulable role entries i entry sound lt is =
     let one : IsSoundEntry role entry = subst (IsSoundEntry role) (sym is) (sound i entry lt) in
@@ -81,7 +90,8 @@ is_behind (Some asks) true device = refl
 -- a state that has counted nothing is the same there
 same_behind : (flaky : Option (ℕ × ℕ)) (recorded : Bool) (kind : Kind) (plant : Plant) (is_parked : Bool)
     → let state : PeripheralState =
-    record { kind = kind; plant = plant; is_parked = is_parked; failures = 0; orders = 0 } in behind flaky recorded state ≡ state
+    record { kind = kind; plant = plant; is_parked = is_parked; failures = 0; orders = 0 } in
+    behind flaky recorded state ≡ state
 same_behind None false kind plant is_parked = refl
 same_behind None true kind plant is_parked = refl
 same_behind (Some asks) recorded kind plant is_parked = refl
@@ -90,13 +100,17 @@ begins_behind : (flaky : Option (ℕ × ℕ)) (recorded : Bool) (kind : Option K
     → Some state ≡ option_map (λ is. new_device is lines) kind → behind flaky recorded state ≡ state
 begins_behind flaky recorded None lines state is = absurd cc
 begins_behind flaky recorded (Some kind) lines state is =
-    rw (same_Some state (new_device kind lines) is) (same_behind flaky recorded kind (new_device kind lines).plant false)
+    rw (same_Some state (new_device kind lines) is)
+    (same_behind flaky recorded kind (new_device kind lines).plant false)
 
 -- what an entry's wrappers have in them is what is simulated for it
 pub wrapped_begins : (entry : Entry) (device : Simulation) → Some (state_of device) ≡ simulated_for entry
     → Some (wrapped_state (wrapped_by entry.flaky entry.recorded device)) ≡ simulated_for entry
 wrapped_begins entry device is =
-    rw (is_behind entry.flaky entry.recorded device, begins_behind entry.flaky entry.recorded (kind_of entry) entry.lines (state_of device) is) is
+    rw (
+      is_behind entry.flaky entry.recorded device,
+      begins_behind entry.flaky entry.recorded (kind_of entry) entry.lines (state_of device) is,
+    ) is
 
 module _ (entry : Entry) (device : Simulation) (made : Wrapped) (simulates : IsDeviceFor entry (Some device))
     (is : made ≡ wrapped_by entry.flaky entry.recorded device) where

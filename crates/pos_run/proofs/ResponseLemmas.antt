@@ -16,7 +16,7 @@ use Rattle.pos_service.specs.declared.category.Category.{Category}
 use Rattle.pos_service.specs.declared.faults.NoMemory.{NoMemory}
 use Rattle.pos_service.specs.declared.plant.Snapshot.{Snapshot}
 use Rattle.pos_service.specs.declared.request.Response.{Response as ResponseOf}
-use Rattle.pos_service.specs.declared.answer.Worked.{Worked}
+use Rattle.pos_service.specs.declared.answer.WorkResult.{WorkResult}
 
 -- a response without a peripheral prints what the machine's prints
 abbrev pub PrintsAs : ResponseOf (Unit {0}) → Response → Type 0
@@ -37,7 +37,7 @@ input_text (Err input_fault.NoDevice) = refl
 input_text (Err input_fault.WrongInput) = refl
 input_text (Err input_fault.NoMemory) = refl
 
-pub work_text : (answer : Result Worked WorkFault) → PrintsAs (worked answer) (worked answer)
+pub work_text : (answer : Result WorkResult WorkFault) → PrintsAs (worked answer) (worked answer)
 work_text (Ok result) = refl
 work_text (Err work_fault.NoDevice) = refl
 work_text (Err work_fault.NoMemory) = refl

@@ -1,8 +1,9 @@
 -- Lines that are carried out one after another, and may wait.
-use Rattle.pos_run.proofs.Common.{Appends, Appends-nil, Appends-trans, Counter, DiskGhosts, Finishes, Ghosts, Given, IsRun, List, Request, Response, Result, Run, Session, Stops}
-use Rattle.pos_run.proofs.Common.{Ok, Err, [], ap, append-nil, append_assoc, arith, drop, given_after, length, machine, machine_runs, refl, subst, sym, true, false, ℕ, ◌++◌}
-use Rattle.pos_run.proofs.Common.{◌<◌, ◌≤◌, ◌∙◌, ◌∷◌, ◌≡◌, ◌⊎◌, codes, get_or, suc}
-use Rattle.pos_run.proofs.Common.{false≢true}
+use Rattle.pos_run.proofs.Common.{Appends, Appends-nil, Appends-trans, Counter, DiskGhosts, Finishes, Ghosts, Given}
+use Rattle.pos_run.proofs.Common.{IsRun, List, Request, Response, Result, Run, Session, Stops, Ok, Err, [], ap}
+use Rattle.pos_run.proofs.Common.{append-nil, append_assoc, arith, drop, given_after, length, machine, machine_runs}
+use Rattle.pos_run.proofs.Common.{refl, subst, sym, true, false, ℕ, ◌++◌, ◌<◌, ◌≤◌, ◌∙◌, ◌∷◌, ◌≡◌, ◌⊎◌, codes, get_or}
+use Rattle.pos_run.proofs.Common.{suc, false≢true}
 use Rattle.std.proofs.Common.{take, ⊎_elim}
 use Rattle.std.proofs.lemmas.List.{take-append-drop}
 use Rattle.pos_streams.specs.Transfers.{given_to}
@@ -26,28 +27,34 @@ use Rattle.pos_script.specs.Writing.{IsCut}
 use Rattle.pos_store.proofs.RecoveryLemmas.{both_keep}
 use Rattle.pos_streams.specs.Streams.{given_with}
 use Rattle.pos_streams.specs.declared.sink.WriteFault.{WriteFault}
-use Rattle.pos_run.specs.Running.{StopsAt}
+use Rattle.pos_run.specs.Runs.{StopsAt}
 use Rattle.pos_run.specs.Transcript.{LineBecomes, LinesPrint, Outcome, Transcript}
-use Rattle.pos_run.specs.WaitingLines.{CarriesOn, Cuts, CutsOff, GivesFront, Holds, IsNotHeld, IsReady, LineLeaves, RunsLines, Tells, lines_in, text_of}
-use Rattle.pos_run.specs.declared.waiting_lines.Held.{Held}
+use Rattle.pos_run.specs.WaitingLines.{CarriesOn, Cuts, CutsOff, GivesFront, Holds, IsNotHeld, IsReady, LineLeaves}
+use Rattle.pos_run.specs.WaitingLines.{RunsLines, RunsAndWrites, lines_in, text_of}
+use Rattle.pos_run.specs.declared.waiting_lines.LineProgress.{LineProgress}
 
 -- a front of bytes was given, where they were written as far as could be
-pub wrote_front : (old new : Given) (bytes : List ℕ) (count : ℕ) (result : Result (Unit {0}) WriteFault) → WritesFront old bytes count result new
+pub wrote_front : (old new : Given) (bytes : List ℕ) (count : ℕ) (result : Result (Unit {0}) WriteFault)
+    → WritesFront old bytes count result new
     → GivesFront old new bytes
-wrote_front old new bytes count (Ok u) (whole, wrote) = (bytes, [], sym (append-nil bytes), ap (λ (g : Given). g.bytes) wrote)
+wrote_front old new bytes count (Ok u) (whole, wrote) =
+    (bytes, [], sym (append-nil bytes), ap (λ (g : Given). g.bytes) wrote)
 wrote_front old new bytes count (Err fault) failed =
     (take count bytes, drop count bytes, sym (take-append-drop count bytes), ap (λ (g : Given). g.bytes) failed)
 
-pub wrote_all : (old new : Given) (bytes : List ℕ) (count : ℕ) (result : Result (Unit {0}) WriteFault) (u : Unit {0}) → result ≡ Ok u
+pub wrote_all : (old new : Given) (bytes : List ℕ) (count : ℕ) (result : Result (Unit {0}) WriteFault) (u : Unit {0})
+    → result ≡ Ok u
     → WritesFront old bytes count result new → Appends old new bytes
 wrote_all old new bytes count (Ok u) v is (whole, wrote) = wrote
 wrote_all old new bytes count (Err fault) v is failed = grind (arith, is)
 
 -- so was one of more bytes
 pub front_of : (old new : Given) (bytes more : List ℕ) → GivesFront old new bytes → GivesFront old new (bytes ++ more)
-front_of old new bytes more (front, back, is, gave) = (front, back ++ more, ap (λ l. l ++ more) is ∙ append_assoc front back more, gave)
+front_of old new bytes more (front, back, is, gave) =
+    (front, back ++ more, ap (λ l. l ++ more) is ∙ append_assoc front back more, gave)
 
-pub front_then : (old mid new : Given) (bytes more : List ℕ) → Appends old mid bytes → GivesFront mid new more → GivesFront old new (bytes ++ more)
+pub front_then : (old mid new : Given) (bytes more : List ℕ) → Appends old mid bytes → GivesFront mid new more
+    → GivesFront old new (bytes ++ more)
 front_then old mid new bytes more first (front, back, is, gave) = (
   bytes ++ front,
   back,
@@ -73,8 +80,10 @@ module _ {D P : Type 0} (bound : DiskGhosts D) (peripherals : Ghosts P) where
   keeps_same disk = record { size = refl; honest = (λ h. h, λ h. h); later = λ h. omega arith; fixed = refl }
 
   -- a run keeps the disk
-  pub run_keeps : (a b : Counter D P) (steps : List (Request × Response)) → IsRun bound peripherals a steps b → KeepsDisk bound a.totals.disk b.totals.disk
-  run_keeps a b [] run = subst (λ (c : Counter D P). KeepsDisk bound a.totals.disk c.totals.disk) (sym run) (keeps_same a.totals.disk)
+  pub run_keeps : (a b : Counter D P) (steps : List (Request × Response)) → IsRun bound peripherals a steps b
+      → KeepsDisk bound a.totals.disk b.totals.disk
+  run_keeps a b [] run = subst (λ (c : Counter D P). KeepsDisk bound a.totals.disk c.totals.disk) (sym run)
+      (keeps_same a.totals.disk)
   run_keeps a b (s ∷ steps) run =
       both_keep bound a.totals.disk run.0.totals.disk b.totals.disk run.1.kept (run_keeps run.0 b steps run.2)
 
@@ -87,7 +96,8 @@ module _ {D P : Type 0} (bound : DiskGhosts D) (peripherals : Ghosts P) where
 
   -- lines that a counter ran by, and what they print was given
   pub tells_lines : (a b : Counter D P) (s left : Session) (lines : List (List ℕ)) (before after : Given)
-      → Finishes (IsRun bound peripherals) a s lines before after left b → Tells bound peripherals a s lines before after b left
+      → Finishes (IsRun bound peripherals) a s lines before after left b
+      → RunsAndWrites bound peripherals a s lines before after b left
   tells_lines a b s left lines before after done = record {
     text = done.text;
     runs = runs_lines a b s left lines done.text done.transcript;
@@ -96,26 +106,32 @@ module _ {D P : Type 0} (bound : DiskGhosts D) (peripherals : Ghosts P) where
   }
 
   -- then the counter stays as it is to the machine
-  runs_stay : (a b c : Counter D P) (s left : Session) (lines : List (List ℕ)) (text : List ℕ) → RunsLines bound peripherals a s lines text b left
+  runs_stay : (a b c : Counter D P) (s left : Session) (lines : List (List ℕ)) (text : List ℕ)
+      → RunsLines bound peripherals a s lines text b left
       → Stays peripherals b c → RunsLines bound peripherals a s lines text c left
   runs_stay a b c s left lines text runs stays = λ standing leaves.
       let (later, leave, done) = runs standing leaves in
-      let same : machine peripherals c (part_of bound c.totals later) ≡ machine peripherals b (part_of bound b.totals later) =
-      ap (λ v. machine peripherals c (part_of bound v later)) stays.totals ∙ stays.machine (part_of bound b.totals later) in (
+      let same : machine peripherals c (part_of bound c.totals later) ≡ machine peripherals b
+      (part_of bound b.totals later) =
+      ap (λ v. machine peripherals c (part_of bound v later)) stays.totals
+      ∙ stays.machine (part_of bound b.totals later) in (
         later,
         subst (λ v. Leaves bound v later) (sym stays.totals) leave,
         record {
           steps = done.steps;
-          run = subst (λ m. Run (machine peripherals a (part_of bound a.totals standing)) done.steps m) (sym same) done.run;
+          run = subst (λ m. Run (machine peripherals a (part_of bound a.totals standing)) done.steps m)
+              (sym same) done.run;
           prints = done.prints;
         },
       )
 
-  kept_stay : (a b c : Counter D P) → KeepsDisk bound a.totals.disk b.totals.disk → Stays peripherals b c → KeepsDisk bound a.totals.disk c.totals.disk
+  kept_stay : (a b c : Counter D P) → KeepsDisk bound a.totals.disk b.totals.disk → Stays peripherals b c
+      → KeepsDisk bound a.totals.disk c.totals.disk
   kept_stay a b c kept stays = subst (λ v. KeepsDisk bound a.totals.disk v.disk) (sym stays.totals) kept
 
   pub tells_stay : (a b c : Counter D P) (s left : Session) (lines : List (List ℕ)) (before after : Given)
-      → Tells bound peripherals a s lines before after b left → Stays peripherals b c → Tells bound peripherals a s lines before after c left
+      → RunsAndWrites bound peripherals a s lines before after b left → Stays peripherals b c
+      → RunsAndWrites bound peripherals a s lines before after c left
   tells_stay a b c s left lines before after h stays = record {
     text = h.text;
     runs = runs_stay a b c s left lines h.text h.runs stays;
@@ -124,7 +140,8 @@ module _ {D P : Type 0} (bound : DiskGhosts D) (peripherals : Ghosts P) where
   }
 
   pub cuts_stay : (a b c : Counter D P) (s left : Session) (line : List ℕ) (before after : Given)
-      → Cuts bound peripherals a s line before after b left → Stays peripherals b c → Cuts bound peripherals a s line before after c left
+      → Cuts bound peripherals a s line before after b left → Stays peripherals b c
+      → Cuts bound peripherals a s line before after c left
   cuts_stay a b c s left line before after h stays = record {
     text = h.text;
     runs = runs_stay a b c s left (line ∷ []) h.text h.runs stays;
@@ -133,7 +150,8 @@ module _ {D P : Type 0} (bound : DiskGhosts D) (peripherals : Ghosts P) where
   }
 
   -- no line yet
-  pub tells_none : (c : Counter D P) (s : Session) (given : Given) → Tells bound peripherals c s [] given given c s
+  pub tells_none : (c : Counter D P) (s : Session) (given : Given)
+      → RunsAndWrites bound peripherals c s [] given given c s
   tells_none c s given = record {
     text = [];
     runs = λ standing leaves. (standing, leaves, record { steps = []; run = refl; prints = (refl, refl, refl) });
@@ -142,8 +160,9 @@ module _ {D P : Type 0} (bound : DiskGhosts D) (peripherals : Ghosts P) where
   }
 
   -- a line that is held back is none
-  pub tells_held : (a b : Counter D P) (s left : Session) (before after : Given) → Holds bound peripherals a s before after b left
-      → Tells bound peripherals a s [] before after b left
+  pub tells_held : (a b : Counter D P) (s left : Session) (before after : Given)
+      → Holds bound peripherals a s before after b left
+      → RunsAndWrites bound peripherals a s [] before after b left
   tells_held a b s left before after h = record {
     text = [];
     runs = λ standing leaves.
@@ -154,9 +173,11 @@ module _ {D P : Type 0} (bound : DiskGhosts D) (peripherals : Ghosts P) where
   }
 
   -- lines and then more
-  pub tells_join : (a b c : Counter D P) (s mid left : Session) (lines more : List (List ℕ)) (before between after : Given)
-      → Tells bound peripherals a s lines before between b mid → Tells bound peripherals b mid more between after c left
-      → Tells bound peripherals a s (lines ++ more) before after c left
+  pub tells_join : (a b c : Counter D P) (s mid left : Session) (lines more : List (List ℕ))
+      (before between after : Given)
+      → RunsAndWrites bound peripherals a s lines before between b mid
+      → RunsAndWrites bound peripherals b mid more between after c left
+      → RunsAndWrites bound peripherals a s (lines ++ more) before after c left
   tells_join a b c s mid left lines more before between after first second = record {
     text = first.text ++ second.text;
     runs = λ standing leaves.
@@ -167,7 +188,8 @@ module _ {D P : Type 0} (bound : DiskGhosts D) (peripherals : Ghosts P) where
           record {
             steps = done.steps ++ further.steps;
             run = run_append _ _ _ done.steps further.steps done.run further.run;
-            prints = prints_join s lines done.steps first.text mid more further.steps second.text left done.prints further.prints;
+            prints = prints_join s lines done.steps first.text mid more further.steps second.text left done.prints
+                further.prints;
           },
         );
     written = Appends-trans _ _ _ first.text second.text first.written second.written;
@@ -176,23 +198,36 @@ module _ {D P : Type 0} (bound : DiskGhosts D) (peripherals : Ghosts P) where
 
   -- what a line leaves at which a write failed, where it is the only one
   abbrev StopsAlone : Counter D P → Session → List ℕ → Given → Given → Counter D P → Session → Type 0
-  StopsAlone a s line before after b left = (text : List ℕ) × Transcript (IsRun bound peripherals) a s (line ∷ []) text left b × IsCut before after text
+  StopsAlone a s line before after b left =
+      (text : List ℕ) × Transcript (IsRun bound peripherals) a s (line ∷ []) text left b × IsCut before after text
 
-  alone : (a b mid : Counter D P) (s between left : Session) (line at : List ℕ) (earlier later : List (List ℕ)) (before given after : Given)
+  alone : (a b mid : Counter D P) (s between left : Session) (line at : List ℕ) (earlier later : List (List ℕ))
+      (before given after : Given)
       → line ∷ [] ≡ earlier ++ at ∷ later → Finishes (IsRun bound peripherals) a s earlier before given between mid
       → StopsAt (IsRun bound peripherals) mid between at given after left b → StopsAlone a s line before after b left
   alone a b mid s between left line at [] later before given after split done failed =
       let (none, nothing, names) = done.transcript.prints in
       let same : at ≡ line = sym (ap (λ (ls : List (List ℕ)). get_or ls 0 []) split) in
-      let still : mid ≡ a = subst (λ (ss : List (Request × Response)). IsRun bound peripherals a ss mid) none done.transcript.run in
+      let still : mid ≡ a = subst (λ (ss : List (Request × Response)). IsRun bound peripherals a ss mid) none
+      done.transcript.run in
       let first : given ≡ before = done.written ∙ ap (given_after before) nothing ∙ sym (Appends-nil before) in
       let outcome : Outcome = record { reply = failed.reply; steps = failed.carried.steps; session = left } in
-      let becomes : LineBecomes s line outcome = subst (λ n. LineBecomes n line outcome) names (subst (λ l. LineBecomes between l outcome) same failed.carried.becomes) in (
+      let becomes : LineBecomes s line outcome =
+      subst (λ n. LineBecomes n line outcome) names
+      (subst (λ l. LineBecomes between l outcome) same failed.carried.becomes) in (
         printed failed.reply,
         record {
           steps = failed.carried.steps;
           run = subst (λ (m : Counter D P). IsRun bound peripherals m failed.carried.steps b) still failed.carried.run;
-          prints = (outcome, [], [], becomes, (refl, refl, refl), sym (append-nil failed.carried.steps), sym (append-nil (printed failed.reply)));
+          prints = (
+            outcome,
+            [],
+            [],
+            becomes,
+            (refl, refl, refl),
+            sym (append-nil failed.carried.steps),
+            sym (append-nil (printed failed.reply)),
+          );
         },
         subst (λ g. IsCut g after (printed failed.reply)) first failed.cut,
       )
@@ -202,13 +237,17 @@ module _ {D P : Type 0} (bound : DiskGhosts D) (peripherals : Ghosts P) where
 
   stops_alone : (a b : Counter D P) (s left : Session) (line : List ℕ) (before after : Given)
       → Stops (IsRun bound peripherals) a s (line ∷ []) before after left b → StopsAlone a s line before after b left
-  stops_alone a b s left line before after h = alone a b h.mid s h.between left line h.line h.earlier h.later before h.given after h.split h.done h.failed
+  stops_alone a b s left line before after h =
+      alone a b h.mid s h.between left line h.line h.earlier h.later before h.given after h.split h.done h.failed
 
-  module _ (a b : Counter D P) (s left : Session) (lines : List (List ℕ)) (line : List ℕ) (only : lines ≡ line ∷ []) (start before after now : Given)
+  module _ (a b : Counter D P) (s left : Session) (lines : List (List ℕ)) (line : List ℕ) (only : lines ≡ line ∷ [])
+      (start before after now : Given)
       (empty : start ≡ given_with [] 0) (far : Progress) where
     -- a line whose text failed
-    pub cuts_failed : Stops (IsRun bound peripherals) a s lines start now left b → (now.faults ≡ 0) ⊎ (8 ≤ length now.bytes)
-        → GivesFront before after now.bytes → (cuts : Cuts bound peripherals a s line before after b left) × IsNotHeld far cuts.text
+    pub cuts_failed : Stops (IsRun bound peripherals) a s lines start now left b
+        → (now.faults ≡ 0) ⊎ (8 ≤ length now.bytes)
+        → GivesFront before after now.bytes
+        → (cuts : Cuts bound peripherals a s line before after b left) × IsNotHeld far cuts.text
     cuts_failed h fails (given, held, split, written) =
         let stops : Stops (IsRun bound peripherals) a s (line ∷ []) (given_with [] 0) now left b =
         subst (λ g. Stops (IsRun bound peripherals) a s (line ∷ []) g now left b) empty
@@ -217,11 +256,17 @@ module _ {D P : Type 0} (bound : DiskGhosts D) (peripherals : Ghosts P) where
         let (front, back, is, some, failed) = cut in
         let bytes : now.bytes ≡ front = ap (λ (g : Given). g.bytes) failed in
         let faults : now.faults ≡ 1 = ap (λ (g : Given). g.faults) failed in
-        let long : 8 ≤ length front = ⊎_elim (λ none. absurd (omega (arith, none, faults))) (λ are. subst (λ l. 8 ≤ length l) bytes are) fails in (
+        let long : 8 ≤ length front = ⊎_elim (λ none. absurd (omega (arith, none, faults)))
+        (λ are. subst (λ l. 8 ≤ length l) bytes are) fails in (
           record {
             text = text;
             runs = runs_lines a b s left (line ∷ []) text done;
-            front = (given, held ++ back, is ∙ ap (λ l. l ++ back) (sym bytes ∙ split) ∙ append_assoc given held back, written);
+            front = (
+              given,
+              held ++ back,
+              is ∙ ap (λ l. l ++ back) (sym bytes ∙ split) ∙ append_assoc given held back,
+              written,
+            );
             kept = run_keeps a b done.steps done.run;
           },
           λ pends memory. long_text front back long (sym is ∙ memory),
@@ -232,11 +277,12 @@ module _ {D P : Type 0} (bound : DiskGhosts D) (peripherals : Ghosts P) where
       bytes_are = ap (λ (g : Given). g.bytes) (done.written ∙ ap (λ g. given_after g done.text) empty)
 
       ran : Transcript (IsRun bound peripherals) a s (line ∷ []) done.text left b
-      ran = subst (λ (ls : List (List ℕ)). Transcript (IsRun bound peripherals) a s ls done.text left b) only done.transcript
+      ran = subst (λ (ls : List (List ℕ)). Transcript (IsRun bound peripherals) a s ls done.text left b) only
+          done.transcript
 
       -- a line whose text was given
       pub tells_given : Appends before after now.bytes → IsNotHeld far now.bytes
-          → (tells : Tells bound peripherals a s (line ∷ []) before after b left) × IsNotHeld far tells.text
+          → (tells : RunsAndWrites bound peripherals a s (line ∷ []) before after b left) × IsNotHeld far tells.text
       tells_given written not_held = (
         record {
           text = done.text;
@@ -275,22 +321,30 @@ module _ {D P : Type 0} (bound : DiskGhosts D) (peripherals : Ghosts P) where
           }
 
   -- what a line leaves, by what became of it
-  pub leaves_as : (course_of : P → Course) (Then : Progress → List ℕ → Type 0) (a b : Counter D P) (s left : Session) (line : List ℕ) (before after : Given)
-      (result known : Result Held WriteFault) → result ≡ known → LineLeaves bound peripherals course_of Then a s line before after result b left
+  pub leaves_as : (course_of : P → Course) (Then : Progress → List ℕ → Type 0) (a b : Counter D P) (s left : Session)
+      (line : List ℕ) (before after : Given)
+      (result known : Result LineProgress WriteFault) → result ≡ known
+      → LineLeaves bound peripherals course_of Then a s line before after result b left
       → LineLeaves bound peripherals course_of Then a s line before after known b left
   leaves_as course_of Then a b s left line before after result known is h =
       subst (λ r. LineLeaves bound peripherals course_of Then a s line before after r b left) is h
 
   -- a line after which the counter is settled
-  pub tells_settled : (a b c : Counter D P) (s left : Session) (line : List ℕ) (before after : Given) (far : Progress) (Then : List ℕ → Type 0)
-      → (tells : Tells bound peripherals a s (line ∷ []) before after b left) × Then tells.text → Stays peripherals b c → far ≡ progress.Ready
-      → (tells : Tells bound peripherals a s (line ∷ []) before after c left) × IsReady far tells.text
-  tells_settled a b c s left line before after far Then (h, then) stays ready = (tells_stay a b c s left (line ∷ []) before after h stays, ready)
+  pub tells_settled : (a b c : Counter D P) (s left : Session) (line : List ℕ) (before after : Given) (far : Progress)
+      (Then : List ℕ → Type 0)
+      → (tells : RunsAndWrites bound peripherals a s (line ∷ []) before after b left) × Then tells.text
+      → Stays peripherals b c → far ≡ progress.Ready
+      → (tells : RunsAndWrites bound peripherals a s (line ∷ []) before after c left) × IsReady far tells.text
+  tells_settled a b c s left line before after far Then (h, then) stays ready =
+      (tells_stay a b c s left (line ∷ []) before after h stays, ready)
 
-  pub cuts_settled : (a b c : Counter D P) (s left : Session) (line : List ℕ) (before after : Given) (far : Progress) (Then : List ℕ → Type 0)
-      → (cuts : Cuts bound peripherals a s line before after b left) × Then cuts.text → Stays peripherals b c → far ≡ progress.Ready
+  pub cuts_settled : (a b c : Counter D P) (s left : Session) (line : List ℕ) (before after : Given) (far : Progress)
+      (Then : List ℕ → Type 0)
+      → (cuts : Cuts bound peripherals a s line before after b left) × Then cuts.text → Stays peripherals b c
+      → far ≡ progress.Ready
       → (cuts : Cuts bound peripherals a s line before after c left) × IsReady far cuts.text
-  cuts_settled a b c s left line before after far Then (h, then) stays ready = (cuts_stay a b c s left line before after h stays, ready)
+  cuts_settled a b c s left line before after far Then (h, then) stays ready =
+      (cuts_stay a b c s left line before after h stays, ready)
 
   module _ {A : Type 0} where
     -- no line yet
@@ -301,26 +355,32 @@ module _ {D P : Type 0} (bound : DiskGhosts D) (peripherals : Ghosts P) where
     module _ (a b c : Counter D P) (s mid left : Session) (texts : List (Vec ℕ A)) (before between after : Given) where
       -- one line more
       pub carries_line : (text : Vec ℕ A) (rest : List (Vec ℕ A)) (line : List ℕ) → lines_of text.items ≡ line ∷ []
-          → CarriesOn bound peripherals a s texts (text ∷ rest) before between b mid → Tells bound peripherals b mid (line ∷ []) between after c left
+          → CarriesOn bound peripherals a s texts (text ∷ rest) before between b mid
+          → RunsAndWrites bound peripherals b mid (line ∷ []) between after c left
           → CarriesOn bound peripherals a s texts rest before after c left
       carries_line text rest line is h tells = record {
         carried = h.carried ++ line ∷ [];
-        split = h.split ∙ ap (λ (ls : List (List ℕ)). h.carried ++ (ls ++ lines_in rest)) is ∙ sym (append_assoc h.carried (line ∷ []) (lines_in rest));
+        split = h.split ∙ ap (λ (ls : List (List ℕ)). h.carried ++ (ls ++ lines_in rest)) is
+            ∙ sym (append_assoc h.carried (line ∷ []) (lines_in rest));
         tells = tells_join a b c s mid left h.carried (line ∷ []) before between after h.tells tells;
       }
 
       -- a line that is held back
-      pub carries_held : (left_texts : List (Vec ℕ A)) → CarriesOn bound peripherals a s texts left_texts before between b mid
-          → Holds bound peripherals b mid between after c left → CarriesOn bound peripherals a s texts left_texts before after c left
+      pub carries_held : (left_texts : List (Vec ℕ A))
+          → CarriesOn bound peripherals a s texts left_texts before between b mid
+          → Holds bound peripherals b mid between after c left
+          → CarriesOn bound peripherals a s texts left_texts before after c left
       carries_held left_texts h held = record {
         carried = h.carried ++ [];
         split = h.split ∙ ap (λ (ls : List (List ℕ)). ls ++ lines_in left_texts) (sym (append-nil h.carried));
-        tells = tells_join a b c s mid left h.carried [] before between after h.tells (tells_held b c mid left between after held);
+        tells = tells_join a b c s mid left h.carried [] before between after h.tells
+            (tells_held b c mid left between after held);
       }
 
       -- a line at which a write failed
       pub cuts_off : (text : Vec ℕ A) (rest : List (Vec ℕ A)) (line : List ℕ) → lines_of text.items ≡ line ∷ []
-          → CarriesOn bound peripherals a s texts (text ∷ rest) before between b mid → Cuts bound peripherals b mid line between after c left
+          → CarriesOn bound peripherals a s texts (text ∷ rest) before between b mid
+          → Cuts bound peripherals b mid line between after c left
           → CutsOff bound peripherals a s texts rest before after c left
       cuts_off text rest line is h cuts = record {
         carried = h.carried;
@@ -334,7 +394,8 @@ module _ {D P : Type 0} (bound : DiskGhosts D) (peripherals : Ghosts P) where
       }
 
     -- then the counter stays as it is to the machine
-    pub carries_stay : (a b c : Counter D P) (s left : Session) (texts left_texts : List (Vec ℕ A)) (before after : Given)
+    pub carries_stay : (a b c : Counter D P) (s left : Session) (texts left_texts : List (Vec ℕ A))
+        (before after : Given)
         → CarriesOn bound peripherals a s texts left_texts before after b left → Stays peripherals b c
         → CarriesOn bound peripherals a s texts left_texts before after c left
     carries_stay a b c s left texts left_texts before after h stays = record {
@@ -344,7 +405,8 @@ module _ {D P : Type 0} (bound : DiskGhosts D) (peripherals : Ghosts P) where
     }
 
 -- the first of some
-pub first_of : {A : Type 0} (xs ys : List A) (x : A) → 0 < length xs → x ≡ slice_index_or xs 0 x → ys ≡ drop 1 xs → xs ≡ x ∷ ys
+pub first_of : {A : Type 0} (xs ys : List A) (x : A) → 0 < length xs → x ≡ slice_index_or xs 0 x → ys ≡ drop 1 xs
+    → xs ≡ x ∷ ys
 first_of [] ys x some is rest = absurd (omega (arith, some))
 first_of (z ∷ zs) ys x some is rest = rw (is, rest) refl
 

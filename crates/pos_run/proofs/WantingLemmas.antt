@@ -1,5 +1,6 @@
 -- A line that prints `memory` changed nothing.
-use Rattle.std.proofs.Common.{Bool, List, Option, Some, None, [], ap, arith, refl, subst, sym, true, false, get_or, ℕ, ◌++◌, ◌∷◌, ◌≡◌, ◌∙◌, ◌⊎◌, inl, inr}
+use Rattle.std.proofs.Common.{Bool, List, Option, Some, None, [], ap, arith, refl, subst, sym, true, false, get_or, ℕ}
+use Rattle.std.proofs.Common.{◌++◌, ◌∷◌, ◌≡◌, ◌∙◌, ◌⊎◌, inl, inr}
 use Rattle.std.proofs.lemmas.List.{append_cancel_right}
 use Rattle.pos_run.proofs.Common.{append-nil}
 use Rattle.std.specs.Bool.{MatchBool}
@@ -9,20 +10,21 @@ use Rattle.pos_service.specs.declared.answer.Answer.TheVariants as answer
 use Rattle.pos_service.specs.declared.event.Event.TheVariants as event
 use Rattle.pos_service.specs.declared.faults.AttachFault.TheVariants as attach
 use Rattle.pos_service.specs.declared.faults.DetachFault.TheVariants as detach
-use Rattle.pos_service.specs.declared.plant.Form.{Form}
-use Rattle.pos_service.specs.declared.plant.Form.TheVariants as form
-use Rattle.pos_service.specs.declared.answer.Worked.TheVariants as worked
+use Rattle.pos_service.specs.declared.plant.Mechanism.{Mechanism}
+use Rattle.pos_service.specs.declared.plant.Mechanism.TheVariants as mechanism
+use Rattle.pos_service.specs.declared.answer.WorkResult.TheVariants as worked
 use Rattle.pos_service.specs.Controls.{Control}
-use Rattle.pos_script.specs.Text.{form_text, printed, reply_text, response_text}
-use Rattle.pos_script.specs.declared.print.Reply.TheVariants as reply
+use Rattle.pos_script.specs.Text.{mechanism_text, printed, reply_text, response_text}
+use Rattle.pos_script.specs.declared.print.LineReply.TheVariants as reply
 use Rattle.pos_script.specs.Arguments.{Reading}
 use Rattle.pos_script.specs.Commands.{LineRequest, asked_by}
 use Rattle.pos_script.specs.Lines.{is_quiet}
 use Rattle.pos_counter.specs.Machine.{Machine}
-use Rattle.pos_counter.specs.Steps.{Request, Response, Run, Step, Wants}
-use Rattle.pos_counter.specs.Steps.{NewControl, CallOf, InputTo, WorkOn, Deliver, Snapshot, Attach, Detach}
-use Rattle.pos_counter.specs.Steps.{Made, Full, Answered, TakenIn, NoDevice, WrongInput, Worked, Delivered, Shown, Attached, NotAttached, Detached, NotDetached, OutOfMemory}
-use Rattle.pos_run.specs.Transcript.{AskingBecomes, LineBecomes, LinesPrint, Outcome, ReadingBecomes, RequestBecomes, Session, passed_over, rebuke, request_of, session_after, turned_down}
+use Rattle.pos_counter.specs.Steps.{Request, Response, Run, Step, Wants, NewControl, CallOf, InputTo, WorkOn, Deliver}
+use Rattle.pos_counter.specs.Steps.{Snapshot, Attach, Detach, Made, Full, Answered, TakenIn, NoDevice, WrongInput}
+use Rattle.pos_counter.specs.Steps.{Worked, Delivered, Shown, Attached, NotAttached, Detached, NotDetached, OutOfMemory}
+use Rattle.pos_run.specs.Transcript.{AskingBecomes, LineBecomes, LinesPrint, Outcome, ReadingBecomes, RequestBecomes}
+use Rattle.pos_run.specs.Transcript.{Session, passed_over, rebuke, request_of, session_after, turned_down}
 
 -- the first letter of a text
 head_of : (l m : List ℕ) → l ≡ m → get_or l 0 0 ≡ get_or m 0 0
@@ -31,12 +33,12 @@ head_of l m e = ap (λ x. get_or x 0 0) e
 clash : (n : ℕ) (l : List ℕ) → (n ≡ 109 → ⊥) → n ∷ l ≡ codes "memory" → ⊥
 clash n l differs e = differs (head_of (n ∷ l) (codes "memory") e)
 
-form_differs : (f : Form) → form_text f ≡ codes "memory" → ⊥
-form_differs (form.Drawer true) e = clash 111 _ (λ x. omega (arith, x)) e
-form_differs (form.Drawer false) e = clash 111 _ (λ x. omega (arith, x)) e
-form_differs form.Scanner e = clash 111 _ (λ x. omega (arith, x)) e
-form_differs (form.Display shown) e = clash 111 _ (λ x. omega (arith, x)) e
-form_differs (form.Printer paper) e = clash 111 _ (λ x. omega (arith, x)) e
+form_differs : (f : Mechanism) → mechanism_text f ≡ codes "memory" → ⊥
+form_differs (mechanism.Drawer true) e = clash 111 _ (λ x. omega (arith, x)) e
+form_differs (mechanism.Drawer false) e = clash 111 _ (λ x. omega (arith, x)) e
+form_differs mechanism.Scanner e = clash 111 _ (λ x. omega (arith, x)) e
+form_differs (mechanism.Display shown) e = clash 111 _ (λ x. omega (arith, x)) e
+form_differs (mechanism.Printer paper) e = clash 111 _ (λ x. omega (arith, x)) e
 
 -- only want of memory is told as `memory`
 wants_memory : (r : Response) → response_text r ≡ codes "memory" → r ≡ OutOfMemory
@@ -55,7 +57,7 @@ wants_memory (Delivered (Some (event.StatusUpdate n))) e = absurd (clash 101 _ (
 wants_memory (Delivered (Some event.Data)) e = absurd (clash 101 _ (λ x. omega (arith, x)) e)
 wants_memory (Delivered (Some (event.Error code extended locus))) e = absurd (clash 101 _ (λ x. omega (arith, x)) e)
 wants_memory (Delivered (Some (event.OutputComplete id))) e = absurd (clash 101 _ (λ x. omega (arith, x)) e)
-wants_memory (Shown snapshot) e = absurd (form_differs snapshot.0.form e)
+wants_memory (Shown snapshot) e = absurd (form_differs snapshot.0.mechanism e)
 wants_memory Attached e = absurd (clash 111 _ (λ x. omega (arith, x)) e)
 wants_memory (NotAttached attach.Unknown given) e = absurd (clash 114 _ (λ x. omega (arith, x)) e)
 wants_memory (NotAttached attach.KindDiffers given) e = absurd (clash 114 _ (λ x. omega (arith, x)) e)
@@ -102,17 +104,20 @@ told_in None = []
 told_in (Some text) = text
 
 module _ (s : Session) (m n : Machine) where
-  asked_nothing : (o : Outcome) (reply : Option (List ℕ)) → o ≡ record { reply = reply; steps = []; session = s } → Quiets s o m n
+  asked_nothing : (o : Outcome) (reply : Option (List ℕ)) → o ≡ record { reply = reply; steps = []; session = s }
+      → Quiets s o m n
   asked_nothing o reply is = subst (λ x. Quiets s x m n) (sym is) (λ told run. (run, refl))
 
-  by_response : (asking : LineRequest) (request : Request) (r : Response) → r ≡ OutOfMemory → Run m ((request, r) ∷ []) n
+  by_response : (asking : LineRequest) (request : Request) (r : Response) → r ≡ OutOfMemory
+      → Run m ((request, r) ∷ []) n
       → (n ≡ m) × (session_after s asking r ≡ s)
   by_response asking request r is run = (
     run.2 ∙ no_step m run.0 request (subst (λ x. Step m request x run.0) is run.1),
     ap (session_after s asking) is ∙ kept s asking,
   )
 
-  by_request : (asking : LineRequest) (o : Outcome) (request : Request) → RequestBecomes s asking request o → Quiets s o m n
+  by_request : (asking : LineRequest) (o : Outcome) (request : Request) → RequestBecomes s asking request o
+      → Quiets s o m n
   by_request asking o request (inl none) = asked_nothing o _ none.1
   by_request asking o request (inr (r, is)) = subst (λ x. Quiets s x m n) (sym is) (λ told run.
       by_response asking request r (wants_memory r (ap told_in told)) run)
@@ -129,11 +134,13 @@ module _ (s : Session) (m n : Machine) where
 
   by_reading : (is_kept : Bool) (o : Outcome) (value : Option LineRequest)
       → MatchOption value (o ≡ turned_down s (reply_text reply.BadLine))
-      (λ asking. (IsTrue is_kept × (o ≡ turned_down s (reply_text reply.Memory))) ⊎ AskingBecomes s asking o) → Quiets s o m n
+      (λ asking. (IsTrue is_kept × (o ≡ turned_down s (reply_text reply.Memory))) ⊎ AskingBecomes s asking o)
+      → Quiets s o m n
   by_reading is_kept o None is = asked_nothing o _ is
   by_reading is_kept o (Some asking) becomes = by_kept is_kept asking o becomes
 
-  by_quiet : (reading : Reading LineRequest) (o : Outcome) (is : Bool) → MatchBool is (o ≡ passed_over s) (ReadingBecomes s reading o) → Quiets s o m n
+  by_quiet : (reading : Reading LineRequest) (o : Outcome) (is : Bool)
+      → MatchBool is (o ≡ passed_over s) (ReadingBecomes s reading o) → Quiets s o m n
   by_quiet reading o true is = asked_nothing o _ is
   by_quiet reading o false becomes = by_reading reading.is_kept o reading.value becomes
 
@@ -151,6 +158,7 @@ pub one_wanting : (s left : Session) (line : List ℕ) (steps : List (Request ×
     → LinesPrint s (line ∷ []) steps (codes "memory\n") left → Run m steps n → (n ≡ m) × (left ≡ s)
 one_wanting s left line steps m n (o, more, rest, becomes, (none, nothing, same), is_steps, is_text) run =
     let all : steps ≡ o.steps = is_steps ∙ ap (λ x. o.steps ++ x) none ∙ append-nil o.steps in
-    let text : printed o.reply ≡ codes "memory\n" = sym (is_text ∙ ap (λ x. printed o.reply ++ x) nothing ∙ append-nil (printed o.reply)) in
+    let text : printed o.reply ≡ codes "memory\n" =
+    sym (is_text ∙ ap (λ x. printed o.reply ++ x) nothing ∙ append-nil (printed o.reply)) in
     let h = by_line s m n line o becomes (told_memory o.reply text) (subst (λ x. Run m x n) all run) in
     (h.0, same ∙ h.1)

@@ -2,8 +2,8 @@ pub mod Names
 pub mod Spares
 pub mod Transcript
 pub mod Streams
-pub mod Running
-pub mod Carried
+pub mod Runs
+pub mod LineRuns
 pub mod Sessions
-pub mod Simulating
+pub mod Simulations
 pub mod WaitingLines

@@ -2,7 +2,7 @@
 use Rattle.std.specs.Prelude.{◌≡◌}
 use Rattle.pos_counter.specs.Counters.{IsCounterSound}
 use Rattle.pos_service.specs.declared.peripheral.Peripheral.{Ghosts}
-use Rattle.pos_run.specs.Carried.{session_of}
+use Rattle.pos_run.specs.LineRuns.{session_of}
 use Rattle.pos_run.specs.Spares.{AreSparesSound}
 use Rattle.pos_run.specs.Transcript.{Session}
 use Rattle.pos_run.specs.declared.session.Session.{Session as Running}

@@ -1,5 +1,6 @@
 -- The spares of a script: peripherals that no device has (docs/reference/console.md, "Lines").
-use Rattle.std.specs.Prelude.{◌≡◌, ℕ, zero, suc, false, List, Option, Some, None, IfSome, All, map, option_map, option_and_then, slice_get, slice_set}
+use Rattle.std.specs.Prelude.{◌≡◌, ℕ, zero, suc, false, List, Option, Some, None, IfSome, All, map, option_map}
+use Rattle.std.specs.Prelude.{option_and_then, slice_get, slice_set}
 use Rattle.pos_service.specs.declared.peripheral.Peripheral.{Ghosts}
 use Rattle.pos_service.specs.Peripherals.{PeripheralState}
 use Rattle.pos_run.specs.declared.spares.Spares.{Spares}

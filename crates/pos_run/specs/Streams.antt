@@ -1,11 +1,13 @@
 -- How a script is read and its answers are written (docs/reference/console.md, "The program").
-use Rattle.std.specs.Prelude.{◌≡◌, ℕ, zero, suc, ◌+◌, ◌≤◌, ◌⊎◌, Bool, true, false, List, [], length, take, None, Result, Ok, Err, nat_lt, is_err}
+use Rattle.std.specs.Prelude.{◌≡◌, ℕ, zero, suc, ◌+◌, ◌≤◌, ◌⊎◌, Bool, true, false, List, [], length, take, None, Result}
+use Rattle.std.specs.Prelude.{Ok, Err, nat_lt, is_err}
 use Rattle.std.specs.Bool.{MatchBool}
 use Rattle.pos_streams.specs.declared.sink.Sink.{Ghosts as SinkGhosts}
 use Rattle.pos_streams.specs.declared.sink.WriteFault.{WriteFault}
 use Rattle.pos_streams.specs.declared.source.ReadFault.{ReadFault}
 use Rattle.pos_streams.specs.declared.source.Source.{Ghosts as SourceGhosts}
-use Rattle.pos_streams.specs.Streams.{Appends, Fails, Given, IsWhole, Taken, TakesBytes, end_after, given_after, given_with, read_fault_after, taken_after, taken_with}
+use Rattle.pos_streams.specs.Streams.{Appends, Fails, Given, IsWhole, Taken, TakesBytes, end_after, given_after}
+use Rattle.pos_streams.specs.Streams.{given_with, read_fault_after, taken_after, taken_with}
 use Rattle.pos_run.specs.declared.answers.AnswerWriter.{AnswerWriter}
 use Rattle.pos_run.specs.declared.script_reader.ReadState.{ReadState}
 use Rattle.pos_run.specs.declared.script_reader.ReadState.TheVariants.{Open, Ended, Failed}

@@ -1,10 +1,12 @@
 -- What a script asks of the machine, and what it prints (docs/reference/console.md, "Answers").
-use Rattle.std.specs.Prelude.{◌≡◌, ℕ, ◌⊎◌, ◌++◌, ◌∷◌, [], Bool, true, false, List, Option, Some, None, MatchOption, Result, Ok, Err, IsTrue, is_some, option_map, if◌then◌else◌}
+use Rattle.std.specs.Prelude.{◌≡◌, ℕ, ◌⊎◌, ◌++◌, ◌∷◌, [], Bool, true, false, List, Option, Some, None, MatchOption}
+use Rattle.std.specs.Prelude.{Result, Ok, Err, IsTrue, is_some, option_map, if◌then◌else◌}
 use Rattle.std.specs.Bool.{MatchBool}
 use Rattle.pos_service.specs.Hardware.{hardware_of}
-use Rattle.pos_counter.specs.Steps.{Request, Response, NewControl, CallOf, InputTo, Deliver, Snapshot, WorkOn, Attach, Detach, Made, Attached}
-use Rattle.pos_script.specs.declared.arguments.LineFault.{LineFault}
-use Rattle.pos_script.specs.declared.print.Reply.TheVariants as reply
+use Rattle.pos_counter.specs.Steps.{Request, Response, NewControl, CallOf, InputTo, Deliver, Snapshot, WorkOn, Attach}
+use Rattle.pos_counter.specs.Steps.{Detach, Made, Attached}
+use Rattle.pos_script.specs.declared.arguments.ArgumentFault.{ArgumentFault}
+use Rattle.pos_script.specs.declared.print.LineReply.TheVariants as reply
 use Rattle.pos_script.specs.Lines.{is_quiet}
 use Rattle.pos_script.specs.Arguments.{Reading}
 use Rattle.pos_script.specs.Commands.{LineRequest, asked_by}
@@ -99,12 +101,12 @@ ReadingBecomes session reading outcome =
     ⊎ AskingBecomes session asking outcome)
 
 -- what a line asks, if its words were read
-abbrev pub asked_as : {A : Type 0} → (A → LineRequest) → Result A LineFault → Result LineRequest LineFault
+abbrev pub asked_as : {A : Type 0} → (A → LineRequest) → Result A ArgumentFault → Result LineRequest ArgumentFault
 asked_as make (Ok value) = Ok (make value)
 asked_as make (Err why) = Err why
 
 -- what becomes of a line that asks this, or whose words weren't read for this reason
-abbrev pub ReadBecomes : Session → Result LineRequest LineFault → Outcome → Type 0
+abbrev pub ReadBecomes : Session → Result LineRequest ArgumentFault → Outcome → Type 0
 ReadBecomes session (Ok asking) outcome = AskingBecomes session asking outcome
 ReadBecomes session (Err why) outcome = outcome ≡ turned_down session (fault_text why)
 
@@ -133,7 +135,7 @@ pub record Transcript {C : Type 0} (Runs : Leads C) (old : C) (session : Session
   pub prints : LinesPrint session lines steps text after
 
 -- What a part of the program does to a state, so that this becomes of a line.
-pub record CarriesOut {C : Type 0} (Runs : Leads C) (old : C) (Becomes : Outcome → Type 0) (reply : Option (List ℕ))
+pub record RunsLine {C : Type 0} (Runs : Leads C) (old : C) (Becomes : Outcome → Type 0) (reply : Option (List ℕ))
     (session : Session) (new : C) : Type 0 where
   pub steps : List (Request × Response)
   pub run : Runs old steps new

@@ -1,5 +1,6 @@
 -- Lines that wait for what a host reports.
-use Rattle.std.specs.Prelude.{◌≡◌, ◌≢◌, ◌++◌, ◌∷◌, [], ℕ, Bool, true, false, List, Result, Ok, Err, codes, if◌then◌else◌, nat_lt, take}
+use Rattle.std.specs.Prelude.{◌≡◌, ◌≢◌, ◌++◌, ◌∷◌, [], ℕ, Bool, true, false, List, Result, Ok, Err, codes}
+use Rattle.std.specs.Prelude.{if◌then◌else◌, nat_lt, take}
 use Rattle.std.specs.declared.vec.Vec.{Vec}
 use Rattle.pos_counter.specs.Counters.{machine}
 use Rattle.pos_counter.specs.Hosts.{progress_in}
@@ -19,8 +20,8 @@ use Rattle.pos_streams.specs.Transfers.{given_to}
 use Rattle.pos_streams.specs.declared.sink.WriteFault.{WriteFault}
 use Rattle.pos_run.specs.Transcript.{Session, Transcript}
 use Rattle.pos_run.specs.declared.line_texts.LineText.{LineText}
-use Rattle.pos_run.specs.declared.waiting_lines.Held.{Held}
-use Rattle.pos_run.specs.declared.waiting_lines.Held.TheVariants as held
+use Rattle.pos_run.specs.declared.waiting_lines.LineProgress.{LineProgress}
+use Rattle.pos_run.specs.declared.waiting_lines.LineProgress.TheVariants as held
 
 -- what a line prints: the bytes that are kept first, and what follows them
 abbrev pub text_of : LineText → Given
@@ -43,8 +44,8 @@ abbrev pub IsNotHeld : Progress → List ℕ → Type 0
 IsNotHeld done text = is_held done ≡ true → text ≢ codes "memory\n"
 
 -- what becomes of a line with this text, by how far the host is with a pending order
-abbrev pub HoldsBy : Progress → List ℕ → Held → Type 0
-HoldsBy done text held.Told = IsNotHeld done text
+abbrev pub HoldsBy : Progress → List ℕ → LineProgress → Type 0
+HoldsBy done text held.Printed = IsNotHeld done text
 HoldsBy done text held.Waits = (is_out done ≡ true) × (text ≡ codes "memory\n")
 HoldsBy done text held.NoMemory = (done ≡ progress.Reported) × (text ≡ codes "memory\n")
 
@@ -75,7 +76,8 @@ abbrev pub GivesFront : Given → Given → List ℕ → Type 0
 GivesFront old new text = (front : List ℕ) × (back : List ℕ) × (text ≡ front ++ back) × (new.bytes ≡ old.bytes ++ front)
 
 -- The machine has run by lines, and their text was given.
-pub record Tells {D P : Type 0} (bound : DiskGhosts D) (peripherals : Ghosts P) (old : Counter D P) (session : Session)
+pub record RunsAndWrites {D P : Type 0} (bound : DiskGhosts D) (peripherals : Ghosts P) (old : Counter D P)
+    (session : Session)
     (lines : List (List ℕ)) (before after : Given) (new : Counter D P) (left : Session) : Type 0 where
   pub text : List ℕ
   pub runs : RunsLines bound peripherals old session lines text new left
@@ -99,10 +101,11 @@ pub record Holds {D P : Type 0} (bound : DiskGhosts D) (peripherals : Ghosts P) 
 
 -- What a line leaves, by what becomes of it, with this of its text and of how far the host is after it.
 abbrev pub LineLeaves : {D P : Type 0} → DiskGhosts D → Ghosts P → (P → Course) → (Progress → List ℕ → Type 0)
-    → Counter D P → Session → (line : List ℕ) → (before after : Given) → Result Held WriteFault → Counter D P → Session
+    → Counter D P → Session → (line : List ℕ) → (before after : Given) → Result LineProgress WriteFault → Counter D P
+    → Session
     → Type 0
-LineLeaves bound peripherals course_of Then old session line before after (Ok held.Told) new left =
-    (tells : Tells bound peripherals old session (line ∷ []) before after new left)
+LineLeaves bound peripherals course_of Then old session line before after (Ok held.Printed) new left =
+    (tells : RunsAndWrites bound peripherals old session (line ∷ []) before after new left)
     × Then (progress_in course_of new) tells.text
 LineLeaves bound peripherals course_of Then old session line before after (Ok held.Waits) new left =
     Holds bound peripherals old session before after new left × (is_out (progress_in course_of new) ≡ true)
@@ -130,7 +133,7 @@ pub record CarriesOn {A D P : Type 0} (bound : DiskGhosts D) (peripherals : Ghos
     : Type 0 where
   pub carried : List (List ℕ)
   pub split : lines_in texts ≡ carried ++ lines_in left_texts
-  pub tells : Tells bound peripherals old session carried before after new left
+  pub tells : RunsAndWrites bound peripherals old session carried before after new left
 
 -- From the front on, lines are carried out, and what they print is given, once each. Then one line is carried out, and
 -- a front of what it prints is given. The others are left.
@@ -143,19 +146,20 @@ pub record CutsOff {A D P : Type 0} (bound : DiskGhosts D) (peripherals : Ghosts
   pub mid : Counter D P
   pub between : Session
   pub split : lines_in texts ≡ carried ++ line ∷ lines_in left_texts
-  pub tells : Tells bound peripherals old session carried before given mid between
+  pub tells : RunsAndWrites bound peripherals old session carried before given mid between
   pub cuts : Cuts bound peripherals mid between line given after new left
 
 -- how lines end: if all were carried out, none is left and no order is pending; else an order waits or is with the
 -- host, or the host has reported
-abbrev pub EndsWith : {A : Type 0} → Held → List (Vec ℕ A) → Progress → Type 0
-EndsWith held.Told left_texts done = (left_texts ≡ []) × (done ≡ progress.Ready)
+abbrev pub EndsWith : {A : Type 0} → LineProgress → List (Vec ℕ A) → Progress → Type 0
+EndsWith held.Printed left_texts done = (left_texts ≡ []) × (done ≡ progress.Ready)
 EndsWith held.Waits left_texts done = is_out done ≡ true
 EndsWith held.NoMemory left_texts done = done ≡ progress.Reported
 
 -- What lines leave, by what becomes of them.
 abbrev pub LinesLeave : {A D P : Type 0} → DiskGhosts D → Ghosts P → (P → Course) → Counter D P → Session
-    → (texts left_texts : List (Vec ℕ A)) → (before after : Given) → Result Held WriteFault → Counter D P → Session
+    → (texts left_texts : List (Vec ℕ A)) → (before after : Given) → Result LineProgress WriteFault → Counter D P
+    → Session
     → Type 0
 LinesLeave bound peripherals course_of old session texts left_texts before after (Ok kind) new left =
     CarriesOn bound peripherals old session texts left_texts before after new left

@@ -5,7 +5,7 @@ ghost use Rattle.pos_totals.specs.Views.{WhenReady};
 ghost use Rattle.pos_counter.specs.Counters.{IsCounterSound, IsStepBeside};
 ghost use Rattle.pos_counter.specs.Steps.{Attach, Response};
 ghost use Rattle.pos_counter.specs.KeptDevices.{slots_in};
-ghost use Rattle.pos_run.specs.Simulating.{Offers};
+ghost use Rattle.pos_run.specs.Simulations.{Offers};
 ghost use Rattle.pos_service.specs.Hardware.{hardware_of};
 
 use pos_counter::Counter;

@@ -1,22 +1,22 @@
 //! A line of a script, from its words to what it prints.
 //!
-//! The kinds of most lines are carried out in place where they are read, and the rare ones in functions of their own.
+//! The kinds of most lines run in place where they are read, and the rare ones in functions of their own.
 //! So no line needs room for the largest of them.
 ghost use Rattle.std.specs.Prelude.{Ok};
 ghost use Rattle.pos_counter.specs.Steps.{CallOf};
 ghost use Rattle.pos_script.specs.Arguments.{Reads, from_none};
 ghost use Rattle.pos_script.specs.Commands.{line_of, request_of_words};
 ghost use Rattle.pos_script.specs.Lines.{words_of};
-ghost use Rattle.pos_run.specs.Carried.{CarriesOutRead, CarriesOutReading};
+ghost use Rattle.pos_run.specs.LineRuns.{RunsRead, RunsReading};
 ghost use Rattle.pos_run.specs.Sessions.{IsSessionSound, KeepsSession, session_in};
 ghost use Rattle.pos_run.specs.Transcript.{asked_as};
 
 use crate::session::{Asks, Session};
 use pos_disk::Disk;
 use pos_script::{
-    CallVerb, Command, DeviceVerb, LineFault, Reply, Verb, print_fault, print_reply, read_called,
-    read_category, read_command, read_happening, read_method, read_none, read_property, read_reply,
-    read_spare,
+    ArgumentFault, CallVerb, Command, DeviceVerb, LineReply, Verb, print_answer, print_fault,
+    print_reply, read_called, read_category, read_command, read_happening, read_method, read_none,
+    read_property, read_reply, read_spare,
 };
 use pos_service::{Call, Ends, Peripheral, Response};
 use pos_streams::{Sink, WriteFault};
@@ -26,8 +26,8 @@ use std::alloc::Global;
 ///
 /// # Errors
 ///
-/// [`LineFault`] if it has more.
-fn read_alone(by: DeviceVerb, words: &[u8]) -> Result<DeviceVerb, LineFault>
+/// [`ArgumentFault`] if it has more.
+fn read_alone(by: DeviceVerb, words: &[u8]) -> Result<DeviceVerb, ArgumentFault>
     ensures { Reads (from_none by (words_of words.now)) result }
 {
     read_none(words).map(|_| by)
@@ -40,43 +40,43 @@ fn read_alone(by: DeviceVerb, words: &[u8]) -> Result<DeviceVerb, LineFault>
 /// [`WriteFault`] if a write failed.
 #[inline(always)]
 #[tactic(auto, using(crate::proofs::SessionLemmas::asks_nothing_unread))]
-fn carry_out_read<W: Sink, D: Disk, P: Peripheral, A: Asks<D, P>>(
+fn run_read<W: Sink, D: Disk, P: Peripheral, A: Asks<D, P>>(
     writer: &mut W,
     session: &mut Session<'_, D, P>,
     name: &[u8],
-    read: Result<A, LineFault>,
+    read: &Result<A, ArgumentFault>,
 ) -> Result<(), WriteFault>
     requires sound { IsSessionSound P.Peripheral session.old }
-    ensures line { CarriesOutRead D.Disk P.Peripheral session.old.counter.now (session_in P.Peripheral session.old)
-        (asked_as (A.asked name.now) read) (W.given writer.old) (W.given writer.new) result
+    ensures line { RunsRead D.Disk P.Peripheral session.old.counter.now (session_in P.Peripheral session.old)
+        (asked_as (A.asked name.now) read.now) (W.given writer.old) (W.given writer.new) result
         (session_in P.Peripheral session.new) session.new.counter.now }
     ensures session { KeepsSession P.Peripheral session.old session.new }
 {
     match read {
         Ok(asked) => print_reply(writer, asked.ask(name, session)),
-        Err(fault) => print_fault(writer, fault),
+        Err(fault) => print_fault(writer, *fault),
     }
 }
 
-/// Does the same as `carry_out_read`, in a function of its own, since it is rare.
+/// Does the same as `run_read`, in a function of its own, since it is rare.
 ///
 /// # Errors
 ///
 /// [`WriteFault`] if a write failed.
 #[inline(never)]
-fn carry_out_rare<W: Sink, D: Disk, P: Peripheral, A: Asks<D, P>>(
+fn run_rare<W: Sink, D: Disk, P: Peripheral, A: Asks<D, P>>(
     writer: &mut W,
     session: &mut Session<'_, D, P>,
     name: &[u8],
-    read: Result<A, LineFault>,
+    read: Result<A, ArgumentFault>,
 ) -> Result<(), WriteFault>
     requires sound { IsSessionSound P.Peripheral session.old }
-    ensures line { CarriesOutRead D.Disk P.Peripheral session.old.counter.now (session_in P.Peripheral session.old)
+    ensures line { RunsRead D.Disk P.Peripheral session.old.counter.now (session_in P.Peripheral session.old)
         (asked_as (A.asked name.now) read) (W.given writer.old) (W.given writer.new) result
         (session_in P.Peripheral session.new) session.new.counter.now }
     ensures session { KeepsSession P.Peripheral session.old session.new }
 {
-    carry_out_read(writer, session, name, read)
+    run_read(writer, session, name, &read)
 }
 
 /// Calls the control of a name, and writes the answer. Each answer is written where it is known, so none is copied into
@@ -86,24 +86,24 @@ fn carry_out_rare<W: Sink, D: Disk, P: Peripheral, A: Asks<D, P>>(
 ///
 /// [`WriteFault`] if a write failed.
 #[inline(always)]
-fn carry_out_called<W: Sink, D: Disk, P: Peripheral>(
+fn run_called<W: Sink, D: Disk, P: Peripheral>(
     writer: &mut W,
     session: &mut Session<'_, D, P>,
     name: &[u8],
     call: &Call,
 ) -> Result<(), WriteFault>
     requires sound { IsSessionSound P.Peripheral session.old }
-    ensures line { CarriesOutRead D.Disk P.Peripheral session.old.counter.now (session_in P.Peripheral session.old)
+    ensures line { RunsRead D.Disk P.Peripheral session.old.counter.now (session_in P.Peripheral session.old)
         (Ok (CallOf name.now call.now)) (W.given writer.old) (W.given writer.new) result
         (session_in P.Peripheral session.new) session.new.counter.now }
     ensures session { KeepsSession P.Peripheral session.old session.new }
 {
     let Some(number) = session.names.find(name) else {
-        return print_reply(writer, Reply::BadControl);
+        return print_reply(writer, LineReply::BadControl);
     };
-    match session.counter.call(number, call) {
-        Ok(answer) => print_reply(writer, Reply::Responded(Response::Answered(answer))),
-        Err(_) => print_reply(writer, Reply::Responded(Response::OutOfMemory)),
+    match &session.counter.call(number, call) {
+        Ok(answer) => print_answer(writer, answer),
+        Err(_) => print_reply(writer, LineReply::Responded(Response::OutOfMemory)),
     }
 }
 
@@ -114,32 +114,32 @@ fn carry_out_called<W: Sink, D: Disk, P: Peripheral>(
 /// [`WriteFault`] if a write failed.
 #[inline(always)]
 #[tactic(auto, using(crate::proofs::SessionLemmas::asks_nothing_unread))]
-fn carry_out_read_call<W: Sink, D: Disk, P: Peripheral>(
+fn run_read_call<W: Sink, D: Disk, P: Peripheral>(
     writer: &mut W,
     session: &mut Session<'_, D, P>,
     name: &[u8],
-    read: &Result<Call, LineFault>,
+    read: &Result<Call, ArgumentFault>,
 ) -> Result<(), WriteFault>
     requires sound { IsSessionSound P.Peripheral session.old }
-    ensures line { CarriesOutRead D.Disk P.Peripheral session.old.counter.now (session_in P.Peripheral session.old)
+    ensures line { RunsRead D.Disk P.Peripheral session.old.counter.now (session_in P.Peripheral session.old)
         (asked_as (λ call. CallOf name.now call) read.now) (W.given writer.old) (W.given writer.new) result
         (session_in P.Peripheral session.new) session.new.counter.now }
     ensures session { KeepsSession P.Peripheral session.old session.new }
 {
     match read {
-        Ok(call) => carry_out_called(writer, session, name, call),
+        Ok(call) => run_called(writer, session, name, call),
         Err(fault) => print_fault(writer, *fault),
     }
 }
 
-/// Carries out a line that calls a control, and writes what it prints.
+/// Runs a line that calls a control, and writes what it prints.
 ///
 /// # Errors
 ///
 /// [`WriteFault`] if a write failed.
 #[inline(always)]
 #[tactic(auto, using(crate::proofs::SessionLemmas::asks_by_words))]
-fn carry_out_call<W: Sink, D: Disk, P: Peripheral>(
+fn run_call<W: Sink, D: Disk, P: Peripheral>(
     alloc: Global,
     writer: &mut W,
     session: &mut Session<'_, D, P>,
@@ -148,23 +148,23 @@ fn carry_out_call<W: Sink, D: Disk, P: Peripheral>(
     words: &[u8],
 ) -> Result<(), WriteFault>
     requires sound { IsSessionSound P.Peripheral session.old }
-    ensures line { CarriesOutReading D.Disk P.Peripheral session.old.counter.now (session_in P.Peripheral session.old)
+    ensures line { RunsReading D.Disk P.Peripheral session.old.counter.now (session_in P.Peripheral session.old)
         (line_of (Verb.Call by) name.now (words_of words.now)) (W.given writer.old) (W.given writer.new) result
         (session_in P.Peripheral session.new) session.new.counter.now }
     ensures session { KeepsSession P.Peripheral session.old session.new }
 {
     let called = read_called(alloc, by, words);
-    carry_out_read_call(writer, session, name, &called)
+    run_read_call(writer, session, name, &called)
 }
 
-/// Carries out a line that asks for a property, and writes what it prints. Its call is made in place, as the one after
+/// Runs a line that asks for a property, and writes what it prints. Its call is made in place, as the one after
 /// is read, since both are large.
 ///
 /// # Errors
 ///
 /// [`WriteFault`] if a write failed.
 #[inline(always)]
-fn carry_out_get<W: Sink, D: Disk, P: Peripheral>(
+fn run_get<W: Sink, D: Disk, P: Peripheral>(
     alloc: Global,
     writer: &mut W,
     session: &mut Session<'_, D, P>,
@@ -172,7 +172,7 @@ fn carry_out_get<W: Sink, D: Disk, P: Peripheral>(
     words: &[u8],
 ) -> Result<(), WriteFault>
     requires sound { IsSessionSound P.Peripheral session.old }
-    ensures line { CarriesOutReading D.Disk P.Peripheral session.old.counter.now (session_in P.Peripheral session.old)
+    ensures line { RunsReading D.Disk P.Peripheral session.old.counter.now (session_in P.Peripheral session.old)
         (line_of (Verb.Call CallVerb.Get) name.now (words_of words.now)) (W.given writer.old) (W.given writer.new)
         result (session_in P.Peripheral session.new) session.new.counter.now }
     ensures session { KeepsSession P.Peripheral session.old session.new }
@@ -180,20 +180,20 @@ fn carry_out_get<W: Sink, D: Disk, P: Peripheral>(
     match read_property(alloc, words) {
         Ok(property) => {
             let call = Call::Get(property);
-            carry_out_called(writer, session, name, &call)
+            run_called(writer, session, name, &call)
         }
         Err(fault) => print_fault(writer, fault),
     }
 }
 
-/// Carries out a line that calls a method, and writes what it prints.
+/// Runs a line that calls a method, and writes what it prints.
 ///
 /// # Errors
 ///
 /// [`WriteFault`] if a write failed.
 #[inline(always)]
 #[tactic(auto, using(crate::proofs::SessionLemmas::asks_by_words))]
-fn carry_out_method<W: Sink, D: Disk, P: Peripheral>(
+fn run_method<W: Sink, D: Disk, P: Peripheral>(
     alloc: Global,
     writer: &mut W,
     session: &mut Session<'_, D, P>,
@@ -201,23 +201,22 @@ fn carry_out_method<W: Sink, D: Disk, P: Peripheral>(
     words: &[u8],
 ) -> Result<(), WriteFault>
     requires sound { IsSessionSound P.Peripheral session.old }
-    ensures line { CarriesOutReading D.Disk P.Peripheral session.old.counter.now (session_in P.Peripheral session.old)
+    ensures line { RunsReading D.Disk P.Peripheral session.old.counter.now (session_in P.Peripheral session.old)
         (line_of (Verb.Call CallVerb.Method) name.now (words_of words.now)) (W.given writer.old) (W.given writer.new)
         result (session_in P.Peripheral session.new) session.new.counter.now }
     ensures session { KeepsSession P.Peripheral session.old session.new }
 {
-    let called = read_method(alloc, words);
-    carry_out_read_call(writer, session, name, &called)
+    run_read_call(writer, session, name, &read_method(alloc, words))
 }
 
-/// Carries out a line by which something happens at a device, and writes what it prints.
+/// Runs a line by which something happens at a device, and writes what it prints.
 ///
 /// # Errors
 ///
 /// [`WriteFault`] if a write failed.
 #[inline(always)]
 #[tactic(auto, using(crate::proofs::SessionLemmas::asks_by_words))]
-fn carry_out_input<W: Sink, D: Disk, P: Peripheral>(
+fn run_input<W: Sink, D: Disk, P: Peripheral>(
     alloc: Global,
     writer: &mut W,
     session: &mut Session<'_, D, P>,
@@ -225,23 +224,22 @@ fn carry_out_input<W: Sink, D: Disk, P: Peripheral>(
     words: &[u8],
 ) -> Result<(), WriteFault>
     requires sound { IsSessionSound P.Peripheral session.old }
-    ensures line { CarriesOutReading D.Disk P.Peripheral session.old.counter.now (session_in P.Peripheral session.old)
+    ensures line { RunsReading D.Disk P.Peripheral session.old.counter.now (session_in P.Peripheral session.old)
         (line_of Verb.Input name.now (words_of words.now)) (W.given writer.old) (W.given writer.new) result
         (session_in P.Peripheral session.new) session.new.counter.now }
     ensures session { KeepsSession P.Peripheral session.old session.new }
 {
-    let happening = read_happening(alloc, words);
-    carry_out_read(writer, session, name, happening)
+    run_read(writer, session, name, &read_happening(alloc, words))
 }
 
-/// Carries out a line that delivers an event, and writes what it prints.
+/// Runs a line that delivers an event, and writes what it prints.
 ///
 /// # Errors
 ///
 /// [`WriteFault`] if a write failed.
 #[inline(always)]
 #[tactic(auto, using(crate::proofs::SessionLemmas::asks_by_words))]
-fn carry_out_delivery<W: Sink, D: Disk, P: Peripheral>(
+fn run_delivery<W: Sink, D: Disk, P: Peripheral>(
     alloc: Global,
     writer: &mut W,
     session: &mut Session<'_, D, P>,
@@ -249,30 +247,30 @@ fn carry_out_delivery<W: Sink, D: Disk, P: Peripheral>(
     words: &[u8],
 ) -> Result<(), WriteFault>
     requires sound { IsSessionSound P.Peripheral session.old }
-    ensures line { CarriesOutReading D.Disk P.Peripheral session.old.counter.now (session_in P.Peripheral session.old)
+    ensures line { RunsReading D.Disk P.Peripheral session.old.counter.now (session_in P.Peripheral session.old)
         (line_of Verb.Deliver name.now (words_of words.now)) (W.given writer.old) (W.given writer.new) result
         (session_in P.Peripheral session.new) session.new.counter.now }
     ensures session { KeepsSession P.Peripheral session.old session.new }
 {
     let reply = read_reply(alloc, words);
-    carry_out_read(writer, session, name, reply)
+    run_read(writer, session, name, &reply)
 }
 
-/// Carries out a line that was taken apart, and writes what it prints.
+/// Runs a line that was taken apart, and writes what it prints.
 ///
 /// # Errors
 ///
 /// [`WriteFault`] if a write failed.
 #[inline(always)]
 #[tactic(auto, using(crate::proofs::SessionLemmas::asks_by_words))]
-fn carry_out_command<W: Sink, D: Disk, P: Peripheral + Ends>(
+fn run_command<W: Sink, D: Disk, P: Peripheral + Ends>(
     alloc: Global,
     writer: &mut W,
     session: &mut Session<'_, D, P>,
     command: Command<'_>,
 ) -> Result<(), WriteFault>
     requires sound { IsSessionSound P.Peripheral session.old }
-    ensures line { CarriesOutReading D.Disk P.Peripheral session.old.counter.now (session_in P.Peripheral session.old)
+    ensures line { RunsReading D.Disk P.Peripheral session.old.counter.now (session_in P.Peripheral session.old)
         (line_of command.entry.verb command.entry.name (words_of command.entry.words.now))
         (W.given writer.old) (W.given writer.new) result
         (session_in P.Peripheral session.new) session.new.counter.now }
@@ -283,45 +281,45 @@ fn carry_out_command<W: Sink, D: Disk, P: Peripheral + Ends>(
     match verb {
         Verb::New => {
             let category = read_category(alloc, words);
-            carry_out_rare(writer, session, name, category)
+            run_rare(writer, session, name, category)
         }
-        Verb::Call(CallVerb::Get) => carry_out_get(alloc, writer, session, name, words),
-        Verb::Call(CallVerb::Method) => carry_out_method(alloc, writer, session, name, words),
-        Verb::Call(by) => carry_out_call(alloc, writer, session, name, by, words),
-        Verb::Input => carry_out_input(alloc, writer, session, name, words),
-        Verb::Deliver => carry_out_delivery(alloc, writer, session, name, words),
+        Verb::Call(CallVerb::Get) => run_get(alloc, writer, session, name, words),
+        Verb::Call(CallVerb::Method) => run_method(alloc, writer, session, name, words),
+        Verb::Call(by) => run_call(alloc, writer, session, name, by, words),
+        Verb::Input => run_input(alloc, writer, session, name, words),
+        Verb::Deliver => run_delivery(alloc, writer, session, name, words),
         Verb::Attach => {
             let spare = read_spare(alloc, words);
-            carry_out_rare(writer, session, name, spare)
+            run_rare(writer, session, name, spare)
         }
         Verb::Device(by) => {
             let verb = read_alone(by, words);
-            carry_out_rare(writer, session, name, verb)
+            run_rare(writer, session, name, verb)
         }
     }
 }
 
-/// Carries out a line that is well spelled and not quiet, and writes what it prints.
+/// Runs a line that is well spelled and not quiet, and writes what it prints.
 ///
 /// # Errors
 ///
 /// [`WriteFault`] if a write failed.
-#[inline(always)]
+#[inline(never)]
 #[tactic(auto, using(crate::proofs::SessionLemmas::asks_nothing_misshapen))]
-pub(crate) fn carry_out_words<W: Sink, D: Disk, P: Peripheral + Ends>(
+pub(crate) fn run_words<W: Sink, D: Disk, P: Peripheral + Ends>(
     alloc: Global,
     writer: &mut W,
     session: &mut Session<'_, D, P>,
     words: &[u8],
 ) -> Result<(), WriteFault>
     requires sound { IsSessionSound P.Peripheral session.old }
-    ensures line { CarriesOutReading D.Disk P.Peripheral session.old.counter.now (session_in P.Peripheral session.old)
+    ensures line { RunsReading D.Disk P.Peripheral session.old.counter.now (session_in P.Peripheral session.old)
         (request_of_words (words_of words.now)) (W.given writer.old) (W.given writer.new) result
         (session_in P.Peripheral session.new) session.new.counter.now }
     ensures session { KeepsSession P.Peripheral session.old session.new }
 {
     match read_command(words) {
-        Some(command) => carry_out_command(alloc, writer, session, command),
-        None => print_reply(writer, Reply::BadLine),
+        Some(command) => run_command(alloc, writer, session, command),
+        None => print_reply(writer, LineReply::BadLine),
     }
 }

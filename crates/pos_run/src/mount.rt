@@ -1,6 +1,6 @@
 //! What the simulated peripherals of a profile are mounted in.
 ghost use Rattle.std.specs.Prelude.{◌≡◌, IfOk};
-ghost use Rattle.pos_run.specs.Simulating.{Mounts, as_it_is, wrapped_state};
+ghost use Rattle.pos_run.specs.Simulations.{Mounts, as_it_is, wrapped_state};
 
 use crate::wrapped::Wrapped;
 use pos_profile::Entry;

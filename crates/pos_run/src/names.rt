@@ -3,6 +3,7 @@ ghost use Rattle.std.specs.Prelude.{◌≡◌, ◌<◌, ◌++◌, ◌∷◌, [],
 ghost use Rattle.pos_run.specs.Names.{names_of, number_named, room_of};
 
 use indexmap::IndexMap;
+use pos_profile::find_name;
 use pos_service::NoMemory;
 use std::alloc::Global;
 use std::cell::Cell;
@@ -29,21 +30,11 @@ impl Names {
     }
 
     /// Returns the number of the control with a name. The name that was found last isn't hashed again.
+    #[inline(always)]
     pub fn find(&self, name: &[u8]) -> Option<usize>
         ensures { result ≡ number_named (names_of self.now) name.now }
     {
-        if let Some((last, number)) = self.numbers.get_index(self.last.get()) {
-            if last.as_slice() == name {
-                return Some(*number);
-            }
-        }
-        match self.numbers.get_full(name) {
-            Some((place, _, number)) => {
-                self.last.set(place);
-                Some(*number)
-            }
-            None => None,
-        }
+        find_name(&self.numbers, &self.last, name)
     }
 
     /// Returns a copy of a name, and makes room for it.

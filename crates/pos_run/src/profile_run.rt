@@ -1,6 +1,6 @@
 //! The counter of a profile's devices and spares, which are simulated, and a run over it.
 ghost use Rattle.std.specs.Prelude.{◌≡◌, IfErr, IfOk, IfSome, option_map};
-ghost use Rattle.pos_run.specs.Simulating.{AreMounted, IsMountedFor, IsSimulable, IsSimulatedCounter, ProfileLeaves, SimulatedLeaves, simulated_for};
+ghost use Rattle.pos_run.specs.Simulations.{AreMounted, IsMountedFor, IsSimulable, IsSimulatedCounter, ProfileLeaves, SimulatedLeaves, simulated_for};
 ghost use Rattle.pos_run.specs.Streams.{streams_of};
 
 use crate::answers::AnswerWriter;

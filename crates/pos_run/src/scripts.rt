@@ -1,9 +1,9 @@
 //! Runs of a script.
 ghost use Rattle.std.specs.Prelude.{◌≡◌, [], IfOk, OnErr};
 ghost use Rattle.pos_counter.specs.Counters.{IsCounterSound, IsRun};
-ghost use Rattle.pos_run.specs.Carried.{CarriesOutEnd, CarriesOutLast, CarriesOutPiece, CarriesOutPrinted, CarriesOutScript, session_of};
+ghost use Rattle.pos_run.specs.LineRuns.{RunsEnd, RunsLast, RunsPiece, RunsPrinted, RunsWholeScript, session_of};
 ghost use Rattle.pos_run.specs.Names.{ControlNames};
-ghost use Rattle.pos_run.specs.Running.{RunsScript};
+ghost use Rattle.pos_run.specs.Runs.{RunsScript};
 ghost use Rattle.pos_script.specs.LineBuffers.{StandsFor};
 ghost use Rattle.pos_run.specs.Spares.{AreSparesSound, spares_in};
 ghost use Rattle.pos_run.specs.Sessions.{IsSessionSound, KeepsSession, session_in};
@@ -11,14 +11,14 @@ ghost use Rattle.pos_run.specs.Streams.{begun_streams, reading_of, streams_of, w
 ghost use Rattle.pos_run.specs.Transcript.{begun_session, session_with};
 
 use crate::answers::AnswerWriter;
-use crate::lines::carry_out_words;
+use crate::lines::run_words;
 use crate::names::Names;
 use crate::script_reader::ScriptReader;
 use crate::session::Session;
 use crate::spares::Spares;
 use pos_counter::Counter;
 use pos_disk::Disk;
-use pos_script::{Line, LineBuffer, Reply, print_reply};
+use pos_script::{Line, LineBuffer, LineReply, print_reply};
 use pos_service::{Ends, NoMemory, Peripheral};
 use pos_streams::{ReaderSource, Sink, Source, WriteFault, WriterSink};
 use std::alloc::Global;
@@ -42,37 +42,38 @@ pub enum RunFault {
 /// How many bytes are read at once, at most.
 const PIECE: usize = 65_536;
 
-/// Carries out a line, and writes what it prints.
+/// Runs a line, and writes what it prints.
 ///
 /// # Errors
 ///
 /// [`WriteFault`] if a write failed.
-fn carry_out_and_print<W: Sink, D: Disk, P: Peripheral + Ends>(
+#[inline(always)]
+fn run_and_print<W: Sink, D: Disk, P: Peripheral + Ends>(
     alloc: Global,
     line: Line<'_>,
     writer: &mut W,
     session: &mut Session<'_, D, P>,
 ) -> Result<(), WriteFault>
     requires sound { IsSessionSound P.Peripheral session.old }
-    ensures line { CarriesOutPrinted D.Disk P.Peripheral session.old.counter.now (session_in P.Peripheral session.old)
+    ensures line { RunsPrinted D.Disk P.Peripheral session.old.counter.now (session_in P.Peripheral session.old)
         line.entry (W.given writer.old) (W.given writer.new) result
         (session_in P.Peripheral session.new) session.new.counter.now }
     ensures session { KeepsSession P.Peripheral session.old session.new }
 {
     match line {
         Line::Quiet => Ok(()),
-        Line::Misspelled => print_reply(writer, Reply::BadLine),
-        Line::Words(words) => carry_out_words(alloc, writer, session, words),
+        Line::Misspelled => print_reply(writer, LineReply::BadLine),
+        Line::Words(words) => run_words(alloc, writer, session, words),
     }
 }
 
-/// Carries out the lines that a piece ends, each before a later one, and writes what each prints.
+/// Runs the lines that a piece ends, each before a later one, and writes what each prints.
 ///
 /// # Errors
 ///
 /// [`WriteFault`] if a write failed.
 #[tactic(auto, using(crate::proofs::SessionLemmas::keeps_on))]
-pub(crate) fn carry_out_piece<W: Sink, D: Disk, P: Peripheral + Ends>(
+pub(crate) fn run_piece<W: Sink, D: Disk, P: Peripheral + Ends>(
     alloc: Global,
     piece: &[u8],
     buffer: &mut LineBuffer,
@@ -80,7 +81,7 @@ pub(crate) fn carry_out_piece<W: Sink, D: Disk, P: Peripheral + Ends>(
     session: &mut Session<'_, D, P>,
 ) -> Result<(), WriteFault>
     requires sound { IsSessionSound P.Peripheral session.old }
-    ensures piece { CarriesOutPiece D.Disk P.Peripheral session.old.counter.now (session_in P.Peripheral session.old)
+    ensures piece { RunsPiece D.Disk P.Peripheral session.old.counter.now (session_in P.Peripheral session.old)
         buffer.old piece.now (W.given writer.old) (W.given writer.new) result buffer.new
         (session_in P.Peripheral session.new) session.new.counter.now }
     ensures session { KeepsSession P.Peripheral session.old session.new }
@@ -88,7 +89,7 @@ pub(crate) fn carry_out_piece<W: Sink, D: Disk, P: Peripheral + Ends>(
     let mut left = piece;
     while let Some((ended, rest)) = buffer.feed(left) {
         let line = buffer.ended_line(ended);
-        let Ok(()) = carry_out_and_print(alloc, line, writer, session) else {
+        let Ok(()) = run_and_print(alloc, line, writer, session) else {
             return Err(WriteFault);
         };
         buffer.clear();
@@ -97,19 +98,19 @@ pub(crate) fn carry_out_piece<W: Sink, D: Disk, P: Peripheral + Ends>(
     Ok(())
 }
 
-/// Carries out the last line of a script, which its end ends, if there is one, and writes what it prints.
+/// Runs the last line of a script, which its end ends, if there is one, and writes what it prints.
 ///
 /// # Errors
 ///
 /// [`WriteFault`] if a write failed.
-pub(crate) fn carry_out_last<W: Sink, D: Disk, P: Peripheral + Ends>(
+pub(crate) fn run_last<W: Sink, D: Disk, P: Peripheral + Ends>(
     alloc: Global,
     buffer: &LineBuffer,
     writer: &mut W,
     session: &mut Session<'_, D, P>,
 ) -> Result<(), WriteFault>
     requires sound { IsSessionSound P.Peripheral session.old }
-    ensures last { CarriesOutLast D.Disk P.Peripheral session.old.counter.now (session_in P.Peripheral session.old)
+    ensures last { RunsLast D.Disk P.Peripheral session.old.counter.now (session_in P.Peripheral session.old)
         buffer.now (W.given writer.old) (W.given writer.new) result
         (session_in P.Peripheral session.new) session.new.counter.now }
     ensures session { KeepsSession P.Peripheral session.old session.new }
@@ -117,40 +118,40 @@ pub(crate) fn carry_out_last<W: Sink, D: Disk, P: Peripheral + Ends>(
     if buffer.is_empty() {
         return Ok(());
     }
-    carry_out_and_print(alloc, buffer.line(), writer, session)
+    run_and_print(alloc, buffer.line(), writer, session)
 }
 
-/// Carries out the last line of a script, if there is one, and flushes all that was printed.
+/// Runs the last line of a script, if there is one, and flushes all that was printed.
 ///
 /// # Errors
 ///
 /// [`WriteFault`] if a write or the flush failed.
-fn carry_out_end<W: Sink, D: Disk, P: Peripheral + Ends>(
+fn run_end<W: Sink, D: Disk, P: Peripheral + Ends>(
     alloc: Global,
     buffer: &LineBuffer,
     writer: &mut AnswerWriter<W>,
     session: &mut Session<'_, D, P>,
 ) -> Result<(), WriteFault>
     requires sound { IsSessionSound P.Peripheral session.old }
-    ensures end { CarriesOutEnd D.Disk P.Peripheral session.old.counter.now (session_in P.Peripheral session.old)
+    ensures end { RunsEnd D.Disk P.Peripheral session.old.counter.now (session_in P.Peripheral session.old)
         buffer.now (writing_of W.Sink writer.old) (writing_of W.Sink writer.new) result
         (session_in P.Peripheral session.new) session.new.counter.now }
     ensures session { KeepsSession P.Peripheral session.old session.new }
 {
-    let Ok(()) = carry_out_last(alloc, buffer, writer, session) else {
+    let Ok(()) = run_last(alloc, buffer, writer, session) else {
         return Err(WriteFault);
     };
     writer.flush()
 }
 
-/// Carries out the lines of a script from the first to the last. All that they print is flushed before each read, and
+/// Runs the lines of a script from the first to the last. All that they print is flushed before each read, and
 /// at the end.
 ///
 /// # Errors
 ///
 /// As of `run`, but for `NoMemory`.
 #[tactic(auto, using(crate::proofs::SessionLemmas::keeps_on))]
-fn carry_out_script<R: Source, W: Sink, D: Disk, P: Peripheral + Ends>(
+fn run_script<R: Source, W: Sink, D: Disk, P: Peripheral + Ends>(
     alloc: Global,
     buffer: &mut LineBuffer,
     reader: &mut ScriptReader<R>,
@@ -174,18 +175,18 @@ fn carry_out_script<R: Source, W: Sink, D: Disk, P: Peripheral + Ends>(
             return Err(RunFault::Read);
         };
         if count == 0 {
-            return match carry_out_end(alloc, buffer, writer, session) {
+            return match run_end(alloc, buffer, writer, session) {
                 Ok(()) => Ok(()),
                 Err(WriteFault) => Err(RunFault::Write),
             };
         }
-        let Ok(()) = carry_out_piece(alloc, &piece[..count], buffer, writer, session) else {
+        let Ok(()) = run_piece(alloc, &piece[..count], buffer, writer, session) else {
             return Err(RunFault::Write);
         };
     }
 }
 
-/// Carries out the lines of a script over a counter, with the names of its controls and its spares.
+/// Runs the lines of a script over a counter, with the names of its controls and its spares.
 ///
 /// # Errors
 ///
@@ -214,19 +215,19 @@ fn run_named<R: Source, W: Sink, D: Disk, P: Peripheral + Ends>(
         names,
         spares,
     };
-    carry_out_script(alloc, buffer, reader, writer, &mut session)
+    run_script(alloc, buffer, reader, writer, &mut session)
 }
 
-/// Carries out the lines of a script in order, and writes what each prints (docs/reference/console.md), over a counter
+/// Runs the lines of a script in order, and writes what each prints (docs/reference/console.md), over a counter
 /// of any peripherals and any disk. One line is kept at a time, in room that is made before anything is read.
 ///
-/// Each line is carried out before more is read, and all that the lines before print is flushed by then. However the
-/// run ends, a crash at any moment leaves what it may leave inside a step of the lines that were carried out.
+/// Each line is run before more is read, and all that the lines before print is flushed by then. However the
+/// run ends, a crash at any moment leaves what it may leave inside a step of the lines that were run.
 ///
 /// # Errors
 ///
-/// - `Read`: a read failed, or there were as many as there may be. The lines that a line feed ended were carried out.
-/// - `Write`: a write or a flush failed. The line at which it failed and all before it were carried out, and no later
+/// - `Read`: a read failed, or there were as many as there may be. The lines that a line feed ended were run.
+/// - `Write`: a write or a flush failed. The line at which it failed and all before it were run, and no later
 ///   one.
 /// - `NoMemory`: memory ran out, and nothing was read.
 pub fn run<R: Source, W: Sink, D: Disk, P: Peripheral + Ends>(
@@ -238,7 +239,7 @@ pub fn run<R: Source, W: Sink, D: Disk, P: Peripheral + Ends>(
 ) -> Result<(), RunFault>
     requires sound { IsCounterSound P.Peripheral counter.old }
     requires spares { AreSparesSound P.Peripheral spares.old }
-    ensures script { (names : ControlNames) × CarriesOutScript D.Disk P.Peripheral counter.old
+    ensures script { (names : ControlNames) × RunsWholeScript D.Disk P.Peripheral counter.old
         (begun_session (spares_in P.Peripheral spares.old))
         (streams_of R.Source reader.old reader.new W.Sink writer.old writer.new) result
         (session_with names (spares_in P.Peripheral spares.new)) counter.new }
@@ -271,7 +272,7 @@ pub struct StreamRun<R, W> {
     pub outcome: Result<(), RunFault>,
 }
 
-/// Carries out the lines of a script from any reader, and writes what each prints to any writer, as `run` does.
+/// Runs the lines of a script from any reader, and writes what each prints to any writer, as `run` does.
 ///
 /// # Errors
 ///
@@ -286,7 +287,7 @@ pub fn run_streams<R: Read + Drop, W: Write + Drop, D: Disk, P: Peripheral + End
 ) -> Result<StreamRun<R, W>, NoMemory>
     requires sound { IsCounterSound P.Peripheral counter.old }
     requires spares { AreSparesSound P.Peripheral spares.old }
-    ensures script { IfOk result (λ left. (names : ControlNames) × CarriesOutScript D.Disk P.Peripheral counter.old
+    ensures script { IfOk result (λ left. (names : ControlNames) × RunsWholeScript D.Disk P.Peripheral counter.old
         (begun_session (spares_in P.Peripheral spares.old))
         (begun_streams (reading_of ⟦<ReaderSource<R> as Source>⟧ left.reader)
         (writing_of ⟦<WriterSink<W> as Sink>⟧ left.writer)) left.outcome

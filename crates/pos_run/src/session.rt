@@ -2,7 +2,7 @@
 ghost use Rattle.std.specs.Prelude.{List, ℕ};
 ghost use Rattle.pos_counter.specs.Steps.{NewControl, InputTo, Deliver, Attach};
 ghost use Rattle.pos_script.specs.Commands.{LineRequest, asked_of};
-ghost use Rattle.pos_run.specs.Carried.{CarriesOutAsking};
+ghost use Rattle.pos_run.specs.LineRuns.{RunsAsking};
 ghost use Rattle.pos_run.specs.Sessions.{IsSessionSound, KeepsSession, session_in};
 
 use crate::names::Names;
@@ -10,10 +10,10 @@ use crate::spares::Spares;
 use pos_counter::Counter;
 use pos_counter::responses::{of_control, of_input, of_snapshot, of_work};
 use pos_disk::Disk;
-use pos_script::{DeviceVerb, Reply};
+use pos_script::{DeviceVerb, LineReply};
 use pos_service::{Category, Ends, ErrorReply, Input, Peripheral, Response};
 
-/// What carries out the lines of a script: a counter, the names of its controls, and the spares beside it.
+/// What runs the lines of a script: a counter, the names of its controls, and the spares beside it.
 #[derive(Drop)]
 pub(crate) struct Session<'a, D: Disk, P> {
     pub(crate) counter: &'a mut Counter<D, P>,
@@ -26,9 +26,9 @@ pub(crate) trait Asks<D: Disk, P: Peripheral>: Sized + Drop {
     ghost asked: { List ℕ → Self → LineRequest };
 
     /// Asks it, with the name of a control or a device, and returns the reply.
-    fn ask(&self, name: &[u8], session: &mut Session<'_, D, P>) -> Reply
+    fn ask(&self, name: &[u8], session: &mut Session<'_, D, P>) -> LineReply
         requires { IsSessionSound P.Peripheral session.old }
-        ensures asks { CarriesOutAsking D.Disk P.Peripheral session.old.counter.now
+        ensures asks { RunsAsking D.Disk P.Peripheral session.old.counter.now
             (session_in P.Peripheral session.old) (asked name.now self.now) result
             (session_in P.Peripheral session.new) session.new.counter.now }
         ensures session { KeepsSession P.Peripheral session.old session.new };
@@ -40,19 +40,19 @@ impl<D: Disk, P: Peripheral> Asks<D, P> for Category {
 
     #[tactic(auto, using(crate::proofs::SessionLemmas::asks_none, crate::proofs::SessionLemmas::asks_unkept))]
     #[inline(always)]
-    fn ask(&self, name: &[u8], session: &mut Session<'_, D, P>) -> Reply {
+    fn ask(&self, name: &[u8], session: &mut Session<'_, D, P>) -> LineReply {
         if session.names.find(name).is_some() {
-            return Reply::BadControl;
+            return LineReply::BadControl;
         }
         let Ok(copy) = session.names.make_room(name) else {
-            return Reply::Memory;
+            return LineReply::Memory;
         };
         match session.counter.control(*self) {
             Ok(number) => {
                 session.names.add(copy, number);
-                Reply::Responded(Response::Made(number))
+                LineReply::Responded(Response::Made(number))
             }
-            Err(fault) => Reply::Responded(of_control(Err(fault))),
+            Err(fault) => LineReply::Responded(of_control(Err(fault))),
         }
     }
 }
@@ -63,12 +63,12 @@ impl<D: Disk, P: Peripheral> Asks<D, P> for ErrorReply {
 
     #[tactic(auto, using(crate::proofs::SessionLemmas::asks_none))]
     #[inline(always)]
-    fn ask(&self, name: &[u8], session: &mut Session<'_, D, P>) -> Reply {
+    fn ask(&self, name: &[u8], session: &mut Session<'_, D, P>) -> LineReply {
         match session.names.find(name) {
-            Some(number) => Reply::Responded(Response::Delivered(
+            Some(number) => LineReply::Responded(Response::Delivered(
                 session.counter.deliver(number, *self),
             )),
-            None => Reply::BadControl,
+            None => LineReply::BadControl,
         }
     }
 }
@@ -78,8 +78,8 @@ impl<D: Disk, P: Peripheral> Asks<D, P> for Input {
     ghost asked = { λ name input. InputTo name input };
 
     #[inline(always)]
-    fn ask(&self, name: &[u8], session: &mut Session<'_, D, P>) -> Reply {
-        Reply::Responded(of_input(session.counter.input(name, self)))
+    fn ask(&self, name: &[u8], session: &mut Session<'_, D, P>) -> LineReply {
+        LineReply::Responded(of_input(session.counter.input(name, self)))
     }
 }
 
@@ -88,15 +88,15 @@ impl<D: Disk, P: Peripheral> Asks<D, P> for u32 {
     ghost asked = { λ name number. Attach name number };
 
     #[inline(always)]
-    fn ask(&self, name: &[u8], session: &mut Session<'_, D, P>) -> Reply {
+    fn ask(&self, name: &[u8], session: &mut Session<'_, D, P>) -> LineReply {
         let Some(peripheral) = session.spares.take(*self) else {
-            return Reply::BadSpare;
+            return LineReply::BadSpare;
         };
         match session.counter.attach(name, peripheral) {
-            Ok(()) => Reply::Responded(Response::Attached),
+            Ok(()) => LineReply::Responded(Response::Attached),
             Err((fault, peripheral)) => {
                 session.spares.put(*self, peripheral);
-                Reply::Responded(Response::NotAttached(fault, ()))
+                LineReply::Responded(Response::NotAttached(fault, ()))
             }
         }
     }
@@ -107,16 +107,16 @@ impl<D: Disk, P: Peripheral + Ends> Asks<D, P> for DeviceVerb {
     ghost asked = { λ name by. asked_of by name };
 
     #[inline(always)]
-    fn ask(&self, name: &[u8], session: &mut Session<'_, D, P>) -> Reply {
+    fn ask(&self, name: &[u8], session: &mut Session<'_, D, P>) -> LineReply {
         match self {
-            DeviceVerb::Show => Reply::Responded(of_snapshot(session.counter.snapshot(name))),
-            DeviceVerb::Work => Reply::Responded(of_work(session.counter.work(name))),
+            DeviceVerb::Show => LineReply::Responded(of_snapshot(session.counter.snapshot(name))),
+            DeviceVerb::Work => LineReply::Responded(of_work(session.counter.work(name))),
             DeviceVerb::Detach => match session.counter.detach(name) {
                 Ok(peripheral) => {
                     peripheral.end();
-                    Reply::Responded(Response::Detached(()))
+                    LineReply::Responded(Response::Detached(()))
                 }
-                Err(fault) => Reply::Responded(Response::NotDetached(fault)),
+                Err(fault) => LineReply::Responded(Response::NotDetached(fault)),
             },
         }
     }

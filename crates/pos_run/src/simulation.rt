@@ -1,6 +1,6 @@
 //! What is simulated for the entries of a profile.
 ghost use Rattle.std.specs.Prelude.{◌≡◌, ◌≤◌, IfOk, option_map};
-ghost use Rattle.pos_run.specs.Simulating.{IsDeviceFor, IsDisplay, IsSimulable, IsSimulatedFor, simulated_for, state_of, wrapped_state};
+ghost use Rattle.pos_run.specs.Simulations.{IsDeviceFor, IsDisplay, IsSimulable, IsSimulatedFor, simulated_for, state_of, wrapped_state};
 
 use crate::wrapped::{Wrapped, wrap};
 use pos_drive::{Preview, Tears};

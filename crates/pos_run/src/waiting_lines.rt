@@ -1,12 +1,12 @@
 //! Lines that may wait for what a host reports.
 ghost use Rattle.std.specs.Prelude.{◌≡◌, ◌∷◌, [], ℕ, All, List};
 ghost use Rattle.pos_counter.specs.Counters.{IsCounterSound};
-ghost use Rattle.pos_run.specs.Carried.{session_of};
+ghost use Rattle.pos_run.specs.LineRuns.{session_of};
 ghost use Rattle.pos_run.specs.Spares.{AreSparesSound};
 ghost use Rattle.pos_run.specs.WaitingLines.{HoldsBy, IsNotHeld, IsOneLine, IsReady, LineLeaves, LinesLeave, is_out, text_of};
 ghost use Rattle.pos_script.specs.Lines.{lines_of};
 
-use crate::given_lines::carry_out_lines;
+use crate::given_lines::run_given_lines;
 use crate::line_texts::LineText;
 use crate::names::Names;
 use crate::spares::Spares;
@@ -21,9 +21,9 @@ use std::collections::VecDeque;
 
 /// What becomes of a line.
 #[derive(Clone, Copy, PartialEq, Eq)]
-pub enum Held {
-    /// It was carried out, and what it prints was written.
-    Told,
+pub enum LineProgress {
+    /// It was run, and what it prints was written.
+    Printed,
     /// An order of it waits for the host. Nothing changed.
     Waits,
     /// The host has reported what became of its order, but there was no memory. Nothing changed.
@@ -38,25 +38,25 @@ fn is_out(progress: Progress) -> bool
 }
 
 /// Returns what becomes of a line that prints this, by how far the host is with a pending order.
-fn held_by(progress: Progress, text: &LineText) -> Held
+fn held_by(progress: Progress, text: &LineText) -> LineProgress
     ensures { HoldsBy progress (text_of text.now).bytes result }
 {
     if !text.is_memory() {
-        return Held::Told;
+        return LineProgress::Printed;
     }
     match progress {
-        Progress::Free | Progress::Ready => Held::Told,
-        Progress::Waits | Progress::HandedOut => Held::Waits,
-        Progress::Reported => Held::NoMemory,
+        Progress::Free | Progress::Ready => LineProgress::Printed,
+        Progress::Waits | Progress::HandedOut => LineProgress::Waits,
+        Progress::Reported => LineProgress::NoMemory,
     }
 }
 
-/// Carries out a line, and writes what it prints, unless an order is pending then and the line found no memory.
+/// Runs a line, and writes what it prints, unless an order is pending then and the line found no memory.
 ///
 /// # Errors
 ///
-/// [`WriteFault`] if a write failed. The line was carried out, and a front of what it prints was written.
-fn carry_out_held<W: Sink, D: Disk, P: Awaits + Ends>(
+/// [`WriteFault`] if a write failed. The line was run, and a front of what it prints was written.
+fn run_held<W: Sink, D: Disk, P: Awaits + Ends>(
     alloc: Global,
     line: &[u8],
     buffer: &mut LineBuffer,
@@ -64,7 +64,7 @@ fn carry_out_held<W: Sink, D: Disk, P: Awaits + Ends>(
     counter: &mut Counter<D, P>,
     names: &mut Names,
     spares: &mut Spares<P>,
-) -> Result<Held, WriteFault>
+) -> Result<LineProgress, WriteFault>
     requires sound { IsCounterSound P.Peripheral counter.old }
     requires spares { AreSparesSound P.Peripheral spares.old }
     ensures line { (line_in : List ℕ) → lines_of line.now ≡ line_in ∷ [] →
@@ -75,27 +75,27 @@ fn carry_out_held<W: Sink, D: Disk, P: Awaits + Ends>(
     ensures spares { AreSparesSound P.Peripheral spares.new }
 {
     let mut text = LineText::new(alloc);
-    let Ok(()) = carry_out_lines(alloc, line, buffer, &mut text, counter, names, spares) else {
+    let Ok(()) = run_given_lines(alloc, line, buffer, &mut text, counter, names, spares) else {
         text.fails_only_long();
         let _ = text.write_to(writer);
         return Err(WriteFault);
     };
     match held_by(counter.progress(), &text) {
-        Held::Told => match text.write_to(writer) {
-            Ok(()) => Ok(Held::Told),
+        LineProgress::Printed => match text.write_to(writer) {
+            Ok(()) => Ok(LineProgress::Printed),
             Err(_) => Err(WriteFault),
         },
-        Held::Waits => Ok(Held::Waits),
-        Held::NoMemory => Ok(Held::NoMemory),
+        LineProgress::Waits => Ok(LineProgress::Waits),
+        LineProgress::NoMemory => Ok(LineProgress::NoMemory),
     }
 }
 
-/// Carries out a line likewise. After a line that isn't held back, no order is pending.
+/// Runs a line likewise. After a line that isn't held back, no order is pending.
 ///
 /// # Errors
 ///
-/// [`WriteFault`] if a write failed. The line was carried out, and a front of what it prints was written.
-fn carry_out_settled<W: Sink, D: Disk, P: Awaits + Ends>(
+/// [`WriteFault`] if a write failed. The line was run, and a front of what it prints was written.
+fn run_settled<W: Sink, D: Disk, P: Awaits + Ends>(
     alloc: Global,
     line: &[u8],
     buffer: &mut LineBuffer,
@@ -103,7 +103,7 @@ fn carry_out_settled<W: Sink, D: Disk, P: Awaits + Ends>(
     counter: &mut Counter<D, P>,
     names: &mut Names,
     spares: &mut Spares<P>,
-) -> Result<Held, WriteFault>
+) -> Result<LineProgress, WriteFault>
     requires sound { IsCounterSound P.Peripheral counter.old }
     requires spares { AreSparesSound P.Peripheral spares.old }
     ensures line { (line_in : List ℕ) → lines_of line.now ≡ line_in ∷ [] →
@@ -113,13 +113,13 @@ fn carry_out_settled<W: Sink, D: Disk, P: Awaits + Ends>(
     ensures sound { IsCounterSound P.Peripheral counter.new }
     ensures spares { AreSparesSound P.Peripheral spares.new }
 {
-    match carry_out_held(alloc, line, buffer, writer, counter, names, spares) {
-        Ok(Held::Told) => {
+    match run_held(alloc, line, buffer, writer, counter, names, spares) {
+        Ok(LineProgress::Printed) => {
             counter.settle();
-            Ok(Held::Told)
+            Ok(LineProgress::Printed)
         }
-        Ok(Held::Waits) => Ok(Held::Waits),
-        Ok(Held::NoMemory) => Ok(Held::NoMemory),
+        Ok(LineProgress::Waits) => Ok(LineProgress::Waits),
+        Ok(LineProgress::NoMemory) => Ok(LineProgress::NoMemory),
         Err(_) => {
             counter.settle();
             Err(WriteFault)
@@ -127,12 +127,12 @@ fn carry_out_settled<W: Sink, D: Disk, P: Awaits + Ends>(
     }
 }
 
-/// Carries out lines from the front on, and writes what each prints, up to one that waits for the host. That one stays
-/// the first of those that are left. Nothing is carried out while an order waits or the host has it.
+/// Runs lines from the front on, and writes what each prints, up to one that waits for the host. That one stays
+/// the first of those that are left. Nothing runs while an order waits or the host has it.
 ///
 /// # Errors
 ///
-/// [`WriteFault`] if a write failed. The line at which it failed was carried out and is removed, and a front of what it
+/// [`WriteFault`] if a write failed. The line at which it failed was run and is removed, and a front of what it
 /// prints was written.
 pub fn carry_on<W: Sink, D: Disk, P: Awaits + Ends>(
     alloc: Global,
@@ -142,7 +142,7 @@ pub fn carry_on<W: Sink, D: Disk, P: Awaits + Ends>(
     counter: &mut Counter<D, P>,
     names: &mut Names,
     spares: &mut Spares<P>,
-) -> Result<Held, WriteFault>
+) -> Result<LineProgress, WriteFault>
     requires lines { All IsOneLine lines.old.items }
     requires sound { IsCounterSound P.Peripheral counter.old }
     requires spares { AreSparesSound P.Peripheral spares.old }
@@ -154,10 +154,10 @@ pub fn carry_on<W: Sink, D: Disk, P: Awaits + Ends>(
     ensures spares { AreSparesSound P.Peripheral spares.new }
 {
     if is_out(counter.progress()) {
-        return Ok(Held::Waits);
+        return Ok(LineProgress::Waits);
     }
     while let Some(line) = lines.front() {
-        match carry_out_settled(
+        match run_settled(
             alloc,
             line.as_slice(),
             buffer,
@@ -166,11 +166,11 @@ pub fn carry_on<W: Sink, D: Disk, P: Awaits + Ends>(
             names,
             spares,
         ) {
-            Ok(Held::Told) => {
+            Ok(LineProgress::Printed) => {
                 lines.pop_front();
             }
-            Ok(Held::Waits) => return Ok(Held::Waits),
-            Ok(Held::NoMemory) => return Ok(Held::NoMemory),
+            Ok(LineProgress::Waits) => return Ok(LineProgress::Waits),
+            Ok(LineProgress::NoMemory) => return Ok(LineProgress::NoMemory),
             Err(_) => {
                 lines.pop_front();
                 return Err(WriteFault);
@@ -178,5 +178,5 @@ pub fn carry_on<W: Sink, D: Disk, P: Awaits + Ends>(
         }
     }
     counter.settle();
-    Ok(Held::Told)
+    Ok(LineProgress::Printed)
 }

@@ -1,6 +1,6 @@
 //! The wrappers of a simulated peripheral.
 ghost use Rattle.std.specs.Prelude.{◌≡◌, false, true};
-ghost use Rattle.pos_run.specs.Simulating.{state_of, wrapped_by, wrapped_state};
+ghost use Rattle.pos_run.specs.Simulations.{state_of, wrapped_by, wrapped_state};
 
 use crate::simulation::Simulation;
 use pos_drive::{Preview, Tears};

@@ -4,7 +4,7 @@ use pos_counter::Counter;
 use pos_image::new_disk;
 use pos_profile::Profile;
 use pos_run::{AnswerWriter, RunFault, ScriptReader, Spares, end_counter, run, run_over_profile};
-use pos_service::{Form, Peripheral, PeripheralBox, Snapshot};
+use pos_service::{Mechanism, Peripheral, PeripheralBox, Snapshot};
 use pos_sims::PlainDrawer;
 use pos_streams::{ReaderSource, WriterSink};
 use std::alloc::Global;
@@ -210,7 +210,7 @@ fn drawer_after(
     let mut spares = Spares::new(Vec::new(alloc));
     let result = run(alloc, &mut reader, &mut writer, &mut counter, &mut spares);
     let is_open = match counter.snapshot(b"d1") {
-        Ok(Snapshot(plant)) => matches!(plant.form, Form::Drawer(true)),
+        Ok(Snapshot(plant)) => matches!(plant.mechanism, Mechanism::Drawer(true)),
         Err(_) => false,
     };
     end_counter(counter);

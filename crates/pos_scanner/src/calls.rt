@@ -3,13 +3,13 @@ ghost use Rattle.std.specs.Prelude.{◌≡◌, ◌<◌, false, true, Some, lengt
 ghost use Rattle.pos_service.specs.declared.category.Category.TheVariants as category;
 ghost use Rattle.pos_service.specs.declared.kind.Kind.{Kind};
 ghost use Rattle.pos_service.specs.Calls.{has_call};
-ghost use Rattle.pos_service.specs.Deeds.{DeedFits, MayWantFor};
+ghost use Rattle.pos_service.specs.Actions.{ActionFits, MayWantFor};
 ghost use Rattle.pos_service.specs.Hardware.{StaysInService, hardware_of};
 ghost use Rattle.pos_common.specs.KeptControls.{controls_of};
-ghost use Rattle.pos_scanner.specs.ScannerCalls.{ScannerCall, ScannerOrders, scanner_deed};
+ghost use Rattle.pos_scanner.specs.ScannerCalls.{ScannerCall, ScannerOrders, scanner_action};
 
-use pos_common::{Claims, Control, carry_out};
-use pos_service::{Answer, Call, Category, Change, Deed, NoMemory, Peripheral};
+use pos_common::{Claims, Control, execute};
+use pos_service::{Action, Answer, Call, Category, ControlUpdate, NoMemory, Peripheral};
 
 /// Does a call of the control with a number on its scanner, which gives no order and takes no memory (common chapter,
 /// chapter Scanner):
@@ -43,21 +43,21 @@ pub fn call<P: Peripheral>(
         StaysInService (state scanner.old) (state scanner.new) }
 {
     match controls[caller].check_call(caller, claims, Category::Scanner, call) {
-        Ok(place) => carry_out(controls, caller, place, scanner, plan(call)),
+        Ok(place) => execute(controls, caller, place, scanner, plan(call)),
         Err(code) => Ok(Answer::Refused(code, 0)),
     }
 }
 
 /// Returns what a call that scanners have comes to, which is never an order.
-fn plan(call: &Call) -> Deed
+fn plan(call: &Call) -> Action
     requires { has_call category.Scanner call.now ≡ true }
-    ensures deed { scanner_deed call.now ≡ Some result }
-    ensures fits { (is : Kind) → DeedFits is result }
+    ensures action { scanner_action call.now ≡ Some result }
+    ensures fits { (is : Kind) → ActionFits is result }
     ensures wants { MayWantFor call.now result }
 {
     match call {
-        Call::ClearInput => Deed::Changes(Change::Input),
-        Call::ClearInputProperties => Deed::Changes(Change::InputProperties),
+        Call::ClearInput => Action::Changes(ControlUpdate::Input),
+        Call::ClearInputProperties => Action::Changes(ControlUpdate::InputProperties),
         _ => unreachable!(),
     }
 }

@@ -1,6 +1,7 @@
 -- What a line buffer keeps of a line as it goes on, at its line feed, and at the end of the input.
-use Rattle.std.proofs.Common.{◌≡◌, ◌++◌, ◌∷◌, ℕ, ◌+◌, ◌-◌, ◌<◌, ◌≤◌, List, [], Bool, true, false, cond, eqb, length, get_or, take, drop, ap, sym, ◌∙◌, subst}
-use Rattle.std.proofs.Common.{refl, arith, ◌||◌, append-nil, length-append, take-append-drop, append_assoc}
+use Rattle.std.proofs.Common.{◌≡◌, ◌++◌, ◌∷◌, ℕ, ◌+◌, ◌-◌, ◌<◌, ◌≤◌, List, [], Bool, true, false, cond, eqb, length}
+use Rattle.std.proofs.Common.{get_or, take, drop, ap, sym, ◌∙◌, subst, refl, arith, ◌||◌, append-nil, length-append}
+use Rattle.std.proofs.Common.{take-append-drop, append_assoc}
 use Rattle.std.proofs.lemmas.List.{drop_more, get_or-append-add, length-take, take_all, take_rest}
 use Rattle.std.proofs.Math.Seq.{take-append-add}
 use Rattle.std.proofs.lemmas.List.Folds.{list_all-append}
@@ -8,10 +9,12 @@ use Rattle.std.proofs.lemmas.Bool.{and_parts}
 use Rattle.std.proofs.lemmas.Bool.Decides.{nat_tests}
 use Rattle.pos_script.specs.declared.line_buffer.EndedLine.TheVariants as ended
 use Rattle.pos_script.specs.declared.line_buffer.Line.{Line}
-use Rattle.pos_script.specs.declared.line_buffer.Look.{Look}
-use Rattle.pos_script.specs.Lines.{pieces, complete_lines, unfinished, lines_of, last_line, without_cr, is_nothing, is_plain, is_space, is_quiet}
-use Rattle.pos_script.specs.LineBuffers.{Kept, EndsInput, EndsLine, IsHeld, IsLine, StandsFor, are_plain, have_no_feed, is_blank, is_comment, is_kept_nothing}
-use Rattle.pos_script.specs.LineBuffers.{is_no_feed, kept_ended, kept_of, kept_with, look_of, look_with}
+use Rattle.pos_script.specs.declared.line_buffer.LongLineKind.{LongLineKind}
+use Rattle.pos_script.specs.Lines.{pieces, complete_lines, unfinished, lines_of, last_line, without_cr, is_nothing}
+use Rattle.pos_script.specs.Lines.{is_plain, is_space, is_quiet}
+use Rattle.pos_script.specs.LineBuffers.{Kept, EndsInput, EndsLine, IsHeld, IsLine, StandsFor, are_plain, have_no_feed}
+use Rattle.pos_script.specs.LineBuffers.{is_blank, is_comment, is_kept_nothing, is_no_feed, kept_ended, kept_of}
+use Rattle.pos_script.specs.LineBuffers.{kept_with, look_of, look_with}
 use Rattle.pos_script.proofs.LineLemmas.{adds_lines, adds_rest, ends_lines, ends_rest, two_parts}
 
 -- a carriage return at the end of a line is one at the end of its last part
@@ -21,7 +24,7 @@ without_cr_behind xs y ys =
     let len : length (xs ++ (y ∷ ys)) - 1 ≡ length xs + m = omega (arith, length-append xs (y ∷ ys)) in
     rw (len, get_or-append-add xs (y ∷ ys) m 0, take-append-add xs (y ∷ ys) m) (grind arith)
 
-look_nothing : (look : Look) → look_with look [] ≡ look
+look_nothing : (look : LongLineKind) → look_with look [] ≡ look
 look_nothing look = grind arith
 
 -- how a line looks with bytes behind it
@@ -30,7 +33,8 @@ look_more [] ys lt = absurd (omega (arith, lt))
 look_more (x ∷ xs) [] lt = look_nothing (look_of (x ∷ xs)) ∙ ap look_of (sym (append-nil (x ∷ xs)))
 look_more (x ∷ xs) (y ∷ ys) lt =
     let all = list_all-append is_space (x ∷ xs) (y ∷ ys) in
-    let almost = ap is_blank (without_cr_behind (x ∷ xs) y ys) ∙ list_all-append is_space (x ∷ xs) (without_cr (y ∷ ys)) in
+    let almost = ap is_blank (without_cr_behind (x ∷ xs) y ys)
+    ∙ list_all-append is_space (x ∷ xs) (without_cr (y ∷ ys)) in
     grind arith
 
 -- what is kept of a line with bytes behind it
@@ -51,7 +55,8 @@ length_cases false xs = omega arith
 blank_kept : (xs : List ℕ) → is_blank xs ≡ true → is_blank (without_cr xs) ≡ true
 blank_kept xs h =
     let n = length xs - 1 in
-    let front : is_blank (take n xs) ≡ true = (and_parts _ _ (sym (list_all-append is_space (take n xs) (drop n xs)) ∙ rw take-append-drop h)).0 in
+    let front : is_blank (take n xs) ≡ true =
+    (and_parts _ _ (sym (list_all-append is_space (take n xs) (drop n xs)) ∙ rw take-append-drop h)).0 in
     grind arith
 
 comment_kept : (xs : List ℕ) → 1 < length xs → is_comment (without_cr xs) ≡ is_comment xs
@@ -77,7 +82,8 @@ nothing_kept : (line : List ℕ) → is_kept_nothing (kept_of line) ≡ is_nothi
 nothing_kept line = grind arith
 
 -- at the end of the input
-pub input_ends : (read : List ℕ) (kept : Kept) (e : Bool) → e ≡ is_kept_nothing kept → StandsFor kept read → EndsInput read e kept
+pub input_ends : (read : List ℕ) (kept : Kept) (e : Bool) → e ≡ is_kept_nothing kept → StandsFor kept read
+    → EndsInput read e kept
 input_ends read kept e is stands =
     let same = is ∙ ap is_kept_nothing stands ∙ nothing_kept (unfinished read) in
     let split : lines_of read ≡ complete_lines read ++ last_line (unfinished read) = two_parts (pieces 10 read) in
@@ -85,13 +91,16 @@ input_ends read kept e is stands =
     grind (arith, append-nil)
 
 -- bytes without a line feed come behind what was read
-pub adds_to : (read bytes : List ℕ) (old new : Kept) → have_no_feed bytes ≡ true → new ≡ kept_with old bytes → StandsFor old read
+pub adds_to : (read bytes : List ℕ) (old new : Kept) → have_no_feed bytes ≡ true → new ≡ kept_with old bytes
+    → StandsFor old read
     → StandsFor new (read ++ bytes)
 adds_to read bytes old new free adds stands =
-    adds ∙ ap (λ k. kept_with k bytes) stands ∙ kept_more (unfinished read) bytes ∙ ap kept_of (sym (adds_rest read bytes free))
+    adds ∙ ap (λ k. kept_with k bytes) stands ∙ kept_more (unfinished read) bytes
+    ∙ ap kept_of (sym (adds_rest read bytes free))
 
 -- a piece without a line feed
-pub feeds_all : (read piece : List ℕ) (n : ℕ) (old new : Kept) → have_no_feed (take n piece) ≡ true → n ≡ length piece → new ≡ kept_with old (take n piece)
+pub feeds_all : (read piece : List ℕ) (n : ℕ) (old new : Kept) → have_no_feed (take n piece) ≡ true → n ≡ length piece
+    → new ≡ kept_with old (take n piece)
     → StandsFor old read → (complete_lines (read ++ piece) ≡ complete_lines read) × StandsFor new (read ++ piece)
 feeds_all read piece n old new free is adds stands =
     let all : take n piece ≡ piece = take_all n piece (omega (arith, is)) in (
@@ -107,16 +116,22 @@ cut_at : (piece : List ℕ) (n : ℕ) → n < length piece → get_or piece n 0 
     → piece ≡ (take n piece ++ 10 ∷ []) ++ take (length piece - (n + 1)) (drop (n + 1) piece)
 cut_at piece n lt feed =
     let front = take n piece in
-    sym (take-append-drop n piece) ∙ ap (λ x. front ++ x) (drop_more piece n 0 lt ∙ ap (λ b. b ∷ drop (n + 1) piece) feed)
-    ∙ sym (append_assoc front (10 ∷ []) (drop (n + 1) piece)) ∙ ap (λ x. (front ++ 10 ∷ []) ++ x) (sym (take_rest piece (n + 1)))
+    sym (take-append-drop n piece)
+    ∙ ap (λ x. front ++ x) (drop_more piece n 0 lt ∙ ap (λ b. b ∷ drop (n + 1) piece) feed)
+    ∙ sym (append_assoc front (10 ∷ []) (drop (n + 1) piece))
+    ∙ ap (λ x. (front ++ 10 ∷ []) ++ x) (sym (take_rest piece (n + 1)))
 
 -- where nothing is kept, a piece with its first line feed at a place, before which this line stands
-pub feeds_whole : (read piece : List ℕ) (n : ℕ) (kept : Kept) (line : Line) → have_no_feed (take n piece) ≡ true → n < length piece → get_or piece n 0 ≡ 10
+pub feeds_whole : (read piece : List ℕ) (n : ℕ) (kept : Kept) (line : Line) → have_no_feed (take n piece) ≡ true
+    → n < length piece → get_or piece n 0 ≡ 10
     → is_kept_nothing kept ≡ true → IsLine line (without_cr (take n piece)) → StandsFor kept read
-    → (taken : List ℕ) × (piece ≡ taken ++ take (length piece - (n + 1)) (drop (n + 1) piece)) × EndsLine read taken (ended.InPiece line) kept
+    → (taken : List ℕ) × (piece ≡ taken ++ take (length piece - (n + 1)) (drop (n + 1) piece))
+    × EndsLine read taken (ended.InPiece line) kept
 feeds_whole read piece n kept line free lt feed nothing is stands =
     let front = take n piece in
-    let none : unfinished read ≡ [] = nothing_is (unfinished read) (sym (nothing_kept (unfinished read)) ∙ ap is_kept_nothing (sym stands) ∙ nothing) in (
+    let none : unfinished read ≡ [] =
+    nothing_is (unfinished read) (sym (nothing_kept (unfinished read)) ∙ ap is_kept_nothing (sym stands)
+    ∙ nothing) in (
       front ++ 10 ∷ [],
       cut_at piece n lt feed,
       (
@@ -128,9 +143,11 @@ feeds_whole read piece n kept line free lt feed nothing is stands =
     )
 
 -- a piece with its first line feed at a place
-pub feeds_line : (read piece : List ℕ) (n : ℕ) (old mid new : Kept) → have_no_feed (take n piece) ≡ true → n < length piece → get_or piece n 0 ≡ 10
+pub feeds_line : (read piece : List ℕ) (n : ℕ) (old mid new : Kept) → have_no_feed (take n piece) ≡ true
+    → n < length piece → get_or piece n 0 ≡ 10
     → mid ≡ kept_with old (take n piece) → new ≡ kept_ended mid → StandsFor old read
-    → (taken : List ℕ) × (piece ≡ taken ++ take (length piece - (n + 1)) (drop (n + 1) piece)) × EndsLine read taken ended.Held new
+    → (taken : List ℕ) × (piece ≡ taken ++ take (length piece - (n + 1)) (drop (n + 1) piece))
+    × EndsLine read taken ended.Held new
 feeds_line read piece n old mid new free lt feed adds ends stands =
     let front = take n piece in
     let line = unfinished read ++ front in
@@ -138,7 +155,12 @@ feeds_line read piece n old mid new free lt feed adds ends stands =
     ends ∙ ap kept_ended (adds ∙ ap (λ k. kept_with k front) stands ∙ kept_more (unfinished read) front) in (
       front ++ 10 ∷ [],
       cut_at piece n lt feed,
-      (without_cr line, ends_lines read front free, ends_rest read front free, subst (λ k. IsHeld k (without_cr line)) (sym held) (held_ended line)),
+      (
+        without_cr line,
+        ends_lines read front free,
+        ends_rest read front free,
+        subst (λ k. IsHeld k (without_cr line)) (sym held) (held_ended line),
+      ),
     )
 
 plain_byte : (b : ℕ) → is_plain b ≡ true → is_no_feed b ≡ true

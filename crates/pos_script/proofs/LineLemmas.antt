@@ -2,7 +2,8 @@
 use Rattle.std.proofs.Common.{◌≡◌, ◌++◌, ◌∷◌, ℕ, ◌<◌, List, [], true, length, ap, ◌∙◌, refl, arith, append-nil}
 use Rattle.std.specs.List.{list_all}
 use Rattle.pos_script.specs.LineBuffers.{is_no_feed}
-use Rattle.pos_script.specs.Lines.{onto_first, pieces, lines_in, ended_in, last_in, last_line, complete_lines, unfinished, without_cr}
+use Rattle.pos_script.specs.Lines.{onto_first, pieces, lines_in, ended_in, last_in, last_line, complete_lines}
+use Rattle.pos_script.specs.Lines.{unfinished, without_cr}
 use Rattle.pos_script.proofs.PieceLemmas.{front_onto, front_onto_nil, some_piece}
 
 -- the pieces of a text behind those of another: its first goes on with the last of the other
@@ -33,7 +34,8 @@ glue_some (p ∷ []) qs lt = front_some p qs lt
 glue_some (p ∷ q ∷ ps) qs lt = omega arith
 
 -- the pieces that are ended among the pieces of two texts, and the last
-glued : (ps qs : List (List ℕ)) → 0 < length ps → 0 < length qs → (ended_in (glue ps qs) ≡ ended_in ps ++ ended_in (front_onto (last_in ps) qs))
+glued : (ps qs : List (List ℕ)) → 0 < length ps → 0 < length qs
+    → (ended_in (glue ps qs) ≡ ended_in ps ++ ended_in (front_onto (last_in ps) qs))
     × (last_in (glue ps qs) ≡ last_in (front_onto (last_in ps) qs))
 glued [] qs some lt = absurd (omega (arith, some))
 glued (p ∷ []) qs some lt = (refl, refl)
@@ -42,18 +44,22 @@ glued (p ∷ q ∷ ps) qs some lt =
     let h = glued (q ∷ ps) qs (omega arith) lt in
     grind arith
 
-lines_behind : (xs ys : List ℕ) → complete_lines (xs ++ ys) ≡ complete_lines xs ++ ended_in (front_onto (unfinished xs) (pieces 10 ys))
-lines_behind xs ys = ap ended_in (pieces_append 10 xs ys) ∙ (glued (pieces 10 xs) (pieces 10 ys) (some_piece 10 xs) (some_piece 10 ys)).0
+lines_behind : (xs ys : List ℕ)
+    → complete_lines (xs ++ ys) ≡ complete_lines xs ++ ended_in (front_onto (unfinished xs) (pieces 10 ys))
+lines_behind xs ys = ap ended_in (pieces_append 10 xs ys)
+    ∙ (glued (pieces 10 xs) (pieces 10 ys) (some_piece 10 xs) (some_piece 10 ys)).0
 
 rest_behind : (xs ys : List ℕ) → unfinished (xs ++ ys) ≡ last_in (front_onto (unfinished xs) (pieces 10 ys))
-rest_behind xs ys = ap last_in (pieces_append 10 xs ys) ∙ (glued (pieces 10 xs) (pieces 10 ys) (some_piece 10 xs) (some_piece 10 ys)).1
+rest_behind xs ys = ap last_in (pieces_append 10 xs ys)
+    ∙ (glued (pieces 10 xs) (pieces 10 ys) (some_piece 10 xs) (some_piece 10 ys)).1
 
 -- what is unfinished has no line feed
 last_whole : (c : ℕ) (xs : List ℕ) → pieces c (last_in (pieces c xs)) ≡ last_in (pieces c xs) ∷ []
 last_whole c [] = refl
 last_whole c (x ∷ xs) = let some = some_piece c xs in let h = last_whole c xs in grind arith
 
-pub go_on_lines : (front piece : List ℕ) → complete_lines (front ++ piece) ≡ complete_lines front ++ complete_lines (unfinished front ++ piece)
+pub go_on_lines : (front piece : List ℕ)
+    → complete_lines (front ++ piece) ≡ complete_lines front ++ complete_lines (unfinished front ++ piece)
 go_on_lines front piece = rw (lines_behind front piece, lines_behind (unfinished front) piece, last_whole 10 front) refl
 
 pub go_on_rest : (front piece : List ℕ) → unfinished (front ++ piece) ≡ unfinished (unfinished front ++ piece)
@@ -70,10 +76,13 @@ one_piece [] h = refl
 one_piece (b ∷ bs) h = let more = one_piece bs in grind arith
 
 -- behind what was read, bytes without a line feed
-pub adds_lines : (read bytes : List ℕ) → list_all is_no_feed bytes ≡ true → complete_lines (read ++ bytes) ≡ complete_lines read
-adds_lines read bytes h = rw (lines_behind read bytes, one_piece bytes h, front_onto_one (unfinished read) bytes []) (append-nil (complete_lines read))
+pub adds_lines : (read bytes : List ℕ) → list_all is_no_feed bytes ≡ true
+    → complete_lines (read ++ bytes) ≡ complete_lines read
+adds_lines read bytes h = rw (lines_behind read bytes, one_piece bytes h, front_onto_one (unfinished read) bytes [])
+    (append-nil (complete_lines read))
 
-pub adds_rest : (read bytes : List ℕ) → list_all is_no_feed bytes ≡ true → unfinished (read ++ bytes) ≡ unfinished read ++ bytes
+pub adds_rest : (read bytes : List ℕ) → list_all is_no_feed bytes ≡ true
+    → unfinished (read ++ bytes) ≡ unfinished read ++ bytes
 adds_rest read bytes h = rw (rest_behind read bytes, one_piece bytes h, front_onto_one (unfinished read) bytes []) refl
 
 -- and such bytes with a line feed behind them
@@ -83,12 +92,18 @@ ended_piece bytes h = rw (pieces_append 10 bytes, one_piece bytes h) (front_onto
 pub ends_lines : (read bytes : List ℕ) → list_all is_no_feed bytes ≡ true
     → complete_lines (read ++ (bytes ++ 10 ∷ [])) ≡ complete_lines read ++ without_cr (unfinished read ++ bytes) ∷ []
 ends_lines read bytes h =
-    rw (lines_behind read (bytes ++ 10 ∷ []), ended_piece bytes h, front_onto_one (unfinished read) bytes ([] ∷ [])) refl
+    rw (lines_behind read (bytes ++ 10 ∷ []), ended_piece bytes h, front_onto_one (unfinished read) bytes ([] ∷ []))
+    refl
 
 pub ends_rest : (read bytes : List ℕ) → list_all is_no_feed bytes ≡ true → unfinished (read ++ (bytes ++ 10 ∷ [])) ≡ []
-ends_rest read bytes h = rw (rest_behind read (bytes ++ 10 ∷ []), ended_piece bytes h, front_onto_one (unfinished read) bytes ([] ∷ [])) refl
+ends_rest read bytes h = rw (
+  rest_behind read (bytes ++ 10 ∷ []),
+  ended_piece bytes h,
+  front_onto_one (unfinished read) bytes ([] ∷ []),
+) refl
 
 -- a line feed ended the first of some pieces
-pub ended_line : (piece : List ℕ) (pieces : List (List ℕ)) → 0 < length pieces → lines_in (piece ∷ pieces) ≡ without_cr piece ∷ lines_in pieces
+pub ended_line : (piece : List ℕ) (pieces : List (List ℕ)) → 0 < length pieces
+    → lines_in (piece ∷ pieces) ≡ without_cr piece ∷ lines_in pieces
 ended_line piece [] none = absurd (omega (arith, none))
 ended_line piece (next ∷ more) some = refl

@@ -1,7 +1,8 @@
 -- How the words of a line are read: their shapes, and what they stand for (docs/reference/console.md, "Words").
-use Rattle.std.specs.Prelude.{◌≡◌, ℕ, Bool, true, false, ◌||◌, List, [], ◌∷◌, Option, Some, None, is_some, option_map, Result, Ok, Err}
-use Rattle.pos_script.specs.declared.arguments.LineFault.{LineFault}
-use Rattle.pos_script.specs.declared.arguments.LineFault.TheVariants as fault
+use Rattle.std.specs.Prelude.{◌≡◌, ℕ, Bool, true, false, ◌||◌, List, [], ◌∷◌, Option, Some, None, is_some, option_map}
+use Rattle.std.specs.Prelude.{Result, Ok, Err}
+use Rattle.pos_script.specs.declared.arguments.ArgumentFault.{ArgumentFault}
+use Rattle.pos_script.specs.declared.arguments.ArgumentFault.TheVariants as fault
 
 -- The shape of an argument: what a word stands for, if it is of this shape, and whether that is kept in memory.
 pub record Shape (A : Type 0) : Type 0 where
@@ -91,14 +92,14 @@ value_of (Err e) = None
 
 -- what reading answers: what the words stand for, or that their shape is wrong. Where the shape is right and a part is
 -- kept, there may be no memory.
-abbrev pub Reads : {A : Type 0} → Reading A → Result A LineFault → Type 0
+abbrev pub Reads : {A : Type 0} → Reading A → Result A ArgumentFault → Type 0
 Reads reading (Ok value) = reading.value ≡ Some value
 Reads reading (Err fault.WrongShape) = reading.value ≡ None
 Reads reading (Err fault.NoMemory) = (is_some reading.value ≡ true) × (reading.is_kept ≡ true)
 
 -- what a first look at words tells, which takes no memory: what they stand for, where none of it is kept; else whether
 -- their shape is right
-abbrev pub Glances : {A : Type 0} → Reading A → Result (Option A) LineFault → Type 0
+abbrev pub Glances : {A : Type 0} → Reading A → Result (Option A) ArgumentFault → Type 0
 Glances reading (Ok (Some value)) = reading.value ≡ Some value
 Glances reading (Ok None) = is_some reading.value ≡ true
 Glances reading (Err e) = reading.value ≡ None

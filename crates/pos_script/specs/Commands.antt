@@ -18,7 +18,8 @@ use Rattle.pos_script.specs.declared.command.Verb.{Verb}
 use Rattle.pos_script.specs.declared.command.Verb.TheVariants as verb
 use Rattle.pos_script.specs.Arguments.{Reading, misshapen, become, one, from_none, from_one, from_two, from_three}
 use Rattle.pos_service.specs.Names.{is_device_name}
-use Rattle.pos_script.specs.Words.{bytes_shape, category_shape, count_shape, device_shape, number_shape, property_shape, value_shape, error_reply_shape}
+use Rattle.pos_script.specs.Words.{bytes_shape, category_shape, count_shape, device_shape, number_shape, property_shape}
+use Rattle.pos_script.specs.Words.{value_shape, error_reply_shape}
 use Rattle.pos_script.specs.Methods.{call_of}
 
 -- what a line asks: controls by their names, and the spare that is to serve a device by its number

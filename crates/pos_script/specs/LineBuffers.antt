@@ -1,10 +1,12 @@
 -- What a line buffer keeps of a script that comes in pieces (docs/reference/console.md, "Lines").
-use Rattle.std.specs.Prelude.{◌≡◌, ◌<◌, ◌++◌, ℕ, Bool, true, false, not, List, [], ◌∷◌, Option, Some, None, length, nat_le, ◌==◌, if◌then◌else◌, MatchOption}
+use Rattle.std.specs.Prelude.{◌≡◌, ◌<◌, ◌++◌, ℕ, Bool, true, false, not, List, [], ◌∷◌, Option, Some, None, length}
+use Rattle.std.specs.Prelude.{nat_le, ◌==◌, if◌then◌else◌, MatchOption}
 use Rattle.std.specs.Bool.{MatchBool}
 use Rattle.std.specs.List.{list_all}
-use Rattle.pos_script.specs.Lines.{complete_lines, unfinished, lines_of, without_cr, is_nothing, is_plain, is_space, is_quiet, is_well_spelled}
-use Rattle.pos_script.specs.declared.line_buffer.Look.{Look}
-use Rattle.pos_script.specs.declared.line_buffer.Look.TheVariants as look
+use Rattle.pos_script.specs.Lines.{complete_lines, unfinished, lines_of, without_cr, is_nothing, is_plain, is_space}
+use Rattle.pos_script.specs.Lines.{is_quiet, is_well_spelled}
+use Rattle.pos_script.specs.declared.line_buffer.LongLineKind.{LongLineKind}
+use Rattle.pos_script.specs.declared.line_buffer.LongLineKind.TheVariants as look
 use Rattle.pos_script.specs.declared.line_buffer.Line.{Line}
 use Rattle.pos_script.specs.declared.line_buffer.Line.TheVariants as line
 use Rattle.pos_script.specs.declared.line_buffer.EndedLine.{EndedLine}
@@ -32,7 +34,7 @@ is_comment [] = false
 is_comment (b ∷ bs) = b == 35
 
 -- how a line looks: by whether it is a comment, is blank, and is blank but for a carriage return at its end
-abbrev pub look_from : Bool → Bool → Bool → Look
+abbrev pub look_from : Bool → Bool → Bool → LongLineKind
 look_from true blank almost = look.Comment
 look_from false true almost = look.Blank
 look_from false false true = look.BlankThenReturn
@@ -43,11 +45,11 @@ abbrev pub is_blank : List ℕ → Bool
 is_blank line = list_all is_space line
 
 -- how a line looks
-abbrev pub look_of : List ℕ → Look
+abbrev pub look_of : List ℕ → LongLineKind
 look_of line = look_from (is_comment line) (is_blank line) (is_blank (without_cr line))
 
 -- how a line looks that goes on by bytes, where it isn't empty before them
-abbrev pub look_with : Look → List ℕ → Look
+abbrev pub look_with : LongLineKind → List ℕ → LongLineKind
 look_with look [] = look
 look_with look.Comment (b ∷ bs) = look.Comment
 look_with look.Blank (b ∷ bs) = look_from false (is_blank (b ∷ bs)) (is_blank (without_cr (b ∷ bs)))
@@ -55,14 +57,14 @@ look_with look.BlankThenReturn (b ∷ bs) = look.Loud
 look_with look.Loud (b ∷ bs) = look.Loud
 
 -- how a line looks at its line feed, where a carriage return before it doesn't count
-abbrev pub look_ended : Look → Look
+abbrev pub look_ended : LongLineKind → LongLineKind
 look_ended look.Comment = look.Comment
 look_ended look.Blank = look.Blank
 look_ended look.BlankThenReturn = look.Blank
 look_ended look.Loud = look.Loud
 
 -- whether a line that looks so prints nothing
-abbrev pub is_quiet_look : Look → Bool
+abbrev pub is_quiet_look : LongLineKind → Bool
 is_quiet_look look.Comment = true
 is_quiet_look look.Blank = true
 is_quiet_look look.BlankThenReturn = false
@@ -71,10 +73,10 @@ is_quiet_look look.Loud = false
 -- what is kept of a line: all of it, or how it looks
 pub data Kept : Type 0 where
   Whole : List ℕ → Kept
-  TooLong : Look → Kept
+  TooLong : LongLineKind → Kept
 
 -- what is kept, by the bytes that are kept and by how the line looks where it is too long
-abbrev pub kept_from : List ℕ → Option Look → Kept
+abbrev pub kept_from : List ℕ → Option LongLineKind → Kept
 kept_from bytes None = Whole bytes
 kept_from bytes (Some look) = TooLong look
 

@@ -1,5 +1,6 @@
 -- How a script falls into lines, and a line into words (docs/reference/console.md, "Lines" and "Words").
-use Rattle.std.specs.Prelude.{ℕ, Bool, true, false, not, ◌&&◌, ◌||◌, List, [], ◌∷◌, length, take, slice_index, ◌-◌, nat_le, ◌==◌, if◌then◌else◌, filter}
+use Rattle.std.specs.Prelude.{ℕ, Bool, true, false, not, ◌&&◌, ◌||◌, List, [], ◌∷◌, length, take, slice_index, ◌-◌}
+use Rattle.std.specs.Prelude.{nat_le, ◌==◌, if◌then◌else◌, filter}
 use Rattle.std.specs.List.{list_all}
 
 -- a byte before the first of some pieces

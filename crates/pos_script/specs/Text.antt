@@ -15,19 +15,19 @@ use Rattle.pos_service.specs.declared.faults.AttachFault.TheVariants as attach
 use Rattle.pos_service.specs.declared.faults.DetachFault.{DetachFault}
 use Rattle.pos_service.specs.declared.faults.DetachFault.TheVariants as detach
 use Rattle.pos_service.specs.declared.plant.Plant.{Plant}
-use Rattle.pos_service.specs.declared.plant.Form.{Form}
-use Rattle.pos_service.specs.declared.plant.Form.TheVariants as form
+use Rattle.pos_service.specs.declared.plant.Mechanism.{Mechanism}
+use Rattle.pos_service.specs.declared.plant.Mechanism.TheVariants as mechanism
 use Rattle.pos_service.specs.declared.request.Response.{Response}
 use Rattle.pos_service.specs.declared.request.Response.TheVariants as response
-use Rattle.pos_service.specs.declared.answer.Worked.{Worked as WorkResult}
-use Rattle.pos_service.specs.declared.answer.Worked.TheVariants as worked
+use Rattle.pos_service.specs.declared.answer.WorkResult.{WorkResult}
+use Rattle.pos_service.specs.declared.answer.WorkResult.TheVariants as worked
 use Rattle.pos_service.specs.Codes.{number_of, locus_number_of}
 use Rattle.pos_script.specs.Glyphs.{cells_text}
 use Rattle.pos_script.specs.ReceiptText.{printer_text}
-use Rattle.pos_script.specs.declared.arguments.LineFault.{LineFault}
-use Rattle.pos_script.specs.declared.arguments.LineFault.TheVariants as fault
-use Rattle.pos_script.specs.declared.print.Reply.{Reply}
-use Rattle.pos_script.specs.declared.print.Reply.TheVariants as reply
+use Rattle.pos_script.specs.declared.arguments.ArgumentFault.{ArgumentFault}
+use Rattle.pos_script.specs.declared.arguments.ArgumentFault.TheVariants as fault
+use Rattle.pos_script.specs.declared.print.LineReply.{LineReply}
+use Rattle.pos_script.specs.declared.print.LineReply.TheVariants as reply
 
 -- a truth value
 abbrev pub truth_text : Bool → List ℕ
@@ -79,16 +79,16 @@ worked_text (worked.Failed code extended) =
     codes "failed " ++ decimal (number_of code) ++ codes " " ++ decimal extended
 
 -- what a device is physically by its kind
-abbrev pub form_text : Form → List ℕ
-form_text (form.Drawer true) = codes "ok open"
-form_text (form.Drawer false) = codes "ok closed"
-form_text form.Scanner = codes "ok"
-form_text (form.Display shown) = codes "ok " ++ cells_text shown.cells
-form_text (form.Printer printed) = codes "ok " ++ printer_text printed
+abbrev pub mechanism_text : Mechanism → List ℕ
+mechanism_text (mechanism.Drawer true) = codes "ok open"
+mechanism_text (mechanism.Drawer false) = codes "ok closed"
+mechanism_text mechanism.Scanner = codes "ok"
+mechanism_text (mechanism.Display shown) = codes "ok " ++ cells_text shown.cells
+mechanism_text (mechanism.Printer printed) = codes "ok " ++ printer_text printed
 
 -- what a device is physically: its power isn't printed
 abbrev pub plant_text : Plant → List ℕ
-plant_text plant = form_text plant.form
+plant_text plant = mechanism_text plant.mechanism
 
 -- why a peripheral was not attached
 abbrev pub attach_text : AttachFault → List ℕ
@@ -110,7 +110,7 @@ response_text (response.Answered answer) = answer_text answer
 response_text response.TakenIn = codes "ok"
 response_text response.NoDevice = codes "bad device"
 response_text response.WrongInput = codes "bad input"
-response_text (response.Worked result) = worked_text result
+response_text (response.WorkResult result) = worked_text result
 response_text (response.Delivered event) = delivered_text event
 response_text (response.Shown snapshot) = plant_text snapshot.0
 response_text response.Attached = codes "ok"
@@ -120,7 +120,7 @@ response_text (response.NotDetached fault) = detach_text fault
 response_text response.OutOfMemory = codes "memory"
 
 -- what the program says of a line
-abbrev pub reply_text : Reply → List ℕ
+abbrev pub reply_text : LineReply → List ℕ
 reply_text reply.BadLine = codes "bad line"
 reply_text reply.BadControl = codes "bad control"
 reply_text reply.BadSpare = codes "bad spare"
@@ -128,7 +128,7 @@ reply_text reply.Memory = codes "memory"
 reply_text (reply.Responded response) = response_text response
 
 -- what is printed for a line that was not read
-abbrev pub fault_text : LineFault → List ℕ
+abbrev pub fault_text : ArgumentFault → List ℕ
 fault_text fault.WrongShape = reply_text reply.BadLine
 fault_text fault.NoMemory = reply_text reply.Memory
 

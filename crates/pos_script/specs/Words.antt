@@ -1,6 +1,7 @@
 -- What the words of a line stand for (docs/reference/console.md, "Words").
-use Rattle.std.specs.Prelude.{ℕ, ℤ, pos, negsuc, neg_ℤ, min, Bool, true, false, not, ◌&&◌, ◌+◌, ◌-◌, ◌*◌, List, [], ◌∷◌, Option, Some, None, length, nat_le}
-use Rattle.std.specs.Prelude.{◌==◌, bytes_eq, codes, if◌then◌else◌, option_map, option_and_then}
+use Rattle.std.specs.Prelude.{ℕ, ℤ, pos, negsuc, neg_ℤ, min, Bool, true, false, not, ◌&&◌, ◌+◌, ◌-◌, ◌*◌, List, [], ◌∷◌}
+use Rattle.std.specs.Prelude.{Option, Some, None, length, nat_le, ◌==◌, bytes_eq, codes, if◌then◌else◌, option_map}
+use Rattle.std.specs.Prelude.{option_and_then}
 use Rattle.std.specs.List.{list_all, fold}
 use Rattle.hex.specs.Hex.{decode_of}
 use Rattle.pos_service.specs.declared.category.Category.{Category}

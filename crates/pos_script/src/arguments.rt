@@ -12,7 +12,7 @@ use thiserror::Error;
 
 /// Why a line was not read.
 #[derive(Clone, Copy, Debug, PartialEq, Eq, Error)]
-pub enum LineFault {
+pub enum ArgumentFault {
     /// Its shape is wrong: too few or too many words, or a word that isn't what it must be.
     #[error("the line has a wrong shape")]
     WrongShape,
@@ -30,7 +30,7 @@ pub(crate) trait Argument: Sized + Drop {
     /// # Errors
     ///
     /// `WrongShape` if the word isn't of this shape.
-    fn glance(word: &[u8]) -> Result<Option<Self>, LineFault>
+    fn glance(word: &[u8]) -> Result<Option<Self>, ArgumentFault>
         ensures { Glances (word_as shape word.now) result };
 
     /// Returns what a word stands for.
@@ -39,112 +39,112 @@ pub(crate) trait Argument: Sized + Drop {
     ///
     /// - `WrongShape` if the word isn't of this shape. That is checked before memory is taken.
     /// - `NoMemory` if memory ran out.
-    fn read(alloc: Global, word: &[u8]) -> Result<Self, LineFault>
+    fn read(alloc: Global, word: &[u8]) -> Result<Self, ArgumentFault>
         ensures { Reads (word_as shape word.now) result };
 }
 
 impl Argument for i128 {
     ghost shape = { number_shape };
 
-    fn glance(word: &[u8]) -> Result<Option<Self>, LineFault> {
+    fn glance(word: &[u8]) -> Result<Option<Self>, ArgumentFault> {
         match number(word) {
             Some(read) => Ok(Some(read)),
-            None => Err(LineFault::WrongShape),
+            None => Err(ArgumentFault::WrongShape),
         }
     }
 
-    fn read(_: Global, word: &[u8]) -> Result<Self, LineFault> {
-        number(word).ok_or(LineFault::WrongShape)
+    fn read(_: Global, word: &[u8]) -> Result<Self, ArgumentFault> {
+        number(word).ok_or(ArgumentFault::WrongShape)
     }
 }
 
 impl Argument for u32 {
     ghost shape = { count_shape };
 
-    fn glance(word: &[u8]) -> Result<Option<Self>, LineFault> {
+    fn glance(word: &[u8]) -> Result<Option<Self>, ArgumentFault> {
         match count(word) {
             Some(read) => Ok(Some(read)),
-            None => Err(LineFault::WrongShape),
+            None => Err(ArgumentFault::WrongShape),
         }
     }
 
-    fn read(_: Global, word: &[u8]) -> Result<Self, LineFault> {
-        count(word).ok_or(LineFault::WrongShape)
+    fn read(_: Global, word: &[u8]) -> Result<Self, ArgumentFault> {
+        count(word).ok_or(ArgumentFault::WrongShape)
     }
 }
 
 impl Argument for bool {
     ghost shape = { truth_shape };
 
-    fn glance(word: &[u8]) -> Result<Option<Self>, LineFault> {
+    fn glance(word: &[u8]) -> Result<Option<Self>, ArgumentFault> {
         match truth(word) {
             Some(read) => Ok(Some(read)),
-            None => Err(LineFault::WrongShape),
+            None => Err(ArgumentFault::WrongShape),
         }
     }
 
-    fn read(_: Global, word: &[u8]) -> Result<Self, LineFault> {
-        truth(word).ok_or(LineFault::WrongShape)
+    fn read(_: Global, word: &[u8]) -> Result<Self, ArgumentFault> {
+        truth(word).ok_or(ArgumentFault::WrongShape)
     }
 }
 
 impl Argument for Value {
     ghost shape = { value_shape };
 
-    fn glance(word: &[u8]) -> Result<Option<Self>, LineFault> {
+    fn glance(word: &[u8]) -> Result<Option<Self>, ArgumentFault> {
         match value(word) {
             Some(read) => Ok(Some(read)),
-            None => Err(LineFault::WrongShape),
+            None => Err(ArgumentFault::WrongShape),
         }
     }
 
-    fn read(_: Global, word: &[u8]) -> Result<Self, LineFault> {
-        value(word).ok_or(LineFault::WrongShape)
+    fn read(_: Global, word: &[u8]) -> Result<Self, ArgumentFault> {
+        value(word).ok_or(ArgumentFault::WrongShape)
     }
 }
 
 impl Argument for Category {
     ghost shape = { category_shape };
 
-    fn glance(word: &[u8]) -> Result<Option<Self>, LineFault> {
+    fn glance(word: &[u8]) -> Result<Option<Self>, ArgumentFault> {
         match Category::named(word) {
             Some(read) => Ok(Some(read)),
-            None => Err(LineFault::WrongShape),
+            None => Err(ArgumentFault::WrongShape),
         }
     }
 
-    fn read(_: Global, word: &[u8]) -> Result<Self, LineFault> {
-        Category::named(word).ok_or(LineFault::WrongShape)
+    fn read(_: Global, word: &[u8]) -> Result<Self, ArgumentFault> {
+        Category::named(word).ok_or(ArgumentFault::WrongShape)
     }
 }
 
 impl Argument for Property {
     ghost shape = { property_shape };
 
-    fn glance(word: &[u8]) -> Result<Option<Self>, LineFault> {
+    fn glance(word: &[u8]) -> Result<Option<Self>, ArgumentFault> {
         match Property::named(word) {
             Some(read) => Ok(Some(read)),
-            None => Err(LineFault::WrongShape),
+            None => Err(ArgumentFault::WrongShape),
         }
     }
 
-    fn read(_: Global, word: &[u8]) -> Result<Self, LineFault> {
-        Property::named(word).ok_or(LineFault::WrongShape)
+    fn read(_: Global, word: &[u8]) -> Result<Self, ArgumentFault> {
+        Property::named(word).ok_or(ArgumentFault::WrongShape)
     }
 }
 
 impl Argument for ErrorReply {
     ghost shape = { error_reply_shape };
 
-    fn glance(word: &[u8]) -> Result<Option<Self>, LineFault> {
+    fn glance(word: &[u8]) -> Result<Option<Self>, ArgumentFault> {
         match error_reply(word) {
             Some(read) => Ok(Some(read)),
-            None => Err(LineFault::WrongShape),
+            None => Err(ArgumentFault::WrongShape),
         }
     }
 
-    fn read(_: Global, word: &[u8]) -> Result<Self, LineFault> {
-        error_reply(word).ok_or(LineFault::WrongShape)
+    fn read(_: Global, word: &[u8]) -> Result<Self, ArgumentFault> {
+        error_reply(word).ok_or(ArgumentFault::WrongShape)
     }
 }
 
@@ -158,32 +158,32 @@ const FEW: usize = 32;
 /// - `WrongShape` if there is an odd digit, or a byte that is no digit.
 /// - `NoMemory` if memory ran out.
 #[tactic(auto, using(crate::proofs::HexLemmas::decodes_half))]
-fn read_few(alloc: Global, digits: &[u8]) -> Result<Bytes, LineFault>
+fn read_few(alloc: Global, digits: &[u8]) -> Result<Bytes, ArgumentFault>
     requires few { length digits.now ≤ 64 }
     ensures { Reads (decoded digits.now) result }
 {
     let mut room = [0u8; FEW];
     let bytes = &mut room[..digits.len() / 2];
     let Ok(()) = hex::decode_to_slice(digits, &mut *bytes) else {
-        return Err(LineFault::WrongShape);
+        return Err(ArgumentFault::WrongShape);
     };
     match Bytes::from_slice(alloc, bytes) {
         Ok(bytes) => Ok(bytes),
-        Err(_) => Err(LineFault::NoMemory),
+        Err(_) => Err(ArgumentFault::NoMemory),
     }
 }
 
 impl Argument for Bytes {
     ghost shape = { bytes_shape };
 
-    fn glance(word: &[u8]) -> Result<Option<Self>, LineFault> {
+    fn glance(word: &[u8]) -> Result<Option<Self>, ArgumentFault> {
         if !is_hex_word(word) {
-            return Err(LineFault::WrongShape);
+            return Err(ArgumentFault::WrongShape);
         }
         Ok(None)
     }
 
-    fn read(alloc: Global, word: &[u8]) -> Result<Self, LineFault> {
+    fn read(alloc: Global, word: &[u8]) -> Result<Self, ArgumentFault> {
         if is(word, "-") {
             return Ok(Bytes::from_vec(Vec::new(alloc)));
         }
@@ -191,11 +191,11 @@ impl Argument for Bytes {
             return read_few(alloc, word);
         }
         if !is_hex_word(word) {
-            return Err(LineFault::WrongShape);
+            return Err(ArgumentFault::WrongShape);
         }
         match decode(alloc, word) {
             Ok(bytes) => Ok(bytes),
-            Err(_) => Err(LineFault::NoMemory),
+            Err(_) => Err(ArgumentFault::NoMemory),
         }
     }
 }
@@ -210,20 +210,20 @@ pub(crate) struct DeviceName {
 impl Argument for DeviceName {
     ghost shape = { device_shape };
 
-    fn glance(word: &[u8]) -> Result<Option<Self>, LineFault> {
+    fn glance(word: &[u8]) -> Result<Option<Self>, ArgumentFault> {
         if !is_device_name(word) {
-            return Err(LineFault::WrongShape);
+            return Err(ArgumentFault::WrongShape);
         }
         Ok(None)
     }
 
-    fn read(alloc: Global, word: &[u8]) -> Result<Self, LineFault> {
+    fn read(alloc: Global, word: &[u8]) -> Result<Self, ArgumentFault> {
         if !is_device_name(word) {
-            return Err(LineFault::WrongShape);
+            return Err(ArgumentFault::WrongShape);
         }
         match Bytes::from_slice(alloc, word) {
             Ok(name) => Ok(DeviceName { name }),
-            Err(_) => Err(LineFault::NoMemory),
+            Err(_) => Err(ArgumentFault::NoMemory),
         }
     }
 }
@@ -233,11 +233,11 @@ impl Argument for DeviceName {
 /// # Errors
 ///
 /// `WrongShape` if a word is left.
-pub fn read_none(words: &[u8]) -> Result<(), LineFault>
+pub fn read_none(words: &[u8]) -> Result<(), ArgumentFault>
     ensures { Reads (none (words_of words.now)) result }
 {
     if next_word(words).is_some() {
-        return Err(LineFault::WrongShape);
+        return Err(ArgumentFault::WrongShape);
     }
     Ok(())
 }
@@ -247,14 +247,14 @@ pub fn read_none(words: &[u8]) -> Result<(), LineFault>
 /// # Errors
 ///
 /// `WrongShape` if the word is missing or not of its shape, or another follows; `NoMemory` if memory ran out.
-pub(crate) fn read_one<A: Argument>(alloc: Global, words: &[u8]) -> Result<A, LineFault>
+pub(crate) fn read_one<A: Argument>(alloc: Global, words: &[u8]) -> Result<A, ArgumentFault>
     ensures { Reads (one A.shape (words_of words.now)) result }
 {
     let Some((word, rest)) = next_word(words) else {
-        return Err(LineFault::WrongShape);
+        return Err(ArgumentFault::WrongShape);
     };
     if next_word(rest).is_some() {
-        return Err(LineFault::WrongShape);
+        return Err(ArgumentFault::WrongShape);
     }
     A::read(alloc, word)
 }
@@ -269,14 +269,14 @@ pub(crate) fn read_one<A: Argument>(alloc: Global, words: &[u8]) -> Result<A, Li
 pub(crate) fn read_two<A: Argument, B: Argument>(
     alloc: Global,
     words: &[u8],
-) -> Result<(A, B), LineFault>
+) -> Result<(A, B), ArgumentFault>
     ensures { Reads (two A.shape B.shape (words_of words.now)) result }
 {
     let Some((word, rest)) = next_word(words) else {
-        return Err(LineFault::WrongShape);
+        return Err(ArgumentFault::WrongShape);
     };
     let Ok(glanced) = A::glance(word) else {
-        return Err(LineFault::WrongShape);
+        return Err(ArgumentFault::WrongShape);
     };
     let second = match read_one(alloc, rest) {
         Ok(second) => second,
@@ -301,14 +301,14 @@ pub(crate) fn read_two<A: Argument, B: Argument>(
 pub(crate) fn read_three<A: Argument, B: Argument, C: Argument>(
     alloc: Global,
     words: &[u8],
-) -> Result<(A, (B, C)), LineFault>
+) -> Result<(A, (B, C)), ArgumentFault>
     ensures { Reads (three A.shape B.shape C.shape (words_of words.now)) result }
 {
     let Some((word, rest)) = next_word(words) else {
-        return Err(LineFault::WrongShape);
+        return Err(ArgumentFault::WrongShape);
     };
     let Ok(glanced) = A::glance(word) else {
-        return Err(LineFault::WrongShape);
+        return Err(ArgumentFault::WrongShape);
     };
     let others = match read_two(alloc, rest) {
         Ok(others) => others,
@@ -333,14 +333,14 @@ pub(crate) fn read_three<A: Argument, B: Argument, C: Argument>(
 pub(crate) fn read_four<A: Argument, B: Argument, C: Argument, D: Argument>(
     alloc: Global,
     words: &[u8],
-) -> Result<(A, (B, (C, D))), LineFault>
+) -> Result<(A, (B, (C, D))), ArgumentFault>
     ensures { Reads (four A.shape B.shape C.shape D.shape (words_of words.now)) result }
 {
     let Some((word, rest)) = next_word(words) else {
-        return Err(LineFault::WrongShape);
+        return Err(ArgumentFault::WrongShape);
     };
     let Ok(glanced) = A::glance(word) else {
-        return Err(LineFault::WrongShape);
+        return Err(ArgumentFault::WrongShape);
     };
     let others = match read_three(alloc, rest) {
         Ok(others) => others,

@@ -6,7 +6,7 @@ ghost use Rattle.pos_script.specs.Words.{bytes_shape, category_shape, count_shap
 ghost use Rattle.pos_service.specs.declared.input.Input.TheVariants as input;
 ghost use Rattle.pos_script.specs.Commands.{called, choice_of, happening, input_of, line_of, printer_input_of, reply_of, request_of_words, verb_named};
 
-use crate::arguments::{DeviceName, LineFault, read_none, read_one, read_three, read_two};
+use crate::arguments::{ArgumentFault, DeviceName, read_none, read_one, read_three, read_two};
 use crate::lines::next_word;
 use crate::methods::read_call;
 use crate::words::is;
@@ -121,31 +121,31 @@ pub fn read_command(line: &[u8]) -> Option<Command<'_>>
 /// # Errors
 ///
 /// As of `read_called`.
-pub fn read_method(alloc: Global, words: &[u8]) -> Result<Call, LineFault>
+pub fn read_method(alloc: Global, words: &[u8]) -> Result<Call, ArgumentFault>
     ensures { Reads (called CallVerb.Method (words_of words.now)) result }
 {
     let Some((method, rest)) = next_word(words) else {
-        return Err(LineFault::WrongShape);
+        return Err(ArgumentFault::WrongShape);
     };
     read_call(alloc, method, rest)
 }
 
 /// Reads the name of a device that is opened.
-fn read_open(alloc: Global, words: &[u8]) -> Result<Call, LineFault>
+fn read_open(alloc: Global, words: &[u8]) -> Result<Call, ArgumentFault>
     ensures { Reads (called CallVerb.Open (words_of words.now)) result }
 {
     read_one(alloc, words).map(|device: DeviceName| Call::Open(device.name))
 }
 
 /// Reads the timeout of a claim.
-fn read_claim(alloc: Global, words: &[u8]) -> Result<Call, LineFault>
+fn read_claim(alloc: Global, words: &[u8]) -> Result<Call, ArgumentFault>
     ensures { Reads (called CallVerb.Claim (words_of words.now)) result }
 {
     read_one(alloc, words).map(Call::Claim)
 }
 
 /// Reads a property that is set, and its value.
-fn read_set(alloc: Global, words: &[u8]) -> Result<Call, LineFault>
+fn read_set(alloc: Global, words: &[u8]) -> Result<Call, ArgumentFault>
     ensures { Reads (called CallVerb.Set (words_of words.now)) result }
 {
     read_two(alloc, words).map(|(property, value)| Call::Set(property, value))
@@ -157,14 +157,14 @@ fn read_set(alloc: Global, words: &[u8]) -> Result<Call, LineFault>
 ///
 /// `WrongShape` if they aren't one property.
 #[inline(always)]
-pub fn read_property(alloc: Global, words: &[u8]) -> Result<Property, LineFault>
+pub fn read_property(alloc: Global, words: &[u8]) -> Result<Property, ArgumentFault>
     ensures { Reads (one property_shape (words_of words.now)) result }
 {
     read_one::<Property>(alloc, words)
 }
 
 /// Reads a property that is asked for.
-fn read_get(alloc: Global, words: &[u8]) -> Result<Call, LineFault>
+fn read_get(alloc: Global, words: &[u8]) -> Result<Call, ArgumentFault>
     ensures { Reads (called CallVerb.Get (words_of words.now)) result }
 {
     read_property(alloc, words).map(Call::Get)
@@ -179,7 +179,7 @@ fn read_get(alloc: Global, words: &[u8]) -> Result<Call, LineFault>
 ///   memory is taken.
 /// - `NoMemory` if memory ran out for what the call keeps of the line.
 #[inline(always)]
-pub fn read_called(alloc: Global, verb: CallVerb, words: &[u8]) -> Result<Call, LineFault>
+pub fn read_called(alloc: Global, verb: CallVerb, words: &[u8]) -> Result<Call, ArgumentFault>
     ensures { Reads (called verb (words_of words.now)) result }
 {
     match verb {
@@ -194,14 +194,14 @@ pub fn read_called(alloc: Global, verb: CallVerb, words: &[u8]) -> Result<Call, 
 }
 
 /// Reads a scan: its type, its data and its label.
-fn read_scan(alloc: Global, words: &[u8]) -> Result<Input, LineFault>
+fn read_scan(alloc: Global, words: &[u8]) -> Result<Input, ArgumentFault>
     ensures { Reads (from_three count_shape bytes_shape bytes_shape input.Scan (words_of words.now)) result }
 {
     read_three(alloc, words).map(|(kind, (bytes, label))| Input::Scan { kind, bytes, label })
 }
 
 /// Reads what happens at a device.
-fn read_event(alloc: Global, word: &[u8], words: &[u8]) -> Result<Input, LineFault>
+fn read_event(alloc: Global, word: &[u8], words: &[u8]) -> Result<Input, ArgumentFault>
     ensures { Reads (input_of word.now (words_of words.now)) result }
 {
     if is(word, "open") {
@@ -223,11 +223,11 @@ fn read_event(alloc: Global, word: &[u8], words: &[u8]) -> Result<Input, LineFau
 }
 
 /// Reads the last word of a line, which is one of two, and returns whether it is the first of them.
-fn read_choice(words: &[u8], first: &str, second: &str) -> Result<bool, LineFault>
+fn read_choice(words: &[u8], first: &str, second: &str) -> Result<bool, ArgumentFault>
     ensures { Reads (choice_of first.now second.now (words_of words.now)) result }
 {
     let Some((word, rest)) = next_word(words) else {
-        return Err(LineFault::WrongShape);
+        return Err(ArgumentFault::WrongShape);
     };
     if is(word, first) {
         return read_none(rest).map(|_| true);
@@ -235,11 +235,11 @@ fn read_choice(words: &[u8], first: &str, second: &str) -> Result<bool, LineFaul
     if is(word, second) {
         return read_none(rest).map(|_| false);
     }
-    Err(LineFault::WrongShape)
+    Err(ArgumentFault::WrongShape)
 }
 
 /// Reads what happens at a printer.
-fn read_printer_event(alloc: Global, word: &[u8], words: &[u8]) -> Result<Input, LineFault>
+fn read_printer_event(alloc: Global, word: &[u8], words: &[u8]) -> Result<Input, ArgumentFault>
     ensures { Reads (printer_input_of word.now (words_of words.now)) result }
 {
     if is(word, "cover") {
@@ -248,7 +248,7 @@ fn read_printer_event(alloc: Global, word: &[u8], words: &[u8]) -> Result<Input,
     if is(word, "paper") {
         return read_one(alloc, words).map(Input::PaperLoaded);
     }
-    Err(LineFault::WrongShape)
+    Err(ArgumentFault::WrongShape)
 }
 
 /// Returns the category of a new control, by the words of a `new` line after its name.
@@ -256,7 +256,7 @@ fn read_printer_event(alloc: Global, word: &[u8], words: &[u8]) -> Result<Input,
 /// # Errors
 ///
 /// `WrongShape` if they aren't one category.
-pub fn read_category(alloc: Global, words: &[u8]) -> Result<Category, LineFault>
+pub fn read_category(alloc: Global, words: &[u8]) -> Result<Category, ArgumentFault>
     ensures { Reads (one category_shape (words_of words.now)) result }
 {
     read_one(alloc, words)
@@ -267,7 +267,7 @@ pub fn read_category(alloc: Global, words: &[u8]) -> Result<Category, LineFault>
 /// # Errors
 ///
 /// `WrongShape` if they aren't one number that isn't negative.
-pub fn read_spare(alloc: Global, words: &[u8]) -> Result<u32, LineFault>
+pub fn read_spare(alloc: Global, words: &[u8]) -> Result<u32, ArgumentFault>
     ensures { Reads (one count_shape (words_of words.now)) result }
 {
     read_one(alloc, words)
@@ -279,11 +279,11 @@ pub fn read_spare(alloc: Global, words: &[u8]) -> Result<u32, LineFault>
 ///
 /// - `WrongShape` if they are no input of any device.
 /// - `NoMemory` if memory ran out for the data of a scan.
-pub fn read_happening(alloc: Global, words: &[u8]) -> Result<Input, LineFault>
+pub fn read_happening(alloc: Global, words: &[u8]) -> Result<Input, ArgumentFault>
     ensures { Reads (happening (words_of words.now)) result }
 {
     let Some((word, rest)) = next_word(words) else {
-        return Err(LineFault::WrongShape);
+        return Err(ArgumentFault::WrongShape);
     };
     read_event(alloc, word, rest)
 }
@@ -294,7 +294,7 @@ pub fn read_happening(alloc: Global, words: &[u8]) -> Result<Input, LineFault>
 /// # Errors
 ///
 /// `WrongShape` if they are more than one word, or no answer.
-pub fn read_reply(alloc: Global, words: &[u8]) -> Result<ErrorReply, LineFault>
+pub fn read_reply(alloc: Global, words: &[u8]) -> Result<ErrorReply, ArgumentFault>
     ensures { Reads (reply_of (words_of words.now)) result }
 {
     if next_word(words).is_none() {

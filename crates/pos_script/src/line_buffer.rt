@@ -13,7 +13,7 @@ const MOST_KEPT: usize = 140_001;
 
 /// How a line looks that is too long to be kept.
 #[derive(Clone, Copy)]
-pub(crate) enum Look {
+pub(crate) enum LongLineKind {
     /// Its first byte is `#`.
     Comment,
     /// It is nothing but spaces.
@@ -120,42 +120,42 @@ fn find_end(piece: &[u8]) -> (usize, bool)
 }
 
 /// Returns how a line looks that goes on with these bytes, if it isn't empty before them.
-fn go_on(look: Look, bytes: &[u8]) -> Look
+fn go_on(look: LongLineKind, bytes: &[u8]) -> LongLineKind
     ensures { result ≡ look_with look bytes.now }
 {
     match look {
         _ if bytes.is_empty() => look,
-        Look::Comment => Look::Comment,
-        Look::Blank => look_behind_spaces(bytes),
-        Look::BlankThenReturn | Look::Loud => Look::Loud,
+        LongLineKind::Comment => LongLineKind::Comment,
+        LongLineKind::Blank => look_behind_spaces(bytes),
+        LongLineKind::BlankThenReturn | LongLineKind::Loud => LongLineKind::Loud,
     }
 }
 
 /// Returns how a line looks whose last bytes are these, after spaces or nothing.
-fn look_behind_spaces(bytes: &[u8]) -> Look
+fn look_behind_spaces(bytes: &[u8]) -> LongLineKind
     ensures { result ≡ look_from false (is_blank bytes.now) (is_blank (without_cr bytes.now)) }
 {
     if all_spaces(bytes) {
-        return Look::Blank;
+        return LongLineKind::Blank;
     }
     if all_spaces(strip_cr(bytes)) {
-        return Look::BlankThenReturn;
+        return LongLineKind::BlankThenReturn;
     }
-    Look::Loud
+    LongLineKind::Loud
 }
 
 /// Returns how a line looks.
-fn look_whole(line: &[u8]) -> Look
+fn look_whole(line: &[u8]) -> LongLineKind
     ensures { result ≡ look_of line.now }
 {
     if !line.is_empty() && line[0] == b'#' {
-        return Look::Comment;
+        return LongLineKind::Comment;
     }
     look_behind_spaces(line)
 }
 
 /// Returns how a line looks that is in two parts.
-fn look_at(front: &[u8], rest: &[u8]) -> Look
+fn look_at(front: &[u8], rest: &[u8]) -> LongLineKind
     ensures { result ≡ look_of (front.now ++ rest.now) }
 {
     if front.is_empty() {
@@ -165,22 +165,22 @@ fn look_at(front: &[u8], rest: &[u8]) -> Look
 }
 
 /// Returns how a line looks at its line feed, where a carriage return before it doesn't count.
-fn end_look(look: Look) -> Look
+fn end_look(look: LongLineKind) -> LongLineKind
     ensures { result ≡ look_ended look }
 {
     match look {
-        Look::BlankThenReturn => Look::Blank,
+        LongLineKind::BlankThenReturn => LongLineKind::Blank,
         _ => look,
     }
 }
 
 /// Returns whether a line that looks like this prints nothing.
-fn is_passed_over(look: Look) -> bool
+fn is_passed_over(look: LongLineKind) -> bool
     ensures { result ≡ is_quiet_look look }
 {
     match look {
-        Look::Comment | Look::Blank => true,
-        Look::BlankThenReturn | Look::Loud => false,
+        LongLineKind::Comment | LongLineKind::Blank => true,
+        LongLineKind::BlankThenReturn | LongLineKind::Loud => false,
     }
 }
 
@@ -216,7 +216,7 @@ fn line_at_feed(bytes: &[u8], is_plain: bool) -> Line<'_>
 pub struct LineBuffer {
     bytes: Vec<u8>,
     is_plain: bool,
-    passed: Option<Look>,
+    passed: Option<LongLineKind>,
 }
 
 impl Model for LineBuffer {

@@ -1,7 +1,22 @@
 //! Lines and words.
-ghost use Rattle.std.specs.Prelude.{◌≡◌, ◌<◌, ◌∷◌, [], length, MatchOption, IfSome, IfNone, ◌++◌, ℕ, List};
+ghost use Rattle.std.specs.Prelude.{◌≡◌, ◌<◌, ◌≤◌, ◌+◌, ◌∷◌, [], length, take, drop, MatchOption, IfSome, IfNone, ◌++◌, ℕ, List};
 ghost use Rattle.std.specs.List.{list_all};
 ghost use Rattle.pos_script.specs.Lines.{lines_of, pieces, words_of, without_cr, is_quiet, is_space, is_plain, complete_lines, last_line, unfinished};
+
+/// Returns where a byte is in a text for the first time, or the text's length if it isn't there.
+fn find_byte(text: &[u8], at: u8) -> usize
+    ensures bound { result ≤ length text.now }
+    ensures cut { result < length text.now
+        → pieces at text.now ≡ take result text.now ∷ pieces at (drop (result + 1) text.now) }
+    ensures whole { result ≡ length text.now → pieces at text.now ≡ text.now ∷ [] }
+{
+    for (place, byte) in text.iter().enumerate() {
+        if *byte == at {
+            return place;
+        }
+    }
+    text.len()
+}
 
 /// Returns the front of a text up to a byte, and what follows that byte, if it is there.
 pub fn cut(text: &[u8], at: u8) -> (&[u8], Option<&[u8]>)
@@ -10,12 +25,11 @@ pub fn cut(text: &[u8], at: u8) -> (&[u8], Option<&[u8]>)
     ensures shorter { IfSome result.1 (λ rest. length rest.now < length text.now) }
     ensures whole { IfNone result.1 (result.0.now ≡ text.now) }
 {
-    for (end, b) in text.iter().enumerate() {
-        if *b == at {
-            return (&text[..end], Some(&text[end + 1..]));
-        }
+    let end = find_byte(text, at);
+    if end == text.len() {
+        return (text, None);
     }
-    (text, None)
+    (&text[..end], Some(&text[end + 1..]))
 }
 
 /// Returns the first word of a line and the rest of the line, or `None` if there is no word.
@@ -25,13 +39,18 @@ pub fn next_word(line: &[u8]) -> Option<(&[u8], &[u8])>
 {
     let mut left = line;
     loop {
-        let (piece, rest) = cut(left, b' ');
-        match rest {
-            Some(rest) if piece.is_empty() => left = rest,
-            Some(rest) => return Some((piece, rest)),
-            None if piece.is_empty() => return None,
-            None => return Some((piece, b"")),
+        let end = find_byte(left, b' ');
+        if end == left.len() {
+            return if left.is_empty() {
+                None
+            } else {
+                Some((left, b""))
+            };
         }
+        if end > 0 {
+            return Some((&left[..end], &left[end + 1..]));
+        }
+        left = &left[1..];
     }
 }
 

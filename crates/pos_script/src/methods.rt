@@ -5,7 +5,7 @@ ghost use Rattle.pos_script.specs.Arguments.{Reads, from_three, from_four};
 ghost use Rattle.pos_script.specs.Words.{bytes_shape, number_shape, truth_shape};
 ghost use Rattle.pos_script.specs.Methods.{call_in, call_of, display_methods, handle_methods, printer_methods, totals_methods, transaction_methods};
 
-use crate::arguments::{LineFault, read_four, read_none, read_one, read_three, read_two};
+use crate::arguments::{ArgumentFault, read_four, read_none, read_one, read_three, read_two};
 use crate::words::is;
 use pos_service::Call;
 use std::alloc::Global;
@@ -17,7 +17,7 @@ use std::alloc::Global;
 /// - `WrongShape` if there is no such method, or the words aren't its arguments. That is checked before memory is
 ///   taken.
 /// - `NoMemory` if memory ran out for what the call keeps.
-pub(crate) fn read_call(alloc: Global, method: &[u8], words: &[u8]) -> Result<Call, LineFault>
+pub(crate) fn read_call(alloc: Global, method: &[u8], words: &[u8]) -> Result<Call, ArgumentFault>
     ensures { Reads (call_of method.now (words_of words.now)) result }
 {
     if is(method, "openDrawer") {
@@ -33,7 +33,7 @@ pub(crate) fn read_call(alloc: Global, method: &[u8], words: &[u8]) -> Result<Ca
 }
 
 /// Returns the call of a method of a line display, or of another one.
-fn read_display_call(alloc: Global, method: &[u8], words: &[u8]) -> Result<Call, LineFault>
+fn read_display_call(alloc: Global, method: &[u8], words: &[u8]) -> Result<Call, ArgumentFault>
     ensures { Reads (call_in display_methods method.now (words_of words.now)) result }
 {
     if is(method, "displayText") {
@@ -52,7 +52,7 @@ fn read_display_call(alloc: Global, method: &[u8], words: &[u8]) -> Result<Call,
 }
 
 /// Returns the call `displayTextAt`, by the words after it.
-fn read_text_at(alloc: Global, words: &[u8]) -> Result<Call, LineFault>
+fn read_text_at(alloc: Global, words: &[u8]) -> Result<Call, ArgumentFault>
     ensures { Reads (from_four number_shape number_shape bytes_shape number_shape call.DisplayTextAt
         (words_of words.now)) result }
 {
@@ -62,7 +62,7 @@ fn read_text_at(alloc: Global, words: &[u8]) -> Result<Call, LineFault>
 }
 
 /// Returns the call of a method of a receipt printer, or of another one.
-fn read_printer_call(alloc: Global, method: &[u8], words: &[u8]) -> Result<Call, LineFault>
+fn read_printer_call(alloc: Global, method: &[u8], words: &[u8]) -> Result<Call, ArgumentFault>
     ensures { Reads (call_in printer_methods method.now (words_of words.now)) result }
 {
     if is(method, "printNormal") {
@@ -81,7 +81,7 @@ fn read_printer_call(alloc: Global, method: &[u8], words: &[u8]) -> Result<Call,
 }
 
 /// Returns the call of a method of Hard Totals.
-fn read_totals_call(alloc: Global, method: &[u8], words: &[u8]) -> Result<Call, LineFault>
+fn read_totals_call(alloc: Global, method: &[u8], words: &[u8]) -> Result<Call, ArgumentFault>
     ensures { Reads (call_in totals_methods method.now (words_of words.now)) result }
 {
     if is(method, "create") {
@@ -100,14 +100,14 @@ fn read_totals_call(alloc: Global, method: &[u8], words: &[u8]) -> Result<Call, 
 }
 
 /// Returns the call `create`, by the words after it.
-fn read_create(alloc: Global, words: &[u8]) -> Result<Call, LineFault>
+fn read_create(alloc: Global, words: &[u8]) -> Result<Call, ArgumentFault>
     ensures { Reads (from_three bytes_shape number_shape truth_shape call.Create (words_of words.now)) result }
 {
     read_three(alloc, words).map(|(name, (size, detection))| Call::Create(name, size, detection))
 }
 
 /// Returns the call of a method of Hard Totals on a file by its handle, or of another one.
-fn read_handle_call(alloc: Global, method: &[u8], words: &[u8]) -> Result<Call, LineFault>
+fn read_handle_call(alloc: Global, method: &[u8], words: &[u8]) -> Result<Call, ArgumentFault>
     ensures { Reads (call_in handle_methods method.now (words_of words.now)) result }
 {
     if is(method, "read") {
@@ -132,7 +132,7 @@ fn read_handle_call(alloc: Global, method: &[u8], words: &[u8]) -> Result<Call, 
 }
 
 /// Returns the call of a method of Hard Totals that claims a file, or is of a transaction.
-fn read_transaction_call(alloc: Global, method: &[u8], words: &[u8]) -> Result<Call, LineFault>
+fn read_transaction_call(alloc: Global, method: &[u8], words: &[u8]) -> Result<Call, ArgumentFault>
     ensures { Reads (call_in transaction_methods method.now (words_of words.now)) result }
 {
     if is(method, "claimFile") {
@@ -150,5 +150,5 @@ fn read_transaction_call(alloc: Global, method: &[u8], words: &[u8]) -> Result<C
     if is(method, "rollback") {
         return read_none(words).map(|_| Call::Rollback);
     }
-    Err(LineFault::WrongShape)
+    Err(ArgumentFault::WrongShape)
 }

@@ -1,24 +1,25 @@
 //! The replies to lines, as text.
-ghost use Rattle.std.specs.Prelude.{◌≡◌, ◌++◌, ◌∷◌, [], codes};
+ghost use Rattle.std.specs.Prelude.{◌≡◌, ◌<◌, ◌++◌, ◌∷◌, [], codes, decimal};
 ghost use Rattle.std.specs.Fmt.{signed_decimal};
 ghost use Rattle.pos_script.specs.Writing.{Writes};
 ghost use Rattle.pos_script.specs.Glyphs.{cells_text};
 ghost use Rattle.pos_script.specs.ReceiptText.{printer_text};
 ghost use Rattle.pos_script.specs.Text.{answer_text, attach_text, delivered_text, detach_text, event_text, fault_text, hex_text, plant_text, reply_text, response_text, worked_text};
 
-use crate::arguments::LineFault;
+use crate::arguments::ArgumentFault;
 use crate::glyphs::write_glyphs;
 use crate::receipt::write_receipt;
-use crate::write::{write_hex, write_parts};
+use crate::write::{write_bytes, write_hex, write_parts};
 use itoa::Buffer;
 use pos_service::display_text::DisplayCell;
 use pos_service::{
-    Answer, AttachFault, Code, DetachFault, Event, Form, Locus, Receipt, Response, Snapshot, Value,
-    Worked,
+    Answer, AttachFault, Code, DetachFault, Event, Locus, Mechanism, Receipt, Response, Snapshot,
+    Value, WorkResult,
 };
 use pos_streams::{Sink, WriteFault};
 
 /// Writes `ok` and bytes.
+#[inline(never)]
 fn print_bytes<W: Sink>(writer: &mut W, bytes: &[u8]) -> Result<(), WriteFault>
     ensures { Writes (W.given writer.old) (W.given writer.new)
         (codes "ok " ++ hex_text bytes.now ++ 10 ∷ []) result }
@@ -31,7 +32,17 @@ fn print_bytes<W: Sink>(writer: &mut W, bytes: &[u8]) -> Result<(), WriteFault>
     write_parts(writer, &["\n"])
 }
 
+/// Writes `ok` and a number of one digit, in one write.
+#[inline(always)]
+fn print_digit<W: Sink>(writer: &mut W, number: u8) -> Result<(), WriteFault>
+    requires { number < 10 }
+    ensures { Writes (W.given writer.old) (W.given writer.new) (codes "ok " ++ (decimal number ++ 10 ∷ [])) result }
+{
+    write_bytes(writer, &[b'o', b'k', b' ', b'0' + number, b'\n'])
+}
+
 /// Writes `ok` and two numbers.
+#[inline(never)]
 fn print_pair<W: Sink>(writer: &mut W, first: i128, second: i128) -> Result<(), WriteFault>
     ensures { Writes (W.given writer.old) (W.given writer.new)
         (codes "ok " ++ (signed_decimal first ++ (codes " " ++ (signed_decimal second ++ 10 ∷ [])))) result }
@@ -43,25 +54,37 @@ fn print_pair<W: Sink>(writer: &mut W, first: i128, second: i128) -> Result<(), 
     write_parts(writer, &["ok ", first, " ", second, "\n"])
 }
 
-/// Writes `ok` and a value.
-fn print_value<W: Sink>(writer: &mut W, value: Value) -> Result<(), WriteFault>
+/// Writes `ok` and a number.
+#[inline(never)]
+fn print_number<W: Sink>(writer: &mut W, number: i128) -> Result<(), WriteFault>
     ensures { Writes (W.given writer.old) (W.given writer.new)
-        (answer_text (Answer.Done value) ++ 10 ∷ []) result }
+        (codes "ok " ++ (signed_decimal number ++ 10 ∷ [])) result }
+{
+    let mut buffer = Buffer::new();
+    write_parts(writer, &["ok ", buffer.format(number), "\n"])
+}
+
+/// Writes `ok` and a value.
+#[inline(always)]
+fn print_value<W: Sink>(writer: &mut W, value: &Value) -> Result<(), WriteFault>
+    ensures { Writes (W.given writer.old) (W.given writer.new)
+        (answer_text (Answer.Done value.now) ++ 10 ∷ []) result }
 {
     match value {
         Value::Empty => write_parts(writer, &["ok\n"]),
         Value::Truth(true) => write_parts(writer, &["ok true\n"]),
         Value::Truth(false) => write_parts(writer, &["ok false\n"]),
-        Value::Number(number) => {
-            let mut buffer = Buffer::new();
-            write_parts(writer, &["ok ", buffer.format(number), "\n"])
+        Value::Number(number) if 0 <= *number && *number < 10 => {
+            print_digit(writer, *number as u8)
         }
-        Value::Pair(first, second) => print_pair(writer, first, second),
+        Value::Number(number) => print_number(writer, *number),
+        Value::Pair(first, second) => print_pair(writer, *first, *second),
         Value::Bytes(bytes) => print_bytes(writer, bytes.as_slice()),
     }
 }
 
 /// Writes `err` and a result code, and the extended code after E_EXTENDED.
+#[inline(never)]
 fn print_refusal<W: Sink>(writer: &mut W, code: Code, extended: u32) -> Result<(), WriteFault>
     ensures { Writes (W.given writer.old) (W.given writer.new)
         (answer_text (Answer.Refused code extended) ++ 10 ∷ []) result }
@@ -78,13 +101,18 @@ fn print_refusal<W: Sink>(writer: &mut W, code: Code, extended: u32) -> Result<(
     }
 }
 
-/// Writes what a call is answered.
-fn print_answer<W: Sink>(writer: &mut W, answer: Answer) -> Result<(), WriteFault>
-    ensures { Writes (W.given writer.old) (W.given writer.new) (answer_text answer ++ 10 ∷ []) result }
+/// Writes what a call is answered, as a line of its own. It takes no memory.
+///
+/// # Errors
+///
+/// [`WriteFault`] if a write failed. Then a front of the text was written, and not all of it.
+#[inline(always)]
+pub fn print_answer<W: Sink>(writer: &mut W, answer: &Answer) -> Result<(), WriteFault>
+    ensures { Writes (W.given writer.old) (W.given writer.new) (answer_text answer.now ++ 10 ∷ []) result }
 {
     match answer {
         Answer::Done(value) => print_value(writer, value),
-        Answer::Refused(code, extended) => print_refusal(writer, code, extended),
+        Answer::Refused(code, extended) => print_refusal(writer, *code, *extended),
     }
 }
 
@@ -110,8 +138,32 @@ fn print_error<W: Sink>(
     )
 }
 
-/// Writes an event that is delivered.
+/// Writes a StatusUpdateEvent with a status of one digit, in one write.
+#[inline(always)]
+fn print_status<W: Sink>(writer: &mut W, status: u8) -> Result<(), WriteFault>
+    requires { status < 10 }
+    ensures { Writes (W.given writer.old) (W.given writer.new)
+        (codes "event StatusUpdateEvent " ++ (decimal status ++ 10 ∷ [])) result }
+{
+    let mut line = *b"event StatusUpdateEvent 0\n";
+    line[24] += status;
+    write_bytes(writer, &line)
+}
+
+/// Writes an event that is delivered. A status of one digit is written in place.
+#[inline(always)]
 fn print_event<W: Sink>(writer: &mut W, event: Event) -> Result<(), WriteFault>
+    ensures { Writes (W.given writer.old) (W.given writer.new) (event_text event ++ 10 ∷ []) result }
+{
+    match event {
+        Event::StatusUpdate(number) if number < 10 => { print_status(writer, number as u8) }
+        _ => print_any_event(writer, event),
+    }
+}
+
+/// Writes an event that is delivered.
+#[inline(never)]
+fn print_any_event<W: Sink>(writer: &mut W, event: Event) -> Result<(), WriteFault>
     ensures { Writes (W.given writer.old) (W.given writer.new) (event_text event ++ 10 ∷ []) result }
 {
     match event {
@@ -135,6 +187,7 @@ fn print_event<W: Sink>(writer: &mut W, event: Event) -> Result<(), WriteFault>
 }
 
 /// Writes the event that was delivered, or that there was none.
+#[inline(always)]
 fn print_delivered<W: Sink>(writer: &mut W, event: Option<Event>) -> Result<(), WriteFault>
     ensures { Writes (W.given writer.old) (W.given writer.new) (delivered_text event ++ 10 ∷ []) result }
 {
@@ -168,19 +221,19 @@ fn print_receipt<W: Sink>(writer: &mut W, receipt: &Receipt) -> Result<(), Write
 fn print_plant<W: Sink>(writer: &mut W, snapshot: Snapshot) -> Result<(), WriteFault>
     ensures { Writes (W.given writer.old) (W.given writer.new) (plant_text snapshot.0 ++ 10 ∷ []) result }
 {
-    match snapshot.0.form {
-        Form::Drawer(true) => write_parts(writer, &["ok open\n"]),
-        Form::Drawer(false) => write_parts(writer, &["ok closed\n"]),
-        Form::Scanner => write_parts(writer, &["ok\n"]),
-        Form::Display(shown) => print_cells(writer, shown.as_slice()),
-        Form::Printer(receipt) => print_receipt(writer, &receipt),
+    match snapshot.0.mechanism {
+        Mechanism::Drawer(true) => write_parts(writer, &["ok open\n"]),
+        Mechanism::Drawer(false) => write_parts(writer, &["ok closed\n"]),
+        Mechanism::Scanner => write_parts(writer, &["ok\n"]),
+        Mechanism::Display(shown) => print_cells(writer, shown.as_slice()),
+        Mechanism::Printer(receipt) => print_receipt(writer, &receipt),
     }
 }
 
 /// Writes that work on output has failed, with its code and extended code.
 fn print_failed<W: Sink>(writer: &mut W, code: Code, extended: u32) -> Result<(), WriteFault>
     ensures { Writes (W.given writer.old) (W.given writer.new)
-        (worked_text (Worked.Failed code extended) ++ 10 ∷ []) result }
+        (worked_text (WorkResult.Failed code extended) ++ 10 ∷ []) result }
 {
     let mut code_buffer = Buffer::new();
     let mut extended_buffer = Buffer::new();
@@ -190,16 +243,16 @@ fn print_failed<W: Sink>(writer: &mut W, code: Code, extended: u32) -> Result<()
 }
 
 /// Writes what came of work on a device's output.
-fn print_worked<W: Sink>(writer: &mut W, worked: Worked) -> Result<(), WriteFault>
+fn print_worked<W: Sink>(writer: &mut W, worked: WorkResult) -> Result<(), WriteFault>
     ensures { Writes (W.given writer.old) (W.given writer.new) (worked_text worked ++ 10 ∷ []) result }
 {
     match worked {
-        Worked::Idle => write_parts(writer, &["idle\n"]),
-        Worked::Done(id) => {
+        WorkResult::Idle => write_parts(writer, &["idle\n"]),
+        WorkResult::Done(id) => {
             let mut buffer = Buffer::new();
             write_parts(writer, &["done ", buffer.format(id), "\n"])
         }
-        Worked::Failed(code, extended) => print_failed(writer, code, extended),
+        WorkResult::Failed(code, extended) => print_failed(writer, code, extended),
     }
 }
 
@@ -233,11 +286,11 @@ fn print_response<W: Sink>(writer: &mut W, response: Response<()>) -> Result<(),
     match response {
         Response::Made(_) => write_parts(writer, &["ok\n"]),
         Response::Full => write_parts(writer, &["refused Full\n"]),
-        Response::Answered(answer) => print_answer(writer, answer),
+        Response::Answered(answer) => print_answer(writer, &answer),
         Response::TakenIn => write_parts(writer, &["ok\n"]),
         Response::NoDevice => write_parts(writer, &["bad device\n"]),
         Response::WrongInput => write_parts(writer, &["bad input\n"]),
-        Response::Worked(worked) => print_worked(writer, worked),
+        Response::WorkResult(worked) => print_worked(writer, worked),
         Response::Delivered(event) => print_delivered(writer, event),
         Response::Shown(snapshot) => print_plant(writer, snapshot),
         Response::Attached => write_parts(writer, &["ok\n"]),
@@ -254,15 +307,15 @@ fn print_response<W: Sink>(writer: &mut W, response: Response<()>) -> Result<(),
 ///
 /// [`WriteFault`] if a write failed. Then a front of the text was written, and not all of it.
 #[inline(always)]
-pub fn print_reply<W: Sink>(writer: &mut W, reply: Reply) -> Result<(), WriteFault>
+pub fn print_reply<W: Sink>(writer: &mut W, reply: LineReply) -> Result<(), WriteFault>
     ensures { Writes (W.given writer.old) (W.given writer.new) (reply_text reply ++ 10 ∷ []) result }
 {
     match reply {
-        Reply::BadLine => write_parts(writer, &["bad line\n"]),
-        Reply::BadControl => write_parts(writer, &["bad control\n"]),
-        Reply::BadSpare => write_parts(writer, &["bad spare\n"]),
-        Reply::Memory => write_parts(writer, &["memory\n"]),
-        Reply::Responded(response) => print_response(writer, response),
+        LineReply::BadLine => write_parts(writer, &["bad line\n"]),
+        LineReply::BadControl => write_parts(writer, &["bad control\n"]),
+        LineReply::BadSpare => write_parts(writer, &["bad spare\n"]),
+        LineReply::Memory => write_parts(writer, &["memory\n"]),
+        LineReply::Responded(response) => print_response(writer, response),
     }
 }
 
@@ -271,18 +324,18 @@ pub fn print_reply<W: Sink>(writer: &mut W, reply: Reply) -> Result<(), WriteFau
 /// # Errors
 ///
 /// [`WriteFault`] if a write failed. Then a front of the text was written, and not all of it.
-pub fn print_fault<W: Sink>(writer: &mut W, fault: LineFault) -> Result<(), WriteFault>
+pub fn print_fault<W: Sink>(writer: &mut W, fault: ArgumentFault) -> Result<(), WriteFault>
     ensures { Writes (W.given writer.old) (W.given writer.new) (fault_text fault ++ 10 ∷ []) result }
 {
     match fault {
-        LineFault::WrongShape => print_reply(writer, Reply::BadLine),
-        LineFault::NoMemory => print_reply(writer, Reply::Memory),
+        ArgumentFault::WrongShape => print_reply(writer, LineReply::BadLine),
+        ArgumentFault::NoMemory => print_reply(writer, LineReply::Memory),
     }
 }
 
 /// The reply to a line that isn't quiet (docs/reference/console.md, "Answers").
 #[derive(Drop)]
-pub enum Reply {
+pub enum LineReply {
     /// Its shape is wrong: `bad line`.
     BadLine,
     /// The name of the control is in use, or unknown: `bad control`.

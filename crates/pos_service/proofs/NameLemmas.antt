@@ -11,5 +11,6 @@ among : (is_length : ℕ → Bool) (names : List (List ℕ × Property)) (word :
 among is_length [] word long = refl
 among is_length (name ∷ names) word long = grind (arith, among is_length names word long, differ_in_length)
 
-pub as_long : (is_length : ℕ → Bool) (word : List ℕ) → is_length (length word) ≡ true → lookup (bytes_eq word) (names_of is_length) ≡ property_named word
+pub as_long : (is_length : ℕ → Bool) (word : List ℕ) → is_length (length word) ≡ true
+    → lookup (bytes_eq word) (names_of is_length) ≡ property_named word
 as_long is_length word long = among is_length property_names word long

@@ -9,5 +9,6 @@ pub differ_in_length : (xs ys : List ℕ) → length xs ≢ length ys → bytes_
 differ_in_length xs ys ne = grind (arith, bytes_eq-Decides)
 
 -- a word of a text's length that begins with it
-pub begins_as_long : (word text : List ℕ) → length word ≡ length text → bytes_eq text (take (length text) word) ≡ bytes_eq word text
+pub begins_as_long : (word text : List ℕ) → length word ≡ length text
+    → bytes_eq text (take (length text) word) ≡ bytes_eq word text
 begins_as_long word text e = grind (arith, take_all, bytes_eq-Decides)

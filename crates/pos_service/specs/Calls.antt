@@ -9,8 +9,8 @@ use Rattle.pos_service.specs.declared.code.Code.TheVariants as code
 use Rattle.pos_service.specs.declared.needs.ClaimNeed.{ClaimNeed}
 use Rattle.pos_service.specs.declared.needs.ClaimNeed.TheVariants as claim_need
 use Rattle.pos_service.specs.declared.needs.Needs.{Needs}
-use Rattle.pos_service.specs.declared.facts.Finding.{Finding}
-use Rattle.pos_service.specs.declared.facts.Finding.TheVariants as finding
+use Rattle.pos_service.specs.declared.context.OpenTarget.{OpenTarget}
+use Rattle.pos_service.specs.declared.context.OpenTarget.TheVariants as finding
 use Rattle.pos_service.specs.Categories.{is_category}
 use Rattle.pos_service.specs.Controls.{Control}
 use Rattle.pos_service.specs.Refusals.{Row, when}
@@ -80,25 +80,25 @@ abbrev pub takes_memory : Call → Bool
 takes_memory asked = (row_of asked).takes_memory
 
 -- nothing of the name is there for the control's category
-abbrev pub is_not_there : Finding → Bool
+abbrev pub is_not_there : OpenTarget → Bool
 is_not_there finding.NotThere = true
 is_not_there finding.Vacant = false
 is_not_there (finding.At place) = false
 
 -- the device has no peripheral
-abbrev pub is_vacant : Finding → Bool
+abbrev pub is_vacant : OpenTarget → Bool
 is_vacant finding.NotThere = false
 is_vacant finding.Vacant = true
 is_vacant (finding.At place) = false
 
 -- the place of the device that can be opened
-abbrev pub place_found : Finding → Option ℕ
+abbrev pub place_found : OpenTarget → Option ℕ
 place_found finding.NotThere = None
 place_found finding.Vacant = None
 place_found (finding.At place) = Some place
 
 -- open, by what is found under the name
-abbrev pub open_rows : Control → Finding → List Row
+abbrev pub open_rows : Control → OpenTarget → List Row
 open_rows control found =
     when (is_some control.device) code.Illegal
     ∷ when (is_not_there found) code.NoExist

@@ -1,6 +1,6 @@
 -- Claims: which control holds each device (common chapter, methods claim and release).
-use Rattle.std.specs.Prelude.{ℕ, ℤ, pos, negsuc, Bool, true, false, not, nat_eq, List, [], ◌∷◌, Option, Some, None, is_none, slice_index_or, slice_set}
-use Rattle.std.specs.Prelude.{if◌then◌else◌}
+use Rattle.std.specs.Prelude.{ℕ, ℤ, pos, negsuc, Bool, true, false, not, nat_eq, List, [], ◌∷◌, Option, Some, None}
+use Rattle.std.specs.Prelude.{is_none, slice_index_or, slice_set, if◌then◌else◌}
 use Rattle.pos_service.specs.declared.category.Category.{Category}
 use Rattle.pos_service.specs.Categories.{is_exclusive}
 use Rattle.pos_service.specs.declared.code.Code.TheVariants as code

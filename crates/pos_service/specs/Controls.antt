@@ -1,6 +1,7 @@
 -- A control: its properties, its list of events, and its output (common chapter, for the scan that it shows chapter
 -- Scanner, for its cursor chapter Line Display, and for its writer chapter POS Printer).
-use Rattle.std.specs.Prelude.{ℕ, Bool, false, not, ◌&&◌, ◌||◌, List, [], Option, Some, None, is_none, option_map, map, nat_eq, if◌then◌else◌}
+use Rattle.std.specs.Prelude.{ℕ, Bool, false, not, ◌&&◌, ◌||◌, List, [], Option, Some, None, is_none, option_map, map}
+use Rattle.std.specs.Prelude.{nat_eq, if◌then◌else◌}
 use Rattle.pos_service.specs.declared.category.Category.{Category}
 use Rattle.pos_service.specs.declared.display_text.Cursor.{Cursor}
 use Rattle.pos_service.specs.declared.display_text.Place.{Place}
@@ -13,10 +14,11 @@ use Rattle.pos_service.specs.declared.property.Settings.{Settings}
 use Rattle.pos_service.specs.declared.input.Scan.{Scan}
 use Rattle.pos_service.specs.Categories.{reports_power}
 use Rattle.pos_service.specs.Displays.{default_cursor}
-use Rattle.pos_service.specs.Events.{EventList, Enqueued, Data, Error, Complete, no_events, event_of, scan_of, enqueued, all_enqueued, input_cleared}
-use Rattle.pos_service.specs.Events.{input_failed, output_cleared}
+use Rattle.pos_service.specs.Events.{EventList, Enqueued, Data, Error, Complete, no_events, event_of, scan_of, enqueued}
+use Rattle.pos_service.specs.Events.{all_enqueued, input_cleared, input_failed, output_cleared}
 use Rattle.pos_service.specs.Events.{deliverable as deliverable_in, delivered as delivered_in}
-use Rattle.pos_service.specs.Output.{Output, is_outstanding, no_output, with_request, request_done, request_failed, output_deleted, output_after}
+use Rattle.pos_service.specs.Output.{Output, is_outstanding, no_output, with_request, request_done, request_failed}
+use Rattle.pos_service.specs.Output.{output_deleted, output_after}
 
 -- the defaults of the properties that are set: all are false, and PowerNotify is PN_DISABLED
 abbrev pub default_settings : Settings

@@ -3,7 +3,7 @@ pub mod Categories
 pub mod Claims
 pub mod Codes
 pub mod Controls
-pub mod Deeds
+pub mod Actions
 pub mod Displays
 pub mod Events
 pub mod Kinds

@@ -1,12 +1,13 @@
 -- What contracts see of a peripheral, and what its calls do.
-use Rattle.std.specs.Prelude.{◌≡◌, ℕ, ◌+◌, ◌-◌, ◌*◌, ◌^◌, ◌<◌, ◌≤◌, ◌⊎◌, min, nat_le, Bool, true, false, ◌&&◌, Some, List, [], ◌∷◌, codes, length, ⊤, Result, MatchResult}
+use Rattle.std.specs.Prelude.{◌≡◌, ℕ, ◌+◌, ◌-◌, ◌*◌, ◌^◌, ◌<◌, ◌≤◌, ◌⊎◌, min, nat_le, Bool, true, false, ◌&&◌, Some}
+use Rattle.std.specs.Prelude.{List, [], ◌∷◌, codes, length, ⊤, Result, MatchResult}
 use Rattle.pos_service.specs.declared.display_text.Attribute.{Attribute}
 use Rattle.pos_service.specs.declared.display_text.Direction.{Direction}
 use Rattle.pos_service.specs.declared.display_text.Place.{Place}
 use Rattle.pos_service.specs.declared.kind.Kind.{Kind}
 use Rattle.pos_service.specs.declared.kind.Kind.TheVariants as kind
-use Rattle.pos_service.specs.declared.plant.Form.{Form}
-use Rattle.pos_service.specs.declared.plant.Form.TheVariants as form
+use Rattle.pos_service.specs.declared.plant.Mechanism.{Mechanism}
+use Rattle.pos_service.specs.declared.plant.Mechanism.TheVariants as mechanism
 use Rattle.pos_service.specs.declared.plant.Plant.{Plant}
 use Rattle.pos_service.specs.declared.order.Argument.{Argument}
 use Rattle.pos_service.specs.declared.order.Argument.TheVariants.{Bytes, Number}
@@ -21,9 +22,10 @@ use Rattle.pos_service.specs.declared.input.Taken.TheVariants as taken
 use Rattle.pos_service.specs.declared.signs.PaperLevel.TheVariants as paper
 use Rattle.pos_service.specs.declared.signs.Signs.{Signs}
 use Rattle.pos_service.specs.declared.faults.NoMemory.{NoMemory}
-use Rattle.pos_service.specs.declared.receipt_text.Outcome.TheVariants as outcome
+use Rattle.pos_service.specs.declared.receipt_text.PrintResult.TheVariants as outcome
 use Rattle.pos_service.specs.declared.receipt_text.Piece.{Piece}
-use Rattle.pos_service.specs.Displays.{Display, ShowsText, Scrolls, attribute_number_of, blank_display, direction_number_of, is_cursor_place, is_display_text, most_units}
+use Rattle.pos_service.specs.Displays.{Display, ShowsText, Scrolls, attribute_number_of, blank_display}
+use Rattle.pos_service.specs.Displays.{direction_number_of, is_cursor_place, is_display_text, most_units}
 use Rattle.pos_service.specs.Kinds.{is_drawer, is_display, is_printer, rows_of, columns_of, near_of}
 use Rattle.pos_service.specs.Receipts.{Prints, pieces, cut_pieces, is_printable_text, paper_level}
 
@@ -49,27 +51,27 @@ pub record HasCells (rows columns : ℕ) (display : Display) : Type 0 where
   pub width : display.columns ≡ columns
   pub count : length display.cells ≡ display.rows * display.columns
 
--- a kind's form
-abbrev pub IsFormOf : Kind → Form → Type 0
-IsFormOf kind.Drawer (form.Drawer is_open) = ⊤
-IsFormOf kind.Scanner form.Scanner = ⊤
-IsFormOf (kind.Display rows columns) (form.Display shown) = HasCells rows columns shown
-IsFormOf (kind.Printer chars near) (form.Printer printed) = printed.chars ≡ chars
-IsFormOf is of_another = ⊥
+-- a kind's mechanism
+abbrev pub IsMechanismOf : Kind → Mechanism → Type 0
+IsMechanismOf kind.Drawer (mechanism.Drawer is_open) = ⊤
+IsMechanismOf kind.Scanner mechanism.Scanner = ⊤
+IsMechanismOf (kind.Display rows columns) (mechanism.Display shown) = HasCells rows columns shown
+IsMechanismOf (kind.Printer chars near) (mechanism.Printer printed) = printed.chars ≡ chars
+IsMechanismOf is of_another = ⊥
 
 -- a kind's plant, on or off
 abbrev pub IsPlantOf : Kind → Plant → Type 0
-IsPlantOf is plant = IsFormOf is plant.form
+IsPlantOf is plant = IsMechanismOf is plant.mechanism
 
--- what a peripheral of this kind and form shows, on or off
-abbrev pub signs_by : Bool → Kind → Form → Signs
-signs_by powered is (form.Drawer is_open) =
+-- what a peripheral of this kind and mechanism shows, on or off
+abbrev pub signs_by : Bool → Kind → Mechanism → Signs
+signs_by powered is (mechanism.Drawer is_open) =
     record { powered = powered; drawer_open = is_open; cover_open = false; paper = paper.Good }
-signs_by powered is form.Scanner =
+signs_by powered is mechanism.Scanner =
     record { powered = powered; drawer_open = false; cover_open = false; paper = paper.Good }
-signs_by powered is (form.Display shown) =
+signs_by powered is (mechanism.Display shown) =
     record { powered = powered; drawer_open = false; cover_open = false; paper = paper.Good }
-signs_by powered is (form.Printer printed) = record {
+signs_by powered is (mechanism.Printer printed) = record {
   powered = powered;
   drawer_open = false;
   cover_open = printed.is_cover_open;
@@ -78,7 +80,7 @@ signs_by powered is (form.Printer printed) = record {
 
 -- what a peripheral of this kind shows of its plant
 abbrev pub signs_of : Kind → Plant → Signs
-signs_of is plant = signs_by plant.powered is plant.form
+signs_of is plant = signs_by plant.powered is plant.mechanism
 
 -- the place at a row and a column
 abbrev pub place_at : ℕ → ℕ → Place
@@ -141,37 +143,37 @@ abbrev pub Rose : ℕ → ℕ → Type 0
 Rose old new = (old < new) ⊎ ((old ≡ 2 ^ 64 - 1) × (new ≡ 2 ^ 64 - 1))
 
 -- a drawer is open then
-abbrev pub Opens : Form → Form → Type 0
-Opens (form.Drawer was_open) new = new ≡ form.Drawer true
-Opens form.Scanner new = ⊥
-Opens (form.Display shown) new = ⊥
-Opens (form.Printer printed) new = ⊥
+abbrev pub Opens : Mechanism → Mechanism → Type 0
+Opens (mechanism.Drawer was_open) new = new ≡ mechanism.Drawer true
+Opens mechanism.Scanner new = ⊥
+Opens (mechanism.Display shown) new = ⊥
+Opens (mechanism.Printer printed) new = ⊥
 
 -- a display shows a text then, from a place on
-abbrev pub Shows : Place → Attribute → List ℕ → Form → Form → Type 0
-Shows start style bytes (form.Display old) (form.Display new) = ShowsText old start style bytes new
+abbrev pub Shows : Place → Attribute → List ℕ → Mechanism → Mechanism → Type 0
+Shows start style bytes (mechanism.Display old) (mechanism.Display new) = ShowsText old start style bytes new
 Shows start style bytes old new = ⊥
 
 -- a display is blank then
-abbrev pub Clears : Form → Form → Type 0
-Clears (form.Display old) new = new ≡ form.Display (blank_display old.rows old.columns)
+abbrev pub Clears : Mechanism → Mechanism → Type 0
+Clears (mechanism.Display old) new = new ≡ mechanism.Display (blank_display old.rows old.columns)
 Clears old new = ⊥
 
 -- what a display shows has moved then
-abbrev pub Moves : Direction → ℕ → Form → Form → Type 0
-Moves direction units (form.Display old) (form.Display new) = Scrolls old direction units new
+abbrev pub Moves : Direction → ℕ → Mechanism → Mechanism → Type 0
+Moves direction units (mechanism.Display old) (mechanism.Display new) = Scrolls old direction units new
 Moves direction units old new = ⊥
 
 -- a printer prints a request of these pieces then, or says why it prints nothing of it
-abbrev pub PrintsOut : List Piece → Form → Reply → Form → Type 0
-PrintsOut ps (form.Printer old) reply.Done (form.Printer new) = Prints old ps outcome.Done new
-PrintsOut ps (form.Printer old) reply.CoverOpen (form.Printer new) = Prints old ps outcome.CoverOpen new
-PrintsOut ps (form.Printer old) reply.PaperEnd (form.Printer new) = Prints old ps outcome.PaperEnd new
+abbrev pub PrintsOut : List Piece → Mechanism → Reply → Mechanism → Type 0
+PrintsOut ps (mechanism.Printer old) reply.Done (mechanism.Printer new) = Prints old ps outcome.Done new
+PrintsOut ps (mechanism.Printer old) reply.CoverOpen (mechanism.Printer new) = Prints old ps outcome.CoverOpen new
+PrintsOut ps (mechanism.Printer old) reply.PaperEnd (mechanism.Printer new) = Prints old ps outcome.PaperEnd new
 PrintsOut ps old said new = ⊥
 
--- From the old form, an order that reaches a peripheral that is on may get this reply and leave the new form: a drawer
+-- From the old mechanism, an order that reaches a peripheral that is on may get this reply and leave the new: a drawer
 -- opens; a display shows a text, is blank, or scrolls; a printer prints, or its cover is open, or its paper ends.
-abbrev pub Obeys : Order → Form → Reply → Form → Type 0
+abbrev pub Obeys : Order → Mechanism → Reply → Mechanism → Type 0
 Obeys (order.Print bytes) old said new = PrintsOut (pieces bytes) old said new
 Obeys (order.Cut percentage) old said new = PrintsOut (cut_pieces percentage) old said new
 Obeys order.OpenDrawer old reply.Done new = Opens old new
@@ -181,28 +183,28 @@ Obeys (order.Scroll direction units) old reply.Done new = Moves direction units 
 Obeys asked old said new = ⊥
 
 -- From the old plant, an order that reaches the peripheral may get this reply and leave the new plant: one that is off
--- answers that, and is as it was; one that is on answers by its form, and stays on.
+-- answers that, and is as it was; one that is on answers by its mechanism, and stays on.
 abbrev pub Performs : Order → Plant → Reply → Plant → Type 0
 Performs asked old reply.Offline new = (old.powered ≡ false) × (new ≡ old)
-Performs asked old said new = (old.powered ≡ true) × (new.powered ≡ true) × Obeys asked old.form said new.form
+Performs asked old said new = (old.powered ≡ true) × (new.powered ≡ true) × Obeys asked old.mechanism said new.mechanism
 
--- From the old form, an input of a peripheral that is on may be taken so and leave the new form: a drawer is open or
+-- From the old mechanism, an input of a peripheral that is on may be taken so and leave the new: a drawer is open or
 -- closed as it was moved, so is a printer's cover, or it has so many lines of paper left, and nothing of a scanner or
 -- of a display changes.
-abbrev pub Receives : Input → Form → Taken → Form → Type 0
-Receives (input.DrawerMoved is_open) (form.Drawer was_open) taken.Quiet new = new ≡ form.Drawer is_open
-Receives (input.Scan number bytes label) form.Scanner taken.Scan new = new ≡ form.Scanner
-Receives input.ScanFault form.Scanner taken.Fault new = new ≡ form.Scanner
-Receives other (form.Display shown) taken.Quiet new = new ≡ form.Display shown
-Receives (input.CoverMoved is_open) (form.Printer old) taken.Quiet new =
-    new ≡ form.Printer (record old { is_cover_open = is_open })
-Receives (input.PaperLoaded lines) (form.Printer old) taken.Quiet new =
-    new ≡ form.Printer (record old { left = lines })
+abbrev pub Receives : Input → Mechanism → Taken → Mechanism → Type 0
+Receives (input.DrawerMoved is_open) (mechanism.Drawer was_open) taken.Quiet new = new ≡ mechanism.Drawer is_open
+Receives (input.Scan number bytes label) mechanism.Scanner taken.Scan new = new ≡ mechanism.Scanner
+Receives input.ScanFault mechanism.Scanner taken.Fault new = new ≡ mechanism.Scanner
+Receives other (mechanism.Display shown) taken.Quiet new = new ≡ mechanism.Display shown
+Receives (input.CoverMoved is_open) (mechanism.Printer old) taken.Quiet new =
+    new ≡ mechanism.Printer (record old { is_cover_open = is_open })
+Receives (input.PaperLoaded lines) (mechanism.Printer old) taken.Quiet new =
+    new ≡ mechanism.Printer (record old { left = lines })
 Receives other old taken new = ⊥
 
 -- The same of a peripheral that is on, which stays on, or off, which tells nothing and is as it was.
 abbrev pub TakesWhile : Bool → Input → Plant → Taken → Plant → Type 0
-TakesWhile true given old taken new = (new.powered ≡ true) × Receives given old.form taken new.form
+TakesWhile true given old taken new = (new.powered ≡ true) × Receives given old.mechanism taken new.mechanism
 TakesWhile false given old taken.Quiet new = new ≡ old
 TakesWhile false given old taken new = ⊥
 

@@ -1,5 +1,6 @@
 -- The properties of every category: their refusals, their values, and what setting one does.
-use Rattle.std.specs.Prelude.{ℕ, nat_abs, Bool, true, false, not, ◌&&◌, ◌||◌, if◌then◌else◌, pos, List, [], ◌∷◌, Option, Some, None, is_none, length, filter, codes, bytes_eq}
+use Rattle.std.specs.Prelude.{ℕ, nat_abs, Bool, true, false, not, ◌&&◌, ◌||◌, if◌then◌else◌, pos, List, [], ◌∷◌, Option}
+use Rattle.std.specs.Prelude.{Some, None, is_none, length, filter, codes, bytes_eq}
 use Rattle.std.specs.Map.{lookup}
 use Rattle.pos_service.specs.declared.category.Category.{Category}
 use Rattle.pos_service.specs.declared.category.Category.TheVariants as category
@@ -13,8 +14,8 @@ use Rattle.pos_service.specs.declared.signs.Signs.{Signs}
 use Rattle.pos_service.specs.declared.needs.ClaimNeed.{ClaimNeed}
 use Rattle.pos_service.specs.declared.needs.ClaimNeed.TheVariants as claim_need
 use Rattle.pos_service.specs.declared.needs.Needs.{Needs}
-use Rattle.pos_service.specs.declared.facts.Facts.{Facts}
-use Rattle.pos_service.specs.declared.facts.FileFacts.{FileFacts}
+use Rattle.pos_service.specs.declared.context.PropertyContext.{PropertyContext}
+use Rattle.pos_service.specs.declared.context.FilesSummary.{FilesSummary}
 use Rattle.pos_service.specs.declared.answer.Value.{Value}
 use Rattle.pos_service.specs.declared.answer.Value.TheVariants as value
 use Rattle.pos_service.specs.declared.code.Code.TheVariants as code
@@ -256,10 +257,10 @@ needs_of c p = record {
 }
 
 -- A property is read by the control with a number, whose device has this holder.
-abbrev pub get_rows : ℕ → Option ℕ → Control → Facts → Property → List Row
-get_rows number holder control facts p =
+abbrev pub get_rows : ℕ → Option ℕ → Control → PropertyContext → Property → List Row
+get_rows number holder control context p =
     table number holder control (needs_of control.category p)
-    (when ((row_of p).is_of_files && is_none facts.files) code.Failure ∷ [])
+    (when ((row_of p).is_of_files && is_none context.files) code.Failure ∷ [])
 
 -- PR_STANDARD or PR_NONE
 abbrev pub power_reporting : Bool → ℕ
@@ -276,44 +277,44 @@ abbrev pub power_state : Control → Signs → ℕ
 power_state control signs = if control.enabled && is_notified control then power_status signs.powered else 2000
 
 -- what is told of files that are known
-abbrev pub told_of_files : Option FileFacts → (FileFacts → ℕ) → Value
+abbrev pub told_of_files : Option FilesSummary → (FilesSummary → ℕ) → Value
 told_of_files None tell = value.Empty
 told_of_files (Some files) tell = value.Number (pos (tell files))
 
 -- the value of a property, by what is known of the control and its device
-abbrev pub property_of : Control → Facts → Property → Value
-property_of control facts property.State = value.Number (pos (state_of control))
-property_of control facts property.Claimed = value.Truth facts.is_claimed
-property_of control facts property.DeviceEnabled = value.Truth control.enabled
-property_of control facts property.FreezeEvents = value.Truth control.settings.freeze_events
-property_of control facts property.CapPowerReporting =
+abbrev pub property_of : Control → PropertyContext → Property → Value
+property_of control context property.State = value.Number (pos (state_of control))
+property_of control context property.Claimed = value.Truth context.is_claimed
+property_of control context property.DeviceEnabled = value.Truth control.enabled
+property_of control context property.FreezeEvents = value.Truth control.settings.freeze_events
+property_of control context property.CapPowerReporting =
     value.Number (pos (power_reporting (reports_power control.category)))
-property_of control facts property.PowerNotify = value.Number (pos (notify_number control.settings.power_notify))
-property_of control facts property.PowerState = value.Number (pos (power_state control facts.signs))
-property_of control facts property.DataEventEnabled = value.Truth control.settings.data_event_enabled
-property_of control facts property.AutoDisable = value.Truth control.settings.auto_disable
-property_of control facts property.DataCount = value.Number (pos (data_count control.list))
-property_of control facts property.DecodeData = value.Truth control.settings.decode_data
-property_of control facts property.ScanData = value.Bytes control.shown.bytes
-property_of control facts property.ScanDataLabel = value.Bytes control.shown.label
-property_of control facts property.ScanDataType = value.Number (pos control.shown.kind)
-property_of control facts property.CapStatus = value.Truth true
-property_of control facts property.DrawerOpened = value.Truth facts.signs.drawer_open
-property_of control facts property.Rows = value.Number (pos (rows_of facts.kind))
-property_of control facts property.Columns = value.Number (pos (columns_of facts.kind))
-property_of control facts property.CursorRow = value.Number (pos control.cursor.place.row)
-property_of control facts property.CursorColumn = value.Number (pos control.cursor.place.column)
-property_of control facts property.CursorUpdate = value.Truth control.cursor.update
-property_of control facts property.AsyncMode = value.Truth control.settings.async_mode
-property_of control facts property.OutputId = value.Number (pos control.writer.output_id)
-property_of control facts property.RecLineChars = value.Number (pos (chars_of facts.kind))
-property_of control facts property.CoverOpen = value.Truth facts.signs.cover_open
-property_of control facts property.RecEmpty = value.Truth (is_empty facts.signs.paper)
-property_of control facts property.RecNearEnd = value.Truth (is_near_end facts.signs.paper)
-property_of control facts property.TotalsSize = value.Number (pos facts.totals_size)
-property_of control facts property.FreeData = told_of_files facts.files (λ files. files.free)
-property_of control facts property.NumberOfFiles = told_of_files facts.files (λ files. files.count)
-property_of control facts property.TransactionInProgress = value.Truth facts.in_transaction
-property_of control facts property.CapTransactions = value.Truth true
-property_of control facts property.CapSingleFile = value.Truth false
-property_of control facts property.CapErrorDetection = value.Truth false
+property_of control context property.PowerNotify = value.Number (pos (notify_number control.settings.power_notify))
+property_of control context property.PowerState = value.Number (pos (power_state control context.signs))
+property_of control context property.DataEventEnabled = value.Truth control.settings.data_event_enabled
+property_of control context property.AutoDisable = value.Truth control.settings.auto_disable
+property_of control context property.DataCount = value.Number (pos (data_count control.list))
+property_of control context property.DecodeData = value.Truth control.settings.decode_data
+property_of control context property.ScanData = value.Bytes control.shown.bytes
+property_of control context property.ScanDataLabel = value.Bytes control.shown.label
+property_of control context property.ScanDataType = value.Number (pos control.shown.kind)
+property_of control context property.CapStatus = value.Truth true
+property_of control context property.DrawerOpened = value.Truth context.signs.drawer_open
+property_of control context property.Rows = value.Number (pos (rows_of context.kind))
+property_of control context property.Columns = value.Number (pos (columns_of context.kind))
+property_of control context property.CursorRow = value.Number (pos control.cursor.place.row)
+property_of control context property.CursorColumn = value.Number (pos control.cursor.place.column)
+property_of control context property.CursorUpdate = value.Truth control.cursor.update
+property_of control context property.AsyncMode = value.Truth control.settings.async_mode
+property_of control context property.OutputId = value.Number (pos control.writer.output_id)
+property_of control context property.RecLineChars = value.Number (pos (chars_of context.kind))
+property_of control context property.CoverOpen = value.Truth context.signs.cover_open
+property_of control context property.RecEmpty = value.Truth (is_empty context.signs.paper)
+property_of control context property.RecNearEnd = value.Truth (is_near_end context.signs.paper)
+property_of control context property.TotalsSize = value.Number (pos context.totals_size)
+property_of control context property.FreeData = told_of_files context.files (λ files. files.free)
+property_of control context property.NumberOfFiles = told_of_files context.files (λ files. files.count)
+property_of control context property.TransactionInProgress = value.Truth context.in_transaction
+property_of control context property.CapTransactions = value.Truth true
+property_of control context property.CapSingleFile = value.Truth false
+property_of control context property.CapErrorDetection = value.Truth false

@@ -1,6 +1,6 @@
 -- The text of a receipt printer, and what printing leaves (UnifiedPOS 1.16, chapter POS Printer).
-use Rattle.std.specs.Prelude.{◌≡◌, ℕ, ◌+◌, ◌-◌, ◌*◌, suc, zero, Bool, true, false, not, ◌&&◌, ◌||◌, List, [], ◌∷◌, ◌++◌, length, take, drop, map, replicate}
-use Rattle.std.specs.Prelude.{nat_le, nat_lt, ◌==◌, bytes_eq, codes, if◌then◌else◌}
+use Rattle.std.specs.Prelude.{◌≡◌, ℕ, ◌+◌, ◌-◌, ◌*◌, suc, zero, Bool, true, false, not, ◌&&◌, ◌||◌, List, [], ◌∷◌, ◌++◌}
+use Rattle.std.specs.Prelude.{length, take, drop, map, replicate, nat_le, nat_lt, ◌==◌, bytes_eq, codes, if◌then◌else◌}
 use Rattle.std.specs.List.{list_all, fold, prefix_len}
 use Rattle.pos_service.specs.declared.receipt_text.Alignment.{Alignment}
 use Rattle.pos_service.specs.declared.receipt_text.Alignment.TheVariants as alignment
@@ -11,8 +11,8 @@ use Rattle.pos_service.specs.declared.receipt_text.Token.TheVariants as token
 use Rattle.pos_service.specs.declared.receipt_text.PrintedCharacter.{PrintedCharacter}
 use Rattle.pos_service.specs.declared.receipt_text.Mark.{Mark}
 use Rattle.pos_service.specs.declared.receipt_text.Mark.TheVariants as mark
-use Rattle.pos_service.specs.declared.receipt_text.Outcome.{Outcome}
-use Rattle.pos_service.specs.declared.receipt_text.Outcome.TheVariants as outcome
+use Rattle.pos_service.specs.declared.receipt_text.PrintResult.{PrintResult}
+use Rattle.pos_service.specs.declared.receipt_text.PrintResult.TheVariants as outcome
 use Rattle.pos_service.specs.declared.signs.PaperLevel.{PaperLevel}
 use Rattle.pos_service.specs.declared.signs.PaperLevel.TheVariants as paper
 
@@ -249,7 +249,7 @@ empty_roll chars lines = record { chars = chars; items = []; buffer = []; left =
 
 -- What comes of a request that needs so many lines: it is done where the cover is closed, a line is left, and no more
 -- are needed than are left; else the cover is open, or the paper has ended.
-abbrev pub outcome_of : Printer → ℕ → Outcome
+abbrev pub outcome_of : Printer → ℕ → PrintResult
 outcome_of printer needed =
     if printer.is_cover_open then outcome.CoverOpen
     else (if nat_lt 0 printer.left && nat_le needed printer.left then outcome.Done else outcome.PaperEnd)
@@ -263,13 +263,13 @@ with_printout printer made = record printer {
 }
 
 -- the printer after a request: all of it is printed, or nothing
-abbrev pub printer_after : Outcome → Printer → Printout → Printer
+abbrev pub printer_after : PrintResult → Printer → Printout → Printer
 printer_after outcome.Done printer made = with_printout printer made
 printer_after outcome.CoverOpen printer made = printer
 printer_after outcome.PaperEnd printer made = printer
 
 -- From the old printer, a request of these pieces has this outcome and leaves the new one.
-pub record Prints (old : Printer) (ps : List Piece) (answer : Outcome) (new : Printer) : Type 0 where
+pub record Prints (old : Printer) (ps : List Piece) (answer : PrintResult) (new : Printer) : Type 0 where
   pub outcome : answer ≡ outcome_of old (lines_needed (printed_by old.chars old.buffer ps).items)
   pub printer : new ≡ printer_after answer old (printed_by old.chars old.buffer ps)
 

@@ -29,7 +29,7 @@ pub enum Answer {
 
 /// What comes of work on a device's output (common chapter, asynchronous output).
 #[derive(Clone, Copy, PartialEq, Eq)]
-pub enum Worked {
+pub enum WorkResult {
     /// There is nothing to do.
     Idle,
     /// The request with this OutputID is done.

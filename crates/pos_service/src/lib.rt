@@ -9,15 +9,15 @@
 //! meets the clauses of [`Peripheral`]; then each call on its device follows the standard.
 #![tactic(auto)]
 
+mod action;
 mod answer;
 mod call;
 mod category;
 pub mod claims;
 mod code;
-mod deed;
+mod context;
 pub mod display_text;
 mod event;
-mod facts;
 mod faults;
 mod input;
 mod kind;
@@ -33,13 +33,13 @@ mod request;
 mod signs;
 pub mod words;
 
-pub use answer::{Answer, Value, Worked};
+pub use action::{Action, ControlUpdate};
+pub use answer::{Answer, Value, WorkResult};
 pub use call::{Call, CallRow};
 pub use category::Category;
 pub use code::{Code, EPTR_COVER_OPEN, EPTR_REC_EMPTY, ETOT_NOROOM};
-pub use deed::{Change, Deed};
+pub use context::{FilesSummary, OpenTarget, PropertyContext};
 pub use event::{ErrorReply, Event, Locus};
-pub use facts::{Facts, FileFacts, Finding};
 pub use faults::{AttachFault, DetachFault, NoMemory};
 pub use input::{Input, Scan, Taken};
 pub use kind::{Kind, chars_of, columns_of, rows_of};
@@ -47,7 +47,7 @@ pub use needs::{ClaimNeed, Needs};
 pub use order::{Argument, Order, Reply};
 pub use peripheral::{Ends, Peripheral, park_and_end};
 pub use peripheral_box::PeripheralBox;
-pub use plant::{DisplayCells, Form, Plant, Receipt, Snapshot};
+pub use plant::{DisplayCells, Mechanism, Plant, Receipt, Snapshot};
 pub use pos_bytes::{Bytes, LentBytes};
 pub use property::{Property, PropertyRow, Settings};
 pub use request::{Request, Response};

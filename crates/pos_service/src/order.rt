@@ -1,5 +1,5 @@
 //! What a control asks of a peripheral, and what that replies.
-ghost use Rattle.std.specs.Prelude.{◌≡◌, ◌&&◌, Some, nat_le};
+ghost use Rattle.std.specs.Prelude.{◌≡◌, ◌↔◌, ◌&&◌, Some, true, IfOk, nat_le};
 ghost use Rattle.std.specs.List.{filter_map};
 ghost use Rattle.pos_service.specs.Codes.{code_by, extended_by};
 ghost use Rattle.pos_service.specs.Displays.{is_cursor_place, is_display_text, most_units};
@@ -8,9 +8,11 @@ ghost use Rattle.pos_service.specs.Peripherals.{order_arguments, order_fits, ord
 
 use crate::code::{Code, EPTR_COVER_OPEN, EPTR_REC_EMPTY};
 use crate::display_text::{Attribute, Direction, is_text_of_display};
+use crate::faults::NoMemory;
 use crate::kind::{Kind, columns_of, rows_of};
 use crate::receipt_text::is_printable;
 use pos_bytes::{Bytes, LentBytes};
+use std::alloc::Global;
 
 /// What a control asks of a peripheral.
 #[derive(Drop)]
@@ -122,6 +124,87 @@ impl Order {
                     None,
                 ]
             }
+        }
+    }
+
+    /// Returns a copy of it.
+    ///
+    /// # Errors
+    ///
+    /// [`NoMemory`] if memory ran out.
+    pub fn copy(&self, alloc: Global) -> Result<Order, NoMemory>
+        ensures { IfOk result (λ copy. copy ≡ self.now) }
+    {
+        match self {
+            Order::OpenDrawer => Ok(Order::OpenDrawer),
+            Order::ShowText {
+                row,
+                column,
+                attribute,
+                bytes,
+            } => Ok(Order::ShowText {
+                row: *row,
+                column: *column,
+                attribute: *attribute,
+                bytes: Bytes::from_slice(alloc, bytes.as_slice())?,
+            }),
+            Order::ClearText => Ok(Order::ClearText),
+            Order::Scroll { direction, units } => Ok(Order::Scroll {
+                direction: *direction,
+                units: *units,
+            }),
+            Order::Print { bytes } => Ok(Order::Print {
+                bytes: Bytes::from_slice(alloc, bytes.as_slice())?,
+            }),
+            Order::Cut { percentage } => Ok(Order::Cut {
+                percentage: *percentage,
+            }),
+        }
+    }
+
+    /// Returns whether another order is the same.
+    pub fn is_same(&self, other: &Order) -> bool
+        ensures { (result ≡ true) ↔ (self.now ≡ other.now) }
+    {
+        match (self, other) {
+            (Order::OpenDrawer, Order::OpenDrawer) => true,
+            (
+                Order::ShowText {
+                    row,
+                    column,
+                    attribute,
+                    bytes,
+                },
+                Order::ShowText {
+                    row: other_row,
+                    column: other_column,
+                    attribute: other_attribute,
+                    bytes: other_bytes,
+                },
+            ) => {
+                *row == *other_row
+                    && *column == *other_column
+                    && *attribute == *other_attribute
+                    && bytes.as_slice() == other_bytes.as_slice()
+            }
+            (Order::ClearText, Order::ClearText) => true,
+            (
+                Order::Scroll { direction, units },
+                Order::Scroll {
+                    direction: other_direction,
+                    units: other_units,
+                },
+            ) => *direction == *other_direction && *units == *other_units,
+            (Order::Print { bytes }, Order::Print { bytes: other_bytes }) => {
+                bytes.as_slice() == other_bytes.as_slice()
+            }
+            (
+                Order::Cut { percentage },
+                Order::Cut {
+                    percentage: other_percentage,
+                },
+            ) => *percentage == *other_percentage,
+            _ => false,
         }
     }
 }

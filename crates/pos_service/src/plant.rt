@@ -12,12 +12,12 @@ pub struct Plant {
     /// Whether it is on.
     pub powered: bool,
     /// The part that its kind has.
-    pub form: Form,
+    pub mechanism: Mechanism,
 }
 
 /// What a peripheral is physically, by its kind.
 #[derive(Drop)]
-pub enum Form {
+pub enum Mechanism {
     /// A drawer: true if it is open.
     Drawer(bool),
     /// A scanner, of which nothing changes.

@@ -70,7 +70,7 @@ pub enum Mark {
 
 /// What comes of a request to a printer.
 #[derive(Clone, Copy, PartialEq, Eq)]
-pub enum Outcome {
+pub enum PrintResult {
     /// It is done.
     Done,
     /// The cover is open, and nothing was done.

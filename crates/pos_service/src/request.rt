@@ -1,5 +1,5 @@
 //! What a counter is asked, and what it answers.
-use crate::answer::{Answer, Worked};
+use crate::answer::{Answer, WorkResult};
 use crate::call::Call;
 use crate::category::Category;
 use crate::event::{ErrorReply, Event};
@@ -49,7 +49,7 @@ pub enum Response<P> {
     /// The device has no such input.
     WrongInput,
     /// What came of the work.
-    Worked(Worked),
+    WorkResult(WorkResult),
     /// The event, or none.
     Delivered(Option<Event>),
     /// What the device is physically.

@@ -1,5 +1,6 @@
 -- Scripts that are run one after another.
-use Rattle.std.proofs.Common.{ap, append-nil, append_assoc, drop, get_or, inl, length, map, sym, take, ◌+◌, ◌<◌, ◌++◌, ◌∙◌, ◌∷◌, ◌≡◌, List, [], ℕ}
+use Rattle.std.proofs.Common.{ap, append-nil, append_assoc, drop, get_or, inl, length, map, sym, take, ◌+◌, ◌<◌, ◌++◌}
+use Rattle.std.proofs.Common.{◌∙◌, ◌∷◌, ◌≡◌, List, [], ℕ}
 use Rattle.std.specs.Prelude.{flat_map}
 use Rattle.std.proofs.lemmas.List.{drop_more, map-append, take-append-drop, take_more}
 use Rattle.std.specs.Borrow.{Bor}
@@ -11,14 +12,15 @@ use Rattle.pos_run.proofs.Common.{Appends-trans}
 use Rattle.pos_run.specs.Transcript.{LinesPrint, Session}
 use Rattle.pos_script.specs.Text.{printed}
 use Rattle.pos_shell.specs.Outputs.{IsWritten, Output}
-use Rattle.pos_shell.specs.Scripts.{AreTurns, TellsTurns, Turn, script_of, script_run, turn_lines, turn_text}
+use Rattle.pos_shell.specs.Scripts.{AreTurns, PrintsTurns, Turn, script_of, script_run, turn_lines, turn_text}
 use Rattle.pos_shell.specs.declared.scripts.Script.{Script}
-use Rattle.pos_shell.specs.declared.told.Manner.{Manner}
+use Rattle.pos_shell.specs.declared.answer_texts.AnswerStyle.{AnswerStyle}
 
 module _ {A : Type 0} (xs : List A) (i : ℕ) (x : A) (lt : i < length xs) (is : x ≡ get_or xs i x) where
   -- what is before a place, what is there, and what is after it
   pub in_parts : xs ≡ take i xs ++ x ∷ drop (i + 1) xs
-  in_parts = sym (take-append-drop i xs) ∙ ap (λ ys. take i xs ++ ys) (drop_more xs i x lt ∙ ap (λ y. y ∷ drop (i + 1) xs) (sym is))
+  in_parts = sym (take-append-drop i xs)
+      ∙ ap (λ ys. take i xs ++ ys) (drop_more xs i x lt ∙ ap (λ y. y ∷ drop (i + 1) xs) (sym is))
 
   -- what is up to a place
   pub one_taken : take (i + 1) xs ≡ take i xs ++ x ∷ []
@@ -32,46 +34,56 @@ module _ {A : Type 0} (xs : List A) (i : ℕ) (d : A) (lt : i < length xs) where
   taken_at = take_more xs i d lt
 
 -- one more script was read
-pub reads_more : {S F : Type 0} (system : SystemGhosts S F) (them : S) (paths : List (Bor (List ℕ))) (scripts : List Script) (path : Bor (List ℕ))
+pub reads_more : {S F : Type 0} (system : SystemGhosts S F) (them : S) (paths : List (Bor (List ℕ)))
+    (scripts : List Script) (path : Bor (List ℕ))
     (script : Script) → AreRead system them paths scripts → ReadsScript system them path script
     → AreRead system them (paths ++ path ∷ []) (scripts ++ script ∷ [])
 reads_more system them [] [] path script are one = (one, tt)
 reads_more system them [] (other ∷ scripts) path script are one = absurd are
 reads_more system them (other ∷ paths) [] path script are one = absurd are
-reads_more system them (other ∷ paths) (first ∷ scripts) path script (is, are) one = (is, reads_more system them paths scripts path script are one)
+reads_more system them (other ∷ paths) (first ∷ scripts) path script (is, are) one =
+    (is, reads_more system them paths scripts path script are one)
 
 -- lines and then more
-pub prints_join : (session : Session) (lines : List (List ℕ)) (steps : List (Request × Response)) (text : List ℕ) (mid : Session) (more : List (List ℕ))
+pub prints_join : (session : Session) (lines : List (List ℕ)) (steps : List (Request × Response)) (text : List ℕ)
+    (mid : Session) (more : List (List ℕ))
     (further : List (Request × Response)) (rest : List ℕ) (after : Session) → LinesPrint session lines steps text mid
-    → LinesPrint mid more further rest after → LinesPrint session (lines ++ more) (steps ++ further) (text ++ rest) after
-prints_join session [] steps text mid more further rest after (none, nothing, same) second = rw (none, nothing, ← same) second
-prints_join session (line ∷ lines) steps text mid more further rest after (outcome, some, back, becomes, prints, is_steps, is_text) second = (
-  outcome,
-  some ++ further,
-  back ++ rest,
-  becomes,
-  prints_join outcome.session lines some back mid more further rest after prints second,
-  ap (λ s. s ++ further) is_steps ∙ append_assoc outcome.steps some further,
-  ap (λ t. t ++ rest) is_text ∙ append_assoc (printed outcome.reply) back rest,
-)
+    → LinesPrint mid more further rest after
+    → LinesPrint session (lines ++ more) (steps ++ further) (text ++ rest) after
+prints_join session [] steps text mid more further rest after (none, nothing, same) second =
+    rw (none, nothing, ← same) second
+prints_join session (line ∷ lines) steps text mid more further rest after
+    (outcome, some, back, becomes, prints, is_steps, is_text) second = (
+      outcome,
+      some ++ further,
+      back ++ rest,
+      becomes,
+      prints_join outcome.session lines some back mid more further rest after prints second,
+      ap (λ s. s ++ further) is_steps ∙ append_assoc outcome.steps some further,
+      ap (λ t. t ++ rest) is_text ∙ append_assoc (printed outcome.reply) back rest,
+    )
 
 -- one more is at the end of what all are mapped to
-pub one_more : {A : Type 0} (f : Turn → List A) (turns : List Turn) (turn : Turn) → flat_map f (turns ++ turn ∷ []) ≡ flat_map f turns ++ f turn
+pub one_more : {A : Type 0} (f : Turn → List A) (turns : List Turn) (turn : Turn)
+    → flat_map f (turns ++ turn ∷ []) ≡ flat_map f turns ++ f turn
 one_more f turns turn = flat_map-append f turns (turn ∷ []) ∙ ap (λ xs. flat_map f turns ++ xs) (append-nil (f turn))
 
 -- scripts, and then one more
-pub turns_join : (manner : Manner) (turns : List Turn) (turn : Turn) (session middle left : Session) (first last : List (Request × Response))
-    (old between new : Output) → TellsTurns manner turns session first old between middle
-    → LinesPrint middle (turn_lines turn) last turn.answers left → IsWritten between new (turn_text manner turn)
-    → TellsTurns manner (turns ++ turn ∷ []) session (first ++ last) old new left
-turns_join manner turns turn session middle left first last old between new done prints written = record {
+pub turns_join : (style : AnswerStyle) (turns : List Turn) (turn : Turn) (session middle left : Session)
+    (first last : List (Request × Response))
+    (old between new : Output) → PrintsTurns style turns session first old between middle
+    → LinesPrint middle (turn_lines turn) last turn.answers left → IsWritten between new (turn_text style turn)
+    → PrintsTurns style (turns ++ turn ∷ []) session (first ++ last) old new left
+turns_join style turns turn session middle left first last old between new done prints written = record {
   prints = rw (one_more turn_lines turns turn, one_more (λ (t : Turn). t.answers) turns turn)
       (prints_join _ (flat_map turn_lines turns) _ _ _ (turn_lines turn) _ _ _ done.prints prints);
-  given = rw (one_more (turn_text manner) turns turn) (Appends-trans _ _ _ (flat_map (turn_text manner) turns) (turn_text manner turn) done.given written.0);
+  given = rw (one_more (turn_text style) turns turn)
+      (Appends-trans _ _ _ (flat_map (turn_text style) turns) (turn_text style turn) done.given written.0);
   flushed = inl written.1;
 }
 
-pub are_join : (scripts : List Script) (turns : List Turn) (script : Script) (turn : Turn) → script_run turn ≡ script_of script
+pub are_join : (scripts : List Script) (turns : List Turn) (script : Script) (turn : Turn)
+    → script_run turn ≡ script_of script
     → AreTurns scripts turns → AreTurns (scripts ++ script ∷ []) (turns ++ turn ∷ [])
 are_join scripts turns script turn same are =
     map-append script_run turns (turn ∷ []) ∙ ap (λ xs. xs ++ script_run turn ∷ []) are

@@ -23,8 +23,10 @@ in_memory = record {
 }
 
 -- one more script was tried
-pub tried_more : {S F : Type 0} (system : SystemGhosts S F) (them : S) (bound : DiskGhosts Memory) (contents : Contents) (paths : List (List ℕ))
-    (trials : List Trial) (path : List ℕ) (trial : Trial) → AreTried system them bound contents paths trials → trial.path.now ≡ path
+pub tried_more : {S F : Type 0} (system : SystemGhosts S F) (them : S) (bound : DiskGhosts Memory) (contents : Contents)
+    (paths : List (List ℕ))
+    (trials : List Trial) (path : List ℕ) (trial : Trial) → AreTried system them bound contents paths trials
+    → trial.path.now ≡ path
     → TriesScript system them bound contents path (Ok trial.differences.items)
     → AreTried system them bound contents (paths ++ path ∷ []) (trials ++ trial ∷ [])
 tried_more system them bound contents [] [] path trial are same one = (same, one, tt)
@@ -43,6 +45,7 @@ module _ {A B : Type 0} (f : A → B) (xs : List A) (i : ℕ) (x : A) (lt : i < 
   mapped_taken = ap (map f) (one_taken xs i x lt is) ∙ map-append f (take i xs) (x ∷ [])
 
 -- what holds of an answer, by what else holds of it
-pub ok_map : {A E : Type 0} {P Q : A → Type 0} (result : Result A E) → ((x : A) → P x → Q x) → IfOk result P → IfOk result Q
+pub ok_map : {A E : Type 0} {P Q : A → Type 0} (result : Result A E) → ((x : A) → P x → Q x) → IfOk result P
+    → IfOk result Q
 ok_map (Ok x) gives holds = gives x holds
 ok_map (Err why) gives holds = tt

@@ -1,5 +1,6 @@
 -- No piece of escaped bytes has markup but as an escape.
-use Rattle.std.proofs.Common.{ap, append-nil, arith, false, get_or, length, nat_lt, refl, take, true, ◌%◌, ◌+◌, ◌++◌, ◌/◌, ◌<◌, ◌∙◌, ◌∷◌, ◌==◌, ◌≡◌, Bool, List, [], ℕ}
+use Rattle.std.proofs.Common.{ap, append-nil, arith, false, get_or, length, nat_lt, refl, take, true, ◌%◌, ◌+◌, ◌++◌}
+use Rattle.std.proofs.Common.{◌/◌, ◌<◌, ◌∙◌, ◌∷◌, ◌==◌, ◌≡◌, Bool, List, [], ℕ}
 use Rattle.std.proofs.lemmas.Grind.{flat_map-append}
 use Rattle.std.specs.Prelude.{◌||◌, flat_map, if◌then◌else◌}
 use Rattle.std.specs.List.{list_all}
@@ -11,7 +12,8 @@ or_true true other is = refl
 or_true false other is = is
 
 -- in either case
-by_test : (test : Bool) (one other : List ℕ) → (test ≡ true → is_harmless one ≡ true) → (test ≡ false → is_harmless other ≡ true)
+by_test : (test : Bool) (one other : List ℕ) → (test ≡ true → is_harmless one ≡ true)
+    → (test ≡ false → is_harmless other ≡ true)
     → is_harmless (if test then one else other) ≡ true
 by_test true one other first second = first refl
 by_test false one other first second = second refl

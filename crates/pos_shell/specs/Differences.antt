@@ -1,7 +1,7 @@
 -- How the answers of a script differ from those that are wanted (docs/reference/tool.md, "test").
 use Rattle.std.specs.Prelude.{ℕ, ◌+◌, ◌++◌, ◌∷◌, List, [], bytes_eq, codes, decimal, if◌then◌else◌}
 use Rattle.pos_script.specs.Lines.{is_quiet}
-use Rattle.pos_shell.specs.Told.{first, others}
+use Rattle.pos_shell.specs.AnswerTexts.{first, others}
 
 -- a line of a script with its place
 abbrev pub placed_line : List ℕ → ℕ → List ℕ → List ℕ

@@ -7,6 +7,6 @@ pub mod ProfileRun
 pub mod Reasons
 pub mod Runs
 pub mod Scripts
-pub mod Told
+pub mod AnswerTexts
 pub mod Trials
 pub mod Xml

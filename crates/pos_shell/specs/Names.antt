@@ -1,5 +1,6 @@
 -- The names of the numbers in an answer (docs/reference/tool.md, "run").
-use Rattle.std.specs.Prelude.{ℕ, ◌+◌, ◌==◌, ◌++◌, ◌∷◌, ◌&&◌, ◌||◌, Bool, List, [], bytes_eq, codes, decimal, flat_map, if◌then◌else◌, nat_eq}
+use Rattle.std.specs.Prelude.{ℕ, ◌+◌, ◌==◌, ◌++◌, ◌∷◌, ◌&&◌, ◌||◌, Bool, List, [], bytes_eq, codes, decimal, flat_map}
+use Rattle.std.specs.Prelude.{if◌then◌else◌, nat_eq}
 use Rattle.std.specs.List.{starts_with}
 use Rattle.pos_report.specs.declared.codes.Code.{Code}
 use Rattle.pos_script.specs.Lines.{words_of}

@@ -1,5 +1,6 @@
 -- What running the scripts in files comes to (docs/reference/tool.md, "run").
-use Rattle.std.specs.Prelude.{◌≡◌, ◌⊎◌, ◌++◌, ◌∷◌, [], ℕ, List, Option, Some, None, Result, Ok, Err, Vec, bytes_eq, codes, if◌then◌else◌, ⊤}
+use Rattle.std.specs.Prelude.{◌≡◌, ◌⊎◌, ◌++◌, ◌∷◌, [], ℕ, List, Option, Some, None, Result, Ok, Err, Vec, bytes_eq}
+use Rattle.std.specs.Prelude.{codes, if◌then◌else◌, ⊤}
 use Rattle.std.specs.Borrow.{Bor}
 use Rattle.pos_counter.specs.Counters.{IsLeftDuring}
 use Rattle.pos_counter.specs.Machine.{Machine}
@@ -16,20 +17,20 @@ use Rattle.pos_program.specs.MirroredFiles.{CutMayLeave, IsMirrored}
 use Rattle.pos_program.specs.declared.file_fault.FileFault.{FileFault}
 use Rattle.pos_program.specs.declared.file_system.FileSystem.{Ghosts as SystemGhosts}
 use Rattle.pos_program.specs.declared.named_files.NamedFiles.{Ghosts}
-use Rattle.pos_run.specs.Simulating.{begun_over}
+use Rattle.pos_run.specs.Simulations.{begun_over}
 use Rattle.pos_store.specs.Standing.{LeavesOneOf, Standing}
 use Rattle.pos_shell.specs.Outputs.{Streams}
 use Rattle.pos_shell.specs.ProfileRun.{Lines, RunsLines, steps_of}
 use Rattle.pos_shell.specs.declared.runs.RunFault.{RunFault}
 use Rattle.pos_shell.specs.declared.runs.RunFault.TheVariants as run
 use Rattle.pos_shell.specs.declared.scripts.Script.{Script}
-use Rattle.pos_shell.specs.declared.scripts.TellFault.{TellFault}
-use Rattle.pos_shell.specs.declared.scripts.TellFault.TheVariants.{NoMemory}
-use Rattle.pos_shell.specs.declared.told.Manner.{Manner}
+use Rattle.pos_shell.specs.declared.scripts.ScriptsFault.{ScriptsFault}
+use Rattle.pos_shell.specs.declared.scripts.ScriptsFault.TheVariants.{NoMemory}
+use Rattle.pos_shell.specs.declared.answer_texts.AnswerStyle.{AnswerStyle}
 
 -- there was no memory to begin
 abbrev pub without_memory : RunFault
-without_memory = run.Told NoMemory
+without_memory = run.Stopped NoMemory
 
 -- scripts that were read, as a list
 abbrev pub scripts_of : {A : Type 0} → Result (Vec Script A) RunFault → Result (List Script) RunFault
@@ -73,25 +74,25 @@ GivesProfile files them (Some path) (Err (run.Profile at cause)) =
 GivesProfile files them (Some path) (Err other) = ⊥
 
 -- what a run that began ended with
-abbrev pub ended : Result (Unit {0}) TellFault → Result (Unit {0}) RunFault
+abbrev pub ended : Result (Unit {0}) ScriptsFault → Result (Unit {0}) RunFault
 ended (Ok u) = Ok tt
-ended (Err why) = Err (run.Told why)
+ended (Err why) = Err (run.Stopped why)
 
 -- a run of lines over totals in memory, on a disk without files
-pub record RunsFresh (bound : DiskGhosts Memory) (manner : Manner) (contents : Contents) (lines : Lines)
+pub record RunsFresh (bound : DiskGhosts Memory) (style : AnswerStyle) (contents : Contents) (lines : Lines)
     (old new : Streams) (result : Result (Unit {0}) RunFault) : Type 0 where
   pub disk : Memory
   pub after : Memory
-  pub answer : Result (Unit {0}) TellFault
+  pub answer : Result (Unit {0}) ScriptsFault
   pub empty : HasNoFiles (bound.state disk)
-  pub runs : RunsLines bound manner contents lines disk old new answer after
+  pub runs : RunsLines bound style contents lines disk old new answer after
   pub ends : result ≡ ended answer
 
 -- likewise, or there was no memory for the disk
-abbrev pub RunsInMemory : DiskGhosts Memory → Manner → Contents → Lines → Streams → Streams
+abbrev pub RunsInMemory : DiskGhosts Memory → AnswerStyle → Contents → Lines → Streams → Streams
     → Result (Unit {0}) RunFault → Type 0
-RunsInMemory bound manner contents lines old new result =
-    ((result ≡ Err without_memory) × (new ≡ old)) ⊎ RunsFresh bound manner contents lines old new result
+RunsInMemory bound style contents lines old new result =
+    ((result ≡ Err without_memory) × (new ≡ old)) ⊎ RunsFresh bound style contents lines old new result
 
 -- A run of the machine by these steps, from where it begins for a profile over totals that may be these. A power cut at
 -- any moment since the file was read leaves, of a file that keeps the crash model, what the machine may leave before,
@@ -106,34 +107,34 @@ pub record LeavesCuts {B : Type 0} (below : FileGhosts B) (contents : Contents) 
 -- A run of lines over the totals in a file. The calls of the file make the totals that are left, and for all that the
 -- file may have held, a power cut leaves what it says.
 pub record RunsOverTotals {B : Type 0} (below : FileGhosts B) (mirrors : DiskGhosts (Mirror (FileDisk B)))
-    (manner : Manner) (contents : Contents) (lines : Lines) (totals : Mirror (FileDisk B)) (old new : Streams)
+    (style : AnswerStyle) (contents : Contents) (lines : Lines) (totals : Mirror (FileDisk B)) (old new : Streams)
     (result : Result (Unit {0}) RunFault) : Type 0 where
   pub after : Mirror (FileDisk B)
-  pub answer : Result (Unit {0}) TellFault
-  pub runs : RunsLines mirrors manner contents lines totals old new answer after
+  pub answer : Result (Unit {0}) ScriptsFault
+  pub runs : RunsLines mirrors style contents lines totals old new answer after
   pub file : IsMirrored below.calls after
   pub cuts : (left : List Standing) → LeavesOneOf left (mirror_state totals)
       → LeavesCuts below contents left totals after (steps_of runs)
   pub ends : result ≡ ended answer
 
 -- what running lines over what opening a totals file gave comes to
-abbrev pub RunsOpened : {B : Type 0} → FileGhosts B → DiskGhosts (Mirror (FileDisk B)) → Manner → Contents
+abbrev pub RunsOpened : {B : Type 0} → FileGhosts B → DiskGhosts (Mirror (FileDisk B)) → AnswerStyle → Contents
     → Lines → Bor (List ℕ) → Result (Mirror (FileDisk B)) FileFault → Streams → Streams
     → Result (Unit {0}) RunFault → Type 0
-RunsOpened below mirrors manner contents lines path (Ok totals) old new result =
-    RunsOverTotals below mirrors manner contents lines totals old new result
-RunsOpened below mirrors manner contents lines path (Err cause) old new result =
+RunsOpened below mirrors style contents lines path (Ok totals) old new result =
+    RunsOverTotals below mirrors style contents lines totals old new result
+RunsOpened below mirrors style contents lines path (Err cause) old new result =
     (result ≡ Err (run.Totals path cause)) × (new ≡ old)
 
 -- what running lines over the totals in the file at a path comes to, or in memory
 abbrev pub RunsOver : {F B : Type 0} → Ghosts F B → FileGhosts B → DiskGhosts (Mirror (FileDisk B)) → DiskGhosts Memory
-    → F → Manner → Contents → Lines → Option (Bor (List ℕ)) → Streams → Streams → Result (Unit {0}) RunFault
+    → F → AnswerStyle → Contents → Lines → Option (Bor (List ℕ)) → Streams → Streams → Result (Unit {0}) RunFault
     → Type 0
-RunsOver files below mirrors memories them manner contents lines None old new result =
-    RunsInMemory memories manner contents lines old new result
-RunsOver {B = B} files below mirrors memories them manner contents lines (Some path) old new result =
+RunsOver files below mirrors memories them style contents lines None old new result =
+    RunsInMemory memories style contents lines old new result
+RunsOver {B = B} files below mirrors memories them style contents lines (Some path) old new result =
     (opened : Result (Mirror (FileDisk B)) FileFault) × files.gives_disk them path.now opened
-    × RunsOpened below mirrors manner contents lines path opened old new result
+    × RunsOpened below mirrors style contents lines path opened old new result
 
 -- what becomes of lines, by what reading the profile gave
 abbrev pub RunsProfiled : (Contents → Type 0) → Result Contents RunFault → Streams → Streams
@@ -143,11 +144,11 @@ RunsProfiled RunsOf (Err why) old new result = (result ≡ Err why) × (new ≡ 
 
 -- What running lines comes to, over the profile at a path, or the built-in one, and totals.
 abbrev pub RunsAll : {F B : Type 0} → Ghosts F B → FileGhosts B → DiskGhosts (Mirror (FileDisk B))
-    → DiskGhosts Memory → F → Manner → Lines → Option (Bor (List ℕ)) → Option (Bor (List ℕ)) → Streams → Streams
+    → DiskGhosts Memory → F → AnswerStyle → Lines → Option (Bor (List ℕ)) → Option (Bor (List ℕ)) → Streams → Streams
     → Result (Unit {0}) RunFault → Type 0
-RunsAll files below mirrors memories them manner lines profile totals old new result =
+RunsAll files below mirrors memories them style lines profile totals old new result =
     (given : Result Contents RunFault) × GivesProfile files them profile given
-    × RunsProfiled (λ contents. RunsOver files below mirrors memories them manner contents lines totals old new result)
+    × RunsProfiled (λ contents. RunsOver files below mirrors memories them style contents lines totals old new result)
     given old new result
 
 -- what becomes of scripts, by what reading them gave
@@ -158,9 +159,9 @@ RunsRead RunsOf (Err why) old new result = (result ≡ Err why) × (new ≡ old)
 
 -- What running the scripts at paths comes to, over a profile and totals.
 abbrev pub Runs : {F B S G : Type 0} → Ghosts F B → FileGhosts B → DiskGhosts (Mirror (FileDisk B))
-    → DiskGhosts Memory → F → SystemGhosts S G → S → Manner → List (Bor (List ℕ)) → Option (Bor (List ℕ))
+    → DiskGhosts Memory → F → SystemGhosts S G → S → AnswerStyle → List (Bor (List ℕ)) → Option (Bor (List ℕ))
     → Option (Bor (List ℕ)) → Streams → Streams → Result (Unit {0}) RunFault → Type 0
-Runs files below mirrors memories them system it manner paths profile totals old new result =
+Runs files below mirrors memories them system it style paths profile totals old new result =
     (read : Result (List Script) RunFault) × ReadsEach system it paths read
-    × RunsRead (λ scripts. RunsAll files below mirrors memories them manner (Some scripts) profile totals old new
+    × RunsRead (λ scripts. RunsAll files below mirrors memories them style (Some scripts) profile totals old new
     result) read old new result

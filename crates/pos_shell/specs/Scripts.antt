@@ -5,11 +5,11 @@ use Rattle.pos_counter.specs.Steps.{Request, Response}
 use Rattle.pos_run.specs.Transcript.{LinesPrint, Session}
 use Rattle.pos_script.specs.Lines.{lines_of}
 use Rattle.pos_shell.specs.Outputs.{IsCutOff, IsWritten, Output}
-use Rattle.pos_shell.specs.Told.{told}
+use Rattle.pos_shell.specs.AnswerTexts.{told}
 use Rattle.pos_shell.specs.declared.scripts.Script.{Script}
-use Rattle.pos_shell.specs.declared.scripts.TellFault.{TellFault}
-use Rattle.pos_shell.specs.declared.scripts.TellFault.TheVariants as fault
-use Rattle.pos_shell.specs.declared.told.Manner.{Manner}
+use Rattle.pos_shell.specs.declared.scripts.ScriptsFault.{ScriptsFault}
+use Rattle.pos_shell.specs.declared.scripts.ScriptsFault.TheVariants as fault
+use Rattle.pos_shell.specs.declared.answer_texts.AnswerStyle.{AnswerStyle}
 
 -- A script that was run: its name, its text, and the text of its answers.
 pub record Turn : Type 0 where
@@ -22,8 +22,8 @@ abbrev pub turn_lines : Turn → List (List ℕ)
 turn_lines turn = lines_of turn.script
 
 -- what is told of it
-abbrev pub turn_text : Manner → Turn → List ℕ
-turn_text manner turn = told manner turn.name 1 (lines_of turn.script) (lines_of turn.answers)
+abbrev pub turn_text : AnswerStyle → Turn → List ℕ
+turn_text style turn = told style turn.name 1 (lines_of turn.script) (lines_of turn.answers)
 
 -- the name and the text of a script
 abbrev pub script_of : Script → List ℕ × List ℕ
@@ -40,27 +40,27 @@ AreTurns scripts turns = map script_run turns ≡ map script_of scripts
 -- What running one script and telling its answers comes to, from one session to another, by the steps of the machine
 -- that its lines asked: the steps print the answers, and these are told as far as they can be written. Without memory
 -- nothing is told.
-abbrev pub TellsText : Manner → List ℕ → List ℕ → Session → List (Request × Response) → Output → Output
-    → Result (Unit {0}) TellFault → Session → Type 0
-TellsText manner name text session steps old new (Ok u) left =
+abbrev pub PrintsText : AnswerStyle → List ℕ → List ℕ → Session → List (Request × Response) → Output → Output
+    → Result (Unit {0}) ScriptsFault → Session → Type 0
+PrintsText style name text session steps old new (Ok u) left =
     (answers : List ℕ) × LinesPrint session (lines_of text) steps answers left
-    × IsWritten old new (told manner name 1 (lines_of text) (lines_of answers))
-TellsText manner name text session steps old new (Err fault.Write) left =
+    × IsWritten old new (told style name 1 (lines_of text) (lines_of answers))
+PrintsText style name text session steps old new (Err fault.Write) left =
     (answers : List ℕ) × LinesPrint session (lines_of text) steps answers left
-    × IsCutOff old new (told manner name 1 (lines_of text) (lines_of answers))
-TellsText manner name text session steps old new (Err fault.NoMemory) left = new ≡ old
-TellsText manner name text session steps old new (Err fault.Read) left = ⊥
+    × IsCutOff old new (told style name 1 (lines_of text) (lines_of answers))
+PrintsText style name text session steps old new (Err fault.NoMemory) left = new ≡ old
+PrintsText style name text session steps old new (Err fault.Read) left = ⊥
 
 -- Scripts were run from one session to another, and all that they were answered is told.
-pub record TellsTurns (manner : Manner) (turns : List Turn) (session : Session) (steps : List (Request × Response))
+pub record PrintsTurns (style : AnswerStyle) (turns : List Turn) (session : Session) (steps : List (Request × Response))
     (old new : Output) (left : Session) : Type 0 where
   pub prints : LinesPrint session (flat_map turn_lines turns) steps (flat_map (λ turn. turn.answers) turns) left
-  pub given : Appends old.given new.given (flat_map (turn_text manner) turns)
+  pub given : Appends old.given new.given (flat_map (turn_text style) turns)
   pub flushed : (new.unflushed ≡ []) ⊎ (new ≡ old)
 
 -- The scripts before one were run and told, and at that one it stopped. No later one was run.
-pub record StopsAtScript (manner : Manner) (scripts : List Script) (session : Session)
-    (steps : List (Request × Response)) (old new : Output) (why : TellFault) (left : Session) : Type 0 where
+pub record StopsAtScript (style : AnswerStyle) (scripts : List Script) (session : Session)
+    (steps : List (Request × Response)) (old new : Output) (why : ScriptsFault) (left : Session) : Type 0 where
   pub earlier : List Script
   pub script : Script
   pub later : List Script
@@ -72,13 +72,13 @@ pub record StopsAtScript (manner : Manner) (scripts : List Script) (session : Se
   pub steps_are : steps ≡ first_steps ++ last_steps
   pub between : Output
   pub middle : Session
-  pub done : TellsTurns manner turns session first_steps old between middle
-  pub stopped : TellsText manner script.name.now script.text.items middle last_steps between new (Err why) left
+  pub done : PrintsTurns style turns session first_steps old between middle
+  pub stopped : PrintsText style script.name.now script.text.items middle last_steps between new (Err why) left
 
 -- what running scripts in order and telling their answers comes to
-abbrev pub TellsScripts : Manner → List Script → Session → List (Request × Response) → Output → Output
-    → Result (Unit {0}) TellFault → Session → Type 0
-TellsScripts manner scripts session steps old new (Ok u) left =
-    (turns : List Turn) × AreTurns scripts turns × TellsTurns manner turns session steps old new left
-TellsScripts manner scripts session steps old new (Err why) left =
-    StopsAtScript manner scripts session steps old new why left
+abbrev pub PrintsScripts : AnswerStyle → List Script → Session → List (Request × Response) → Output → Output
+    → Result (Unit {0}) ScriptsFault → Session → Type 0
+PrintsScripts style scripts session steps old new (Ok u) left =
+    (turns : List Turn) × AreTurns scripts turns × PrintsTurns style turns session steps old new left
+PrintsScripts style scripts session steps old new (Err why) left =
+    StopsAtScript style scripts session steps old new why left

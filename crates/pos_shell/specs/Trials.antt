@@ -1,6 +1,6 @@
 -- What trying scripts comes to (docs/reference/tool.md, "test").
-use Rattle.std.specs.Prelude.{◌≡◌, ◌-◌, ◌++◌, ◌∷◌, [], ℕ, Bool, not, List, Result, Ok, Err, Vec, codes, decimal, filter, flat_map}
-use Rattle.std.specs.Prelude.{if◌then◌else◌, length, string_bytes, ⊤}
+use Rattle.std.specs.Prelude.{◌≡◌, ◌-◌, ◌++◌, ◌∷◌, [], ℕ, Bool, not, List, Result, Ok, Err, Vec, codes, decimal, filter}
+use Rattle.std.specs.Prelude.{flat_map, if◌then◌else◌, length, string_bytes, ⊤}
 use Rattle.pos_counter.specs.Counters.{IsRun}
 use Rattle.pos_counter.specs.Steps.{Request, Response}
 use Rattle.pos_counter.specs.declared.counter.Counter.{Counter}
@@ -9,7 +9,7 @@ use Rattle.pos_disk.specs.declared.device.Disk.{Ghosts as DiskGhosts}
 use Rattle.pos_image.specs.Standing.{HasNoFiles}
 use Rattle.pos_profile.specs.Entries.{Contents}
 use Rattle.pos_program.specs.declared.file_system.FileSystem.{Ghosts as SystemGhosts}
-use Rattle.pos_run.specs.Simulating.{IsSimulatedCounter, wrapped_devices}
+use Rattle.pos_run.specs.Simulations.{IsSimulatedCounter, wrapped_devices}
 use Rattle.pos_run.specs.Spares.{spares_in}
 use Rattle.pos_run.specs.Transcript.{LinesPrint, Session, begun_session}
 use Rattle.pos_run.specs.declared.spares.Spares.{Spares}

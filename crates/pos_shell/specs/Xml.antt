@@ -1,6 +1,6 @@
 -- The report of trials in JUnit's form of XML (docs/reference/tool.md, "test").
-use Rattle.std.specs.Prelude.{ℕ, ◌+◌, ◌-◌, ◌/◌, ◌%◌, ◌==◌, ◌++◌, ◌∷◌, ◌&&◌, ◌||◌, Bool, not, List, [], bytes_eq, codes, decimal}
-use Rattle.std.specs.Prelude.{flat_map, if◌then◌else◌, length, nat_lt, slice_index_or}
+use Rattle.std.specs.Prelude.{ℕ, ◌+◌, ◌-◌, ◌/◌, ◌%◌, ◌==◌, ◌++◌, ◌∷◌, ◌&&◌, ◌||◌, Bool, not, List, [], bytes_eq, codes}
+use Rattle.std.specs.Prelude.{decimal, flat_map, if◌then◌else◌, length, nat_lt, slice_index_or}
 use Rattle.std.specs.List.{list_any}
 use Rattle.pos_script.specs.Lines.{is_nothing}
 use Rattle.pos_shell.specs.Trials.{failures}

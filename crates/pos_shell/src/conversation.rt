@@ -2,15 +2,15 @@
 ghost use Rattle.std.specs.Prelude.{◌≡◌, List, MatchResult, codes};
 ghost use Rattle.pos_counter.specs.Counters.{IsCounterSound, IsRun};
 ghost use Rattle.pos_counter.specs.Steps.{Request, Response};
-ghost use Rattle.pos_run.specs.Carried.{session_of};
+ghost use Rattle.pos_run.specs.LineRuns.{session_of};
 ghost use Rattle.pos_run.specs.Spares.{AreSparesSound};
 ghost use Rattle.pos_script.specs.Lines.{lines_of};
-ghost use Rattle.pos_shell.specs.Conversation.{Converses, TakesLine, TellsExchange, is_quit, line_of};
+ghost use Rattle.pos_shell.specs.Conversation.{Converses, TakesLine, PrintsExchange, is_quit, line_of};
 ghost use Rattle.pos_shell.specs.Outputs.{IsCutOff, IsWritten, output_of, streams_of};
-ghost use Rattle.pos_shell.specs.declared.scripts.TellFault.TheVariants.{Write as WriteFails};
+ghost use Rattle.pos_shell.specs.declared.scripts.ScriptsFault.TheVariants.{Write as WriteFails};
 
-use crate::scripts::{TellFault, tell_text};
-use crate::told::{Manner, is_command, write_text};
+use crate::answer_texts::{AnswerStyle, is_command, write_text};
+use crate::scripts::{ScriptsFault, print_text};
 use pos_counter::Counter;
 use pos_disk::Disk;
 use pos_run::{Names, Spares};
@@ -44,14 +44,14 @@ struct TypedLine {
 }
 
 // Takes a line from a source, up to its line feed, and no byte more.
-fn take_line<R: Source>(alloc: Global, reader: &mut R) -> Result<TypedLine, TellFault>
+fn take_line<R: Source>(alloc: Global, reader: &mut R) -> Result<TypedLine, ScriptsFault>
     ensures { TakesLine (R.taken reader.old) (R.taken reader.new) (line_of result) }
 {
     let mut text = Vec::new(alloc);
     let mut byte = [0u8; 1];
     for _turn in 0..MOST {
         let Ok(count) = reader.read(&mut byte) else {
-            return Err(TellFault::Read);
+            return Err(ScriptsFault::Read);
         };
         if count == 0 {
             return Ok(TypedLine {
@@ -60,7 +60,7 @@ fn take_line<R: Source>(alloc: Global, reader: &mut R) -> Result<TypedLine, Tell
             });
         }
         let Ok(()) = text.push(byte[0]) else {
-            return Err(TellFault::NoMemory);
+            return Err(ScriptsFault::NoMemory);
         };
         if byte[0] == b'\n' {
             return Ok(TypedLine {
@@ -69,7 +69,7 @@ fn take_line<R: Source>(alloc: Global, reader: &mut R) -> Result<TypedLine, Tell
             });
         }
     }
-    Err(TellFault::Read)
+    Err(ScriptsFault::Read)
 }
 
 // Whether what was typed is the line `quit`.
@@ -85,25 +85,25 @@ fn is_quit(text: &[u8]) -> bool
 // Asks for a line, runs it, and tells what it is answered. Returns what comes after it.
 fn exchange<R: Source, W: Sink, D: Disk, P: Peripheral + Ends>(
     alloc: Global,
-    manner: &Manner<'_>,
+    style: &AnswerStyle<'_>,
     reader: &mut R,
     writer: &mut W,
     buffer: &mut LineBuffer,
     counter: &mut Counter<D, P>,
     names: &mut Names,
     spares: &mut Spares<P>,
-) -> Result<Next, TellFault>
+) -> Result<Next, ScriptsFault>
     requires sound { IsCounterSound P.Peripheral counter.old }
     requires spares { AreSparesSound P.Peripheral spares.old }
     ensures told { (steps : List (Request × Response)) × IsRun D.Disk P.Peripheral counter.old steps counter.new
-        × TellsExchange manner.now (session_of P.Peripheral names.old spares.old) steps
+        × PrintsExchange style.now (session_of P.Peripheral names.old spares.old) steps
         (streams_of R.Source reader.old W.Sink writer.old) (streams_of R.Source reader.new W.Sink writer.new) result
         (session_of P.Peripheral names.new spares.new) }
     ensures sound { IsCounterSound P.Peripheral counter.new }
     ensures spares { AreSparesSound P.Peripheral spares.new }
 {
     let Ok(()) = write_text(writer, PROMPT) else {
-        return Err(TellFault::Write);
+        return Err(ScriptsFault::Write);
     };
     let line = match take_line(alloc, reader) {
         Ok(line) => line,
@@ -112,8 +112,8 @@ fn exchange<R: Source, W: Sink, D: Disk, P: Peripheral + Ends>(
     if is_quit(&line.text) {
         return Ok(Next::Quit);
     }
-    let told = tell_text(
-        alloc, manner, "", &line.text, writer, buffer, counter, names, spares,
+    let told = print_text(
+        alloc, style, "", &line.text, writer, buffer, counter, names, spares,
     );
     match told {
         Ok(()) if line.is_ended => Ok(Next::Asked),
@@ -123,7 +123,7 @@ fn exchange<R: Source, W: Sink, D: Disk, P: Peripheral + Ends>(
 }
 
 // Ends the terminal's line.
-fn end_line<W: Sink>(writer: &mut W) -> Result<(), TellFault>
+fn end_line<W: Sink>(writer: &mut W) -> Result<(), ScriptsFault>
     ensures { MatchResult result
         (λ _. IsWritten (output_of W.Sink writer.old) (output_of W.Sink writer.new) (codes "\n"))
         (λ why. (why ≡ WriteFails)
@@ -131,7 +131,7 @@ fn end_line<W: Sink>(writer: &mut W) -> Result<(), TellFault>
 {
     match write_text(writer, b"\n") {
         Ok(()) => Ok(()),
-        Err(_) => Err(TellFault::Write),
+        Err(_) => Err(ScriptsFault::Write),
     }
 }
 
@@ -140,30 +140,28 @@ fn end_line<W: Sink>(writer: &mut W) -> Result<(), TellFault>
 ///
 /// # Errors
 ///
-/// Those of [`TellFault`]. The lines that were answered before stay done.
+/// Those of [`ScriptsFault`]. The lines that were answered before stay done.
 pub(crate) fn converse<R: Source, W: Sink, D: Disk, P: Peripheral + Ends>(
     alloc: Global,
-    manner: &Manner<'_>,
+    style: &AnswerStyle<'_>,
     reader: &mut R,
     writer: &mut W,
     buffer: &mut LineBuffer,
     counter: &mut Counter<D, P>,
     names: &mut Names,
     spares: &mut Spares<P>,
-) -> Result<(), TellFault>
+) -> Result<(), ScriptsFault>
     requires sound { IsCounterSound P.Peripheral counter.old }
     requires spares { AreSparesSound P.Peripheral spares.old }
     ensures told { (steps : List (Request × Response)) × IsRun D.Disk P.Peripheral counter.old steps counter.new
-        × Converses manner.now (session_of P.Peripheral names.old spares.old) steps
+        × Converses style.now (session_of P.Peripheral names.old spares.old) steps
         (streams_of R.Source reader.old W.Sink writer.old) (streams_of R.Source reader.new W.Sink writer.new) result
         (session_of P.Peripheral names.new spares.new) }
     ensures sound { IsCounterSound P.Peripheral counter.new }
     ensures spares { AreSparesSound P.Peripheral spares.new }
 {
     for _turn in 0..MOST {
-        let told = exchange(
-            alloc, manner, reader, writer, buffer, counter, names, spares,
-        );
+        let told = exchange(alloc, style, reader, writer, buffer, counter, names, spares);
         match told {
             Ok(Next::Asked) => {}
             Ok(Next::Ended) => return end_line(writer),
@@ -171,5 +169,5 @@ pub(crate) fn converse<R: Source, W: Sink, D: Disk, P: Peripheral + Ends>(
             Err(fault) => return Err(fault),
         }
     }
-    Err(TellFault::Read)
+    Err(ScriptsFault::Read)
 }

@@ -3,7 +3,7 @@ ghost use Rattle.std.specs.Prelude.{◌≡◌, ◌++◌, IfOk, OnOk, bytes_eq, c
 ghost use Rattle.pos_script.specs.Lines.{lines_of};
 ghost use Rattle.pos_shell.specs.Differences.{both_answers, difference, differences, left_over, placed_line};
 
-use crate::told::next_answer;
+use crate::answer_texts::next_answer;
 use itoa::Buffer;
 use pos_script::{is_quiet_line, next_line};
 use std::alloc::{AllocError, Global};

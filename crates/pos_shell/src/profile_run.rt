@@ -6,11 +6,11 @@ ghost use Rattle.pos_run.specs.Names.{ControlNames};
 ghost use Rattle.pos_run.specs.Spares.{AreSparesSound, spares_in};
 ghost use Rattle.pos_run.specs.Transcript.{begun_session, session_with};
 ghost use Rattle.pos_shell.specs.Outputs.{streams_of};
-ghost use Rattle.pos_shell.specs.ProfileRun.{LeavesLines, TellsAll, lines_in};
+ghost use Rattle.pos_shell.specs.ProfileRun.{LeavesLines, PrintsAll, lines_in};
 
+use crate::answer_texts::AnswerStyle;
 use crate::conversation::converse;
-use crate::scripts::{Script, TellFault, tell_scripts};
-use crate::told::Manner;
+use crate::scripts::{Script, ScriptsFault, print_scripts};
 use pos_counter::Counter;
 use pos_disk::Disk;
 use pos_profile::Profile;
@@ -21,33 +21,33 @@ use pos_streams::{Sink, Source};
 use std::alloc::Global;
 
 // Runs scripts, or what is typed, over a counter whose controls have no names yet, and tells the answers.
-fn tell_all<R: Source, W: Sink, D: Disk, P: Peripheral + Ends>(
+fn print_all<R: Source, W: Sink, D: Disk, P: Peripheral + Ends>(
     alloc: Global,
-    manner: &Manner<'_>,
+    style: &AnswerStyle<'_>,
     scripts: Option<&[Script<'_>]>,
     reader: &mut R,
     writer: &mut W,
     counter: &mut Counter<D, P>,
     spares: &mut Spares<P>,
-) -> Result<(), TellFault>
+) -> Result<(), ScriptsFault>
     requires sound { IsCounterSound P.Peripheral counter.old }
     requires spares { AreSparesSound P.Peripheral spares.old }
     ensures told { (steps : List (Request × Response)) × (names : ControlNames)
         × IsRun D.Disk P.Peripheral counter.old steps counter.new
-        × TellsAll manner.now (lines_in scripts.entry) (begun_session (spares_in P.Peripheral spares.old)) steps
+        × PrintsAll style.now (lines_in scripts.entry) (begun_session (spares_in P.Peripheral spares.old)) steps
         (streams_of R.Source reader.old W.Sink writer.old) (streams_of R.Source reader.new W.Sink writer.new) result
         (session_with names (spares_in P.Peripheral spares.new)) }
     ensures sound { IsCounterSound P.Peripheral counter.new }
     ensures spares { AreSparesSound P.Peripheral spares.new }
 {
     let Ok(mut buffer) = LineBuffer::new(alloc) else {
-        return Err(TellFault::NoMemory);
+        return Err(ScriptsFault::NoMemory);
     };
     let mut names = Names::new(alloc);
     match scripts {
-        Some(scripts) => tell_scripts(
+        Some(scripts) => print_scripts(
             alloc,
-            manner,
+            style,
             scripts,
             writer,
             &mut buffer,
@@ -57,7 +57,7 @@ fn tell_all<R: Source, W: Sink, D: Disk, P: Peripheral + Ends>(
         ),
         None => converse(
             alloc,
-            manner,
+            style,
             reader,
             writer,
             &mut buffer,
@@ -74,27 +74,27 @@ fn tell_all<R: Source, W: Sink, D: Disk, P: Peripheral + Ends>(
 ///
 /// # Errors
 ///
-/// Those of [`TellFault`]: later lines weren't run.
+/// Those of [`ScriptsFault`]: later lines weren't run.
 pub(crate) fn run_lines<R: Source, W: Sink, D: Disk>(
     alloc: Global,
-    manner: &Manner<'_>,
+    style: &AnswerStyle<'_>,
     profile: &Profile,
     scripts: Option<&[Script<'_>]>,
     reader: &mut R,
     writer: &mut W,
     disk: D,
-) -> (Result<(), TellFault>, D)
-    ensures { LeavesLines D.Disk manner.now profile.now (lines_in scripts.entry) disk
+) -> (Result<(), ScriptsFault>, D)
+    ensures { LeavesLines D.Disk style.now profile.now (lines_in scripts.entry) disk
         (streams_of R.Source reader.old W.Sink writer.old) (streams_of R.Source reader.new W.Sink writer.new)
         result.0 result.1 }
 {
     let (mut counter, mut spares) = match simulate_profile(alloc, profile, disk, &AsSimulated) {
         Ok(made) => made,
-        Err((NoMemory, disk)) => return (Err(TellFault::NoMemory), disk),
+        Err((NoMemory, disk)) => return (Err(ScriptsFault::NoMemory), disk),
     };
-    let result = tell_all(
+    let result = print_all(
         alloc,
-        manner,
+        style,
         scripts,
         reader,
         writer,

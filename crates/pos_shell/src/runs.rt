@@ -6,9 +6,9 @@ ghost use Rattle.pos_shell.specs.ProfileRun.{lines_in};
 ghost use Rattle.pos_shell.specs.Runs.{GivesProfile, ReadsEach, Runs, RunsAll, RunsInMemory, RunsOver, RunsOverTotals, ended};
 ghost use Rattle.pos_shell.specs.Runs.{path_of, scripts_of};
 
+use crate::answer_texts::AnswerStyle;
 use crate::profile_run::run_lines;
-use crate::scripts::{Script, TellFault};
-use crate::told::Manner;
+use crate::scripts::{Script, ScriptsFault};
 use pos_disk::{Disk, MemDisk};
 use pos_file::BlockFile;
 use pos_image::new_disk;
@@ -45,7 +45,7 @@ pub enum RunFault<'a> {
         cause: FileFault,
     },
     /// The run stopped.
-    Told(TellFault),
+    Stopped(ScriptsFault),
 }
 
 // The path of a script: `-` is standard input.
@@ -72,7 +72,7 @@ fn read_scripts<'a, S: FileSystem>(
         match system.read(path_of(name)) {
             Ok(text) => {
                 let Ok(()) = scripts.push(Script { name, text }) else {
-                    return Err(RunFault::Told(TellFault::NoMemory));
+                    return Err(RunFault::Stopped(ScriptsFault::NoMemory));
                 };
             }
             Err(cause) => return Err(RunFault::Script { path: name, cause }),
@@ -85,7 +85,7 @@ fn read_scripts<'a, S: FileSystem>(
 ///
 /// # Errors
 ///
-/// `Profile` if it can't be read or is none, and `Told` for want of memory.
+/// `Profile` if it can't be read or is none, and `Stopped` for want of memory.
 pub fn profile_at<'a, F: NamedFiles>(
     alloc: Global,
     files: &F,
@@ -96,7 +96,7 @@ pub fn profile_at<'a, F: NamedFiles>(
     let Some(path) = path else {
         return match Profile::built(alloc) {
             Ok(profile) => Ok(profile),
-            Err(_) => Err(RunFault::Told(TellFault::NoMemory)),
+            Err(_) => Err(RunFault::Stopped(ScriptsFault::NoMemory)),
         };
     };
     match files.read_profile(path) {
@@ -106,38 +106,38 @@ pub fn profile_at<'a, F: NamedFiles>(
 }
 
 // What a run that began ended with.
-fn at_end<'a>(answer: Result<(), TellFault>) -> Result<(), RunFault<'a>>
+fn at_end<'a>(answer: Result<(), ScriptsFault>) -> Result<(), RunFault<'a>>
     ensures { result ≡ ended answer }
 {
     match answer {
         Ok(()) => Ok(()),
-        Err(fault) => Err(RunFault::Told(fault)),
+        Err(fault) => Err(RunFault::Stopped(fault)),
     }
 }
 
 // Runs lines over a profile and totals in memory.
 fn run_in_memory<'a, R: Source, W: Sink>(
     alloc: Global,
-    manner: &Manner<'_>,
+    style: &AnswerStyle<'_>,
     profile: &Profile,
     scripts: Option<&[Script<'_>]>,
     reader: &mut R,
     writer: &mut W,
 ) -> Result<(), RunFault<'a>>
-    ensures { RunsInMemory ⟦<MemDisk as Disk>⟧ manner.now profile.now (lines_in scripts.entry)
+    ensures { RunsInMemory ⟦<MemDisk as Disk>⟧ style.now profile.now (lines_in scripts.entry)
         (streams_of R.Source reader.old W.Sink writer.old) (streams_of R.Source reader.new W.Sink writer.new) result }
 {
     let Ok(disk) = new_disk(alloc) else {
-        return Err(RunFault::Told(TellFault::NoMemory));
+        return Err(RunFault::Stopped(ScriptsFault::NoMemory));
     };
-    let (answer, _disk) = run_lines(alloc, manner, profile, scripts, reader, writer, disk);
+    let (answer, _disk) = run_lines(alloc, style, profile, scripts, reader, writer, disk);
     at_end(answer)
 }
 
 // Runs lines over a profile and the totals in a file, which is closed after the run.
 fn run_over_totals<'a, R: Source, W: Sink, F: BlockFile + Drop>(
     alloc: Global,
-    manner: &Manner<'_>,
+    style: &AnswerStyle<'_>,
     profile: &Profile,
     scripts: Option<&[Script<'_>]>,
     reader: &mut R,
@@ -145,11 +145,11 @@ fn run_over_totals<'a, R: Source, W: Sink, F: BlockFile + Drop>(
     totals: TotalsDisk<F>,
 ) -> Result<(), RunFault<'a>>
     requires { IsNewMirror totals }
-    ensures { RunsOverTotals ⟦<F as BlockFile>⟧ ⟦<TotalsDisk<F> as Disk>⟧ manner.now profile.now
+    ensures { RunsOverTotals ⟦<F as BlockFile>⟧ ⟦<TotalsDisk<F> as Disk>⟧ style.now profile.now
         (lines_in scripts.entry) totals (streams_of R.Source reader.old W.Sink writer.old)
         (streams_of R.Source reader.new W.Sink writer.new) result }
 {
-    let (answer, after) = run_lines(alloc, manner, profile, scripts, reader, writer, totals);
+    let (answer, after) = run_lines(alloc, style, profile, scripts, reader, writer, totals);
     file_is_mirrored(&after);
     at_end(answer)
 }
@@ -158,7 +158,7 @@ fn run_over_totals<'a, R: Source, W: Sink, F: BlockFile + Drop>(
 fn run_over<'a, F: NamedFiles, R: Source, W: Sink>(
     alloc: Global,
     files: &F,
-    manner: &Manner<'_>,
+    style: &AnswerStyle<'_>,
     profile: &Profile,
     scripts: Option<&[Script<'_>]>,
     reader: &mut R,
@@ -166,14 +166,14 @@ fn run_over<'a, F: NamedFiles, R: Source, W: Sink>(
     path: Option<&'a str>,
 ) -> Result<(), RunFault<'a>>
     ensures { RunsOver F.NamedFiles ⟦<F::File as BlockFile>⟧ ⟦<TotalsDisk<F::File> as Disk>⟧ ⟦<MemDisk as Disk>⟧
-        files.now manner.now profile.now (lines_in scripts.entry) path.entry
+        files.now style.now profile.now (lines_in scripts.entry) path.entry
         (streams_of R.Source reader.old W.Sink writer.old) (streams_of R.Source reader.new W.Sink writer.new) result }
 {
     let Some(path) = path else {
-        return run_in_memory(alloc, manner, profile, scripts, reader, writer);
+        return run_in_memory(alloc, style, profile, scripts, reader, writer);
     };
     match files.open_disk(path) {
-        Ok(totals) => run_over_totals(alloc, manner, profile, scripts, reader, writer, totals),
+        Ok(totals) => run_over_totals(alloc, style, profile, scripts, reader, writer, totals),
         Err(cause) => Err(RunFault::Totals { path, cause }),
     }
 }
@@ -182,7 +182,7 @@ fn run_over<'a, F: NamedFiles, R: Source, W: Sink>(
 fn run_all<'a, F: NamedFiles, R: Source, W: Sink>(
     alloc: Global,
     files: &F,
-    manner: &Manner<'_>,
+    style: &AnswerStyle<'_>,
     scripts: Option<&[Script<'_>]>,
     profile: Option<&'a str>,
     totals: Option<&'a str>,
@@ -190,12 +190,12 @@ fn run_all<'a, F: NamedFiles, R: Source, W: Sink>(
     writer: &mut W,
 ) -> Result<(), RunFault<'a>>
     ensures { RunsAll F.NamedFiles ⟦<F::File as BlockFile>⟧ ⟦<TotalsDisk<F::File> as Disk>⟧ ⟦<MemDisk as Disk>⟧
-        files.now manner.now (lines_in scripts.entry) profile.entry totals.entry
+        files.now style.now (lines_in scripts.entry) profile.entry totals.entry
         (streams_of R.Source reader.old W.Sink writer.old) (streams_of R.Source reader.new W.Sink writer.new) result }
 {
     match profile_at(alloc, files, profile) {
         Ok(profile) => run_over(
-            alloc, files, manner, &profile, scripts, reader, writer, totals,
+            alloc, files, style, &profile, scripts, reader, writer, totals,
         ),
         Err(fault) => Err(fault),
     }
@@ -207,13 +207,13 @@ fn run_all<'a, F: NamedFiles, R: Source, W: Sink>(
 ///
 /// # Errors
 ///
-/// `Script`, `Profile` or `Totals` for the first file that can't serve: nothing was run. `Told` if the run stopped, or
-/// if there was no memory to begin.
+/// `Script`, `Profile` or `Totals` for the first file that can't serve: nothing was run. `Stopped` if the run stopped,
+/// or if there was no memory to begin.
 pub fn run<'a, F: NamedFiles, S: FileSystem, R: Source, W: Sink>(
     alloc: Global,
     files: &F,
     system: &S,
-    manner: &Manner<'_>,
+    style: &AnswerStyle<'_>,
     paths: &[&'a str],
     profile: Option<&'a str>,
     totals: Option<&'a str>,
@@ -221,7 +221,7 @@ pub fn run<'a, F: NamedFiles, S: FileSystem, R: Source, W: Sink>(
     writer: &mut W,
 ) -> Result<(), RunFault<'a>>
     ensures { Runs F.NamedFiles ⟦<F::File as BlockFile>⟧ ⟦<TotalsDisk<F::File> as Disk>⟧ ⟦<MemDisk as Disk>⟧ files.now
-        S.FileSystem system.now manner.now paths.entry.now profile.entry totals.entry
+        S.FileSystem system.now style.now paths.entry.now profile.entry totals.entry
         (streams_of R.Source reader.old W.Sink writer.old) (streams_of R.Source reader.new W.Sink writer.new) result }
 {
     let scripts = match read_scripts(alloc, system, paths) {
@@ -229,7 +229,7 @@ pub fn run<'a, F: NamedFiles, S: FileSystem, R: Source, W: Sink>(
         Err(fault) => return Err(fault),
     };
     let lines = Some(scripts.as_slice());
-    run_all(alloc, files, manner, lines, profile, totals, reader, writer)
+    run_all(alloc, files, style, lines, profile, totals, reader, writer)
 }
 
 /// Runs what is typed, over the same counter and totals as [`run`]. Before each line a prompt is written; each line is
@@ -238,20 +238,20 @@ pub fn run<'a, F: NamedFiles, S: FileSystem, R: Source, W: Sink>(
 ///
 /// # Errors
 ///
-/// `Profile` or `Totals` for the first file that can't serve: nothing was read. `Told` if the run stopped, or if there
-/// was no memory to begin.
+/// `Profile` or `Totals` for the first file that can't serve: nothing was read. `Stopped` if the run stopped, or if
+/// there was no memory to begin.
 pub fn run_typed<'a, F: NamedFiles, R: Source, W: Sink>(
     alloc: Global,
     files: &F,
-    manner: &Manner<'_>,
+    style: &AnswerStyle<'_>,
     profile: Option<&'a str>,
     totals: Option<&'a str>,
     reader: &mut R,
     writer: &mut W,
 ) -> Result<(), RunFault<'a>>
     ensures { RunsAll F.NamedFiles ⟦<F::File as BlockFile>⟧ ⟦<TotalsDisk<F::File> as Disk>⟧ ⟦<MemDisk as Disk>⟧
-        files.now manner.now None profile.entry totals.entry
+        files.now style.now None profile.entry totals.entry
         (streams_of R.Source reader.old W.Sink writer.old) (streams_of R.Source reader.new W.Sink writer.new) result }
 {
-    run_all(alloc, files, manner, None, profile, totals, reader, writer)
+    run_all(alloc, files, style, None, profile, totals, reader, writer)
 }

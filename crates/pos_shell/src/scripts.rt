@@ -2,15 +2,15 @@
 ghost use Rattle.std.specs.Prelude.{List};
 ghost use Rattle.pos_counter.specs.Counters.{IsCounterSound, IsRun};
 ghost use Rattle.pos_counter.specs.Steps.{Request, Response};
-ghost use Rattle.pos_run.specs.Carried.{session_of};
+ghost use Rattle.pos_run.specs.LineRuns.{session_of};
 ghost use Rattle.pos_run.specs.Spares.{AreSparesSound};
 ghost use Rattle.pos_shell.specs.Outputs.{output_of};
-ghost use Rattle.pos_shell.specs.Scripts.{TellsScripts, TellsText};
+ghost use Rattle.pos_shell.specs.Scripts.{PrintsScripts, PrintsText};
 
-use crate::told::{Manner, told, write_text};
+use crate::answer_texts::{AnswerStyle, told, write_text};
 use pos_counter::Counter;
 use pos_disk::Disk;
-use pos_run::{Names, Spares, carry_out_lines};
+use pos_run::{Names, Spares, run_given_lines};
 use pos_script::LineBuffer;
 use pos_service::{Ends, Peripheral};
 use pos_streams::{MemorySink, Sink};
@@ -19,7 +19,7 @@ use thiserror::Error;
 
 /// Why scripts weren't run to their end, or not told to it. The lines that were run before stay done.
 #[derive(Clone, Copy, Debug, PartialEq, Eq, Error)]
-pub enum TellFault {
+pub enum ScriptsFault {
     /// There was no memory.
     #[error("no memory")]
     NoMemory,
@@ -45,9 +45,9 @@ pub struct Script<'a> {
 /// # Errors
 ///
 /// `NoMemory` and `Write`.
-pub(crate) fn tell_text<W: Sink, D: Disk, P: Peripheral + Ends>(
+pub(crate) fn print_text<W: Sink, D: Disk, P: Peripheral + Ends>(
     alloc: Global,
-    manner: &Manner<'_>,
+    style: &AnswerStyle<'_>,
     name: &str,
     text: &[u8],
     writer: &mut W,
@@ -55,26 +55,26 @@ pub(crate) fn tell_text<W: Sink, D: Disk, P: Peripheral + Ends>(
     counter: &mut Counter<D, P>,
     names: &mut Names,
     spares: &mut Spares<P>,
-) -> Result<(), TellFault>
+) -> Result<(), ScriptsFault>
     requires sound { IsCounterSound P.Peripheral counter.old }
     requires spares { AreSparesSound P.Peripheral spares.old }
     ensures told { (steps : List (Request × Response)) × IsRun D.Disk P.Peripheral counter.old steps counter.new
-        × TellsText manner.now name.now text.now (session_of P.Peripheral names.old spares.old) steps
+        × PrintsText style.now name.now text.now (session_of P.Peripheral names.old spares.old) steps
         (output_of W.Sink writer.old) (output_of W.Sink writer.new) result
         (session_of P.Peripheral names.new spares.new) }
     ensures sound { IsCounterSound P.Peripheral counter.new }
     ensures spares { AreSparesSound P.Peripheral spares.new }
 {
     let mut answers = MemorySink::new(alloc);
-    let Ok(()) = carry_out_lines(alloc, text, buffer, &mut answers, counter, names, spares) else {
-        return Err(TellFault::NoMemory);
+    let Ok(()) = run_given_lines(alloc, text, buffer, &mut answers, counter, names, spares) else {
+        return Err(ScriptsFault::NoMemory);
     };
-    let Ok(said) = told(alloc, manner, name, text, answers.as_slice()) else {
-        return Err(TellFault::NoMemory);
+    let Ok(said) = told(alloc, style, name, text, answers.as_slice()) else {
+        return Err(ScriptsFault::NoMemory);
     };
     match write_text(writer, &said) {
         Ok(()) => Ok(()),
-        Err(_) => Err(TellFault::Write),
+        Err(_) => Err(ScriptsFault::Write),
     }
 }
 
@@ -83,29 +83,29 @@ pub(crate) fn tell_text<W: Sink, D: Disk, P: Peripheral + Ends>(
 /// # Errors
 ///
 /// `NoMemory` and `Write`: later scripts weren't run.
-pub(crate) fn tell_scripts<W: Sink, D: Disk, P: Peripheral + Ends>(
+pub(crate) fn print_scripts<W: Sink, D: Disk, P: Peripheral + Ends>(
     alloc: Global,
-    manner: &Manner<'_>,
+    style: &AnswerStyle<'_>,
     scripts: &[Script<'_>],
     writer: &mut W,
     buffer: &mut LineBuffer,
     counter: &mut Counter<D, P>,
     names: &mut Names,
     spares: &mut Spares<P>,
-) -> Result<(), TellFault>
+) -> Result<(), ScriptsFault>
     requires sound { IsCounterSound P.Peripheral counter.old }
     requires spares { AreSparesSound P.Peripheral spares.old }
     ensures told { (steps : List (Request × Response)) × IsRun D.Disk P.Peripheral counter.old steps counter.new
-        × TellsScripts manner.now scripts.now (session_of P.Peripheral names.old spares.old) steps
+        × PrintsScripts style.now scripts.now (session_of P.Peripheral names.old spares.old) steps
         (output_of W.Sink writer.old) (output_of W.Sink writer.new) result
         (session_of P.Peripheral names.new spares.new) }
     ensures sound { IsCounterSound P.Peripheral counter.new }
     ensures spares { AreSparesSound P.Peripheral spares.new }
 {
     for script in scripts {
-        let done = tell_text(
+        let done = print_text(
             alloc,
-            manner,
+            style,
             script.name,
             &script.text,
             writer,

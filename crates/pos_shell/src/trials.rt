@@ -18,7 +18,7 @@ use pos_disk::{Disk, MemDisk};
 use pos_image::new_disk;
 use pos_profile::Profile;
 use pos_program::FileSystem;
-use pos_run::{AsSimulated, Names, Spares, carry_out_lines, end_counter, simulate_profile};
+use pos_run::{AsSimulated, Names, Spares, end_counter, run_given_lines, simulate_profile};
 use pos_script::LineBuffer;
 use pos_service::{Ends, Peripheral};
 use pos_streams::MemorySink;
@@ -56,9 +56,9 @@ pub struct Trial<'a> {
 }
 
 /// What is told of long work while it goes on.
-pub trait Progress {
+pub trait ProgressReport {
     /// Takes that so many parts of the work are done, of all.
-    fn tell(&mut self, done: usize, all: usize);
+    fn report(&mut self, done: usize, all: usize);
 
     /// Takes that the work ended.
     fn end(&mut self);
@@ -85,7 +85,7 @@ fn answer_all<D: Disk, P: Peripheral + Ends>(
     };
     let mut names = Names::new(alloc);
     let mut answers = MemorySink::new(alloc);
-    let done = carry_out_lines(
+    let done = run_given_lines(
         alloc,
         script,
         &mut buffer,
@@ -205,7 +205,7 @@ fn try_script<S: FileSystem>(
 /// # Errors
 ///
 /// `Script` or `Wanted` for the first file that can't be read, and `NoMemory`.
-pub fn try_scripts<'a, S: FileSystem, P: Progress>(
+pub fn try_scripts<'a, S: FileSystem, P: ProgressReport>(
     alloc: Global,
     system: &S,
     profile: &Profile,
@@ -217,7 +217,7 @@ pub fn try_scripts<'a, S: FileSystem, P: Progress>(
 {
     let mut trials = Vec::new(alloc);
     for name in paths {
-        progress.tell(trials.len(), paths.len());
+        progress.report(trials.len(), paths.len());
         let path = name.as_str();
         match try_script(alloc, system, profile, path) {
             Ok(differences) => {

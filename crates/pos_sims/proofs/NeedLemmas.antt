@@ -1,6 +1,7 @@
 -- What a request needs is what it uses.
-use Rattle.pos_sims.proofs.Common.{List, Piece, Printout, Work, [], ap, arith, length, length_push, lines_needed, plain, printed_by, refl, replicate, step, steps}
-use Rattle.pos_sims.proofs.Common.{suc, zero, ℕ, ◌++◌, ◌+◌, ◌<◌, ◌∙◌, ◌∷◌, ◌≡◌, ◌≤◌}
+use Rattle.pos_sims.proofs.Common.{List, Piece, Printout, Work, [], ap, arith, length, length_push, lines_needed, plain}
+use Rattle.pos_sims.proofs.Common.{printed_by, refl, replicate, step, steps, suc, zero, ℕ, ◌++◌, ◌+◌, ◌<◌, ◌∙◌, ◌∷◌}
+use Rattle.pos_sims.proofs.Common.{◌≡◌, ◌≤◌}
 use Rattle.std.proofs.Common.{sym}
 use Rattle.std.proofs.lemmas.List.Sums.{fold-append}
 use Rattle.pos_service.specs.declared.receipt_text.Piece.TheVariants as piece
@@ -16,7 +17,8 @@ same_step chars work p = grind (arith, length_push)
 
 same_steps : (chars : ℕ) (work : Work) (ps : List Piece) → need_of (steps chars work ps) ≡ needs chars (need_of work) ps
 same_steps chars work [] = refl
-same_steps chars work (p ∷ ps) = same_steps chars (step chars work p) ps ∙ ap (λ n. needs chars n ps) (same_step chars work p)
+same_steps chars work (p ∷ ps) =
+    same_steps chars (step chars work p) ps ∙ ap (λ n. needs chars n ps) (same_step chars work p)
 
 -- the lines that a request needs
 pub needed : (chars : ℕ) (made : Printout) (ps : List Piece) → 0 < chars → length made.buffer ≤ chars
@@ -34,7 +36,8 @@ rises chars n [] = omega arith
 rises chars n (p ∷ ps) = omega (arith, rises_step chars n p, rises chars (need_step chars n p) ps)
 
 -- line ends
-pub ends_need : (chars : ℕ) (n : Need) (count : ℕ) → needs chars n (replicate (suc count) piece.LineEnd) ≡ need 0 (n.lines + suc count)
+pub ends_need : (chars : ℕ) (n : Need) (count : ℕ)
+    → needs chars n (replicate (suc count) piece.LineEnd) ≡ need 0 (n.lines + suc count)
 ends_need chars n zero = refl
 ends_need chars n (suc count) = ends_need chars (need 0 (n.lines + 1)) count ∙ ap (need 0) (omega arith)
 

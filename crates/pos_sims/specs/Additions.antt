@@ -3,7 +3,7 @@ use Rattle.std.specs.Prelude.{◌≡◌, ◌++◌, List, []}
 use Rattle.pos_service.specs.declared.order.Order.{Order}
 use Rattle.pos_service.specs.declared.order.Order.TheVariants as order
 use Rattle.pos_service.specs.declared.order.Reply.TheVariants as reply
-use Rattle.pos_service.specs.declared.plant.Form.TheVariants as form
+use Rattle.pos_service.specs.declared.plant.Mechanism.TheVariants as mechanism
 use Rattle.pos_service.specs.declared.plant.Plant.{Plant}
 use Rattle.pos_service.specs.declared.receipt_text.Piece.{Piece}
 use Rattle.pos_service.specs.Peripherals.{Performs}
@@ -18,12 +18,13 @@ pieces_ordered other = []
 -- The order adds the items of a roll to a printer, which is that roll with its old items before them.
 pub record Adds (plant : Plant) (asked : Order) (roll : Printer) : Type 0 where
   pub printer : Printer
-  pub stands : plant.form ≡ form.Printer printer
+  pub stands : plant.mechanism ≡ mechanism.Printer printer
   pub items : roll.items ≡ (printed_by printer.chars printer.buffer (pieces_ordered asked)).items
   pub done : Performs asked plant reply.Done
-      (record plant { form = form.Printer (record roll { items = printer.items ++ roll.items }) })
+      (record plant { mechanism = mechanism.Printer (record roll { items = printer.items ++ roll.items }) })
 
 -- A printer doesn't carry the order out.
 abbrev pub PrintsNothing : Plant → Order → Type 0
 PrintsNothing plant asked =
-    (printer : Printer) → plant.form ≡ form.Printer printer → (new : Plant) → Performs asked plant reply.Done new → ⊥
+    (printer : Printer) → plant.mechanism ≡ mechanism.Printer printer → (new : Plant)
+    → Performs asked plant reply.Done new → ⊥

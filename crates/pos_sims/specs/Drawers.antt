@@ -1,7 +1,7 @@
 -- What contracts see of a simulated cash drawer.
 use Rattle.std.specs.Prelude.{Bool, true}
 use Rattle.pos_service.specs.declared.kind.Kind.TheVariants as kind
-use Rattle.pos_service.specs.declared.plant.Form.TheVariants as form
+use Rattle.pos_service.specs.declared.plant.Mechanism.TheVariants as mechanism
 use Rattle.pos_service.specs.Peripherals.{PeripheralState}
 use Rattle.pos_sims.specs.Powers.{switched}
 use Rattle.pos_sims.specs.declared.plain_drawer.PlainDrawer.{PlainDrawer}
@@ -10,7 +10,7 @@ use Rattle.pos_sims.specs.declared.plain_drawer.PlainDrawer.{PlainDrawer}
 abbrev pub drawer_state : Bool → Bool → PeripheralState
 drawer_state is_open is_parked = record {
   kind = kind.Drawer;
-  plant = record { powered = true; form = form.Drawer is_open };
+  plant = record { powered = true; mechanism = mechanism.Drawer is_open };
   is_parked = is_parked;
   failures = 0;
   orders = 0;

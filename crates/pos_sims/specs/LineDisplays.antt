@@ -1,7 +1,7 @@
 -- What contracts see of a simulated line display.
 use Rattle.std.specs.Prelude.{Bool, true}
 use Rattle.pos_service.specs.declared.kind.Kind.TheVariants as kind
-use Rattle.pos_service.specs.declared.plant.Form.TheVariants as form
+use Rattle.pos_service.specs.declared.plant.Mechanism.TheVariants as mechanism
 use Rattle.pos_service.specs.Displays.{Display}
 use Rattle.pos_service.specs.Peripherals.{PeripheralState}
 use Rattle.pos_sims.specs.Powers.{switched}
@@ -12,7 +12,7 @@ use Rattle.pos_sims.specs.declared.screen.Screen.{Ghosts}
 abbrev pub display_state : Display → Bool → PeripheralState
 display_state shown is_parked = record {
   kind = kind.Display shown.rows shown.columns;
-  plant = record { powered = true; form = form.Display shown };
+  plant = record { powered = true; mechanism = mechanism.Display shown };
   is_parked = is_parked;
   failures = 0;
   orders = 0;

@@ -1,11 +1,11 @@
 -- What contracts see of a simulated receipt printer.
 use Rattle.std.specs.Prelude.{ℕ, Bool, true}
 use Rattle.pos_service.specs.declared.kind.Kind.TheVariants as kind
-use Rattle.pos_service.specs.declared.plant.Form.TheVariants as form
+use Rattle.pos_service.specs.declared.plant.Mechanism.TheVariants as mechanism
 use Rattle.pos_service.specs.declared.order.Reply.{Reply}
 use Rattle.pos_service.specs.declared.order.Reply.TheVariants as reply
-use Rattle.pos_service.specs.declared.receipt_text.Outcome.{Outcome}
-use Rattle.pos_service.specs.declared.receipt_text.Outcome.TheVariants as outcome
+use Rattle.pos_service.specs.declared.receipt_text.PrintResult.{PrintResult}
+use Rattle.pos_service.specs.declared.receipt_text.PrintResult.TheVariants as outcome
 use Rattle.pos_service.specs.Receipts.{Printer}
 use Rattle.pos_service.specs.Peripherals.{PeripheralState}
 use Rattle.pos_sims.specs.Powers.{switched}
@@ -16,7 +16,7 @@ use Rattle.pos_sims.specs.declared.roll_printer.RollPrinter.{RollPrinter}
 abbrev pub printer_state : Printer → ℕ → Bool → PeripheralState
 printer_state printed near is_parked = record {
   kind = kind.Printer printed.chars near;
-  plant = record { powered = true; form = form.Printer printed };
+  plant = record { powered = true; mechanism = mechanism.Printer printed };
   is_parked = is_parked;
   failures = 0;
   orders = 0;
@@ -28,7 +28,7 @@ state_of printer = switched printer.powered
     (record (printer_state printer.roll printer.near printer.is_parked) { orders = printer.orders })
 
 -- what a printer replies, once this has come of a request
-abbrev pub reply_of : Outcome → Reply
+abbrev pub reply_of : PrintResult → Reply
 reply_of outcome.Done = reply.Done
 reply_of outcome.CoverOpen = reply.CoverOpen
 reply_of outcome.PaperEnd = reply.PaperEnd

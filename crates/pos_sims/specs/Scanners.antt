@@ -1,7 +1,7 @@
 -- What contracts see of a simulated scanner.
 use Rattle.std.specs.Prelude.{ℕ, Bool, true}
 use Rattle.pos_service.specs.declared.kind.Kind.TheVariants as kind
-use Rattle.pos_service.specs.declared.plant.Form.TheVariants as form
+use Rattle.pos_service.specs.declared.plant.Mechanism.TheVariants as mechanism
 use Rattle.pos_service.specs.Peripherals.{PeripheralState}
 use Rattle.pos_sims.specs.Powers.{switched}
 use Rattle.pos_sims.specs.declared.plain_scanner.PlainScanner.{PlainScanner}
@@ -10,7 +10,7 @@ use Rattle.pos_sims.specs.declared.plain_scanner.PlainScanner.{PlainScanner}
 abbrev pub scanner_state : Bool → ℕ → PeripheralState
 scanner_state is_parked orders = record {
   kind = kind.Scanner;
-  plant = record { powered = true; form = form.Scanner };
+  plant = record { powered = true; mechanism = mechanism.Scanner };
   is_parked = is_parked;
   failures = orders;
   orders = orders;

@@ -1,16 +1,18 @@
 -- How a request is printed piece by piece, and what contracts see of the tape that it is printed on.
-use Rattle.std.specs.Prelude.{◌≡◌, ℕ, ◌+◌, ◌<◌, Bool, true, List, [], ◌∷◌, ◌++◌, length, drop, ◌==◌, if◌then◌else◌, Result, Err}
+use Rattle.std.specs.Prelude.{◌≡◌, ℕ, ◌+◌, ◌<◌, Bool, true, List, [], ◌∷◌, ◌++◌, length, drop, ◌==◌, if◌then◌else◌}
+use Rattle.std.specs.Prelude.{Result, Err}
 use Rattle.std.specs.List.{fold}
 use Rattle.pos_service.specs.declared.receipt_text.Alignment.{Alignment}
 use Rattle.pos_service.specs.declared.receipt_text.PrintedCharacter.{PrintedCharacter}
 use Rattle.pos_service.specs.declared.receipt_text.Piece.{Piece}
 use Rattle.pos_service.specs.declared.receipt_text.Piece.TheVariants as piece
-use Rattle.pos_service.specs.Receipts.{Line, CutAt, Style, plain, in_style, Printout, printed_by, items_from, Printer, after_items, cut_pieces, lines_needed, pieces}
+use Rattle.pos_service.specs.Receipts.{Line, CutAt, Style, plain, in_style, Printout, printed_by, items_from, Printer}
+use Rattle.pos_service.specs.Receipts.{after_items, cut_pieces, lines_needed, pieces}
 use Rattle.pos_sims.specs.declared.tape.Tape.{Tape}
 use Rattle.pos_sims.specs.declared.tape.Asked.{Asked}
 use Rattle.pos_sims.specs.declared.tape.Asked.TheVariants.{Cut, Text}
-use Rattle.pos_sims.specs.declared.tape.Stop.{Stop}
-use Rattle.pos_sims.specs.declared.tape.Stop.TheVariants as stop
+use Rattle.pos_sims.specs.declared.tape.PrintStop.{PrintStop}
+use Rattle.pos_sims.specs.declared.tape.PrintStop.TheVariants as stop
 
 -- the line buffer is a line
 abbrev pub ended : Alignment → Printout → Printout
@@ -116,7 +118,7 @@ abbrev pub IsPrinted : Tape → List Piece → Tape → Type 0
 IsPrinted old ps new = printed_on new ≡ after_items (printed_on old).items (request_on old ps)
 
 -- it stopped for want of paper only where it uses more lines than it may
-abbrev pub StopsShort : {T : Type 0} → Result T Stop → ℕ → ℕ → Type 0
+abbrev pub StopsShort : {T : Type 0} → Result T PrintStop → ℕ → ℕ → Type 0
 StopsShort result limit used = result ≡ Err stop.PaperEnd → limit < used
 
 -- characters and marks were only added

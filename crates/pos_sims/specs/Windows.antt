@@ -1,25 +1,26 @@
 -- A text on a display's window, as it is laid character by character.
-use Rattle.std.specs.Prelude.{◌≡◌, ℕ, ◌+◌, ◌-◌, ◌*◌, ◌%◌, ◌≤◌, ◌<◌, ◌&&◌, ◌++◌, ◌==◌, Bool, not, List, [], length, take, drop, map, get_or, nat_lt, nat_le}
-use Rattle.std.specs.Prelude.{if◌then◌else◌}
+use Rattle.std.specs.Prelude.{◌≡◌, ℕ, ◌+◌, ◌-◌, ◌*◌, ◌%◌, ◌≤◌, ◌<◌, ◌&&◌, ◌++◌, ◌==◌, Bool, not, List, [], length, take}
+use Rattle.std.specs.Prelude.{drop, map, get_or, nat_lt, nat_le, if◌then◌else◌}
 use Rattle.pos_service.specs.declared.display_text.Attribute.{Attribute}
 use Rattle.pos_service.specs.declared.display_text.DisplayCell.{DisplayCell}
 use Rattle.pos_service.specs.declared.display_text.Place.{Place}
-use Rattle.pos_sims.specs.declared.text_layout.Manner.{Manner}
-use Rattle.pos_service.specs.Displays.{Display, Strip, cell_with, rows_above, shown_at, blank, with_text, text_from, IsWindow}
+use Rattle.pos_sims.specs.declared.text_layout.TextStyle.{TextStyle}
+use Rattle.pos_service.specs.Displays.{Display, Strip, cell_with, rows_above, shown_at, blank, with_text, text_from}
+use Rattle.pos_service.specs.Displays.{IsWindow}
 
 -- the cells of a display, row by row
 abbrev pub Cells : Type 0
 Cells = List DisplayCell
 
 -- there are cells of so many rows and columns, and the place is one where a text may begin
-pub record IsWithin (manner : Manner) (cells : List DisplayCell) (place : Place) : Type 0 where
+pub record IsWithin (manner : TextStyle) (cells : List DisplayCell) (place : Place) : Type 0 where
   pub count : length cells ≡ manner.rows * manner.columns
   pub some : 1 ≤ manner.columns
   pub row : place.row < manner.rows
   pub column : place.column ≤ manner.columns
 
 -- a display has the size that a text is laid for
-pub record IsOfManner (manner : Manner) (display : Display) : Type 0 where
+pub record IsOfManner (manner : TextStyle) (display : Display) : Type 0 where
   pub rows : display.rows ≡ manner.rows
   pub columns : display.columns ≡ manner.columns
 
@@ -32,7 +33,7 @@ abbrev pub is_character : ℕ → Bool
 is_character b = not (b == 10) && not (b == 13)
 
 -- The cells are the window at the end of the strip, the place is the strip's, and below the window the strip is blank.
-pub record Follows (manner : Manner) (old : Cells) (strip : Strip) (cells : Cells) (place : Place) : Type 0 where
+pub record Follows (manner : TextStyle) (old : Cells) (strip : Strip) (cells : Cells) (place : Place) : Type 0 where
   pub window : IsWindow manner.rows manner.columns manner.attribute old strip cells
   pub below : (row column : ℕ) → manner.rows + rows_above manner.rows strip.place ≤ row → column < manner.columns →
       shown_at manner.columns manner.attribute old strip.placed row column ≡ blank
@@ -40,13 +41,13 @@ pub record Follows (manner : Manner) (old : Cells) (strip : Strip) (cells : Cell
   pub column : place.column ≡ strip.place.column
 
 -- whatever strip the cells and the place follow, after these bytes they follow it with the bytes on it
-abbrev pub Lays : Manner → List DisplayCell → Place → List ℕ → List DisplayCell → Place → Type 0
+abbrev pub Lays : TextStyle → List DisplayCell → Place → List ℕ → List DisplayCell → Place → Type 0
 Lays manner was place bytes now reached =
     (old : List DisplayCell) (strip : Strip) →
     Follows manner old strip was place → Follows manner old (with_text manner.columns [] bytes strip) now reached
 
 -- over the old cells, the new ones show a text that begins at a place
-abbrev pub ShowsOver : Manner → List DisplayCell → Place → List ℕ → List DisplayCell → Type 0
+abbrev pub ShowsOver : TextStyle → List DisplayCell → Place → List ℕ → List DisplayCell → Type 0
 ShowsOver manner old start bytes now =
     IsWindow manner.rows manner.columns manner.attribute old (text_from manner.columns start bytes) now
 

@@ -11,8 +11,8 @@ use crate::window::Window;
 use pos_drive::{Preview, Tears};
 use pos_service::display_text::Place;
 use pos_service::{
-    DisplayCells, Form, Input, Kind, NoMemory, Order, PaperLevel, Peripheral, Plant, Reply, Signs,
-    Snapshot, Taken,
+    DisplayCells, Input, Kind, Mechanism, NoMemory, Order, PaperLevel, Peripheral, Plant, Reply,
+    Signs, Snapshot, Taken,
 };
 use std::alloc::Global;
 
@@ -148,7 +148,7 @@ impl<S: Screen> Peripheral for LineDisplay<S> {
         let shown = self.screen.copy(self.alloc)?;
         Ok(Snapshot(Plant {
             powered: self.powered,
-            form: Form::Display(shown),
+            mechanism: Mechanism::Display(shown),
         }))
     }
 

@@ -6,7 +6,7 @@ ghost use Rattle.pos_sims.specs.Drawers.{drawer_state, state_of};
 use crate::power::{passes_by, reply_while};
 use pos_drive::{Preview, Tears};
 use pos_service::{
-    Form, Input, Kind, NoMemory, Order, PaperLevel, Peripheral, Plant, Reply, Signs, Snapshot,
+    Input, Kind, Mechanism, NoMemory, Order, PaperLevel, Peripheral, Plant, Reply, Signs, Snapshot,
     Taken,
 };
 
@@ -90,7 +90,7 @@ impl Peripheral for PlainDrawer {
     {
         Ok(Snapshot(Plant {
             powered: self.powered,
-            form: Form::Drawer(self.is_open),
+            mechanism: Mechanism::Drawer(self.is_open),
         }))
     }
 

@@ -6,7 +6,7 @@ ghost use Rattle.pos_sims.specs.Scanners.{scanner_state, state_of};
 use crate::power::passes_by;
 use pos_drive::{Preview, Tears};
 use pos_service::{
-    Form, Input, Kind, NoMemory, Order, PaperLevel, Peripheral, Plant, Reply, Signs, Snapshot,
+    Input, Kind, Mechanism, NoMemory, Order, PaperLevel, Peripheral, Plant, Reply, Signs, Snapshot,
     Taken,
 };
 
@@ -81,7 +81,7 @@ impl Peripheral for PlainScanner {
     {
         Ok(Snapshot(Plant {
             powered: self.powered,
-            form: Form::Scanner,
+            mechanism: Mechanism::Scanner,
         }))
     }
 

@@ -6,7 +6,7 @@ use crate::grid::Grid;
 use crate::ring_places::{above, below, blank_row, in_ring};
 use crate::screen::Screen;
 use crate::scroll::{move_to_end, move_to_front};
-use crate::text_layout::{Manner, lay_text, put_characters};
+use crate::text_layout::{TextStyle, lay_text, put_characters};
 use pos_service::display_text::{Attribute, BLANK, Direction, DisplayCell, Place};
 use pos_service::{DisplayCells, Kind, NoMemory};
 use std::alloc::Global;
@@ -111,7 +111,7 @@ impl Screen for Ring {
     }
 
     fn show(&mut self, start: Place, attribute: Attribute, bytes: &[u8]) {
-        let manner = Manner {
+        let manner = TextStyle {
             rows: self.rows,
             columns: self.columns,
             attribute,

@@ -7,8 +7,8 @@ ghost use Rattle.pos_sims.specs.Tapes.{pieces_asked};
 ghost use Rattle.pos_sims.specs.ReceiptPrinters.{reply_of};
 
 use crate::paper_needs::request_fits;
-use crate::tape::{Asked, Stop, Tape};
-use pos_service::receipt_text::{Mark, Outcome, PrintedCharacter};
+use crate::tape::{Asked, PrintStop, Tape};
+use pos_service::receipt_text::{Mark, PrintResult, PrintedCharacter};
 use pos_service::{NoMemory, Reply};
 use std::alloc::Global;
 use std::marker::Model;
@@ -75,21 +75,21 @@ impl Roll {
     }
 
     /// Returns what hinders each request: an open cover, or otherwise no line of paper left.
-    fn hindrance(&self) -> Option<Outcome>
+    fn hindrance(&self) -> Option<PrintResult>
         ensures hindered { (ps : List Piece) → IfSome result (λ outcome. Prints self.now ps outcome self.now) }
         ensures free { result ≡ None → (self.now.is_cover_open ≡ false) × (1 ≤ self.now.left) }
     {
         if self.is_cover_open {
-            return Some(Outcome::CoverOpen);
+            return Some(PrintResult::CoverOpen);
         }
         if self.left == 0 {
-            return Some(Outcome::PaperEnd);
+            return Some(PrintResult::PaperEnd);
         }
         None
     }
 
     /// Carries out a request, as `print` says.
-    fn request(&mut self, asked: &Asked<'_>) -> Result<Outcome, NoMemory>
+    fn request(&mut self, asked: &Asked<'_>) -> Result<PrintResult, NoMemory>
         ensures outcome { IfOk result (λ outcome. Prints self.old (pieces_asked asked.now) outcome self.new) }
         ensures no_memory { OnErr result (self.new ≡ self.old) }
     {
@@ -99,10 +99,10 @@ impl Roll {
         match self.tape.print(asked, self.left) {
             Ok(used) => {
                 self.left -= used;
-                Ok(Outcome::Done)
+                Ok(PrintResult::Done)
             }
-            Err(Stop::PaperEnd) => Ok(Outcome::PaperEnd),
-            Err(Stop::NoMemory) => Err(NoMemory),
+            Err(PrintStop::PaperEnd) => Ok(PrintResult::PaperEnd),
+            Err(PrintStop::NoMemory) => Err(NoMemory),
         }
     }
 
@@ -112,7 +112,7 @@ impl Roll {
     /// # Errors
     ///
     /// [`NoMemory`] if memory ran out. Then nothing has changed.
-    pub fn print(&mut self, bytes: &[u8]) -> Result<Outcome, NoMemory>
+    pub fn print(&mut self, bytes: &[u8]) -> Result<PrintResult, NoMemory>
         ensures outcome { IfOk result (λ outcome. Prints self.old (pieces bytes.now) outcome self.new) }
         ensures no_memory { OnErr result (self.new ≡ self.old) }
     {
@@ -124,7 +124,7 @@ impl Roll {
     /// # Errors
     ///
     /// [`NoMemory`] if memory ran out. Then nothing has changed.
-    pub fn cut(&mut self, percentage: u8) -> Result<Outcome, NoMemory>
+    pub fn cut(&mut self, percentage: u8) -> Result<PrintResult, NoMemory>
         requires { percentage ≤ 100 }
         ensures outcome { IfOk result (λ outcome. Prints self.old (cut_pieces percentage) outcome self.new) }
         ensures no_memory { OnErr result (self.new ≡ self.old) }
@@ -133,7 +133,7 @@ impl Roll {
     }
 
     /// Returns what would come of a request.
-    fn would(&self, asked: &Asked<'_>) -> Outcome
+    fn would(&self, asked: &Asked<'_>) -> PrintResult
         ensures { result ≡ outcome_by self.now (pieces_asked asked.now) }
     {
         if let Some(outcome) = self.hindrance() {
@@ -141,21 +141,21 @@ impl Roll {
         }
         let begun = self.tape.buffer_length();
         if request_fits(self.chars(), self.left, begun, asked) {
-            Outcome::Done
+            PrintResult::Done
         } else {
-            Outcome::PaperEnd
+            PrintResult::PaperEnd
         }
     }
 
     /// Returns what would come of the data of a request if they were printed, and memory didn't run out.
-    pub fn would_print(&self, bytes: &[u8]) -> Outcome
+    pub fn would_print(&self, bytes: &[u8]) -> PrintResult
         ensures { result ≡ outcome_by self.now (pieces bytes.now) }
     {
         self.would(&Asked::Text(bytes))
     }
 
     /// Returns what would come of a cut by so many percent, if memory didn't run out.
-    pub fn would_cut(&self, percentage: u8) -> Outcome
+    pub fn would_cut(&self, percentage: u8) -> PrintResult
         ensures { result ≡ outcome_by self.now (cut_pieces percentage) }
     {
         self.would(&Asked::Cut(percentage))
@@ -201,12 +201,12 @@ impl Roll {
 }
 
 /// Returns what a printer replies, once this has come of a request.
-pub(crate) fn reply_of(outcome: Outcome) -> Reply
+pub(crate) fn reply_of(outcome: PrintResult) -> Reply
     ensures { result ≡ reply_of outcome }
 {
     match outcome {
-        Outcome::Done => Reply::Done,
-        Outcome::CoverOpen => Reply::CoverOpen,
-        Outcome::PaperEnd => Reply::PaperEnd,
+        PrintResult::Done => Reply::Done,
+        PrintResult::CoverOpen => Reply::CoverOpen,
+        PrintResult::PaperEnd => Reply::PaperEnd,
     }
 }

@@ -5,9 +5,9 @@ use crate::power::passes_by;
 use crate::print_preview::PrintPreview;
 use crate::roll::{Roll, reply_of};
 use pos_drive::{Preview, Tears};
-use pos_service::receipt_text::Outcome;
+use pos_service::receipt_text::PrintResult;
 use pos_service::{
-    Form, Input, Kind, NoMemory, Order, PaperLevel, Peripheral, Plant, Receipt, Reply, Signs,
+    Input, Kind, Mechanism, NoMemory, Order, PaperLevel, Peripheral, Plant, Receipt, Reply, Signs,
     Snapshot, Taken,
 };
 use std::alloc::Global;
@@ -119,7 +119,7 @@ impl Peripheral for RollPrinter {
         );
         Ok(Snapshot(Plant {
             powered: self.powered,
-            form: Form::Printer(receipt),
+            mechanism: Mechanism::Printer(receipt),
         }))
     }
 
@@ -158,7 +158,7 @@ impl PrintPreview for RollPrinter {
             Order::Cut { percentage } => roll.cut(*percentage)?,
             _ => unreachable!(),
         };
-        if outcome == Outcome::Done {
+        if outcome == PrintResult::Done {
             Ok(Some(roll))
         } else {
             Ok(None)

@@ -1,9 +1,9 @@
 //! The device window of a line display.
 ghost use Rattle.std.specs.Prelude.{◌≡◌, ◌≤◌, true, IfOk};
 ghost use Rattle.pos_service.specs.declared.kind.Kind.TheVariants as kind;
-ghost use Rattle.pos_service.specs.declared.plant.Form.TheVariants as form;
+ghost use Rattle.pos_service.specs.declared.plant.Mechanism.TheVariants as mechanism;
 ghost use Rattle.pos_service.specs.Displays.{Display, ShowsText, Scrolls, blank_display, is_cursor_place, most_units};
-ghost use Rattle.pos_service.specs.Peripherals.{IsInRange, IsFormOf};
+ghost use Rattle.pos_service.specs.Peripherals.{IsInRange, IsMechanismOf};
 
 use pos_service::display_text::{Attribute, Direction, Place};
 use pos_service::{DisplayCells, Kind, NoMemory};
@@ -29,7 +29,7 @@ pub trait Screen {
     fn kind(&self) -> Kind
         ensures kind { result ≡ kind.Display (shown self.now).rows (shown self.now).columns }
         ensures in_range { IsInRange result }
-        ensures form { IsFormOf result (form.Display (shown self.now)) };
+        ensures mechanism { IsMechanismOf result (mechanism.Display (shown self.now)) };
 
     /// Returns a copy of what is shown.
     ///

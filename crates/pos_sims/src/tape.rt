@@ -47,7 +47,7 @@ pub(crate) enum Asked<'a> {
 
 /// Why a request stops before its end.
 #[derive(Clone, Copy, PartialEq, Eq)]
-pub(crate) enum Stop {
+pub(crate) enum PrintStop {
     /// Memory ran out.
     NoMemory,
     /// A line ends, and no line of paper is left for it.
@@ -116,14 +116,14 @@ impl Tape {
 
     /// Makes the line buffer a line.
     #[tactic(auto, using(crate::proofs::TapeLemmas::characters_append))]
-    fn end_line(&mut self) -> Result<(), Stop>
+    fn end_line(&mut self) -> Result<(), PrintStop>
         ensures ok { OnOk result (work_of self.new ≡ end_line (work_of self.old)) }
         ensures empty { OnOk result (vec_len self.new.characters ≡ self.new.start) }
         ensures paper { StopsShort result self.old.limit (end_line (work_of self.old)).used }
         ensures adds { Adds self.old self.new }
     {
         if self.used >= self.limit {
-            return Err(Stop::PaperEnd);
+            return Err(PrintStop::PaperEnd);
         }
         let end = self.characters.len();
         match self
@@ -135,12 +135,12 @@ impl Tape {
                 self.used += 1;
                 Ok(())
             }
-            Err(_) => Err(Stop::NoMemory),
+            Err(_) => Err(PrintStop::NoMemory),
         }
     }
 
     /// Makes the line buffer a line, if it has begun.
-    fn end_begun(&mut self) -> Result<(), Stop>
+    fn end_begun(&mut self) -> Result<(), PrintStop>
         ensures ok { OnOk result (work_of self.new ≡ end_begun (work_of self.old)) }
         ensures paper { StopsShort result self.old.limit (end_begun (work_of self.old)).used }
         ensures adds { Adds self.old self.new }
@@ -152,7 +152,7 @@ impl Tape {
     }
 
     /// Makes the line buffer a line, if it is full.
-    fn end_full(&mut self) -> Result<(), Stop>
+    fn end_full(&mut self) -> Result<(), PrintStop>
         ensures ok { OnOk result (work_of self.new ≡ end_full self.old.chars (work_of self.old)) }
         ensures room { OnOk result (vec_len self.new.characters < self.new.start + self.new.chars) }
         ensures paper { StopsShort result self.old.limit (end_full self.old.chars (work_of self.old)).used }
@@ -165,33 +165,33 @@ impl Tape {
     }
 
     /// Puts a character at the end of the line buffer, which isn't full.
-    fn push(&mut self, character: PrintedCharacter) -> Result<(), Stop>
+    fn push(&mut self, character: PrintedCharacter) -> Result<(), PrintStop>
         requires { vec_len self.old.characters < self.old.start + self.old.chars }
         ensures ok { OnOk result (work_of self.new ≡ put_character character (work_of self.old)) }
-        ensures err { OnErr result (result ≡ Err Stop.NoMemory) }
+        ensures err { OnErr result (result ≡ Err PrintStop.NoMemory) }
         ensures adds { Adds self.old self.new }
     {
         match self.characters.push(character) {
             Ok(()) => Ok(()),
-            Err(_) => Err(Stop::NoMemory),
+            Err(_) => Err(PrintStop::NoMemory),
         }
     }
 
     /// Puts a cut after the items.
     #[tactic(auto, using(crate::proofs::TapeLemmas::items_append, crate::proofs::TapeLemmas::characters_append))]
-    fn cut(&mut self, percentage: u8) -> Result<(), Stop>
+    fn cut(&mut self, percentage: u8) -> Result<(), PrintStop>
         ensures ok { OnOk result (work_of self.new ≡ add_cut percentage (work_of self.old)) }
-        ensures err { OnErr result (result ≡ Err Stop.NoMemory) }
+        ensures err { OnErr result (result ≡ Err PrintStop.NoMemory) }
         ensures adds { Adds self.old self.new }
     {
         match self.marks.push(Mark::Cut(percentage)) {
             Ok(()) => Ok(()),
-            Err(_) => Err(Stop::NoMemory),
+            Err(_) => Err(PrintStop::NoMemory),
         }
     }
 
     /// Puts one character. If the line buffer is full, it begins a line of its own.
-    fn lay_character(&mut self, byte: u8) -> Result<(), Stop>
+    fn lay_character(&mut self, byte: u8) -> Result<(), PrintStop>
         ensures ok { OnOk result (work_of self.new ≡ step self.old.chars (work_of self.old) (Piece.Character byte)) }
         ensures paper { StopsShort result self.old.limit
             (step self.old.chars (work_of self.old) (Piece.Character byte)).used }
@@ -205,7 +205,7 @@ impl Tape {
     }
 
     /// Prints one piece.
-    fn lay_piece(&mut self, piece: Piece) -> Result<(), Stop>
+    fn lay_piece(&mut self, piece: Piece) -> Result<(), PrintStop>
         ensures ok { OnOk result (work_of self.new ≡ step self.old.chars (work_of self.old) piece) }
         ensures paper { StopsShort result self.old.limit (step self.old.chars (work_of self.old) piece).used }
         ensures adds { Adds self.old self.new }
@@ -236,7 +236,7 @@ impl Tape {
     }
 
     /// Prints so many line ends.
-    fn end_lines(&mut self, count: u8) -> Result<(), Stop>
+    fn end_lines(&mut self, count: u8) -> Result<(), PrintStop>
         ensures ok { OnOk result (work_of self.new ≡ work_after self.old (replicate count Piece.LineEnd)) }
         ensures paper { StopsShort result self.old.limit (work_after self.old (replicate count Piece.LineEnd)).used }
         ensures adds { Adds self.old self.new }
@@ -250,7 +250,7 @@ impl Tape {
     }
 
     /// Prints the pieces of a token.
-    fn lay_token(&mut self, token: Token) -> Result<(), Stop>
+    fn lay_token(&mut self, token: Token) -> Result<(), PrintStop>
         ensures ok { OnOk result (work_of self.new ≡ work_after self.old (pieces_in token)) }
         ensures paper { StopsShort result self.old.limit (work_after self.old (pieces_in token)).used }
         ensures adds { Adds self.old self.new }
@@ -263,7 +263,7 @@ impl Tape {
     }
 
     /// Prints all pieces of some bytes, in one pass over them.
-    fn lay(&mut self, bytes: &[u8]) -> Result<(), Stop>
+    fn lay(&mut self, bytes: &[u8]) -> Result<(), PrintStop>
         ensures ok { OnOk result (work_of self.new ≡ work_after self.old (pieces bytes.now)) }
         ensures paper { StopsShort result self.old.limit (work_after self.old (pieces bytes.now)).used }
         ensures adds { Adds self.old self.new }
@@ -303,7 +303,7 @@ impl Tape {
     }
 
     /// Prints all that is asked.
-    fn lay_asked(&mut self, asked: &Asked<'_>) -> Result<(), Stop>
+    fn lay_asked(&mut self, asked: &Asked<'_>) -> Result<(), PrintStop>
         ensures ok { OnOk result (work_of self.new ≡ work_after self.old (pieces_asked asked.now)) }
         ensures paper { StopsShort result self.old.limit (work_after self.old (pieces_asked asked.now)).used }
         ensures adds { Adds self.old self.new }
@@ -320,7 +320,7 @@ impl Tape {
     /// # Errors
     ///
     /// `NoMemory` if memory ran out, and `PaperEnd` if the request needs more lines.
-    pub fn print(&mut self, asked: &Asked<'_>, limit: u32) -> Result<u32, Stop>
+    pub fn print(&mut self, asked: &Asked<'_>, limit: u32) -> Result<u32, PrintStop>
         ensures ok { OnOk result (IsPrinted self.old (pieces_asked asked.now) self.new) }
         ensures used { IfOk result (λ used. (used ≡ lines_on self.old (pieces_asked asked.now)) × (used ≤ limit)) }
         ensures paper { StopsShort result limit (lines_on self.old (pieces_asked asked.now)) }

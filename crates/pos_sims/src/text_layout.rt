@@ -8,7 +8,7 @@ use pos_service::display_text::{Attribute, DisplayCell, Place};
 
 /// How a text is shown: the size of the display, and the text's attribute.
 #[derive(Clone, Copy)]
-pub(crate) struct Manner {
+pub(crate) struct TextStyle {
     /// How many rows the display has.
     pub rows: u32,
     /// How many columns the display has.
@@ -18,7 +18,7 @@ pub(crate) struct Manner {
 }
 
 /// Returns the start of the next row. Below the last row the cells scroll.
-fn next_row<W: Grid>(window: &mut W, manner: Manner, place: Place) -> Place
+fn next_row<W: Grid>(window: &mut W, manner: TextStyle, place: Place) -> Place
     requires within { IsWithin manner (W.Grid.shown window.old).cells place }
     requires size { IsOfManner manner (W.Grid.shown window.old) }
     ensures follows { let shown = W.Grid.shown in
@@ -60,7 +60,7 @@ pub(crate) fn put_characters(
 }
 
 /// Puts characters for which there is room in the row, and returns the place after them.
-fn lay_run<W: Grid>(window: &mut W, manner: Manner, place: Place, characters: &[u8]) -> Place
+fn lay_run<W: Grid>(window: &mut W, manner: TextStyle, place: Place, characters: &[u8]) -> Place
     requires within { IsWithin manner (W.Grid.shown window.old).cells place }
     requires size { IsOfManner manner (W.Grid.shown window.old) }
     requires room { place.column + length characters.now ≤ manner.columns }
@@ -80,7 +80,7 @@ fn lay_run<W: Grid>(window: &mut W, manner: Manner, place: Place, characters: &[
 
 /// Puts one byte of a text for which there is no room in the row, and returns the place after it. It is a line feed, a
 /// carriage return, or a character right of the last column, which goes to the next row first.
-fn lay_byte<W: Grid>(window: &mut W, manner: Manner, place: Place, byte: u8) -> Place
+fn lay_byte<W: Grid>(window: &mut W, manner: TextStyle, place: Place, byte: u8) -> Place
     requires within { IsWithin manner (W.Grid.shown window.old).cells place }
     requires size { IsOfManner manner (W.Grid.shown window.old) }
     requires full { place.column < manner.columns → is_character byte ≡ false }
@@ -150,7 +150,12 @@ fn count_characters(bytes: &[u8], most: usize) -> usize
 
 /// Puts the front of a text, and returns the place after it and how many bytes it has. The front is the characters for
 /// which there is room in the row, or otherwise one byte.
-fn lay_front<W: Grid>(window: &mut W, manner: Manner, place: Place, bytes: &[u8]) -> (Place, usize)
+fn lay_front<W: Grid>(
+    window: &mut W,
+    manner: TextStyle,
+    place: Place,
+    bytes: &[u8],
+) -> (Place, usize)
     requires within { IsWithin manner (W.Grid.shown window.old).cells place }
     requires size { IsOfManner manner (W.Grid.shown window.old) }
     requires some { 1 ≤ length bytes.now }
@@ -168,7 +173,7 @@ fn lay_front<W: Grid>(window: &mut W, manner: Manner, place: Place, bytes: &[u8]
 }
 
 /// Puts a text from a place on.
-pub(crate) fn lay_text<W: Grid>(window: &mut W, manner: Manner, start: Place, bytes: &[u8])
+pub(crate) fn lay_text<W: Grid>(window: &mut W, manner: TextStyle, start: Place, bytes: &[u8])
     requires within { IsWithin manner (W.Grid.shown window.old).cells start }
     requires size { IsOfManner manner (W.Grid.shown window.old) }
     ensures window { let shown = W.Grid.shown in

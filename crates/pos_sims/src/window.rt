@@ -2,7 +2,7 @@
 use crate::grid::Grid;
 use crate::screen::Screen;
 use crate::scroll::{scroll_cells, shift_to_front};
-use crate::text_layout::{Manner, lay_text, put_characters};
+use crate::text_layout::{TextStyle, lay_text, put_characters};
 use pos_service::display_text::{Attribute, BLANK, Direction, DisplayCell, Place};
 use pos_service::{DisplayCells, Kind, NoMemory};
 use std::alloc::Global;
@@ -73,7 +73,7 @@ impl Screen for Window {
     }
 
     fn show(&mut self, start: Place, attribute: Attribute, bytes: &[u8]) {
-        let manner = Manner {
+        let manner = TextStyle {
             rows: self.rows,
             columns: self.columns,
             attribute,

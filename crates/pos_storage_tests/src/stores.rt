@@ -52,7 +52,7 @@ fn is_after<D: Disk>(store: &Store<D>) -> Result<bool, StoreFault> {
 }
 
 // A recovery and a commit, each once more where a growth was refused, if nothing had changed then.
-fn carry_out<D: Disk>(store: &mut Store<D>, group: &Group<'_>) -> Result<(), StoreFault> {
+fn apply<D: Disk>(store: &mut Store<D>, group: &Group<'_>) -> Result<(), StoreFault> {
     if store.recover() == Err(StoreFault::NoMemory) && store.mode() == Mode::Off {
         store.recover()?;
     }
@@ -74,7 +74,7 @@ fn commit<D: Disk>(store: &mut Store<D>, group: &Group<'_>) -> Result<(), StoreF
 fn a_group_on_the_disk(rt: HostRuntime) -> Result<(), Fail> {
     let alloc = rt.alloc();
     let mut store = Store::new(alloc, fresh(alloc, &[])?);
-    carry_out(&mut store, &decode_group(alloc, &GROUP)?)?;
+    apply(&mut store, &decode_group(alloc, &GROUP)?)?;
     assert!(rt; is_after(&store) == Ok(true));
     let bytes = bytes_of(alloc, &mut store.into_disk())?;
     assert!(rt; has(&bytes, LOG, &[0xA5, 0, 0, 0, 24]) && has(&bytes, LOG + 5, &GROUP));
@@ -98,7 +98,7 @@ fn a_group_that_is_not_applicable(rt: HostRuntime) -> Result<(), Fail> {
     let mut store = Store::new(alloc, FuseDisk::new(fresh(alloc, &[])?, 11, 1));
     let off = Err(StoreFault::Off);
     assert!(rt; commit(&mut store, &decode_group(alloc, &CREATES)?) == off);
-    carry_out(&mut store, &decode_group(alloc, &GROUP)?)?;
+    apply(&mut store, &decode_group(alloc, &GROUP)?)?;
     for (text, fault) in [
         (CREATES.as_slice(), DirectoryFault::Exists),
         (PASSES_THE_END.as_slice(), DirectoryFault::Range),
@@ -115,7 +115,7 @@ fn a_group_that_is_not_applicable(rt: HostRuntime) -> Result<(), Fail> {
 fn a_group_that_does_not_fit(rt: HostRuntime) -> Result<(), Fail> {
     let alloc = rt.alloc();
     let mut store = Store::new(alloc, full(alloc, &[], LOG)?);
-    carry_out(&mut store, &decode_group(alloc, &GROUP)?)?;
+    apply(&mut store, &decode_group(alloc, &GROUP)?)?;
     assert!(rt; is_after(&store) == Ok(true));
     let head = [0xA5, 0, 0, 0, 0, 0, 0, 0, 2, 0, 0, 0, 12];
     let bytes = bytes_of(alloc, &mut store.into_disk())?;
@@ -140,7 +140,7 @@ fn files_that_are_moved(rt: HostRuntime) -> Result<(), Fail> {
     let alloc = rt.alloc();
     let mut store = Store::new(alloc, fresh(alloc, &[])?);
     assert!(rt; store.migrate() == Err(StoreFault::Off));
-    carry_out(&mut store, &decode_group(alloc, &GROUP)?)?;
+    apply(&mut store, &decode_group(alloc, &GROUP)?)?;
     move_files(&mut store)?;
     assert!(rt; is_after(&store) == Ok(true) && store.layout() == Layout::Layout2);
     assert!(rt; store.migrate() == Err(StoreFault::AlreadyLayout2));
@@ -188,7 +188,7 @@ fn stop(alloc: Global, disk: MemDisk, pass: u64, fail: u64) -> Result<(bool, Mem
     for _ in 0..fail {
         let _ = store.recover();
     }
-    let is_done = carry_out(&mut store, &group).is_ok();
+    let is_done = apply(&mut store, &group).is_ok();
     Ok((is_done, store.into_disk().into_inner()))
 }
 

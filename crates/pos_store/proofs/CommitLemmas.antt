@@ -1,29 +1,36 @@
 -- What an append or a renewal of the log means for the files.
-use Rattle.pos_store.proofs.Common.{Appends, Change, Commits, CountsNow, Err, File, Ghosts, HasNotFailed, HasOldOrNew, HoldsFiles, IsDirectory, IsExhausted}
-use Rattle.pos_store.proofs.Common.{IsGroup, IsLast, IsLogReady, IsReady, IsStep, KeepsDisk, KeepsRecords, Layout, Layout1, Layout2, LeavesOnly, List, LogView}
-use Rattle.pos_store.proofs.Common.{Ok, Renews, Rises, Stands, StandsForEither, StandsForOneOf, [], ap, arith, body_limit, false, fits_behind, group_spelling}
-use Rattle.pos_store.proofs.Common.{inl, inr, layout_of, left_by, length, limits_of, log_over, longest, outcome_of_all, refl, sequence_after, spelling}
-use Rattle.pos_store.proofs.Common.{tail_after, true, view_of, weaker, ℕ, ⊎_elim, ◌+◌, ◌∙◌, ◌∷◌, ◌≡◌, ◌≢◌, ◌≤◌}
-use Rattle.pos_store.proofs.DiskFileLemmas.{shows_now, still_holds, holds_more, holds_new, old_or_new_holds, leaves_files, ready_with}
+use Rattle.pos_store.proofs.Common.{Appends, Change, Commits, CountsNow, Err, File, Ghosts, HasNotFailed, HasOldOrNew}
+use Rattle.pos_store.proofs.Common.{HoldsFiles, IsDirectory, IsExhausted, IsGroup, IsLast, IsLogReady, IsReady, IsStep}
+use Rattle.pos_store.proofs.Common.{KeepsDisk, KeepsRecords, Layout, Layout1, Layout2, LeavesOnly, List, LogView, Ok}
+use Rattle.pos_store.proofs.Common.{Renews, Rises, Stands, StandsForEither, StandsForOneOf, [], ap, arith, body_limit}
+use Rattle.pos_store.proofs.Common.{false, fits_behind, group_spelling, inl, inr, layout_of, left_by, length, limits_of}
+use Rattle.pos_store.proofs.Common.{log_over, longest, outcome_of_all, refl, sequence_after, spelling, tail_after, true}
+use Rattle.pos_store.proofs.Common.{view_of, weaker, ℕ, ⊎_elim, ◌+◌, ◌∙◌, ◌∷◌, ◌≡◌, ◌≢◌, ◌≤◌}
+use Rattle.pos_store.proofs.DiskFileLemmas.{shows_now, still_holds, holds_more, holds_new, old_or_new_holds}
+use Rattle.pos_store.proofs.DiskFileLemmas.{leaves_files, ready_with}
 use Rattle.pos_image.specs.Standing as image
 use Rattle.pos_store.specs.declared.fault.StoreFault.TheVariants as fault
-use Rattle.pos_store.specs.declared.disk_or_log.DiskOrLog.TheVariants as which
+use Rattle.pos_store.specs.declared.medium.StoreMedium.TheVariants as which
 
 -- the same images over another disk are of the same layout
-pub same_layout : {D : Type 0} (log new : LogView D) (disk : D) (tail : ℕ) → new ≡ log_over (record log.images { disk = disk }) tail
+pub same_layout : {D : Type 0} (log new : LogView D) (disk : D) (tail : ℕ)
+    → new ≡ log_over (record log.images { disk = disk }) tail
     → layout_of new.images.slot ≡ layout_of log.images.slot
 same_layout {D = D} log new disk tail same = ap (λ (l : LogView D). layout_of l.images.slot) same
 
 -- A group that is applicable, over a log that is ready with the files before it.
-pub record IsGiven {D : Type 0} (bound : Ghosts D) (log : LogView D) (files after : List File) (changes : List Change) : Type 0 where
+pub record IsGiven {D : Type 0} (bound : Ghosts D) (log : LogView D) (files after : List File)
+    (changes : List Change) : Type 0 where
   pub ready : IsLogReady bound log
-  pub holds : bound.honest log.images.disk → HoldsFiles (layout_of log.images.slot) files log.images.sequence (bound.state log.images.disk).reading
+  pub holds : bound.honest log.images.disk
+      → HoldsFiles (layout_of log.images.slot) files log.images.sequence (bound.state log.images.disk).reading
   pub group : IsGroup changes
   pub some : changes ≢ []
   pub outcome : outcome_of_all (limits_of (layout_of log.images.slot)) files changes ≡ Ok after
 
 -- the spelling of a directory is no longer than the longest body of the layout
-pub short : (layout : Layout) (body : List ℕ) → length body ≤ body_limit (limits_of layout) → length body ≤ longest layout
+pub short : (layout : Layout) (body : List ℕ) → length body ≤ body_limit (limits_of layout)
+    → length body ≤ longest layout
 short Layout1 body fits = omega (arith, fits)
 short Layout2 body fits = omega (arith, fits)
 
@@ -36,37 +43,47 @@ module _ {D : Type 0} {bound : Ghosts D} {log : LogView D} {files after : List F
   step : IsStep (limits_of layout) files (group_spelling changes) after
   step = record { changes = changes; group = given.group; some = given.some; spelled = refl; outcome = given.outcome }
 
-  shows : bound.honest log.images.disk → image.ShowsImage layout log.images.body log.images.sequence (bound.state log.images.disk).reading
+  shows : bound.honest log.images.disk
+      → image.ShowsImage layout log.images.body log.images.sequence (bound.state log.images.disk).reading
   shows honest = shows_now bound log.images given.ready.images honest
 
   -- bytes that stand for the files before it, or for those after it
   abbrev Around : ℕ → List ℕ → Type 0
-  Around then_sequence = StandsForEither (Stands layout files log.images.sequence ∷ []) (Stands layout after then_sequence ∷ [])
+  Around then_sequence = StandsForEither (Stands layout files log.images.sequence ∷ [])
+      (Stands layout after then_sequence ∷ [])
 
   -- they are among what a commit in which the disk fails may leave
-  among : (then_sequence : ℕ) → sequence_after layout log.tail changes log.images.sequence ≡ then_sequence → (c : List ℕ) → Around then_sequence c
+  among : (then_sequence : ℕ) → sequence_after layout log.tail changes log.images.sequence ≡ then_sequence
+      → (c : List ℕ) → Around then_sequence c
       → StandsForOneOf (left_by layout files log.images.sequence log.tail changes) c
-  among then_sequence is c either = rw (is, given.outcome) (⊎_elim (λ old. ⊎_elim (λ this. inl this) (λ none. absurd none) old) (λ new. inr new) either)
+  among then_sequence is c either =
+      rw (is, given.outcome) (⊎_elim (λ old. ⊎_elim (λ this. inl this) (λ none. absurd none) old)
+      (λ new. inr new) either)
 
   -- the old records, with the new one or without
   pub appending_stands : bound.honest log.images.disk → (c : List ℕ)
-      → KeepsRecords layout log.images.body log.images.sequence (image.log_of (bound.state log.images.disk).reading) (group_spelling changes) c
+      → KeepsRecords layout log.images.body log.images.sequence (image.log_of (bound.state log.images.disk).reading)
+      (group_spelling changes) c
       → Around log.images.sequence c
   appending_stands honest c keeps =
       let holds = given.holds honest in
       grind (arith, still_holds holds (shows honest) c, holds_more holds (shows honest) c step, keeps.log holds.texts)
 
   -- the old image with its records, or the new one with none
-  pub renewing_stands : (body : List ℕ) → IsDirectory (limits_of layout) after → body ≡ spelling after → bound.honest log.images.disk → (c : List ℕ)
-      → HasOldOrNew log.images (image.log_of (bound.state log.images.disk).reading) layout body (log.images.sequence + 1) c → Around (log.images.sequence + 1) c
+  pub renewing_stands : (body : List ℕ) → IsDirectory (limits_of layout) after → body ≡ spelling after
+      → bound.honest log.images.disk → (c : List ℕ)
+      → HasOldOrNew log.images (image.log_of (bound.state log.images.disk).reading) layout body
+      (log.images.sequence + 1) c → Around (log.images.sequence + 1) c
   renewing_stands body sound spelled honest c either = grind (arith, old_or_new_holds, shows)
 
   -- a commit that met a fault of the disk
   pub failed_commits : (failed : D) (now : Layout) (then_sequence : ℕ) → now ≡ layout
       → sequence_after layout log.tail changes log.images.sequence ≡ then_sequence
       → (IsExhausted layout log.tail changes log.images.sequence → ⊥)
-      → (bound.honest log.images.disk → LeavesOnly (bound.state log.images.disk) (bound.state failed) (Around then_sequence))
-      → (bound.honest log.images.disk → (bytes : List ℕ) → CountsNow (bound.state failed) (bound.state log.images.disk).moment bytes)
+      → (bound.honest log.images.disk
+      → LeavesOnly (bound.state log.images.disk) (bound.state failed) (Around then_sequence))
+      → (bound.honest log.images.disk → (bytes : List ℕ)
+      → CountsNow (bound.state failed) (bound.state log.images.disk).moment bytes)
       → (bound.honest log.images.disk → Rises (bound.state log.images.disk).failures (bound.state failed).failures)
       → KeepsDisk bound log.images.disk failed
       → Commits bound (ready_with log files) changes (Err fault.Device) (view_of (which.Off failed now))
@@ -75,8 +92,10 @@ module _ {D : Type 0} {bound : Ghosts D} {log : LogView D} {files after : List F
     layout = kept;
     unchanged = λ err. inl refl;
     crash = λ h. record {
-      any_moment = weaker (bound.state log.images.disk) (bound.state failed) _ _ (λ c either. inr (among then_sequence is c either)) (any_moment h);
-      now = λ bytes may. among then_sequence is bytes ((any_moment h).each bytes (counts h bytes (any_moment h).later may));
+      any_moment = weaker (bound.state log.images.disk) (bound.state failed) _ _
+          (λ c either. inr (among then_sequence is c either)) (any_moment h);
+      now = λ bytes may. among then_sequence is bytes
+          ((any_moment h).each bytes (counts h bytes (any_moment h).later may));
     };
     device = λ h is. device h;
     counts = λ h. inl refl;
@@ -86,20 +105,25 @@ module _ {D : Type 0} {bound : Ghosts D} {log : LogView D} {files after : List F
   module _ (new : LogView D) where
     -- the disk of the log holds the files after the group
     abbrev HasAfter : Type 0
-    HasAfter = bound.honest new.images.disk → HoldsFiles (layout_of new.images.slot) after new.images.sequence (bound.state new.images.disk).reading
+    HasAfter = bound.honest new.images.disk
+        → HoldsFiles (layout_of new.images.slot) after new.images.sequence (bound.state new.images.disk).reading
 
     -- a commit that put the group down
     put_commits : (then_sequence : ℕ) → layout_of new.images.slot ≡ layout
-        → sequence_after layout log.tail changes log.images.sequence ≡ then_sequence → new.images.sequence ≡ then_sequence
+        → sequence_after layout log.tail changes log.images.sequence ≡ then_sequence
+        → new.images.sequence ≡ then_sequence
         → new.tail ≡ tail_after layout log.tail changes → (IsExhausted layout log.tail changes log.images.sequence → ⊥)
         → IsReady bound new.images → HasAfter
-        → (bound.honest log.images.disk → LeavesOnly (bound.state log.images.disk) (bound.state new.images.disk) (Around then_sequence))
+        → (bound.honest log.images.disk
+        → LeavesOnly (bound.state log.images.disk) (bound.state new.images.disk) (Around then_sequence))
         → (bound.honest log.images.disk → HasNotFailed (bound.state log.images.disk) (bound.state new.images.disk))
         → KeepsDisk bound log.images.disk new.images.disk
         → Commits bound (ready_with log files) changes (Ok tt) (ready_with new after)
-    put_commits then_sequence kept is same tail more ready holds any_moment counts keeps = grind (arith, kept, leaves_files)
+    put_commits then_sequence kept is same tail more ready holds any_moment counts keeps =
+        grind (arith, kept, leaves_files)
 
-    module _ (fits : fits_behind layout log.tail changes ≡ true) (appends : Appends bound log (group_spelling changes) (Ok tt) new) where
+    module _ (fits : fits_behind layout log.tail changes ≡ true)
+        (appends : Appends bound log (group_spelling changes) (Ok tt) new) where
       same_sequence : new.images.sequence ≡ log.images.sequence
       same_sequence = ap (λ (l : LogView D). l.images.sequence) appends.appended
 
@@ -114,16 +138,20 @@ module _ {D : Type 0} {bound : Ghosts D} {log : LogView D} {files after : List F
           let body_is = ap (λ (l : LogView D). l.images.body) appends.appended in
           rw (kept, same_sequence)
           (holds_more holds (shows was) (bound.state new.images.disk).reading step
-          (shows_now bound new.images appends.ready.images honest ∙ (λ i. image.OneImage (kept i) (body_is i) (same_sequence i)))
+          (shows_now bound new.images appends.ready.images honest
+          ∙ (λ i. image.OneImage (kept i) (body_is i) (same_sequence i)))
           (appends.records was holds.texts holds.log))
 
       pub appended_commits : Commits bound (ready_with log files) changes (Ok tt) (ready_with new after)
       appended_commits =
-          let moments = λ (h : bound.honest log.images.disk). weaker _ _ _ _ (appending_stands h) (appends.any_moment h) in
+          let moments = λ (h : bound.honest log.images.disk). weaker _ _ _ _ (appending_stands h)
+          (appends.any_moment h) in
           grind (arith, put_commits log.images.sequence, kept, same_sequence, appended_holds)
 
-    module _ (over : fits_behind layout log.tail changes ≡ false) (body : List ℕ) (sound : IsDirectory (limits_of layout) after)
-        (spelled : body ≡ spelling after) (renews : Renews bound log layout body (log.images.sequence + 1) (Ok tt) new) where
+    module _ (over : fits_behind layout log.tail changes ≡ false) (body : List ℕ)
+        (sound : IsDirectory (limits_of layout) after)
+        (spelled : body ≡ spelling after)
+        (renews : Renews bound log layout body (log.images.sequence + 1) (Ok tt) new) where
       -- a group for which the image was renewed
       pub renewed_holds : HasAfter
       renewed_holds honest = grind (arith, holds_new)
@@ -131,5 +159,6 @@ module _ {D : Type 0} {bound : Ghosts D} {log : LogView D} {files after : List F
       pub renewed_commits : ¬ (IsLast log.images.sequence)
           → Commits bound (ready_with log files) changes (Ok tt) (ready_with new after)
       renewed_commits more =
-          let moments = λ (h : bound.honest log.images.disk). weaker _ _ _ _ (renewing_stands body sound spelled h) (renews.any_moment h) in
+          let moments = λ (h : bound.honest log.images.disk). weaker _ _ _ _ (renewing_stands body sound spelled h)
+          (renews.any_moment h) in
           grind (arith, put_commits (log.images.sequence + 1), renewed_holds)

@@ -1,5 +1,6 @@
 -- What the proofs of this crate cite of the crates below it and of its own definitions.
-pub use Rattle.pos_dir.proofs.DirectoryLemmas.{directory_takes, layout_1_writable, layout_2_writable, no_body, one_spelling}
+pub use Rattle.pos_dir.proofs.DirectoryLemmas.{directory_takes, layout_1_writable, layout_2_writable, no_body}
+pub use Rattle.pos_dir.proofs.DirectoryLemmas.{one_spelling}
 pub use Rattle.pos_dir.proofs.GroupLemmas.{group_takes, no_group, one_group_spelling}
 pub use Rattle.pos_dir.proofs.FieldLemmas.{IsBytes, IsBytes-drop, IsBytes-take}
 pub use Rattle.pos_dir.specs.Calls.{Decodes, IsBody}
@@ -27,19 +28,23 @@ pub use Rattle.pos_image.specs.declared.layout.Layout.TheVariants.{Layout1, Layo
 pub use Rattle.pos_log.proofs.DecisionLemmas.{records_or_none}
 pub use Rattle.pos_log.proofs.RenewalLemmas.{no_records}
 pub use Rattle.pos_log.proofs.UniquenessLemmas.{one_log}
-pub use Rattle.pos_log.specs.Logs.{Appends, HasNoRecords, HasOldOrNew, IsLogReady, KeepsRecords, LogView, Renews, log_over}
+pub use Rattle.pos_log.specs.Logs.{Appends, HasNoRecords, HasOldOrNew, IsLogReady, KeepsRecords, LogView, Renews}
+pub use Rattle.pos_log.specs.Logs.{log_over}
 pub use Rattle.pos_log.specs.Records.{HoldsRecords, HoldsSome}
 pub use Rattle.pos_log.specs.declared.fault.LogFault.{LogFault}
-pub use Rattle.pos_store.specs.Commits.{Commits, IsExhausted, IsLast, IsUnmade, fits_behind, left_by, sequence_after, tail_after}
-pub use Rattle.pos_store.specs.Faults.{Tells, TellsLog, broken}
+pub use Rattle.pos_store.specs.Commits.{Commits, IsExhausted, IsLast, IsUnmade, fits_behind, left_by, sequence_after}
+pub use Rattle.pos_store.specs.Commits.{tail_after}
+pub use Rattle.pos_store.specs.Faults.{ReportsImages, ReportsLog, broken}
 pub use Rattle.pos_store.specs.Layouts.{limits_of}
 pub use Rattle.pos_store.specs.Migrations.{AnswersMigration, Migrates}
 pub use Rattle.pos_store.specs.Recoveries.{DiskStandsFor, EndsAt, FindsStanding, Recovers, RecoversOneOf}
-pub use Rattle.pos_store.specs.Standing.{Applies, Damaged, HoldsFiles, IsOneOf, IsStep, LeavesOneOf, Passes, Standing, Stands, StandsFor, StandsForEither}
-pub use Rattle.pos_store.specs.Standing.{StandsForOneOf, Unformatted}
-pub use Rattle.pos_store.specs.StoreViews.{HasItsFiles, LeavesItsFiles, Off, Ready, StoreState, StoreView, settled, view_of}
+pub use Rattle.pos_store.specs.Standing.{Applies, Damaged, HoldsFiles, IsOneOf, IsStep, LeavesOneOf, Passes, Standing}
+pub use Rattle.pos_store.specs.Standing.{Stands, StandsFor, StandsForEither, StandsForOneOf, Unformatted}
+pub use Rattle.pos_store.specs.StoreViews.{HasItsFiles, LeavesItsFiles, Off, Ready, StoreState, StoreView, settled}
+pub use Rattle.pos_store.specs.StoreViews.{view_of}
 pub use Rattle.pos_store.specs.declared.fault.StoreFault.{StoreFault}
-pub use Rattle.std.proofs.Common.{Bool, Err, Global, IsErr, IsErrOf, IsOk, List, None, Ok, OnOk, Option, Result, Some, Vec, [], add-one, ap, arith, cond, drop}
-pub use Rattle.std.proofs.Common.{drop-cons, drop_at, false, get_or, inl, inr, leb-true, length, map, refl, rules, subst, sym, take_at, true, ℕ, ⊎_elim, ◌++◌}
-pub use Rattle.std.proofs.Common.{◌+◌, ◌<◌, ◌↔◌, ◌∙◌, ◌∷◌, ◌≡◌, ◌≢◌, ◌≤◌, ◌⊎◌}
+pub use Rattle.std.proofs.Common.{Bool, Err, Global, IsErr, IsErrOf, IsOk, List, None, Ok, OnOk, Option, Result, Some}
+pub use Rattle.std.proofs.Common.{Vec, [], add-one, ap, arith, cond, drop, drop-cons, drop_at, false, get_or, inl, inr}
+pub use Rattle.std.proofs.Common.{leb-true, length, map, refl, rules, subst, sym, take_at, true, ℕ, ⊎_elim, ◌++◌, ◌+◌}
+pub use Rattle.std.proofs.Common.{◌<◌, ◌↔◌, ◌∙◌, ◌∷◌, ◌≡◌, ◌≢◌, ◌≤◌, ◌⊎◌}
 pub use Rattle.std.specs.List.{AllByRecursion}

@@ -1,6 +1,6 @@
 -- What a commit answers, and what a crash during it may leave.
-use Rattle.std.specs.Prelude.{◌≡◌, ◌⊎◌, ◌≤◌, ◌+◌, ◌^◌, ℕ, Bool, true, false, nat_le, if◌then◌else◌, List, [], ◌∷◌, length, Result, Ok, Err, IsOk, IsErr}
-use Rattle.std.specs.Prelude.{IsErrOf, ⊤, MatchOption, MatchResult, Option, None}
+use Rattle.std.specs.Prelude.{◌≡◌, ◌⊎◌, ◌≤◌, ◌+◌, ◌^◌, ℕ, Bool, true, false, nat_le, if◌then◌else◌, List, [], ◌∷◌}
+use Rattle.std.specs.Prelude.{length, Result, Ok, Err, IsOk, IsErr, IsErrOf, ⊤, MatchOption, MatchResult, Option, None}
 use Rattle.pos_disk.specs.State.{DiskState, Rises, HasNotFailed}
 use Rattle.pos_disk.specs.Keeps.{KeepsDisk}
 use Rattle.pos_disk.specs.declared.device.Disk.{Ghosts}
@@ -43,11 +43,11 @@ tail_after layout tail changes =
 abbrev pub IsExhausted : Layout → ℕ → List Change → ℕ → Type 0
 IsExhausted layout tail changes sequence = (fits_behind layout tail changes ≡ false) × IsLast sequence
 
--- what goes to the disk for a group: its record if it fits, else the body that spells the files after it
-abbrev pub IsDraft : Layout → ℕ → List Change → ℕ → List File → Draft → Type 0
-IsDraft layout tail changes sequence after (draft.Record text) =
-    (fits_behind layout tail changes ≡ true) × (text.items ≡ group_spelling changes)
-IsDraft layout tail changes sequence after (draft.Image body) =
+-- what goes to the disk for a group: its record with this text if it fits, else the body that spells the files after it
+abbrev pub IsDraft : Layout → ℕ → List Change → ℕ → List File → List ℕ → Draft → Type 0
+IsDraft layout tail changes sequence after text draft.Record =
+    (fits_behind layout tail changes ≡ true) × (text ≡ group_spelling changes)
+IsDraft layout tail changes sequence after text (draft.Image body) =
     (fits_behind layout tail changes ≡ false) × ¬ (IsLast sequence) × IsDirectory (limits_of layout) after
     × (body.items ≡ spelling after) × (length body.items ≤ body_limit (limits_of layout))
 

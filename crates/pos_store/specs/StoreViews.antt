@@ -8,8 +8,8 @@ use Rattle.pos_image.specs.Layout.{layout_of}
 use Rattle.pos_log.specs.Logs.{IsLogReady}
 use Rattle.pos_store.specs.Layouts.{limits_of}
 use Rattle.pos_store.specs.Standing.{Standing, Stands, HoldsFiles, LeavesOneOf}
-use Rattle.pos_store.specs.declared.disk_or_log.DiskOrLog.{DiskOrLog}
-use Rattle.pos_store.specs.declared.disk_or_log.DiskOrLog.TheVariants as which
+use Rattle.pos_store.specs.declared.medium.StoreMedium.{StoreMedium}
+use Rattle.pos_store.specs.declared.medium.StoreMedium.TheVariants as which
 use Rattle.pos_store.specs.declared.store.Mode.{Mode}
 use Rattle.pos_store.specs.declared.store.Mode.TheVariants as mode
 
@@ -58,7 +58,7 @@ LeavesItsFiles layout Off disk = ⊤
 LeavesItsFiles layout (Ready files sequence) disk = LeavesOneOf (Stands layout files sequence ∷ []) disk
 
 -- what the parts of a store mean
-abbrev pub view_of : {D : Type 0} → DiskOrLog D → StoreView D
+abbrev pub view_of : {D : Type 0} → StoreMedium D → StoreView D
 view_of (which.Off disk layout) = record { disk = disk; layout = layout; state = Off; tail = 0 }
 view_of (which.Ready log directory) = record {
   disk = log.images.disk;
@@ -67,8 +67,13 @@ view_of (which.Ready log directory) = record {
   tail = log.tail;
 }
 
+-- the same store turned off
+abbrev pub off_of : {D : Type 0} → StoreMedium D → StoreMedium D
+off_of (which.Off disk layout) = which.Off disk layout
+off_of (which.Ready log directory) = which.Off log.images.disk (layout_of log.images.slot)
+
 -- if it is ready, so is its log, the disk holds the files, and the directory has the limits of its layout
-abbrev pub HasItsFiles : {D : Type 0} → Ghosts D → DiskOrLog D → Type 0
+abbrev pub HasItsFiles : {D : Type 0} → Ghosts D → StoreMedium D → Type 0
 HasItsFiles bound (which.Off disk layout) = ⊤
 HasItsFiles bound (which.Ready log directory) =
     IsLogReady bound log

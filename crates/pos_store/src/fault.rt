@@ -1,6 +1,6 @@
 //! Why a store refuses a call.
 ghost use Rattle.std.specs.Prelude.{◌≡◌, ◌≢◌};
-ghost use Rattle.pos_store.specs.Faults.{broken, Tells, TellsLog};
+ghost use Rattle.pos_store.specs.Faults.{broken, ReportsImages, ReportsLog};
 
 use pos_dir::DirectoryFault;
 use pos_image::ImageFault;
@@ -39,10 +39,10 @@ pub enum StoreFault {
 }
 
 /// Returns the store's fault for a refusal by the images.
-pub(crate) fn tell_images(fault: ImageFault) -> StoreFault
+pub(crate) fn fault_of_images(fault: ImageFault) -> StoreFault
     requires new { fault ≢ ImageFault.AlreadyFormatted }
     requires short { fault ≢ ImageFault.TooLarge }
-    ensures { Tells fault result }
+    ensures { ReportsImages fault result }
 {
     match fault {
         ImageFault::Unformatted | ImageFault::TooSmall => StoreFault::Unformatted,
@@ -55,9 +55,9 @@ pub(crate) fn tell_images(fault: ImageFault) -> StoreFault
 }
 
 /// Returns the store's fault for a log that can't be opened.
-pub(crate) fn tell_log(fault: LogFault) -> StoreFault
+pub(crate) fn fault_of_log(fault: LogFault) -> StoreFault
     requires { fault ≢ LogFault.Full }
-    ensures { TellsLog fault result }
+    ensures { ReportsLog fault result }
 {
     match fault {
         LogFault::Damaged => StoreFault::Damaged,
@@ -68,7 +68,7 @@ pub(crate) fn tell_log(fault: LogFault) -> StoreFault
 }
 
 /// Returns the store's fault for a record whose group isn't applied: `Damaged`, unless memory ran out.
-pub(crate) fn tell_broken(fault: DirectoryFault) -> StoreFault
+pub(crate) fn fault_of_group(fault: DirectoryFault) -> StoreFault
     ensures { result ≡ broken fault }
 {
     match fault {

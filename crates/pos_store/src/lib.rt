@@ -9,9 +9,9 @@
 #![tactic(auto)]
 
 mod commits;
-mod disk_or_log;
 mod fault;
 pub mod laws;
+mod medium;
 mod migrations;
 mod recoveries;
 mod relay;

@@ -2,8 +2,8 @@
 ghost use Rattle.pos_store.specs.Migrations.{Migrates};
 ghost use Rattle.pos_store.specs.StoreViews.{HasItsFiles, view_of};
 
-use crate::disk_or_log::{DiskOrLog, turn_off};
 use crate::fault::StoreFault;
+use crate::medium::{StoreMedium, turn_off};
 use crate::recoveries::limits_of;
 use pos_dir::encode;
 use pos_dir::laws::wider_directory;
@@ -20,35 +20,44 @@ use std::alloc::Global;
 /// - `NoMemory` if memory ran out.
 /// - `Device` if the disk failed. The store is off then.
 pub(crate) fn migrate_files<D: Disk>(
-    disk_or_log: DiskOrLog<D>,
+    medium: StoreMedium<D>,
     alloc: Global,
-) -> (DiskOrLog<D>, Result<(), StoreFault>)
-    requires sound { HasItsFiles D.Disk disk_or_log }
+) -> (StoreMedium<D>, Result<(), StoreFault>)
+    requires sound { HasItsFiles D.Disk medium }
     ensures sound { HasItsFiles D.Disk result.0 }
-    ensures migrates { Migrates D.Disk (view_of disk_or_log) result.1 (view_of result.0) }
+    ensures migrates { Migrates D.Disk (view_of medium) result.1 (view_of result.0) }
 {
-    let (mut log, mut directory) = match disk_or_log {
-        DiskOrLog::Off(disk, layout) => return (DiskOrLog::Off(disk, layout), Err(StoreFault::Off)),
-        DiskOrLog::Ready(log, directory) => (log, directory),
+    let (mut log, mut directory) = match medium {
+        StoreMedium::Off(disk, layout) => return (
+            StoreMedium::Off(disk, layout),
+            Err(StoreFault::Off),
+        ),
+        StoreMedium::Ready(log, directory) => (log, directory),
     };
     if log.layout() == Layout::Layout2 {
         return (
-            DiskOrLog::Ready(log, directory),
+            StoreMedium::Ready(log, directory),
             Err(StoreFault::AlreadyLayout2),
         );
     }
     let Ok(body) = encode(alloc, &directory) else {
-        return (DiskOrLog::Ready(log, directory), Err(StoreFault::NoMemory));
+        return (
+            StoreMedium::Ready(log, directory),
+            Err(StoreFault::NoMemory),
+        );
     };
     wider_directory();
     match log.migrate(body) {
         Ok(()) => {
             directory.widen(limits_of(Layout::Layout2));
-            (DiskOrLog::Ready(log, directory), Ok(()))
+            (StoreMedium::Ready(log, directory), Ok(()))
         }
         Err(fault) => match fault {
             ImageFault::Device => (turn_off(log), Err(StoreFault::Device)),
-            ImageFault::NoMemory => (DiskOrLog::Ready(log, directory), Err(StoreFault::NoMemory)),
+            ImageFault::NoMemory => (
+                StoreMedium::Ready(log, directory),
+                Err(StoreFault::NoMemory),
+            ),
             _ => unreachable!(),
         },
     }

@@ -6,8 +6,8 @@ ghost use Rattle.pos_store.specs.Recoveries.{Recovers};
 ghost use Rattle.pos_store.specs.Standing.{Applies, IsStep};
 ghost use Rattle.pos_store.specs.Layouts.{limits_of};
 
-use crate::disk_or_log::DiskOrLog;
-use crate::fault::{StoreFault, tell_broken, tell_images, tell_log};
+use crate::fault::{StoreFault, fault_of_group, fault_of_images, fault_of_log};
+use crate::medium::StoreMedium;
 use pos_dir::{
     Directory, DirectoryFault, LAYOUT_1, LAYOUT_2, Limits, apply_group, decode, decode_group,
 };
@@ -34,7 +34,7 @@ fn apply_text(alloc: Global, directory: &mut Directory, text: &[u8]) -> Result<(
     }
     match apply_group(alloc, directory, &group) {
         Ok(()) => Ok(()),
-        Err(fault) => Err(tell_broken(fault)),
+        Err(fault) => Err(fault_of_group(fault)),
     }
 }
 
@@ -72,46 +72,46 @@ fn apply_texts(
 ///
 /// The store is still off then.
 pub(crate) fn recover_files<D: Disk>(
-    disk_or_log: DiskOrLog<D>,
+    medium: StoreMedium<D>,
     alloc: Global,
-) -> (DiskOrLog<D>, Result<(), StoreFault>)
-    requires sound { HasItsFiles D.Disk disk_or_log }
+) -> (StoreMedium<D>, Result<(), StoreFault>)
+    requires sound { HasItsFiles D.Disk medium }
     ensures sound { HasItsFiles D.Disk result.0 }
-    ensures recovers { Recovers D.Disk (view_of disk_or_log) result.1 (view_of result.0) }
+    ensures recovers { Recovers D.Disk (view_of medium) result.1 (view_of result.0) }
 {
-    let (disk, layout) = match disk_or_log {
-        DiskOrLog::Off(disk, layout) => (disk, layout),
-        DiskOrLog::Ready(log, directory) => return (DiskOrLog::Ready(log, directory), Ok(())),
+    let (disk, layout) = match medium {
+        StoreMedium::Off(disk, layout) => (disk, layout),
+        StoreMedium::Ready(log, directory) => return (StoreMedium::Ready(log, directory), Ok(())),
     };
     let images = match Images::open(alloc, disk) {
         Ok(images) => images,
-        Err((fault, disk)) => return (DiskOrLog::Off(disk, layout), Err(tell_images(fault))),
+        Err((fault, disk)) => return (StoreMedium::Off(disk, layout), Err(fault_of_images(fault))),
     };
     let limits = limits_of(images.layout());
     let mut directory = match decode(alloc, images.body(), limits) {
         Ok(directory) => directory,
         Err(DirectoryFault::Malformed) => {
             return (
-                DiskOrLog::Off(images.into_disk(), layout),
+                StoreMedium::Off(images.into_disk(), layout),
                 Err(StoreFault::Damaged),
             );
         }
         Err(_) => return (
-            DiskOrLog::Off(images.into_disk(), layout),
+            StoreMedium::Off(images.into_disk(), layout),
             Err(StoreFault::NoMemory),
         ),
     };
     match Log::open(alloc, images) {
         Ok((log, texts)) => match apply_texts(alloc, &mut directory, &texts) {
-            Ok(()) => (DiskOrLog::Ready(log, directory), Ok(())),
+            Ok(()) => (StoreMedium::Ready(log, directory), Ok(())),
             Err(fault) => (
-                DiskOrLog::Off(log.into_images().into_disk(), layout),
+                StoreMedium::Off(log.into_images().into_disk(), layout),
                 Err(fault),
             ),
         },
         Err((fault, images)) => (
-            DiskOrLog::Off(images.into_disk(), layout),
-            Err(tell_log(fault)),
+            StoreMedium::Off(images.into_disk(), layout),
+            Err(fault_of_log(fault)),
         ),
     }
 }

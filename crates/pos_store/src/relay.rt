@@ -2,7 +2,7 @@
 ghost use Rattle.std.specs.Prelude.{◌≡◌};
 ghost use Rattle.pos_disk.specs.Keeps.{KeepsState};
 
-use crate::disk_or_log::DiskOrLog;
+use crate::medium::StoreMedium;
 use crate::store::Store;
 use pos_disk::{Disk, Relay};
 
@@ -11,9 +11,9 @@ impl<D: Disk> Store<D> {
     pub fn disk(&self) -> &D
         ensures { result.now ≡ self.now.disk }
     {
-        match &self.disk_or_log {
-            DiskOrLog::Off(disk, _) => disk,
-            DiskOrLog::Ready(log, _) => log.disk(),
+        match &self.medium {
+            StoreMedium::Off(disk, _) => disk,
+            StoreMedium::Ready(log, _) => log.disk(),
         }
     }
 }
@@ -26,9 +26,9 @@ impl<D: Relay> Store<D> {
         ensures state { KeepsState D.Disk self.old.disk self.new.disk }
         ensures takes { D.takes self.old.disk self.new.disk result }
     {
-        match &mut self.disk_or_log {
-            DiskOrLog::Off(disk, _) => disk.next(),
-            DiskOrLog::Ready(log, _) => log.next(),
+        match &mut self.medium {
+            StoreMedium::Off(disk, _) => disk.next(),
+            StoreMedium::Ready(log, _) => log.next(),
         }
     }
 }

@@ -1,13 +1,15 @@
 //! A store: the files of a totals disk, and their changes.
-ghost use Rattle.std.specs.Prelude.{◌≡◌, ◌<◌, length, IfSome};
+ghost use Rattle.std.specs.Prelude.{◌≡◌, ◌<◌, ◌∷◌, [], None, length, IfSome};
 
 use crate::commits::commit_group;
-use crate::disk_or_log::DiskOrLog;
 use crate::fault::StoreFault;
+use crate::medium::StoreMedium;
 use crate::migrations::migrate_files;
 use crate::recoveries::recover_files;
 use core::mem::replace_with;
-use pos_dir::{Directory, DirectoryFault, Group, check_group};
+use core::slice::from_ref;
+use pos_dir::laws::{is_group, is_group_alone};
+use pos_dir::{Change, Directory, DirectoryFault, Group, check_group};
 use pos_disk::Disk;
 use pos_image::Layout;
 use std::alloc::Global;
@@ -20,7 +22,9 @@ use std::marker::Model;
 #[derive(Drop)]
 pub struct Store<D: Disk> {
     alloc: Global,
-    pub(crate) disk_or_log: DiskOrLog<D>,
+    pub(crate) medium: StoreMedium<D>,
+    // What was written last as a record. It is kept for its memory.
+    text: Vec<u8>,
 }
 
 impl<D: Disk> Model for Store<D> {
@@ -28,13 +32,14 @@ impl<D: Disk> Model for Store<D> {
 
     ghost Value = { StoreView D };
 
-    ghost view = { λ s. view_of s.disk_or_log };
+    ghost view = { λ s. view_of s.medium };
 
-    ghost invariant = { λ s. HasItsFiles D.Disk s.disk_or_log };
+    ghost invariant = { λ s. HasItsFiles D.Disk s.medium };
 }
 
 impl<D: Disk> Store<D> {
     ghost use Rattle.std.specs.Option.{option_map};
+    ghost use Rattle.pos_dir.specs.Changes.{flaw_of, IsGroup};
     ghost use Rattle.pos_disk.specs.State.{IsAtRest};
     ghost use Rattle.pos_image.specs.declared.layout.Layout.TheVariants.{Layout1};
     ghost use Rattle.pos_store.specs.StoreViews.{Off, WhenReady, files_of, mode_of};
@@ -49,7 +54,8 @@ impl<D: Disk> Store<D> {
     {
         Store {
             alloc,
-            disk_or_log: DiskOrLog::Off(disk, Layout::Layout1),
+            medium: StoreMedium::Off(disk, Layout::Layout1),
+            text: Vec::new(alloc),
         }
     }
 
@@ -69,7 +75,7 @@ impl<D: Disk> Store<D> {
     pub fn recover(&mut self) -> Result<(), StoreFault>
         ensures { Recovers D.Disk self.old result self.new }
     {
-        replace_with(&mut self.disk_or_log, self.alloc, recover_files)
+        replace_with(&mut self.medium, self.alloc, recover_files)
     }
 
     /// Checks a group, which isn't empty, and applies all its changes or none.
@@ -116,7 +122,32 @@ impl<D: Disk> Store<D> {
         requires applicable { IsApplicable self.old.layout self.old.state group.now }
         ensures { Commits D.Disk self.old group.now result self.new }
     {
-        replace_with(&mut self.disk_or_log, (self.alloc, group), commit_group)
+        is_group(group);
+        self.commit_changes(group.as_slice())
+    }
+
+    /// Commits one change as `commit_applicable` commits a group of it alone.
+    ///
+    /// # Errors
+    ///
+    /// Those of `commit_applicable`.
+    pub fn commit_change(&mut self, change: &Change<'_>) -> Result<(), StoreFault>
+        requires flawless { flaw_of change.now ≡ None }
+        requires applicable { IsApplicable self.old.layout self.old.state (change.now ∷ []) }
+        ensures { Commits D.Disk self.old (change.now ∷ []) result self.new }
+    {
+        is_group_alone(change);
+        self.commit_changes(from_ref(change))
+    }
+
+    // Commits a group of these changes.
+    fn commit_changes(&mut self, changes: &[Change<'_>]) -> Result<(), StoreFault>
+        requires some { 0 < length changes.now }
+        requires group { IsGroup changes.now }
+        requires applicable { IsApplicable self.old.layout self.old.state changes.now }
+        ensures { Commits D.Disk self.old changes.now result self.new }
+    {
+        commit_group(&mut self.medium, self.alloc, &mut self.text, changes)
     }
 
     /// Moves a disk of layout 1 to layout 2, in place. There is no way back to layout 1.
@@ -136,7 +167,7 @@ impl<D: Disk> Store<D> {
     pub fn migrate(&mut self) -> Result<(), StoreFault>
         ensures { Migrates D.Disk self.old result self.new }
     {
-        replace_with(&mut self.disk_or_log, self.alloc, migrate_files)
+        replace_with(&mut self.medium, self.alloc, migrate_files)
     }
 
     /// Returns the files, within the limits of the layout, or `None` while the store is off.
@@ -144,9 +175,9 @@ impl<D: Disk> Store<D> {
         ensures files { option_map (λ directory. directory.now.files) result ≡ files_of self.now.state }
         ensures limits { IfSome result (λ directory. directory.now.limits ≡ limits_of self.now.layout) }
     {
-        match &self.disk_or_log {
-            DiskOrLog::Off(_, _) => None,
-            DiskOrLog::Ready(_, directory) => Some(directory),
+        match &self.medium {
+            StoreMedium::Off(_, _) => None,
+            StoreMedium::Ready(_, directory) => Some(directory),
         }
     }
 
@@ -154,9 +185,9 @@ impl<D: Disk> Store<D> {
     pub fn layout(&self) -> Layout
         ensures { result ≡ self.now.layout }
     {
-        match &self.disk_or_log {
-            DiskOrLog::Off(_, layout) => *layout,
-            DiskOrLog::Ready(log, _) => log.layout(),
+        match &self.medium {
+            StoreMedium::Off(_, layout) => *layout,
+            StoreMedium::Ready(log, _) => log.layout(),
         }
     }
 
@@ -164,9 +195,9 @@ impl<D: Disk> Store<D> {
     pub fn mode(&self) -> Mode
         ensures { result ≡ mode_of self.now.state }
     {
-        match &self.disk_or_log {
-            DiskOrLog::Off(_, _) => Mode::Off,
-            DiskOrLog::Ready(log, _) => Mode::Ready {
+        match &self.medium {
+            StoreMedium::Off(_, _) => Mode::Off,
+            StoreMedium::Ready(log, _) => Mode::Ready {
                 sequence: log.sequence(),
             },
         }
@@ -177,9 +208,14 @@ impl<D: Disk> Store<D> {
         ensures disk { result ≡ self.disk }
         ensures at_rest { D.honest self.disk → WhenReady self.state (IsAtRest (D.state self.disk)) }
     {
-        match self.disk_or_log {
-            DiskOrLog::Off(disk, _) => disk,
-            DiskOrLog::Ready(log, _) => log.into_images().into_disk(),
+        let Store {
+            alloc: _,
+            medium,
+            text: _,
+        } = self;
+        match medium {
+            StoreMedium::Off(disk, _) => disk,
+            StoreMedium::Ready(log, _) => log.into_images().into_disk(),
         }
     }
 }

@@ -1,6 +1,8 @@
 -- What was taken from a source and given to a sink, step after step.
-use Rattle.std.proofs.Common.{List, Ok, [], ap, append-nil, append_assoc, arith, refl, suc, sym, take, zero, ℕ, ◌++◌, ◌∙◌, ◌≡◌, ◌≤◌, length}
-use Rattle.pos_streams.specs.Streams.{Appends, Fails, Given, IsWhole, Taken, TakesBytes, end_after, given_after, taken_after, write_fault_after}
+use Rattle.std.proofs.Common.{List, Ok, [], ap, append-nil, append_assoc, arith, refl, suc, sym, take, zero, ℕ, ◌++◌}
+use Rattle.std.proofs.Common.{◌∙◌, ◌≡◌, ◌≤◌, length}
+use Rattle.pos_streams.specs.Streams.{Appends, Fails, Given, IsWhole, Taken, TakesBytes, end_after, given_after}
+use Rattle.pos_streams.specs.Streams.{taken_after, write_fault_after}
 
 -- no bytes were given
 pub Appends-nil : (a : Given) → Appends a a []
@@ -30,13 +32,15 @@ pub taken_twice : (a : Taken) (xs ys : List ℕ) → taken_after (taken_after a 
 taken_twice a xs ys = ap (λ bytes. record a { bytes = bytes }) (append_assoc a.bytes xs ys)
 
 -- a read that gave nothing found the end
-pub found_end : (old : Taken) (buffer : List ℕ) (count : ℕ) (new : Taken) → count ≡ 0 → TakesBytes old buffer (Ok count) new
+pub found_end : (old : Taken) (buffer : List ℕ) (count : ℕ) (new : Taken) → count ≡ 0
+    → TakesBytes old buffer (Ok count) new
     → (new ≡ end_after old) × IsWhole old
 found_end old buffer zero new none takes = takes
 found_end old buffer (suc n) new none takes = absurd (omega arith)
 
 -- a read that gave bytes took them
-pub found_more : (old : Taken) (buffer : List ℕ) (count : ℕ) (new : Taken) → (count ≡ 0 → ⊥) → TakesBytes old buffer (Ok count) new
+pub found_more : (old : Taken) (buffer : List ℕ) (count : ℕ) (new : Taken) → (count ≡ 0 → ⊥)
+    → TakesBytes old buffer (Ok count) new
     → (count ≤ length buffer) × (new ≡ taken_after old (take count buffer))
 found_more old buffer zero new some takes = absurd (some refl)
 found_more old buffer (suc n) new some takes = takes

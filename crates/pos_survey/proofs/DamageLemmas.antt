@@ -18,35 +18,39 @@ use Rattle.pos_store.proofs.RecoveryLemmas.{no_body_stands, no_log_stands, no_gr
 use Rattle.pos_store.proofs.RecordLemmas.{refused_step}
 use Rattle.pos_store.specs.Layouts.{limits_of}
 use Rattle.pos_store.specs.Standing.{IsStep, Applies}
-use Rattle.pos_survey.specs.Damages.{IsFlaw, StopsAt, StopsFor, HasNoFilesIn, HasLongIn, HasBase, HasBadRecord, IsDamage, Breaks, log_begins}
+use Rattle.pos_survey.specs.Damages.{IsFlaw, StopsAt, StopsFor, HasNoFilesIn, HasLongIn, HasBase, HasBadRecord}
+use Rattle.pos_survey.specs.Damages.{IsDamage, Breaks, log_begins}
 use Rattle.pos_survey.specs.declared.fault.Rule.{Rule}
 use Rattle.pos_survey.specs.declared.fault.Rule.TheVariants as rule
 use Rattle.pos_survey.specs.declared.fault.SurveyFault.{SurveyFault}
 use Rattle.pos_survey.specs.declared.fault.SurveyFault.TheVariants as fault
 
 -- a body that spells no files
-pub no_files : (bytes body : List ℕ) (slot : Slot) (sequence : ℕ) (cause : SurveyFault) → IsCurrent bytes slot body sequence
+pub no_files : (bytes body : List ℕ) (slot : Slot) (sequence : ℕ) (cause : SurveyFault)
+    → IsCurrent bytes slot body sequence
     → HasNoFilesIn body slot cause → Breaks bytes cause
 no_files bytes body slot sequence fault.NoMemory current none = tt
 no_files bytes body slot sequence fault.TooSmall current none = absurd none
 no_files bytes body slot sequence fault.Unformatted current none = absurd none
-no_files bytes body slot sequence (fault.Damaged at (rule.NoFiles flaw)) current none = (
-  no_body_stands bytes (layout_of slot) body sequence (image_here current).image none.0,
+no_files bytes body slot sequence (fault.Damaged at (rule.NoFiles flaw)) current (none, (within, place_is, has)) = (
+  no_body_stands bytes (layout_of slot) body sequence (image_here current).image none,
   record {
     slot = slot;
     body = body;
     sequence = sequence;
     current = current;
-    none = none.0;
-    within = none.1.0;
-    place_is = none.1.1;
-    has = none.1.2;
+    none = none;
+    within = within;
+    place_is =
+        place_is;
+    has = has;
   },
 )
 no_files bytes body slot sequence (fault.Damaged at other) current none = absurd none
 
 -- a text with a flaw is no step
-no_step : (limits : Limits) (files : List File) (text : List ℕ) (broken : Rule) → IsFlaw limits files text broken → (next : List File)
+no_step : (limits : Limits) (files : List File) (text : List ℕ) (broken : Rule) → IsFlaw limits files text broken
+    → (next : List File)
     → IsStep limits files text next → ⊥
 no_step limits files text rule.SameSequence flaw next step = flaw
 no_step limits files text rule.LongBody flaw next step = flaw
@@ -54,34 +58,38 @@ no_step limits files text (rule.NoFiles why) flaw next step = flaw
 no_step limits files text rule.LongRecord flaw next step = flaw
 no_step limits files text rule.NoGroup flaw next step = flaw (step.changes, step.group, step.spelled)
 no_step limits files text rule.EmptyGroup flaw next step =
-    step.some (one_group_spelling step.changes [] step.group (record { count = omega arith; each = tt }) (sym step.spelled ∙ flaw))
-no_step limits files text (rule.NotApplicable cause) flaw next step =
-    refused_step limits files text flaw.0 cause flaw.1 flaw.2 flaw.3 next step
+    step.some (one_group_spelling step.changes [] step.group (record { count = omega arith; each = tt })
+    (sym step.spelled ∙ flaw))
+no_step limits files text (rule.NotApplicable cause) (changes, group, spelled, refused) next step =
+    refused_step limits files text changes cause group spelled refused next step
 
 -- what goes on behind a text does so behind the files before it
-goes_on : (limits : Limits) (base : List File) (before : List (List ℕ)) (text : List ℕ) (behind : List (List ℕ)) (last : List File)
+goes_on : (limits : Limits) (base : List File) (before : List (List ℕ)) (text : List ℕ) (behind : List (List ℕ))
+    (last : List File)
     → Applies limits base (before ++ text ∷ behind) last
     → (files : List File) × Applies limits base before files × ((next : List File) × IsStep limits files text next)
-goes_on limits base [] text behind last applies = (base, refl, (applies.0, applies.1))
-goes_on limits base (one ∷ before) text behind last applies =
-    let more = goes_on limits applies.0 before text behind last applies.2 in
-    (more.0, (applies.0, applies.1, more.1), more.2)
+goes_on limits base [] text behind last (next, step, more) = (base, refl, (next, step))
+goes_on limits base (one ∷ before) text behind last (next, step, more) =
+    let (files, applied, goes) = goes_on limits next before text behind last more in
+    (files, (next, step, applied), goes)
 
 -- records of which one breaks a rule aren't applied
-pub none_applied : (limits : Limits) (base : List File) (texts : List (List ℕ)) (first at : ℕ) (broken : Rule) → StopsAt limits base texts first at broken
+pub none_applied : (limits : Limits) (base : List File) (texts : List (List ℕ)) (first at : ℕ) (broken : Rule)
+    → StopsAt limits base texts first at broken
     → (last : List File) → Applies limits base texts last → ⊥
 none_applied limits base texts first at broken stops last applies =
-    let on = goes_on limits base stops.before stops.text stops.behind last
+    let (files, applied, goes) = goes_on limits base stops.before stops.text stops.behind last
     (rw stops.texts_are at applies) in
-    let same = one_end limits stops.before base on.0 stops.files on.1 stops.applies in
-    no_step limits stops.files stops.text broken stops.flaw on.2.0
-    (rw same at on.2.1)
+    let (next, step) = goes in
+    let same = one_end limits stops.before base files stops.files applied stops.applies in
+    no_step limits stops.files stops.text broken stops.flaw next (rw same at step)
 
 -- the rules of a record are none of those of an image
 bad_rule : (bytes : List ℕ) (at : ℕ) (broken : Rule) → HasBadRecord bytes at broken → IsDamage bytes at broken
 bad_rule bytes at broken bad = let flaw = bad.stops.flaw in grind arith
 
-module _ (bytes body : List ℕ) (slot : Slot) (base : List File) (sequence : ℕ) (current : IsCurrent bytes slot body sequence)
+module _ (bytes body : List ℕ) (slot : Slot) (base : List File) (sequence : ℕ)
+    (current : IsCurrent bytes slot body sequence)
     (sound : IsDirectory (limits_of (layout_of slot)) base) (spelled : body ≡ spelling base) where
   has_base : HasBase bytes slot base sequence
   has_base = record { current = rw spelled at current; directory = sound }
@@ -91,13 +99,19 @@ module _ (bytes body : List ℕ) (slot : Slot) (base : List File) (sequence : �
   long_record fault.NoMemory long = tt
   long_record fault.TooSmall long = absurd long
   long_record fault.Unformatted long = absurd long
-  long_record (fault.Damaged at broken) long =
-      let breaks = long.1.2 in
-      rw long.0 (
-        no_log_stands bytes (layout_of slot) body sequence (image_here current).image
-            (λ some. none_held breaks.groups long.1.0 (log_of bytes) breaks.begins (open_byte _ breaks.gate) breaks.long some),
-        record { slot = slot; base = base; sequence = sequence; image = has_base; within = long.1.0; place_is = long.1.1; long = breaks },
-      )
+  long_record (fault.Damaged at broken) (is, (within, place_is, breaks)) = rw is (
+    no_log_stands bytes (layout_of slot) body sequence (image_here current).image
+        (none_held breaks.groups within (log_of bytes) breaks.begins (open_byte _ breaks.gate) breaks.long),
+    record {
+      slot = slot;
+      base = base;
+      sequence = sequence;
+      image = has_base;
+      within = within;
+      place_is = place_is;
+      long = breaks;
+    },
+  )
 
   -- a record that breaks another rule
   pub bad_record : (texts : List (List ℕ)) → log.HoldsRecords texts (log_of bytes) → (cause : SurveyFault)
@@ -108,5 +122,15 @@ module _ (bytes body : List ℕ) (slot : Slot) (base : List File) (sequence : �
   bad_record texts held (fault.Damaged at broken) stops = (
     no_groups_stand bytes (layout_of slot) body sequence base texts (image_here current).image sound spelled held
         (none_applied (limits_of (layout_of slot)) base texts (log_begins slot) at broken stops),
-    bad_rule bytes at broken (record { slot = slot; base = base; sequence = sequence; image = has_base; texts = texts; held = held; stops = stops }),
+    bad_rule bytes at broken
+        (record {
+          slot = slot;
+          base = base;
+          sequence = sequence;
+          image = has_base;
+          texts = texts;
+          held = held;
+          stops =
+              stops;
+        }),
   )

@@ -1,5 +1,6 @@
 -- The groups of records, applied one after another.
-use Rattle.std.proofs.Common.{◌≡◌, ◌+◌, ◌<◌, ◌≤◌, ℕ, List, ◌∷◌, ◌++◌, length, get_or, take, drop, map, sym, ap, ◌∙◌, arith, take-append-drop, length-append}
+use Rattle.std.proofs.Common.{◌≡◌, ◌+◌, ◌<◌, ◌≤◌, ℕ, List, ◌∷◌, ◌++◌, length, get_or, take, drop, map, sym, ap, ◌∙◌}
+use Rattle.std.proofs.Common.{arith, take-append-drop, length-append}
 use Rattle.std.proofs.lemmas.Grind.{flat_map-append}
 use Rattle.std.proofs.lemmas.List.{map-append}
 use Rattle.pos_dir.specs.declared.file.File.{File}
@@ -15,7 +16,8 @@ use Rattle.pos_survey.specs.declared.fault.SurveyFault.TheVariants as fault
 pub in_three : {X : Type 0} (f : X → List ℕ) (xs : List X) (i : ℕ) (x : X) → i < length xs → x ≡ get_or xs i x
     → map f xs ≡ map f (take i xs) ++ f x ∷ map f (drop (i + 1) xs)
 in_three f xs i x less is =
-    ap (map f) (sym (take-append-drop i xs) ∙ ap (λ d. take i xs ++ d) (front_drop xs i x less is)) ∙ map-append f (take i xs) (x ∷ drop (i + 1) xs)
+    ap (map f) (sym (take-append-drop i xs) ∙ ap (λ d. take i xs ++ d) (front_drop xs i x less is))
+    ∙ map-append f (take i xs) (x ∷ drop (i + 1) xs)
 
 -- a record ends before all of them do
 pub ends_within : (texts before behind : List (List ℕ)) (text : List ℕ) → texts ≡ before ++ text ∷ behind
@@ -27,19 +29,22 @@ ends_within texts before behind text is =
     omega arith
 
 -- the first text that isn't applied
-pub stops : (limits : Limits) (base files : List File) (texts before behind : List (List ℕ)) (text : List ℕ) (first at : ℕ) (cause : SurveyFault)
-    → texts ≡ before ++ text ∷ behind → at ≡ first + length (spelling before) → Applies limits base before files → IsRefused limits files text at cause
+pub stops : (limits : Limits) (base files : List File) (texts before behind : List (List ℕ)) (text : List ℕ)
+    (first at : ℕ) (cause : SurveyFault)
+    → texts ≡ before ++ text ∷ behind → at ≡ first + length (spelling before) → Applies limits base before files
+    → IsRefused limits files text at cause
     → StopsFor limits base texts first cause
 stops limits base files texts before behind text first at fault.NoMemory is place applies flaw = tt
 stops limits base files texts before behind text first at fault.TooSmall is place applies flaw = flaw
 stops limits base files texts before behind text first at fault.Unformatted is place applies flaw = flaw
-stops limits base files texts before behind text first at (fault.Damaged there broken) is place applies flaw = record {
-  before = before;
-  text = text;
-  behind = behind;
-  files = files;
-  texts_are = is;
-  place_is = flaw.0 ∙ place;
-  applies = applies;
-  flaw = flaw.1;
-}
+stops limits base files texts before behind text first at (fault.Damaged there broken) is place applies (same, flaw) =
+    record {
+      before = before;
+      text = text;
+      behind = behind;
+      files = files;
+      texts_are = is;
+      place_is = same ∙ place;
+      applies = applies;
+      flaw = flaw;
+    }

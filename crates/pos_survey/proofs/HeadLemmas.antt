@@ -6,7 +6,8 @@ use Rattle.pos_image.specs.Standing.{NoImage, DamagedImage, OneImage, image_on, 
 use Rattle.pos_image.specs.declared.layout.Layout.{Layout}
 
 not_short : (none tied fits : Bool) (layout : Layout) (body : List ℕ) (sequence : ℕ)
-    → cond none NoImage (cond tied DamagedImage (cond fits (OneImage layout body sequence) DamagedImage)) ≡ DamagedImage → tied ≡ false → fits ≡ false
+    → cond none NoImage (cond tied DamagedImage (cond fits (OneImage layout body sequence) DamagedImage)) ≡ DamagedImage
+    → tied ≡ false → fits ≡ false
 not_short none tied fits layout body sequence is untied = grind arith
 
 -- where no two slots are tied, its body is too long

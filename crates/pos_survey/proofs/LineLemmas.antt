@@ -11,7 +11,8 @@ use Rattle.pos_survey.specs.Texts.{file_text, files_text}
 
 -- the lines of one file more
 pub one_file_more : (files : List File) (i : ℕ) (name bytes : List ℕ) (found : Option File) → slice_get files i ≡ found
-    → Some name ≡ option_map (λ (file : File). file.name) found → Some bytes ≡ option_map (λ (file : File). file.bytes) found
+    → Some name ≡ option_map (λ (file : File). file.name) found
+    → Some bytes ≡ option_map (λ (file : File). file.bytes) found
     → files_text (take (i + 1) files) ≡ files_text (take i files) ++ file_text name bytes
 one_file_more files i name bytes None is named sized = absurd cc
 one_file_more files i name bytes (Some file) is named sized =

@@ -1,4 +1,4 @@
 pub mod Damages
-pub mod Tellings
+pub mod Descriptions
 pub mod Texts
 pub mod Words

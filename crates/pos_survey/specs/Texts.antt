@@ -1,5 +1,6 @@
 -- What is told of a disk, as lines of text. docs/reference/console.md, "What a totals file holds".
-use Rattle.std.specs.Prelude.{ℕ, ◌++◌, ◌&&◌, List, [], ◌∷◌, length, map, flat_map, nat_le, if◌then◌else◌, Option, Some, None, codes, decimal}
+use Rattle.std.specs.Prelude.{ℕ, ◌++◌, ◌&&◌, List, [], ◌∷◌, length, map, flat_map, nat_le, if◌then◌else◌, Option, Some}
+use Rattle.std.specs.Prelude.{None, codes, decimal}
 use Rattle.hex.specs.Hex.{encode_lower}
 use Rattle.pos_dir.specs.declared.file.File.{File}
 use Rattle.pos_image.specs.Layout.{start, layout_of}

@@ -11,7 +11,7 @@ ghost use Rattle.pos_store.specs.Layouts.{limits_of};
 ghost use Rattle.pos_survey.specs.Damages.{Breaks, HasNoFilesIn};
 
 use crate::fault::{Rule, SurveyFault};
-use crate::image::tell_damage;
+use crate::image::damage_of;
 use pos_dir::{Directory, DirectoryFault, decode, find_flaw};
 use pos_disk::{Disk, MemDisk};
 use pos_image::{BODY, ImageFault, Images, read_heads};
@@ -27,7 +27,7 @@ fn find_damage(mut disk: MemDisk) -> SurveyFault
     let Ok(heads) = read_heads(&mut disk) else {
         unreachable!();
     };
-    tell_damage(heads)
+    damage_of(heads)
 }
 
 /// Opens a disk with these bytes.

@@ -39,7 +39,7 @@ fn is_tied(heads: Heads) -> bool
 }
 
 /// Returns the rule that the image breaks, and the place.
-pub(crate) fn tell_damage(heads: Heads) -> SurveyFault
+pub(crate) fn damage_of(heads: Heads) -> SurveyFault
     ensures { (bytes : List ℕ) → HeadsAre bytes heads → image_on bytes ≡ DamagedImage → Breaks bytes result }
 {
     if is_tied(heads) {

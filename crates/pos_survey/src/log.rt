@@ -21,7 +21,7 @@ pub(crate) fn log_begins(slot: Slot) -> u64
 }
 
 // Returns the record of the log in this slot that doesn't fit.
-fn tell_damage(bytes: &[u8], slot: Slot) -> SurveyFault
+fn damage_of(bytes: &[u8], slot: Slot) -> SurveyFault
     requires whole { disk_size ≤ length bytes.now }
     requires damaged { ¬ (HoldsSome (log_in bytes.now slot)) }
     ensures { HasLongIn (log_in bytes.now slot) slot result }
@@ -56,7 +56,7 @@ pub(crate) fn open_log(
     match Log::open(alloc, images) {
         Ok((log, texts)) => Ok((log, texts)),
         Err((fault, _)) => match fault {
-            LogFault::Damaged => Err(tell_damage(bytes, slot)),
+            LogFault::Damaged => Err(damage_of(bytes, slot)),
             LogFault::NoMemory => Err(SurveyFault::NoMemory),
             _ => unreachable!(),
         },

@@ -1,7 +1,7 @@
 //! What the bytes of a disk hold.
 ghost use Rattle.std.specs.Prelude.{IfOk, IfErr};
 ghost use Rattle.pos_survey.specs.Damages.{Breaks};
-ghost use Rattle.pos_survey.specs.Tellings.{Tells};
+ghost use Rattle.pos_survey.specs.Descriptions.{Describes};
 
 use crate::current_image::{open_images, read_files};
 use crate::fault::SurveyFault;
@@ -37,7 +37,7 @@ impl Survey {
     /// - `Damaged` if the bytes break a rule, with the place and the rule.
     /// - `NoMemory` if memory ran out.
     pub fn of(alloc: Global, bytes: &[u8]) -> Result<Survey, SurveyFault>
-        ensures told { IfOk result (Tells bytes.now) }
+        ensures told { IfOk result (Describes bytes.now) }
         ensures broken { IfErr result (Breaks bytes.now) }
     {
         let images = open_images(alloc, bytes)?;

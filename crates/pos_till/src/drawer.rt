@@ -1,10 +1,10 @@
 //! The cash drawer of this till.
 ghost use Rattle.std.specs.Prelude.{◌≡◌, false};
 ghost use Rattle.pos_service.specs.declared.kind.Kind.TheVariants as kind;
-ghost use Rattle.pos_service.specs.declared.plant.Form.TheVariants as form;
+ghost use Rattle.pos_service.specs.declared.plant.Mechanism.TheVariants as mechanism;
 
 use pos_service::{
-    Form, Input, Kind, NoMemory, Order, PaperLevel, Peripheral, Plant, Reply, Signs, Snapshot,
+    Input, Kind, Mechanism, NoMemory, Order, PaperLevel, Peripheral, Plant, Reply, Signs, Snapshot,
     Taken,
 };
 
@@ -34,7 +34,7 @@ impl Drawer {
 impl Peripheral for Drawer {
     ghost state = { λ drawer. record {
       kind = kind.Drawer;
-      plant = record { powered = drawer.is_on; form = form.Drawer drawer.is_open };
+      plant = record { powered = drawer.is_on; mechanism = mechanism.Drawer drawer.is_open };
       is_parked = drawer.is_parked;
       failures = 0;
       orders = drawer.orders;
@@ -74,7 +74,7 @@ impl Peripheral for Drawer {
     fn snapshot(&self) -> Result<Snapshot, NoMemory> {
         Ok(Snapshot(Plant {
             powered: self.is_on,
-            form: Form::Drawer(self.is_open),
+            mechanism: Mechanism::Drawer(self.is_open),
         }))
     }
 

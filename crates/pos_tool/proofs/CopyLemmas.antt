@@ -4,7 +4,8 @@ use Rattle.std.specs.Prelude.{◌≢◌}
 use Rattle.pos_file.specs.Calls.{Call}
 use Rattle.pos_tool.specs.Copies.{IsSteady, IsUnsteady, LastGave, ReadsFront, front_read}
 
-module _ {F : Type 0} (calls : F → List Call) (old mid new : F) (one other : List ℕ) (first : ReadsFront calls old mid one)
+module _ {F : Type 0} (calls : F → List Call) (old mid new : F) (one other : List ℕ)
+    (first : ReadsFront calls old mid one)
     (second : ReadsFront calls mid new other) where
   last_gave : LastGave calls new one other
   last_gave = (

@@ -1,5 +1,6 @@
 -- Names with an end, and paths that are found one after another.
-use Rattle.std.proofs.Common.{ap, arith, false, length, refl, subst, sym, take, true, drop, get_or, ◌+◌, ◌-◌, ◌++◌, ◌<◌, ◌∙◌, ◌∷◌, ◌≡◌, append-nil, append_assoc, Bool, List, Ok, [], ℕ}
+use Rattle.std.proofs.Common.{ap, arith, false, length, refl, subst, sym, take, true, drop, get_or, ◌+◌, ◌-◌, ◌++◌, ◌<◌}
+use Rattle.std.proofs.Common.{◌∙◌, ◌∷◌, ◌≡◌, append-nil, append_assoc, Bool, List, Ok, [], ℕ}
 use Rattle.std.specs.Prelude.{None, String, codes, nat_eq, if◌then◌else◌, string_bytes}
 use Rattle.std.specs.Borrow.{Bor}
 use Rattle.std.specs.Cmp.Lexicographic.{slice_cmp}
@@ -20,10 +21,15 @@ by_test : (name : List ℕ) (test : Bool) → ends_with nat_eq name (codes ".std
 by_test name test is = rw is refl
 
 -- a name with the end
-pub with_end : (name script : List ℕ) → StripsSuffix (FindsTextSuffix (codes ".stdout")) name script → script_of name ≡ script ∷ []
+pub with_end : (name script : List ℕ) → StripsSuffix (FindsTextSuffix (codes ".stdout")) name script
+    → script_of name ≡ script ∷ []
 with_end name script (n, (is, same, boundary), taken, long) =
-    by_test name true (sym (ends_text true (codes ".stdout") name
-    (n, (is, same, boundary), omega (arith, long), subst (λ m. IsCharBoundary name (length name - m)) (sym is) boundary)))
+    by_test name true (sym (ends_text true (codes ".stdout") name (
+      n,
+      (is, same, boundary),
+      omega (arith, long),
+      subst (λ m. IsCharBoundary name (length name - m)) (sym is) boundary,
+    )))
     ∙ ap (λ rest. rest ∷ []) (ap (λ m. take (length name - m) name) (sym is) ∙ sym taken)
 
 -- a name without it
@@ -40,19 +46,29 @@ module _ {A : Type 0} (xs : List A) (i : ℕ) (d : A) (lt : i < length xs) where
   taken_at = take_more xs i d lt
 
 -- one more path was found
-pub finds_more : {S : Type 0} (folder : FolderGhosts S) (them : S) (paths : List (Bor (List ℕ))) (found : List (List ℕ)) (path : Bor (List ℕ))
+pub finds_more : {S : Type 0} (folder : FolderGhosts S) (them : S) (paths : List (Bor (List ℕ))) (found : List (List ℕ))
+    (path : Bor (List ℕ))
     (more : List (List ℕ)) → FindsAll folder them paths found → FindsAt folder them path.now (Ok more)
     → FindsAll folder them (paths ++ path ∷ []) (found ++ more)
-finds_more folder them [] found path more are one = (more, [], one, refl, ap (λ xs. xs ++ more) are ∙ sym (append-nil more))
-finds_more folder them (first ∷ paths) found path more (here, others, at, rest, split) one =
-    (here, others ++ more, at, finds_more folder them paths others path more rest one, ap (λ xs. xs ++ more) split ∙ append_assoc here others more)
+finds_more folder them [] found path more are one =
+    (more, [], one, refl, ap (λ xs. xs ++ more) are ∙ sym (append-nil more))
+finds_more folder them (first ∷ paths) found path more (here, others, at, rest, split) one = (
+  here,
+  others ++ more,
+  at,
+  finds_more folder them paths others path more rest one,
+  ap (λ xs. xs ++ more) split
+      ∙ append_assoc here others more,
+)
 
 -- names in order, as lists of bytes
-pub sorted_texts : {A : Type 0} (names : List (String A)) → IsSorted string_cmp names → IsSorted (slice_cmp nat_cmp) (texts names)
+pub sorted_texts : {A : Type 0} (names : List (String A)) → IsSorted string_cmp names
+    → IsSorted (slice_cmp nat_cmp) (texts names)
 sorted_texts [] sorted k d low high = absurd (omega (arith, high))
 sorted_texts {A = A} (name ∷ names) sorted k d low high =
     let all : List (String A) = name ∷ names in
-    let below : k + 1 < length all = subst (λ (n : ℕ). k + 1 < n) (length-map all (λ (x : String A). string_bytes x)) high in
+    let below : k + 1 < length all =
+    subst (λ (n : ℕ). k + 1 < n) (length-map all (λ (x : String A). string_bytes x)) high in
     rw (
       get_or-map (λ (x : String A). string_bytes x) all (k + 1) name d below,
       get_or-map (λ (x : String A). string_bytes x) all k name d (omega (arith, below)),

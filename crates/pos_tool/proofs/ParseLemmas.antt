@@ -3,8 +3,8 @@ use Rattle.std.proofs.Common.{◌≡◌, [], ◌∙◌, List, Err, Ok, true, ref
 use Rattle.std.specs.Prelude.{◌≢◌, IfOk, None, Result, Some, option_map}
 use Rattle.std.specs.Borrow.{Bor}
 use Rattle.clap.specs.declared.parser.matches.ArgMatches.{ArgMatches}
-use Rattle.clap.specs.Words.{App, HasKind, HasMatchesOf, IsAmong, Text, fault_of, is_simple, is_simple_and_free, kind_of}
-use Rattle.clap.specs.Words.{app_of, matched_of, new_app, raw_values, rows_of, subcommand_rows_of}
+use Rattle.clap.specs.Words.{App, HasKind, HasMatchesOf, IsAmong, Text, fault_of, is_simple, is_simple_and_free}
+use Rattle.clap.specs.Words.{kind_of, app_of, matched_of, new_app, raw_values, rows_of, subcommand_rows_of}
 use Rattle.clap.specs.declared.parser.matches.Found.{Found}
 use Rattle.clap.proofs.WalkLemmas.{raw_values-rows}
 use Rattle.clap.specs.Simple.{app_of_fields, on_top}
@@ -13,11 +13,11 @@ use Rattle.clap.specs.declared.builder.command.Command.TheViews.{out-Command as 
 use Rattle.clap.specs.declared.error.Error.{Error}
 use Rattle.clap.specs.declared.error.kind.ErrorKind.TheVariants.{OutOfMemory}
 use Rattle.clap.proofs.OnLiterals.{clap_on_literals}
-use Rattle.pos_tool.specs.Commands.{Chooses, TellsWhy, command_in, words_in}
+use Rattle.pos_tool.specs.Commands.{Chooses, PrintsWhy, command_in, words_in}
 use Rattle.pos_tool.specs.Lines.{program_line}
 use Rattle.pos_tool.specs.declared.commands.Task.{Task}
-use Rattle.pos_tool.specs.declared.commands.Task.TheVariants.{Help, Version, Explain, Ask, Create, Migrate, Backup, Restore}
-use Rattle.pos_tool.specs.declared.commands.Task.TheVariants.{Diff, Load, Salvage, Run, Test, Completions, Man}
+use Rattle.pos_tool.specs.declared.commands.Task.TheVariants.{Help, Version, Explain, Ask, Create, Migrate, Backup}
+use Rattle.pos_tool.specs.declared.commands.Task.TheVariants.{Restore, Diff, Load, Salvage, Run, Test, Completions, Man}
 use Rattle.pos_tool.specs.declared.fault.WordsFault.{WordsFault}
 use Rattle.pos_tool.specs.declared.fault.WordsFault.TheVariants.{Refused, NotUtf8, NoMemory}
 
@@ -36,7 +36,8 @@ module _ (app : App) (words : List Text) (same : app ≡ program_line) where
   accepted kinds = rw same at (kinds (rw same program_known.0))
 
   -- an error of another kind than memory is a fault in the words
-  among : (error : Error) → (is_simple_and_free app ≡ true → HasKind (fault_of app words) error) → kind_of error ≢ OutOfMemory
+  among : (error : Error) → (is_simple_and_free app ≡ true → HasKind (fault_of app words) error)
+      → kind_of error ≢ OutOfMemory
       → IsAmong (kind_of error) (fault_of program_line words)
   among error kinds other = by (rw same at (kinds (rw same program_known.0)))
     where
@@ -45,8 +46,9 @@ module _ (app : App) (words : List Text) (same : app ≡ program_line) where
       by (inr is) = is
 
   -- what is made of an error is what the words ask for
-  pub told : (error : Error) (result : Result Task WordsFault) → (is_simple_and_free app ≡ true → HasKind (fault_of app words) error)
-      → TellsWhy error result → Chooses words result
+  pub told : (error : Error) (result : Result Task WordsFault)
+      → (is_simple_and_free app ≡ true → HasKind (fault_of app words) error)
+      → PrintsWhy error result → Chooses words result
   told error (Ok Help) kinds why = inr (rw why at (among error kinds (λ memory. cc)))
   told error (Ok Version) kinds why = inr (rw why at (among error kinds (λ memory. cc)))
   told error (Ok (Explain code)) kinds why = absurd why
@@ -77,19 +79,23 @@ begun name new unnamed started is first second =
     (ap app_of_fields first ∙ ap (on_top (λ s. record s { no_binary_name = true })) is)
 
 -- a version on a command line
-pub versioned : (text : Bor Text) (old new : Command) (before : App) → app_of old ≡ before → fields_of new ≡ record (fields_of old) { version = Some text }
+pub versioned : (text : Bor Text) (old new : Command) (before : App) → app_of old ≡ before
+    → fields_of new ≡ record (fields_of old) { version = Some text }
     → app_of new ≡ on_top (λ s. record s { has_version = true }) before
 versioned text old new before is third = ap app_of_fields third ∙ ap (on_top (λ s. record s { has_version = true })) is
 
 -- the words of a place in the matches of a command
-pub words_there : (found : Found) (place : Text) (words : List Text) → Some words ≡ option_map raw_values (matched_of found place)
+pub words_there : (found : Found) (place : Text) (words : List Text)
+    → Some words ≡ option_map raw_values (matched_of found place)
     → words ≡ words_in place (rows_of found)
 words_there found place words is = rw (← (is ∙ raw_values-rows found place)) refl
 
-pub no_words : (found : Found) (place : Text) → None ≡ option_map raw_values (matched_of found place) → [] ≡ words_in place (rows_of found)
+pub no_words : (found : Found) (place : Text) → None ≡ option_map raw_values (matched_of found place)
+    → [] ≡ words_in place (rows_of found)
 no_words found place is = rw (← (is ∙ raw_values-rows found place)) refl
 
 -- what holds of an answer, by what else holds of it
-pub ok_map : {A E : Type 0} {P Q : A → Type 0} (result : Result A E) → ((x : A) → P x → Q x) → IfOk result P → IfOk result Q
+pub ok_map : {A E : Type 0} {P Q : A → Type 0} (result : Result A E) → ((x : A) → P x → Q x) → IfOk result P
+    → IfOk result Q
 ok_map (Ok x) gives holds = gives x holds
 ok_map (Err why) gives holds = tt

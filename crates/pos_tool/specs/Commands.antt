@@ -1,13 +1,13 @@
 -- What words ask for (docs/reference/tool.md, "Commands").
-use Rattle.std.specs.Prelude.{◌≡◌, ◌≢◌, ◌⊎◌, List, [], Bool, Option, Some, None, Result, Ok, Err, bytes_eq, codes}
-use Rattle.std.specs.Prelude.{map, option_map, unwrap_or, ⊤}
+use Rattle.std.specs.Prelude.{◌≡◌, ◌≢◌, ◌⊎◌, List, [], Bool, Option, Some, None, Result, Ok, Err, bytes_eq, codes, map}
+use Rattle.std.specs.Prelude.{option_map, unwrap_or, ⊤}
 use Rattle.clap.specs.Words.{IsAmong, Row, Text, all_of, fault_of, first_of, kind_of, subcommand_of}
 use Rattle.clap.specs.declared.error.Error.{Error}
 use Rattle.clap.specs.declared.error.kind.ErrorKind.TheVariants.{DisplayHelp, DisplayVersion, OutOfMemory}
 use Rattle.pos_tool.specs.Lines.{program_line}
 use Rattle.pos_tool.specs.declared.commands.Task.{Task}
-use Rattle.pos_tool.specs.declared.commands.Task.TheVariants.{Help, Version, Explain, Ask, Create, Migrate, Backup, Restore}
-use Rattle.pos_tool.specs.declared.commands.Task.TheVariants.{Diff, Load, Salvage, Run, Test, Completions, Man}
+use Rattle.pos_tool.specs.declared.commands.Task.TheVariants.{Help, Version, Explain, Ask, Create, Migrate, Backup}
+use Rattle.pos_tool.specs.declared.commands.Task.TheVariants.{Restore, Diff, Load, Salvage, Run, Test, Completions, Man}
 use Rattle.pos_tool.specs.declared.fault.WordsFault.{WordsFault}
 use Rattle.pos_tool.specs.declared.fault.WordsFault.TheVariants.{Refused, NotUtf8, NoMemory}
 use Rattle.pos_report.specs.declared.question.Question.{Question}
@@ -129,10 +129,10 @@ Chooses words (Err NotUtf8) = ⊥
 Chooses words (Err NoMemory) = ⊤
 
 -- what an error of `clap` is told as: want of memory, a call for help or the version, or itself
-abbrev pub TellsWhy : Error → Result Task WordsFault → Type 0
-TellsWhy error (Ok Help) = kind_of error ≡ DisplayHelp
-TellsWhy error (Ok Version) = kind_of error ≡ DisplayVersion
-TellsWhy error (Ok other) = ⊥
-TellsWhy error (Err (Refused told)) = (told ≡ error) × (kind_of error ≢ OutOfMemory)
-TellsWhy error (Err NotUtf8) = ⊥
-TellsWhy error (Err NoMemory) = kind_of error ≡ OutOfMemory
+abbrev pub PrintsWhy : Error → Result Task WordsFault → Type 0
+PrintsWhy error (Ok Help) = kind_of error ≡ DisplayHelp
+PrintsWhy error (Ok Version) = kind_of error ≡ DisplayVersion
+PrintsWhy error (Ok other) = ⊥
+PrintsWhy error (Err (Refused told)) = (told ≡ error) × (kind_of error ≢ OutOfMemory)
+PrintsWhy error (Err NotUtf8) = ⊥
+PrintsWhy error (Err NoMemory) = kind_of error ≡ OutOfMemory

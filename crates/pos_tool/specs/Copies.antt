@@ -7,16 +7,16 @@ use Rattle.pos_file.specs.declared.file_disk.FileDisk.{FileDisk}
 use Rattle.pos_image.specs.Layout.{disk_size}
 use Rattle.pos_mirror.specs.Mirror.{Mirror}
 use Rattle.pos_program.specs.Answers.{AnswersFor}
-use Rattle.pos_program.specs.Faults.{TellsUnreadable}
+use Rattle.pos_program.specs.Faults.{ReportsUnreadable}
 use Rattle.pos_program.specs.TotalsDisks.{AreRead, OpensFile, OpensTotals, ReadsTotals, to_read}
 use Rattle.pos_program.specs.declared.file_fault.FileFault.{FileFault}
 use Rattle.pos_program.specs.declared.file_fault.FileFault.TheVariants as file
 use Rattle.pos_program.specs.declared.file_system.FileSystem.{Ghosts as SystemGhosts}
 use Rattle.pos_survey.specs.Damages.{Breaks}
-use Rattle.pos_survey.specs.Tellings.{Tells}
+use Rattle.pos_survey.specs.Descriptions.{Describes}
 use Rattle.pos_survey.specs.declared.fault.SurveyFault.{SurveyFault}
 use Rattle.pos_survey.specs.declared.survey.Survey.{Survey}
-use Rattle.pos_tool.specs.Telling.{EndsAtFile}
+use Rattle.pos_tool.specs.Surveys.{EndsAtFile}
 use Rattle.pos_tool.specs.Whole.{Puts, Replaces}
 use Rattle.pos_tool.specs.declared.fault.Fault.{Fault}
 use Rattle.pos_tool.specs.declared.fault.Fault.TheVariants as fault
@@ -81,12 +81,12 @@ ReadsOpened {F} calls opened result = (calls opened ≡ []) × ((after : F) × R
 abbrev pub TakesSnapshot : {S F : Type 0} → SystemGhosts S F → (F → List Call) → S → List ℕ
     → Result (List ℕ) FileFault → Type 0
 TakesSnapshot {F = F} system calls them path result =
-    (opened : Result F FileFault) × OpensFile system TellsUnreadable them to_read path opened
+    (opened : Result F FileFault) × OpensFile system ReportsUnreadable them to_read path opened
     × AnswersFor (ReadsOpened calls) opened result
 
 -- whether bytes are those of sound totals: a survey tells what they hold, or which rule they break
 abbrev pub ChecksSound : List ℕ → Result (Unit {0}) SurveyFault → Type 0
-ChecksSound bytes (Ok u) = (survey : Survey) × Tells bytes survey
+ChecksSound bytes (Ok u) = (survey : Survey) × Describes bytes survey
 ChecksSound bytes (Err cause) = Breaks bytes cause
 
 -- what is answered of a file that was to be made, to the program

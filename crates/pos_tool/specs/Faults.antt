@@ -6,8 +6,8 @@ use Rattle.pos_program.specs.declared.profile_fault.ProfileFileFault.{ProfileFil
 use Rattle.pos_program.specs.declared.profile_fault.ProfileFileFault.TheVariants as profile
 use Rattle.pos_shell.specs.declared.runs.RunFault.{RunFault}
 use Rattle.pos_shell.specs.declared.runs.RunFault.TheVariants as run
-use Rattle.pos_shell.specs.declared.scripts.TellFault.{TellFault}
-use Rattle.pos_shell.specs.declared.scripts.TellFault.TheVariants as told
+use Rattle.pos_shell.specs.declared.scripts.ScriptsFault.{ScriptsFault}
+use Rattle.pos_shell.specs.declared.scripts.ScriptsFault.TheVariants as told
 use Rattle.pos_shell.specs.declared.trials.TrialFault.{TrialFault}
 use Rattle.pos_shell.specs.declared.trials.TrialFault.TheVariants as trial
 use Rattle.pos_survey.specs.declared.fault.SurveyFault.{SurveyFault}
@@ -67,7 +67,7 @@ profile_status profile.NoMemory = 6
 profile_status other = 4
 
 -- the status of a run that stopped
-abbrev pub told_status : TellFault → ℕ
+abbrev pub told_status : ScriptsFault → ℕ
 told_status told.NoMemory = 6
 told_status told.Write = 5
 told_status told.Read = 4
@@ -77,7 +77,7 @@ abbrev pub run_status : RunFault → ℕ
 run_status (run.Script path cause) = 4
 run_status (run.Profile path cause) = profile_status cause
 run_status (run.Totals path cause) = file_status cause
-run_status (run.Told cause) = told_status cause
+run_status (run.Stopped cause) = told_status cause
 
 -- the status of a script that can't be tried
 abbrev pub trial_status : TrialFault → ℕ

@@ -1,13 +1,13 @@
 pub mod Commands
 pub mod Copies
-pub mod Differing
+pub mod Differences
 pub mod Faults
 pub mod Lines
-pub mod Making
+pub mod NewFiles
 pub mod Names
 pub mod Program
 pub mod Scripts
-pub mod Telling
-pub mod Testing
+pub mod Surveys
+pub mod Trials
 pub mod Texts
 pub mod Whole

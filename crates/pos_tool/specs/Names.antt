@@ -1,6 +1,6 @@
 -- Which scripts are in a folder (docs/reference/tool.md, "test").
-use Rattle.std.specs.Prelude.{◌≡◌, ◌≢◌, ◌-◌, ◌++◌, ◌∷◌, [], ℕ, List, Option, Some, None, Result, Ok, Err, String, Vec, codes}
-use Rattle.std.specs.Prelude.{flat_map, if◌then◌else◌, length, map, nat_eq, take}
+use Rattle.std.specs.Prelude.{◌≡◌, ◌≢◌, ◌-◌, ◌++◌, ◌∷◌, [], ℕ, List, Option, Some, None, Result, Ok, Err, String, Vec}
+use Rattle.std.specs.Prelude.{codes, flat_map, if◌then◌else◌, length, map, nat_eq, take}
 use Rattle.std.specs.Borrow.{Bor}
 use Rattle.std.specs.Cmp.Lexicographic.{slice_cmp}
 use Rattle.std.specs.List.{ends_with}

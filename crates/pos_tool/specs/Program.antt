@@ -6,8 +6,8 @@ use Rattle.pos_disk.specs.declared.device.Disk.{Ghosts as DiskGhosts}
 use Rattle.pos_file.specs.declared.block_file.BlockFile.{Ghosts as FileGhosts}
 use Rattle.pos_file.specs.declared.file_disk.FileDisk.{FileDisk}
 use Rattle.pos_mirror.specs.Mirror.{Mirror}
-use Rattle.pos_program.specs.Formatting.{FormatsFile}
-use Rattle.pos_program.specs.Migrating.{MigratesFile}
+use Rattle.pos_program.specs.Formats.{FormatsFile}
+use Rattle.pos_program.specs.Migrations.{MigratesFile}
 use Rattle.pos_program.specs.declared.choice_fault.ChoiceFault.{ChoiceFault}
 use Rattle.pos_program.specs.declared.choice_fault.ChoiceFault.TheVariants as unread
 use Rattle.pos_program.specs.declared.file_fault.FileFault.{FileFault}
@@ -15,18 +15,18 @@ use Rattle.pos_program.specs.declared.file_system.FileSystem.{Ghosts as SystemGh
 use Rattle.pos_program.specs.declared.named_files.NamedFiles.{Ghosts}
 use Rattle.pos_tool.specs.Commands.{Chooses}
 use Rattle.pos_tool.specs.Copies.{BacksUp, Restores}
-use Rattle.pos_tool.specs.Differing.{TellsDifference}
+use Rattle.pos_tool.specs.Differences.{WritesDifference}
 use Rattle.pos_tool.specs.Faults.{status_of}
-use Rattle.pos_tool.specs.Making.{Loads, Salvages}
+use Rattle.pos_tool.specs.NewFiles.{Loads, Salvages}
 use Rattle.pos_shell.specs.Outputs.{Output, Streams}
 use Rattle.pos_tool.specs.Scripts.{EndsRun}
-use Rattle.pos_tool.specs.Telling.{EndsAtFile, Prints, TellsFile}
-use Rattle.pos_tool.specs.Testing.{EndsTest}
+use Rattle.pos_tool.specs.Surveys.{EndsAtFile, Prints, PrintsFile}
+use Rattle.pos_tool.specs.Trials.{EndsTest}
 use Rattle.pos_report.specs.Texts.{explained}
 use Rattle.pos_report.specs.declared.codes.Code.{Code}
 use Rattle.pos_tool.specs.declared.commands.Task.{Task}
-use Rattle.pos_tool.specs.declared.commands.Task.TheVariants.{Help, Version, Explain, Ask, Create, Migrate, Backup, Restore}
-use Rattle.pos_tool.specs.declared.commands.Task.TheVariants.{Diff, Load, Salvage, Run, Test, Completions, Man}
+use Rattle.pos_tool.specs.declared.commands.Task.TheVariants.{Help, Version, Explain, Ask, Create, Migrate, Backup}
+use Rattle.pos_tool.specs.declared.commands.Task.TheVariants.{Restore, Diff, Load, Salvage, Run, Test, Completions, Man}
 use Rattle.pos_tool.specs.declared.fault.Fault.{Fault}
 use Rattle.pos_tool.specs.declared.fault.Fault.TheVariants as fault
 use Rattle.pos_tool.specs.declared.fault.WordsFault.{WordsFault}
@@ -90,7 +90,7 @@ Does files below mirrors memories them system folder under it pages terminals Ve
 Does files below mirrors memories them system folder under it pages terminals (Explain code) old new result =
     Explains pages.codes.now code.now old new result
 Does files below mirrors memories them system folder under it pages terminals (Ask file question) old new result =
-    TellsFile files below them file.now question old new result
+    PrintsFile files below them file.now question old new result
 Does files below mirrors memories them system folder under it pages terminals (Create file) old new result =
     EndsFormat files below them file.now result × (new ≡ old)
 Does files below mirrors memories them system folder under it pages terminals (Migrate file) old new result =
@@ -100,7 +100,7 @@ Does files below mirrors memories them system folder under it pages terminals (B
 Does files below mirrors memories them system folder under it pages terminals (Restore from file replaces) old new
     result = Restores system folder under.calls it from.now file.now replaces result × (new ≡ old)
 Does files below mirrors memories them system folder under it pages terminals (Diff file other) old new result =
-    TellsDifference files below them file.now other.now old new result
+    WritesDifference files below them file.now other.now old new result
 Does files below mirrors memories them system folder under it pages terminals (Load text file) old new result =
     Loads system folder under.calls it text.now file.now result × (new ≡ old)
 Does files below mirrors memories them system folder under it pages terminals (Salvage file to) old new result =

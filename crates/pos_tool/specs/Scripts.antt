@@ -14,8 +14,8 @@ use Rattle.pos_report.specs.declared.question.Finding.TheVariants.{Good}
 use Rattle.pos_shell.specs.Outputs.{Streams}
 use Rattle.pos_shell.specs.Runs.{Runs, RunsAll}
 use Rattle.pos_shell.specs.declared.runs.RunFault.{RunFault}
-use Rattle.pos_shell.specs.declared.told.Form.{Form}
-use Rattle.pos_shell.specs.declared.told.Form.TheVariants.{Json, Numbered, Typed}
+use Rattle.pos_shell.specs.declared.answer_texts.AnswerFormat.{AnswerFormat}
+use Rattle.pos_shell.specs.declared.answer_texts.AnswerFormat.TheVariants.{Json, Numbered, Typed}
 use Rattle.pos_tool.specs.declared.fault.Fault.{Fault}
 use Rattle.pos_tool.specs.declared.fault.Fault.TheVariants as fault
 
@@ -25,7 +25,7 @@ is_typed (path ∷ []) false true = bytes_eq path.now (codes "-")
 is_typed paths json is_terminal = false
 
 -- how the answers of scripts are told
-abbrev pub form_of : Bool → Form
+abbrev pub form_of : Bool → AnswerFormat
 form_of true = Json
 form_of false = Numbered
 

@@ -1,6 +1,6 @@
 -- How a file appears whole or not at all (docs/reference/tool.md, "backup").
-use Rattle.std.specs.Prelude.{◌≡◌, ◌⊎◌, ◌++◌, ◌∷◌, [], ℕ, List, length, true, false, Option, Some, None, Result, Ok, Err}
-use Rattle.std.specs.Prelude.{codes}
+use Rattle.std.specs.Prelude.{◌≡◌, ◌⊎◌, ◌++◌, ◌∷◌, [], ℕ, List, length, true, false, Option, Some, None, Result, Ok}
+use Rattle.std.specs.Prelude.{Err, codes}
 use Rattle.std.specs.Fs.{new_options, with_create_new, with_write}
 use Rattle.std.specs.declared.fs.options.OpenOptions.{OpenOptions}
 use Rattle.std.specs.declared.io.Error.{Error}
@@ -48,8 +48,8 @@ Settles system them path result =
 
 -- what follows an answer: at Ok this, and else the fault that it is told as
 abbrev pub Follows : (Error → WholeFault) → Type 0 → Result (Unit {0}) Error → Result (Unit {0}) WholeFault → Type 0
-Follows tell next (Ok u) result = next
-Follows tell next (Err cause) result = result ≡ Err (tell cause)
+Follows report next (Ok u) result = next
+Follows report next (Err cause) result = result ≡ Err (report cause)
 
 -- what giving a whole file its name, and taking away the first one, comes to
 abbrev pub LinksPart : {S F : Type 0} → SystemGhosts S F → FolderGhosts S → S → List ℕ → List ℕ

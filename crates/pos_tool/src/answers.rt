@@ -1,9 +1,9 @@
 //! How an answer is printed.
 ghost use Rattle.std.specs.Prelude.{◌≡◌};
 ghost use Rattle.pos_shell.specs.Outputs.{output_of};
-ghost use Rattle.pos_tool.specs.Differing.{PrintsDifference, SurveysBytes, SurveysFile, TellsDifference};
-ghost use Rattle.pos_tool.specs.Differing.{difference_finding};
-ghost use Rattle.pos_tool.specs.Telling.{Prints, TellsBytes, TellsFile, name_in};
+ghost use Rattle.pos_tool.specs.Differences.{PrintsDifference, SurveysBytes, SurveysFile, WritesDifference};
+ghost use Rattle.pos_tool.specs.Differences.{difference_finding};
+ghost use Rattle.pos_tool.specs.Surveys.{Prints, PrintsBytes, PrintsFile, name_in};
 
 use crate::fault::Fault;
 use pos_file::BlockFile;
@@ -25,14 +25,14 @@ fn name_in<'a>(question: Question<'a>) -> &'a str
 }
 
 // Prints what is answered to a question about the bytes of the totals file at a path.
-fn tell_bytes<'a, W: Sink>(
+fn print_bytes<'a, W: Sink>(
     alloc: Global,
     writer: &mut W,
     path: &'a str,
     question: Question<'a>,
     bytes: &[u8],
 ) -> Result<Finding, Fault<'a>>
-    ensures { TellsBytes path.entry.now question.entry bytes.now
+    ensures { PrintsBytes path.entry.now question.entry bytes.now
         (output_of W.Sink writer.old) (output_of W.Sink writer.new) result }
 {
     let (finding, text) = match answer(alloc, question, bytes) {
@@ -55,18 +55,18 @@ fn tell_bytes<'a, W: Sink>(
 /// # Errors
 ///
 /// `File` if the file can't be read, `Totals` and `NoFile` as `answer` has them, and `Write`.
-pub(crate) fn tell_file<'a, F: NamedFiles, W: Sink>(
+pub(crate) fn print_file<'a, F: NamedFiles, W: Sink>(
     alloc: Global,
     files: &F,
     writer: &mut W,
     path: &'a str,
     question: Question<'a>,
 ) -> Result<Finding, Fault<'a>>
-    ensures { TellsFile F.NamedFiles ⟦<F::File as BlockFile>⟧ files.now path.entry.now question.entry
+    ensures { PrintsFile F.NamedFiles ⟦<F::File as BlockFile>⟧ files.now path.entry.now question.entry
         (output_of W.Sink writer.old) (output_of W.Sink writer.new) result }
 {
     match files.read_disk(path) {
-        Ok(totals) => tell_bytes(alloc, writer, path, question, totals.bytes()),
+        Ok(totals) => print_bytes(alloc, writer, path, question, totals.bytes()),
         Err(cause) => Err(Fault::File { path, cause }),
     }
 }
@@ -120,7 +120,7 @@ fn finding_of(text: &[u8]) -> Finding
 }
 
 // Prints how totals differ of which surveys tell.
-fn tell_surveys<'a, W: Sink>(
+fn print_surveys<'a, W: Sink>(
     alloc: Global,
     writer: &mut W,
     first: &Survey,
@@ -143,14 +143,14 @@ fn tell_surveys<'a, W: Sink>(
 /// # Errors
 ///
 /// `File` and `Totals` for the first of them that can't be read or isn't sound, `NoMemory` and `Write`.
-pub(crate) fn tell_difference<'a, F: NamedFiles, W: Sink>(
+pub(crate) fn write_difference<'a, F: NamedFiles, W: Sink>(
     alloc: Global,
     files: &F,
     writer: &mut W,
     first: &'a str,
     second: &'a str,
 ) -> Result<Finding, Fault<'a>>
-    ensures { TellsDifference F.NamedFiles ⟦<F::File as BlockFile>⟧ files.now first.entry.now second.entry.now
+    ensures { WritesDifference F.NamedFiles ⟦<F::File as BlockFile>⟧ files.now first.entry.now second.entry.now
         (output_of W.Sink writer.old) (output_of W.Sink writer.new) result }
 {
     let one = match survey_file(alloc, files, first) {
@@ -158,7 +158,7 @@ pub(crate) fn tell_difference<'a, F: NamedFiles, W: Sink>(
         Err(fault) => return Err(fault),
     };
     match survey_file(alloc, files, second) {
-        Ok(other) => tell_surveys(alloc, writer, &one, &other),
+        Ok(other) => print_surveys(alloc, writer, &one, &other),
         Err(fault) => Err(fault),
     }
 }

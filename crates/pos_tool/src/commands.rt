@@ -2,7 +2,7 @@
 ghost use Rattle.std.specs.Prelude.{◌≡◌, IfOk, map, option_map};
 ghost use Rattle.clap.specs.Words.{first_of, found_of, rows_of, subcommand_rows_of};
 ghost use Rattle.pos_tool.specs.Commands.{Asks, AsksFound, AsksOf, Chooses, MakesOf, PrintsOf, RunsOf};
-ghost use Rattle.pos_tool.specs.Commands.{TellsWhy, is_given, word_in, words_in};
+ghost use Rattle.pos_tool.specs.Commands.{PrintsWhy, is_given, word_in, words_in};
 
 use crate::fault::WordsFault;
 use crate::line::program_line;
@@ -111,7 +111,7 @@ pub enum Task<'a> {
 
 // What `clap` says where it gives no matches: it was asked for help or the version, or it refuses the words.
 fn task_of_error<'a>(error: clap::Error) -> Result<Task<'a>, WordsFault>
-    ensures { TellsWhy error result }
+    ensures { PrintsWhy error result }
 {
     let kind = error.kind();
     if kind == ErrorKind::OutOfMemory {

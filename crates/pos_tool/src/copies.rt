@@ -3,9 +3,9 @@ ghost use Rattle.std.specs.Prelude.{IfErr, IfOk};
 ghost use Rattle.pos_program.specs.Answers.{bytes_of};
 ghost use Rattle.pos_tool.specs.Copies.{BacksUp, ChecksSound, EndsCopy, IsUnread, PutsBack, ReadsFront, ReadsSteady};
 ghost use Rattle.pos_tool.specs.Copies.{ReadsTwice, Restores, CopiesTo, TakesSnapshot, lent};
-ghost use Rattle.pos_tool.specs.Making.{Loads, LoadsText, MakesLoad, MakesSalvage, PutsSalvaged, Salvages};
-ghost use Rattle.pos_tool.specs.Making.{SalvagesBytes};
-ghost use Rattle.pos_tool.specs.Telling.{EndsAtFile};
+ghost use Rattle.pos_tool.specs.NewFiles.{Loads, LoadsText, MakesLoad, MakesSalvage, PutsSalvaged, Salvages};
+ghost use Rattle.pos_tool.specs.NewFiles.{SalvagesBytes};
+ghost use Rattle.pos_tool.specs.Surveys.{EndsAtFile};
 ghost use Rattle.pos_program.specs.declared.file_fault.FileFault.TheVariants.{Unreadable};
 ghost use Rattle.pos_shell.specs.Outputs.{output_of};
 

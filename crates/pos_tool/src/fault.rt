@@ -6,7 +6,7 @@ ghost use Rattle.pos_tool.specs.Faults.{status_of, survey_status, told_status, t
 use crate::whole::WholeFault;
 use pos_program::{FileFault, FirstParagraph, OneLine, ProfileFileFault};
 use pos_report::{Finding, LoadFault};
-use pos_shell::{RunFault, TellFault, TrialFault};
+use pos_shell::{RunFault, ScriptsFault, TrialFault};
 use pos_survey::{SurveyFault, words_of};
 use std::fmt::Write;
 use std::{fmt, io};
@@ -174,13 +174,13 @@ fn profile_status(cause: &ProfileFileFault) -> u8
 }
 
 // The status of a run that stopped.
-fn told_status(cause: &TellFault) -> u8
+fn told_status(cause: &ScriptsFault) -> u8
     ensures { result ≡ told_status cause.now }
 {
     match cause {
-        TellFault::NoMemory => 6,
-        TellFault::Write => 5,
-        TellFault::Read => 4,
+        ScriptsFault::NoMemory => 6,
+        ScriptsFault::Write => 5,
+        ScriptsFault::Read => 4,
     }
 }
 
@@ -192,7 +192,7 @@ fn run_status(fault: &RunFault<'_>) -> u8
         RunFault::Script { .. } => 4,
         RunFault::Profile { cause, .. } => profile_status(cause),
         RunFault::Totals { cause, .. } => file_status(cause),
-        RunFault::Told(cause) => told_status(cause),
+        RunFault::Stopped(cause) => told_status(cause),
     }
 }
 
@@ -301,9 +301,12 @@ fn hint_of_run(fault: &RunFault<'_>) -> &'static str {
         RunFault::Profile { .. } =>
             "docs/reference/profile.md has each key; without --profile the built-in one serves",
         RunFault::Totals { cause, .. } => hint_of_file(cause),
-        RunFault::Told(TellFault::NoMemory) => "free memory; the lines that were told are done",
-        RunFault::Told(TellFault::Write) => "check the space that is free where the output goes",
-        RunFault::Told(TellFault::Read) => "put the lines into a script; the lines before are done",
+        RunFault::Stopped(ScriptsFault::NoMemory) =>
+            "free memory; the lines that were told are done",
+        RunFault::Stopped(ScriptsFault::Write) =>
+            "check the space that is free where the output goes",
+        RunFault::Stopped(ScriptsFault::Read) =>
+            "put the lines into a script; the lines before are done",
     }
 }
 
@@ -393,7 +396,7 @@ impl fmt::Display for Fault<'_> {
             }
             Fault::Run(RunFault::Profile { path, cause }) => write!(line, "{path}: {cause}")?,
             Fault::Run(RunFault::Totals { path, cause }) => write!(line, "{path}: {cause}")?,
-            Fault::Run(RunFault::Told(cause)) => write!(line, "{cause}")?,
+            Fault::Run(RunFault::Stopped(cause)) => write!(line, "{cause}")?,
             Fault::Trial(TrialFault::Script { path, cause }) => {
                 write!(line, "{path}: can't be read: {cause}")?
             }

@@ -1,6 +1,6 @@
 //! How far long work is, shown at a terminal.
 
-use pos_shell::Progress;
+use pos_shell::ProgressReport;
 use std::io::Eprint;
 use std::time::{Clock, Duration, Instant};
 
@@ -40,8 +40,8 @@ impl<'a, R: Clock + Eprint> Meter<'a, R> {
     }
 }
 
-impl<R: Clock + Eprint> Progress for Meter<'_, R> {
-    fn tell(&mut self, done: usize, all: usize) {
+impl<R: Clock + Eprint> ProgressReport for Meter<'_, R> {
+    fn report(&mut self, done: usize, all: usize) {
         if self.is_due() {
             let _ = self.system.eprint(format_args!("\rtried {done} of {all}"));
             self.is_shown = true;

@@ -6,7 +6,7 @@ ghost use Rattle.pos_shell.specs.Outputs.{output_of, streams_of};
 ghost use Rattle.pos_tool.specs.Program.{Completes, DoesAsAsked, DoesTask, EndsAt, Explains, Performs};
 ghost use Rattle.pos_tool.specs.Program.{fault_of_unread};
 
-use crate::answers::{print, tell_difference, tell_file};
+use crate::answers::{print, print_file, write_difference};
 use crate::commands::{Task, choice};
 use crate::copies::{back_up, load, restore, salvage};
 use crate::fault::{Fault, WordsFault, status_of};
@@ -18,7 +18,7 @@ use pos_program::{
     ChoiceFault, FileFault, FileSystem, NamedFiles, TotalsDisk, format_file, migrate_file,
 };
 use pos_report::{Code, Finding, explained};
-use pos_shell::Progress;
+use pos_shell::ProgressReport;
 use pos_streams::{Sink, Source};
 use std::alloc::Global;
 use std::convert::AsStr;
@@ -106,13 +106,13 @@ fn complete<'a, W: Sink>(
 }
 
 // Does what the words of the command line chose.
-fn carry_out<
+fn perform_task<
     'a,
     F: NamedFiles,
     S: FileSystem + Folder + AllocGlobal,
     R: Source,
     W: Sink,
-    P: Progress,
+    P: ProgressReport,
 >(
     files: &F,
     system: &S,
@@ -132,7 +132,7 @@ fn carry_out<
         Task::Help => print(writer, pages.help.as_bytes()),
         Task::Version => print(writer, pages.version_line.as_bytes()),
         Task::Explain { code } => explain(alloc, writer, pages.codes, code),
-        Task::Ask { file, question } => tell_file(alloc, files, writer, file, question),
+        Task::Ask { file, question } => print_file(alloc, files, writer, file, question),
         Task::Create { file } => at_file(file, format_file(files, file)),
         Task::Migrate { file } => at_file(file, migrate_file(alloc, files, file)),
         Task::Backup { file, to } => back_up(system, file, to),
@@ -141,7 +141,7 @@ fn carry_out<
             file,
             replaces,
         } => restore(system, from, file, replaces),
-        Task::Diff { file, other } => tell_difference(alloc, files, writer, file, other),
+        Task::Diff { file, other } => write_difference(alloc, files, writer, file, other),
         Task::Load { text, file } => load(system, text, file),
         Task::Salvage { file, to } => salvage(system, writer, file, to),
         Task::Run {
@@ -184,14 +184,14 @@ fn carry_out<
 }
 
 // Does what the words of the command line ask for.
-fn carry_out_words<
+fn perform_words<
     'a,
     F: NamedFiles,
     S: FileSystem + Folder + AllocGlobal,
     T: AsStr,
     R: Source,
     W: Sink,
-    P: Progress,
+    P: ProgressReport,
 >(
     files: &F,
     system: &S,
@@ -208,7 +208,7 @@ fn carry_out_words<
         (streams_of R.Source reader.old W.Sink writer.old) (streams_of R.Source reader.new W.Sink writer.new) result }
 {
     match choice(system.alloc(), words, pages.version) {
-        Ok(task) => carry_out(
+        Ok(task) => perform_task(
             files, system, reader, terminals, writer, progress, pages, task,
         ),
         Err(fault) => Err(Fault::Words(fault)),
@@ -245,7 +245,7 @@ pub fn perform<
     T: AsStr + Drop,
     R: Source,
     W: Sink,
-    P: Progress,
+    P: ProgressReport,
 >(
     files: &F,
     system: &S,
@@ -264,7 +264,7 @@ pub fn perform<
     match words {
         Ok(words) => {
             let words = words.as_slice();
-            let outcome = carry_out_words(
+            let outcome = perform_words(
                 files, system, reader, terminals, writer, progress, pages, words,
             );
             end(system, outcome)

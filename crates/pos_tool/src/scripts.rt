@@ -3,8 +3,8 @@ ghost use Rattle.std.specs.Prelude.{◌≡◌, IfOk};
 ghost use Rattle.pos_shell.specs.Outputs.{output_of, streams_of};
 ghost use Rattle.pos_tool.specs.Texts.{texts};
 ghost use Rattle.pos_tool.specs.Scripts.{EndsRun, RunsAsked, form_of, is_typed, run_finding};
-ghost use Rattle.pos_tool.specs.Testing.{Chooses, EndsReport, EndsTest, MakesReport, PrintsTrials, TellsTrials};
-ghost use Rattle.pos_tool.specs.Testing.{TestsOver, TestsPainted, TestsProfiled, tally_text, trial_finding};
+ghost use Rattle.pos_tool.specs.Trials.{Chooses, EndsReport, EndsTest, MakesReport, PrintsTrials, WritesTrials};
+ghost use Rattle.pos_tool.specs.Trials.{TestsOver, TestsPainted, TestsProfiled, tally_text, trial_finding};
 
 use crate::fault::Fault;
 use crate::folder::Folder;
@@ -16,8 +16,8 @@ use pos_profile::Profile;
 use pos_program::{FileSystem, NamedFiles, TotalsDisk};
 use pos_report::{Code, Finding};
 use pos_shell::{
-    Form, Manner, Progress, RunFault, Trial, failures, junit, painted, profile_at, run, run_typed,
-    tally, try_scripts, write_text,
+    AnswerFormat, AnswerStyle, ProgressReport, RunFault, Trial, failures, junit, painted,
+    profile_at, run, run_typed, tally, try_scripts, write_text,
 };
 use pos_streams::{Sink, Source};
 use std::alloc::{AllocError, Global};
@@ -33,13 +33,13 @@ fn at_run<'a>(answer: Result<(), RunFault<'a>>) -> Result<Finding, Fault<'a>>
 }
 
 // How the answers of scripts are told.
-fn form_of(json: bool) -> Form
+fn form_of(json: bool) -> AnswerFormat
     ensures { result ≡ form_of json }
 {
     if json {
-        return Form::Json;
+        return AnswerFormat::Json;
     }
-    Form::Numbered
+    AnswerFormat::Numbered
 }
 
 // Whether the lines of a run are typed: the input is a terminal, no script is named, and a person reads the answers.
@@ -69,14 +69,14 @@ fn run_lines<'a, F: NamedFiles, S: FileSystem + AllocGlobal, R: Source, W: Sink>
 {
     let alloc = system.alloc();
     if typed {
-        let form = Form::Typed;
-        let manner = Manner { codes, help, form };
-        return run_typed(alloc, files, &manner, profile, totals, reader, writer);
+        let form = AnswerFormat::Typed;
+        let style = AnswerStyle { codes, help, form };
+        return run_typed(alloc, files, &style, profile, totals, reader, writer);
     }
     let form = form_of(json);
-    let manner = Manner { codes, help, form };
+    let style = AnswerStyle { codes, help, form };
     run(
-        alloc, files, system, &manner, scripts, profile, totals, reader, writer,
+        alloc, files, system, &style, scripts, profile, totals, reader, writer,
     )
 }
 
@@ -200,14 +200,14 @@ fn make_report<'a, S: FileSystem + Folder + AllocGlobal>(
 }
 
 // Prints what trying scripts found, and then makes a report of it, if a path for one is given.
-fn tell_trials<'a, S: FileSystem + Folder + AllocGlobal, W: Sink>(
+fn write_trials<'a, S: FileSystem + Folder + AllocGlobal, W: Sink>(
     system: &S,
     writer: &mut W,
     trials: &[Trial<'_>],
     is_painted: bool,
     report: Option<&'a str>,
 ) -> Result<Finding, Fault<'a>>
-    ensures { TellsTrials S.FileSystem S.Folder ⟦<S::File as BlockFile>⟧.calls system.now is_painted report.entry
+    ensures { WritesTrials S.FileSystem S.Folder ⟦<S::File as BlockFile>⟧.calls system.now is_painted report.entry
         trials.now (output_of W.Sink writer.old) (output_of W.Sink writer.new) result }
 {
     let finding = match print_trials(system.alloc(), writer, trials, is_painted) {
@@ -221,7 +221,7 @@ fn tell_trials<'a, S: FileSystem + Folder + AllocGlobal, W: Sink>(
 }
 
 // Tries the scripts at paths over a profile, and tells what was found.
-fn try_over<'a, S: FileSystem + Folder + AllocGlobal, W: Sink, P: Progress>(
+fn try_over<'a, S: FileSystem + Folder + AllocGlobal, W: Sink, P: ProgressReport>(
     system: &S,
     writer: &mut W,
     progress: &mut P,
@@ -236,13 +236,13 @@ fn try_over<'a, S: FileSystem + Folder + AllocGlobal, W: Sink, P: Progress>(
     let tried = try_scripts(system.alloc(), system, profile, paths, progress);
     progress.end();
     match tried {
-        Ok(trials) => tell_trials(system, writer, &trials, is_painted, report),
+        Ok(trials) => write_trials(system, writer, &trials, is_painted, report),
         Err(fault) => Err(Fault::Trial(fault)),
     }
 }
 
 // Tries the scripts that paths stand for over a profile, and tells what was found.
-fn try_profiled<'a, S: FileSystem + Folder + AllocGlobal, W: Sink, P: Progress>(
+fn try_profiled<'a, S: FileSystem + Folder + AllocGlobal, W: Sink, P: ProgressReport>(
     system: &S,
     writer: &mut W,
     progress: &mut P,
@@ -264,7 +264,7 @@ fn try_profiled<'a, S: FileSystem + Folder + AllocGlobal, W: Sink, P: Progress>(
 }
 
 // Tries the scripts that paths stand for over the profile at a path, the built-in one if none is given.
-fn try_painted<'a, F: NamedFiles, S: FileSystem + Folder + AllocGlobal, W: Sink, P: Progress>(
+fn try_painted<'a, F: NamedFiles, S: FileSystem + Folder + AllocGlobal, W: Sink, P: ProgressReport>(
     files: &F,
     system: &S,
     writer: &mut W,
@@ -300,7 +300,7 @@ pub(crate) fn try_paths<
     F: NamedFiles,
     S: FileSystem + Folder + AllocGlobal,
     W: Sink,
-    P: Progress,
+    P: ProgressReport,
 >(
     files: &F,
     system: &S,

@@ -1,10 +1,13 @@
 -- What each change does to the files is what its group does to the directory.
-use Rattle.pos_totals.proofs.Common.{AllByRecursion, AreDistinct, AreTheirFiles, Bool, Change, Create, Delete, Edit, File, FileEdit, Layout, List, None, Ok}
-use Rattle.pos_totals.proofs.Common.{Option, PlainFile, Rename, Some, Tag, [], and_parts, ap, are_distinct, arith, bytes_eq-Decides, change_rows, drop-map}
-use Rattle.pos_totals.proofs.Common.{edited, false, file_change, files_after, find, first_refusal, fits, fits_file, free_data, handles_of, has_file, has_name}
-use Rattle.pos_totals.proofs.Common.{index_of, is_called, is_named, is_some, is_up_to, leb-true, length, length-map, limits_of, map, map-append, map-set}
-use Rattle.pos_totals.proofs.Common.{nat_abs, nat_tests, negsuc, not, not-true, option_map, outcome, plain, plain_file, pos, refl, remove, set, size_in_sum}
-use Rattle.pos_totals.proofs.Common.{slice_get, slice_get-map, sum_by-map, sym, take-map, total_size, totals_limits, true, with_each, with_tags, ℕ, ℤ, ◌∙◌, ◌∷◌}
+use Rattle.pos_totals.proofs.Common.{AllByRecursion, AreDistinct, AreTheirFiles, Bool, Change, Create, Delete, Edit}
+use Rattle.pos_totals.proofs.Common.{File, FileEdit, Layout, List, None, Ok, Option, PlainFile, Rename, Some, FileTag}
+use Rattle.pos_totals.proofs.Common.{[], and_parts, ap, are_distinct, arith, bytes_eq-Decides, change_rows, drop-map}
+use Rattle.pos_totals.proofs.Common.{edited, false, file_change, files_after, find, first_refusal, fits, fits_file}
+use Rattle.pos_totals.proofs.Common.{free_data, handles_of, has_file, has_name, index_of, is_called, is_named, is_some}
+use Rattle.pos_totals.proofs.Common.{is_up_to, leb-true, length, length-map, limits_of, map, map-append, map-set}
+use Rattle.pos_totals.proofs.Common.{nat_abs, nat_tests, negsuc, not, not-true, option_map, outcome, plain, plain_file}
+use Rattle.pos_totals.proofs.Common.{pos, refl, remove, set, size_in_sum, slice_get, slice_get-map, sum_by-map, sym}
+use Rattle.pos_totals.proofs.Common.{take-map, total_size, totals_limits, true, with_each, with_tags, ℕ, ℤ, ◌∙◌, ◌∷◌}
 use Rattle.pos_totals.proofs.Common.{◌≡◌, ◌≤◌}
 use Rattle.pos_totals.proofs.EditLemmas.{makes_edit}
 use Rattle.pos_totals.proofs.PairLemmas.{plain_of}
@@ -37,7 +40,8 @@ only_named (first ∷ files) name distinct =
     )
 
 -- none of the files has a handle that differs from all of theirs
-others : (files : List File) (handle : ℕ) → AllByRecursion (λ other. ¬ (other ≡ handle)) (handles_of files) → find (is_called (pos handle)) files ≡ None
+others : (files : List File) (handle : ℕ) → AllByRecursion (λ other. ¬ (other ≡ handle)) (handles_of files)
+    → find (is_called (pos handle)) files ≡ None
 others [] handle differ = refl
 others (first ∷ files) handle differ = grind (arith, nat_tests, differ.0, others files handle differ.1)
 
@@ -56,33 +60,41 @@ pub plain_size : (files : List File) → total_size (plain files) ≡ size_in_su
 plain_size files = sum_by-map plain_file (λ (x : PlainFile). length x.bytes) files
 
 -- the same of files with their tags
-pub paired_size : (tags : List Tag) (files : List PlainFile) → length tags ≡ length files → size_in_sum (with_tags tags files) ≡ total_size files
+pub paired_size : (tags : List FileTag) (files : List PlainFile) → length tags ≡ length files
+    → size_in_sum (with_tags tags files) ≡ total_size files
 paired_size tags files same = sym (plain_size (with_tags tags files)) ∙ ap total_size (plain_of tags files same)
 
 -- a file that was found is in the directory at its index
 plain_at : (test : File → Bool) (files : List File) (file : File) → find test files ≡ Some file
     → slice_get (plain files) (index_of test files) ≡ Some (plain_file file)
-plain_at test files file found = slice_get-map plain_file files (index_of test files) ∙ ap (option_map plain_file) (found_at test files file found)
+plain_at test files file found =
+    slice_get-map plain_file files (index_of test files) ∙ ap (option_map plain_file) (found_at test files file found)
 
 -- what the directory makes is what the change makes
 abbrev pub Makes : Layout → List File → Change → ℕ → Type 0
-Makes layout files change next = outcome (limits_of layout) (plain files) (file_change files change) ≡ Ok (plain (files_after next files change))
+Makes layout files change next =
+    outcome (limits_of layout) (plain files) (file_change files change) ≡ Ok (plain (files_after next files change))
 
 up_to : (limit : ℕ) (n : ℤ) → is_up_to limit n ≡ true → nat_abs n ≤ limit
 up_to limit (pos n) fits = leb-true n limit fits
 up_to limit (negsuc n) fits = absurd cc
 
 -- the one file with a handle, changed in its place
-set_plain : (files : List File) (handle : ℤ) (f : File) (change : File → File) → AreDistinct (handles_of files) → find (is_called handle) files ≡ Some f
-    → set (plain files) (index_of (is_called handle) files) (plain_file (change f)) ≡ plain (with_each (is_called handle) change files)
-set_plain files handle f change distinct found = rw (one_changed (is_called handle) change files f (only_called files handle distinct) found, map-set) refl
+set_plain : (files : List File) (handle : ℤ) (f : File) (change : File → File) → AreDistinct (handles_of files)
+    → find (is_called handle) files ≡ Some f
+    → set (plain files) (index_of (is_called handle) files) (plain_file (change f)) ≡ plain
+    (with_each (is_called handle) change files)
+set_plain files handle f change distinct found =
+    rw (one_changed (is_called handle) change files f (only_called files handle distinct) found, map-set) refl
 
 -- an edit that fits is of a file that is there
-pub fitting : (found : Option File) (edit : FileEdit) → fits_file found edit ≡ true → (f : File) × (found ≡ Some f) × (fits (length f.bytes) edit ≡ true)
+pub fitting : (found : Option File) (edit : FileEdit) → fits_file found edit ≡ true
+    → (f : File) × (found ≡ Some f) × (fits (length f.bytes) edit ≡ true)
 fitting None edit fit = absurd cc
 fitting (Some f) edit fit = (f, refl, fit)
 
-pub made_edit : (layout : Layout) (files : List File) (handle : ℤ) (edit : FileEdit) (next : ℕ) → AreDistinct (handles_of files)
+pub made_edit : (layout : Layout) (files : List File) (handle : ℤ) (edit : FileEdit) (next : ℕ)
+    → AreDistinct (handles_of files)
     → fits_file (find (is_called handle) files) edit ≡ true → Makes layout files (Edit handle edit) next
 made_edit layout files handle edit next distinct fit =
     let found = fitting (find (is_called handle) files) edit fit in
@@ -93,13 +105,15 @@ made_edit layout files handle edit next distinct fit =
 -- ---- a change that nothing refuses
 
 -- Nothing refuses a change of files that are theirs.
-pub record IsUnrefused (layout : Layout) (files : List File) (next control : ℕ) (spent : Option ℕ) (change : Change) : Type 0 where
+pub record IsUnrefused (layout : Layout) (files : List File) (next control : ℕ) (spent : Option ℕ)
+    (change : Change) : Type 0 where
   pub theirs : AreTheirFiles layout files next
   pub rows : first_refusal (change_rows (totals_limits layout) files control spent change) ≡ None
 
 module _ {layout : Layout} {files : List File} {next control : ℕ} {spent : Option ℕ} where
   -- the file of a delete
-  pub deleted : (name : List ℕ) → IsUnrefused layout files next control spent (Delete name) → (file : File) × (find (is_named name) files ≡ Some file)
+  pub deleted : (name : List ℕ) → IsUnrefused layout files next control spent (Delete name)
+      → (file : File) × (find (is_named name) files ≡ Some file)
   deleted name may =
       let there : has_file (is_named name) files ≡ true = grind (arith, nat_tests, may.rows) in
       some_of (find (is_named name) files) there
@@ -134,6 +148,10 @@ module _ {layout : Layout} {files : List File} {next control : ℕ} {spent : Opt
       let there : has_file (is_called handle) files ≡ true = grind (arith, nat_tests) in
       let free : has_name (plain files) name ≡ false = grind (arith, nat_tests, plain_name files name) in
       let found = some_of (find (is_called handle) files) there in
-      rw (plain_at (is_called handle) files found.0 found.1, free, set_plain files handle found.0 (λ f. record f { name = name }) may.theirs.distinct found.1)
+      rw (
+        plain_at (is_called handle) files found.0 found.1,
+        free,
+        set_plain files handle found.0 (λ f. record f { name = name }) may.theirs.distinct found.1,
+      )
       refl
   makes (Edit handle edit) may = made_edit layout files handle edit next may.theirs.distinct (edit_fits handle edit may)

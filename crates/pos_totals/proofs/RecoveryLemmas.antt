@@ -1,8 +1,10 @@
 -- What a recovery of the totals did, by what the store found and the handles that were left.
-use Rattle.pos_totals.proofs.Common.{Err, FindsFiles, Ghosts, HandleTable, Holdings, IsErrOf, IsSound, Layout, Layout1, LeavesItsFiles, LeavesTheirFiles, List}
-use Rattle.pos_totals.proofs.Common.{Numbers, Ok, PlainFile, Recovers, RecoveryFault, Result, Some, Standing, State, StoreFault, StoreOff, StoreReady}
-use Rattle.pos_totals.proofs.Common.{StoreView, arith, false, inl, inr, is_some, length, mode_of, nat_tests, refl, settles, store_files_of, store_mode_of}
-use Rattle.pos_totals.proofs.Common.{stored, tags_from, told_as, totals_at, true, view_of, with_tags, ℕ, ⊎_elim, ◌+◌, ◌↔◌, ◌≡◌}
+use Rattle.pos_totals.proofs.Common.{Err, FindsFiles, Ghosts, HandleTable, Holdings, IsErrOf, IsSound, Layout, Layout1}
+use Rattle.pos_totals.proofs.Common.{LeavesItsFiles, LeavesTheirFiles, List, Numbers, Ok, PlainFile, Recovers}
+use Rattle.pos_totals.proofs.Common.{RecoveryFault, Result, Some, Standing, State, StoreFault, StoreOff, StoreReady}
+use Rattle.pos_totals.proofs.Common.{StoreView, arith, false, inl, inr, is_some, length, mode_of, nat_tests, refl}
+use Rattle.pos_totals.proofs.Common.{settles, store_files_of, store_mode_of, stored, tags_from, told_as, totals_at}
+use Rattle.pos_totals.proofs.Common.{true, view_of, with_tags, ℕ, ⊎_elim, ◌+◌, ◌↔◌, ◌≡◌}
 use Rattle.pos_totals.proofs.AreaLemmas.{apart_new}
 use Rattle.pos_totals.proofs.BufferLemmas.{off_holds}
 use Rattle.pos_totals.proofs.NumberLemmas.{with_numbers, are_numbers}
@@ -14,10 +16,12 @@ use Rattle.pos_totals.specs.declared.fault.RecoveryFault.TheVariants as fault
 
 -- ---- a recovery of totals that are ready
 
-pub ready_recovers : {D : Type 0} (bound : Ghosts D) (disk : D) (layout : Layout) (state : State) (tail : ℕ) (holdings : Holdings)
+pub ready_recovers : {D : Type 0} (bound : Ghosts D) (disk : D) (layout : Layout) (state : State) (tail : ℕ)
+    (holdings : Holdings)
     → IsSound layout state holdings → (sequence : ℕ) → mode.Ready sequence ≡ store_mode_of state
     → (bound.honest disk → LeavesItsFiles layout state (bound.state disk))
-    → let old = view_of (record { disk = disk; layout = layout; state = state; tail = tail }) holdings in Recovers bound old (Ok tt) old
+    → let old = view_of (record { disk = disk; layout = layout; state = state; tail = tail }) holdings in
+    Recovers bound old (Ok tt) old
 ready_recovers bound disk layout StoreOff tail holdings sound sequence ready leaves = absurd cc
 ready_recovers bound disk layout (StoreReady files sequence) tail holdings sound other ready leaves = record {
   ready = (refl, refl);
@@ -33,7 +37,8 @@ ready_recovers bound disk layout (StoreReady files sequence) tail holdings sound
 -- ---- what a store found, in the totals' words
 
 -- a fault of the store, which is off
-told_finds : (P : Standing → Type 0) (holdings : Holdings) (why : StoreFault) (result : RecoveryFault) (layout : Layout) (state : State)
+told_finds : (P : Standing → Type 0) (holdings : Holdings) (why : StoreFault) (result : RecoveryFault) (layout : Layout)
+    (state : State)
     → store.FindsStanding P (Err why) layout state → told_as why ≡ Some result
     → (state ≡ StoreOff) × FindsFiles P (totals_at StoreOff 0 holdings) (Err result) (totals_at StoreOff 0 holdings)
 told_finds P holdings why result layout state finds tells = grind (arith, nat_tests)
@@ -51,13 +56,17 @@ found_table next count = record { given = tags_from next count; next = next + co
 
 -- ---- a recovery of totals that are off, by what is made of a finding whatever P tells
 
-off_recovers : {D : Type 0} {bound : Ghosts D} {disk : D} {layout : Layout} {tail : ℕ} {result : Result (Unit {0}) StoreFault} {mid : StoreView D}
-    (holdings : Holdings) → store.Recovers bound (record { disk = disk; layout = layout; state = StoreOff; tail = tail }) result mid
+off_recovers : {D : Type 0} {bound : Ghosts D} {disk : D} {layout : Layout} {tail : ℕ} {result : Result
+    (Unit {0}) StoreFault} {mid : StoreView D}
+    (holdings : Holdings) → store.Recovers bound
+    (record { disk = disk; layout = layout; state = StoreOff; tail = tail }) result mid
     → (told : Result (Unit {0}) RecoveryFault) (state : State) (later : Holdings)
-    → ((P : Standing → Type 0) → store.FindsStanding P result mid.layout mid.state → FindsFiles P (totals_at StoreOff 0 holdings) told (totals_at state mid.tail later))
+    → ((P : Standing → Type 0) → store.FindsStanding P result mid.layout mid.state
+    → FindsFiles P (totals_at StoreOff 0 holdings) told (totals_at state mid.tail later))
     → (IsErrOf told fault.Device ↔ IsErrOf result cause.Device)
     → (bound.honest disk → LeavesTheirFiles later.layout (mode_of later.handles.given state) (bound.state mid.disk))
-    → Recovers bound (record { disk = disk; totals = totals_at StoreOff 0 holdings }) told (record { disk = mid.disk; totals = totals_at state mid.tail later })
+    → Recovers bound (record { disk = disk; totals = totals_at StoreOff 0 holdings }) told
+    (record { disk = mid.disk; totals = totals_at state mid.tail later })
 off_recovers holdings recovers told state later finds device now = record {
   ready = tt;
   answer = finds _ recovers.answer;
@@ -77,7 +86,8 @@ off_recovers holdings recovers told state later finds device now = record {
 
 -- a store that is off
 pub data IsOff {D : Type 0} : StoreView D → Type 0 where
-  WasOff : (disk : D) (layout : Layout) (tail : ℕ) → IsOff (record { disk = disk; layout = layout; state = StoreOff; tail = tail })
+  WasOff : (disk : D) (layout : Layout) (tail : ℕ)
+      → IsOff (record { disk = disk; layout = layout; state = StoreOff; tail = tail })
 
 off_is : {D : Type 0} (disk : D) (layout : Layout) (state : State) (tail : ℕ) → store_mode_of state ≡ mode.Off
     → IsOff (record { disk = disk; layout = layout; state = state; tail = tail })
@@ -92,25 +102,33 @@ pub data Shows {D : Type 0} (files : List PlainFile) : StoreView D → Type 0 wh
   Shown : (disk : D) (layout : Layout) (sequence tail : ℕ)
       → Shows files (record { disk = disk; layout = layout; state = StoreReady files sequence; tail = tail })
 
-shown_at : {D : Type 0} (disk : D) (layout : Layout) (state : State) (tail : ℕ) (files : List PlainFile) → store_files_of state ≡ Some files
+shown_at : {D : Type 0} (disk : D) (layout : Layout) (state : State) (tail : ℕ) (files : List PlainFile)
+    → store_files_of state ≡ Some files
     → Shows files (record { disk = disk; layout = layout; state = state; tail = tail })
 shown_at disk layout StoreOff tail files is = absurd cc
-shown_at disk layout (StoreReady found sequence) tail files is = let same : found ≡ files = cc in rw (← same) (Shown disk layout sequence tail)
+shown_at disk layout (StoreReady found sequence) tail files is = let same : found ≡ files = cc in
+    rw (← same) (Shown disk layout sequence tail)
 
-pub shown : {D : Type 0} (mid : StoreView D) (files : List PlainFile) → store_files_of mid.state ≡ Some files → Shows files mid
+pub shown : {D : Type 0} (mid : StoreView D) (files : List PlainFile) → store_files_of mid.state ≡ Some files
+    → Shows files mid
 shown mid files is = shown_at mid.disk mid.layout mid.state mid.tail files is
 
 module _ {D : Type 0} {bound : Ghosts D} where
   -- the store met a fault
-  pub is_told : {old mid : StoreView D} → IsOff old → (why : StoreFault) → store.Recovers bound old (Err why) mid → is_some (told_as why) ≡ true
+  pub is_told : {old mid : StoreView D} → IsOff old → (why : StoreFault) → store.Recovers bound old (Err why) mid
+      → is_some (told_as why) ≡ true
   is_told (WasOff disk layout tail) why did = let finds = did.answer in grind (arith, nat_tests)
 
-  pub store_failed : {old mid : StoreView D} → IsOff old → (holdings : Holdings) → IsSound old.layout old.state holdings → (why : StoreFault)
+  pub store_failed : {old mid : StoreView D} → IsOff old → (holdings : Holdings) → IsSound old.layout old.state holdings
+      → (why : StoreFault)
       (result : RecoveryFault) → store.Recovers bound old (Err why) mid → told_as why ≡ Some result
-      → Recovers bound (view_of old holdings) (Err result) (view_of mid holdings) × IsSound mid.layout mid.state holdings
+      → Recovers bound (view_of old holdings) (Err result) (view_of mid holdings)
+      × IsSound mid.layout mid.state holdings
   store_failed {mid = mid} (WasOff disk layout tail) holdings sound why result did tells =
-      let none = (told_finds (store.DiskStandsFor bound disk) holdings why result mid.layout mid.state did.answer tells).0 in
-      let still : IsSound mid.layout mid.state holdings = rw none (record { found = tt; handles = tt; buffers = sound.buffers; apart = tt }) in (
+      let none = (told_finds (store.DiskStandsFor bound disk) holdings why result mid.layout mid.state did.answer
+      tells).0 in
+      let still : IsSound mid.layout mid.state holdings =
+      rw none (record { found = tt; handles = tt; buffers = sound.buffers; apart = tt }) in (
         off_recovers holdings did (Err result) mid.state holdings
             (λ P finds. rw none (told_finds P holdings why result mid.layout mid.state finds tells).1)
             ((λ e. grind (arith, nat_tests)), (λ e. grind (arith, nat_tests)))
@@ -119,18 +137,21 @@ module _ {D : Type 0} {bound : Ghosts D} where
       )
 
   -- the files that it found got handles
-  pub store_found : {old mid : StoreView D} {files : List PlainFile} → IsOff old → Shows files mid → (holdings : Holdings)
+  pub store_found : {old mid : StoreView D} {files : List PlainFile} → IsOff old → Shows files mid
+      → (holdings : Holdings)
       → IsSound old.layout old.state holdings → (table : HandleTable) → store.Recovers bound old (Ok tt) mid
       → Numbers holdings.handles.given holdings.handles.next (length files) true table.given table.next
       → Recovers bound (view_of old holdings) (Ok tt) (view_of mid (found_by holdings mid.layout table))
       × IsSound mid.layout mid.state (found_by holdings mid.layout table)
-  store_found {files = files} (WasOff disk layout tail) (Shown after found sequence end) holdings sound table did numbers = rw (numbers.1, numbers.2) (
+  store_found {files = files} (WasOff disk layout tail)
+      (Shown after found sequence end) holdings sound table did numbers = rw (numbers.1, numbers.2) (
       let next = holdings.handles.next in
       let later = found_by holdings found (found_table next (length files)) in
       let still : IsSound found (StoreReady files sequence) later = record {
         found = refl;
         handles = are_numbers files next;
-        buffers = off_holds (with_tags (tags_from next (length files)) files) sequence next (next + length files) holdings.transactions sound.buffers;
+        buffers = off_holds (with_tags (tags_from next (length files)) files) sequence next
+            (next + length files) holdings.transactions sound.buffers;
         apart = apart_new holdings.area next (length files);
       } in (
         off_recovers holdings did (Ok tt) (StoreReady files sequence) later
@@ -149,17 +170,30 @@ module _ {D : Type 0} {bound : Ghosts D} where
       )
 
   -- they are too many
-  pub store_found_more : {old mid : StoreView D} {files : List PlainFile} → IsOff old → Shows files mid → (holdings : Holdings)
-      → IsSound old.layout old.state holdings → (table : HandleTable) (new : StoreView D) → store.Recovers bound old (Ok tt) mid
+  pub store_found_more : {old mid : StoreView D} {files : List PlainFile} → IsOff old → Shows files mid
+      → (holdings : Holdings)
+      → IsSound old.layout old.state holdings → (table : HandleTable) (new : StoreView D)
+      → store.Recovers bound old (Ok tt) mid
       → Numbers holdings.handles.given holdings.handles.next (length files) false table.given table.next
       → new ≡ record { disk = mid.disk; layout = Layout1; state = StoreOff; tail = 0 }
       → Recovers bound (view_of old holdings) (Err fault.Handles) (view_of new (with_table holdings table))
       × IsSound new.layout new.state (with_table holdings table)
-  store_found_more {files = files} (WasOff disk layout tail) (Shown after found sequence end) holdings sound table new did numbers turned =
+  store_found_more {files = files} (WasOff disk layout tail)
+      (Shown after found sequence end) holdings sound table new did numbers turned =
       rw (turned, numbers.1, numbers.2) (
         let many = numbers.0 in
             off_recovers holdings did (Err fault.Handles) StoreOff holdings
-            (λ P finds. (record { layout = found; files = files; sequence = sequence; found = finds; handles = λ few. omega (arith, few, many) }, refl))
+            (λ P finds. (
+              record {
+                layout = found;
+                files = files;
+                sequence = sequence;
+                found = finds;
+                handles =
+                    λ few. omega (arith, few, many);
+              },
+              refl,
+            ))
             ((λ e. absurd cc), (λ e. absurd cc)) (λ h. tt),
         record { found = tt; handles = tt; buffers = sound.buffers; apart = tt },
       )

@@ -1,6 +1,6 @@
 -- What may be buffered in transactions.
-use Rattle.std.specs.Prelude.{◌≡◌, ◌<◌, ◌≤◌, ◌+◌, ℕ, ℤ, pos, negsuc, nat_abs, true, List, [], ◌∷◌, ◌++◌, length, Option, Some, None, IfSome}
-use Rattle.std.specs.Prelude.{Result, Ok, Err, slice_set, ⊤}
+use Rattle.std.specs.Prelude.{◌≡◌, ◌<◌, ◌≤◌, ◌+◌, ℕ, ℤ, pos, negsuc, nat_abs, true, List, [], ◌∷◌, ◌++◌, length, Option}
+use Rattle.std.specs.Prelude.{Some, None, IfSome, Result, Ok, Err, slice_set, ⊤}
 use Rattle.std.specs.List.{AllByRecursion}
 use Rattle.std.specs.Option.{option_map}
 use Rattle.pos_dir.specs.declared.file.TheConstants.{LAYOUT_2}
@@ -8,7 +8,8 @@ use Rattle.pos_service.specs.declared.answer.Answer.{Answer}
 use Rattle.pos_service.specs.declared.answer.Answer.TheVariants as answer
 use Rattle.pos_service.specs.declared.answer.Value.TheVariants as value
 use Rattle.pos_service.specs.declared.faults.NoMemory.{NoMemory}
-use Rattle.pos_totals.specs.HardTotals.{File, Mode, Off, Ready, Change, Create, Delete, Rename, Edit, transaction_at, without_transactions}
+use Rattle.pos_totals.specs.HardTotals.{File, Mode, Off, Ready, Change, Create, Delete, Rename, Edit, transaction_at}
+use Rattle.pos_totals.specs.HardTotals.{without_transactions}
 use Rattle.pos_totals.specs.Edits.{FileEdit, fits, edit_cost, edit_change, edit_in, edit_owned}
 use Rattle.pos_totals.specs.TotalsFiles.{is_called}
 use Rattle.pos_totals.specs.TotalsChanges.{cost_of_all}
@@ -16,7 +17,7 @@ use Rattle.pos_dir.specs.declared.change.Change.{Change as FileChange}
 use Rattle.pos_dir.specs.declared.change.Change.TheVariants as file
 use Rattle.pos_store.specs.declared.fault.StoreFault.{StoreFault}
 use Rattle.pos_store.specs.declared.fault.StoreFault.TheVariants as fault
-use Rattle.pos_totals.specs.declared.request.Checked.{Checked}
+use Rattle.pos_totals.specs.declared.update.CheckedUpdate.{CheckedUpdate}
 use Rattle.pos_totals.specs.declared.edits.OwnedEdit.{OwnedEdit}
 
 -- the edit of the file with a handle
@@ -83,7 +84,7 @@ HasLeft None cost = ⊥
 HasLeft (Some buffer) cost = cost_of_all buffer + cost ≤ LAYOUT_2.bytes
 
 -- A checked change is an edit, and the control is in a transaction that has enough left for it.
-pub record MayBuffer (transactions : List (Option (List Change))) (control : ℕ) (made : Checked) : Type 0 where
+pub record MayBuffer (transactions : List (Option (List Change))) (control : ℕ) (made : CheckedUpdate) : Type 0 where
   pub handle : ℕ
   pub edit : FileEdit
   pub named : made.handle ≡ Some handle
@@ -96,14 +97,14 @@ with_buffered transactions control change =
     slice_set transactions control (option_map (λ buffer. buffer ++ change ∷ []) (transaction_at transactions control))
 
 -- A change was added to those that a control has buffered.
-pub record Adds (old : List (Option (List Change))) (control : ℕ) (made : Checked)
+pub record Adds (old : List (Option (List Change))) (control : ℕ) (made : CheckedUpdate)
     (new : List (Option (List Change))) : Type 0 where
   pub change : Change
   pub asked : IsAsked change made.handle made.change
   pub added : new ≡ with_buffered old control change
 
 -- what a call does that buffers a change; want of memory changes nothing
-abbrev pub Buffers : List (Option (List Change)) → ℕ → Checked → Result Answer NoMemory
+abbrev pub Buffers : List (Option (List Change)) → ℕ → CheckedUpdate → Result Answer NoMemory
     → List (Option (List Change)) → Type 0
 Buffers old control made (Ok result) new = (result ≡ answer.Done value.Empty) × Adds old control made new
 Buffers old control made (Err want) new = new ≡ old

@@ -1,6 +1,6 @@
 -- What the checks of a call find, before anything is done.
-use Rattle.std.specs.Prelude.{◌≡◌, ◌⊎◌, ◌≤◌, ◌+◌, ℕ, ℤ, pos, Bool, true, false, List, [], ◌∷◌, length, Option, Some, None, IfSome}
-use Rattle.std.specs.Prelude.{MatchResult, Result, Ok, Err, ⊤}
+use Rattle.std.specs.Prelude.{◌≡◌, ◌⊎◌, ◌≤◌, ◌+◌, ℕ, ℤ, pos, Bool, true, false, List, [], ◌∷◌, length, Option, Some}
+use Rattle.std.specs.Prelude.{None, IfSome, MatchResult, Result, Ok, Err, ⊤}
 use Rattle.std.specs.List.{find}
 use Rattle.std.specs.Option.{option_map}
 use Rattle.pos_dir.specs.Changes.{flaw_of}
@@ -12,8 +12,8 @@ use Rattle.pos_service.specs.declared.answer.Answer.TheVariants as answer
 use Rattle.pos_service.specs.declared.code.Code.TheVariants as code
 use Rattle.pos_service.specs.declared.faults.NoMemory.{NoMemory}
 use Rattle.pos_service.specs.Claims.{is_foreign}
-use Rattle.pos_totals.specs.HardTotals.{File, Mode, Off, Ready, Totals, Change, Create, Delete, Rename, Edit, TotalsLimits, totals_limits}
-use Rattle.pos_totals.specs.HardTotals.{transaction_of, files_of}
+use Rattle.pos_totals.specs.HardTotals.{File, Mode, Off, Ready, Totals, Change, Create, Delete, Rename, Edit}
+use Rattle.pos_totals.specs.HardTotals.{TotalsLimits, totals_limits, transaction_of, files_of}
 use Rattle.pos_totals.specs.TotalsChanges.{change_rows, refusals_of_change, spent_by}
 use Rattle.pos_totals.specs.TotalsArrangements.{Arrangement, arrangement_rows, refusals_of_arrangement}
 use Rattle.pos_totals.specs.TotalsCommits.{refusals_of_commit}
@@ -34,18 +34,18 @@ use Rattle.pos_totals.specs.declared.commits.Commitment.TheVariants as commitmen
 use Rattle.pos_totals.specs.declared.commits.Plan.{Plan}
 use Rattle.pos_totals.specs.declared.commits.Plan.TheVariants as plan
 use Rattle.pos_totals.specs.declared.files.Files.{Files}
-use Rattle.pos_totals.specs.declared.files.Found.{Found}
-use Rattle.pos_totals.specs.declared.request.Caller.{Caller}
-use Rattle.pos_totals.specs.declared.request.Request.{Request}
-use Rattle.pos_totals.specs.declared.request.Request.TheVariants as request
-use Rattle.pos_totals.specs.declared.request.Checked.{Checked}
+use Rattle.pos_totals.specs.declared.files.FoundFile.{FoundFile}
+use Rattle.pos_totals.specs.declared.update.Caller.{Caller}
+use Rattle.pos_totals.specs.declared.update.TotalsUpdate.{TotalsUpdate}
+use Rattle.pos_totals.specs.declared.update.TotalsUpdate.TheVariants as update
+use Rattle.pos_totals.specs.declared.update.CheckedUpdate.{CheckedUpdate}
 
 -- the change that a request asks for
-abbrev pub change_of : Request → Change
-change_of (request.Create name size) = Create name.now size
-change_of (request.Delete name) = Delete name.now
-change_of (request.Rename handle name) = Rename handle name.now
-change_of (request.Edit handle edit) = Edit handle (edit_of edit)
+abbrev pub change_of : TotalsUpdate → Change
+change_of (update.Create name size) = Create name.now size
+change_of (update.Delete name) = Delete name.now
+change_of (update.Rename handle name) = Rename handle name.now
+change_of (update.Edit handle edit) = Edit handle (edit_of edit)
 
 -- the files with their tags
 abbrev pub files_in : Files → List File
@@ -74,47 +74,47 @@ pub record IsRange (size : ℕ) (offset count : ℤ) (from many : ℕ) : Type 0 
   pub inside : from + many ≤ size
 
 -- a file that was found
-abbrev pub file_of : Found → File
+abbrev pub file_of : FoundFile → File
 file_of found = record { handle = found.handle; name = found.name.now; bytes = found.bytes.now; claim = found.claim }
 
 -- A search finds the first file that meets a test, and its index. No disk has a larger file than layout 2 allows.
-pub record FindsFile (test : File → Bool) (files : List File) (found : Option Found) : Type 0 where
+pub record FindsFile (test : File → Bool) (files : List File) (found : Option FoundFile) : Type 0 where
   pub file : option_map file_of found ≡ find test files
   pub index : IfSome found (λ f. f.index ≡ index_of test files)
   pub small : IfSome found (λ f. length f.bytes.now ≤ LAYOUT_2.bytes)
 
 -- a question about files that are known is answered by its table, and then by its value; memory runs out only after the
 -- table
-abbrev pub TellsIn : List File → ℕ → Question → Answer → Type 0
-TellsIn files control question result =
+abbrev pub AnswersIn : List File → ℕ → Question → Answer → Type 0
+AnswersIn files control question result =
     Decided (question_rows files control question) result (Unit {0}) (result ≡ answer.Done (told_of files question))
 
 abbrev pub MayTellIn : List File → ℕ → Question → Result Answer NoMemory → Type 0
 MayTellIn files control question outcome =
-    MatchResult outcome (λ result. TellsIn files control question result)
+    MatchResult outcome (λ result. AnswersIn files control question result)
     (λ want. (is_told_in_memory question ≡ true) × (first_refusal (question_rows files control question) ≡ None))
 
 -- Nothing refuses the change, and a group takes it.
 pub record Passes (limits : TotalsLimits) (files : List File) (control : ℕ) (spent : Option ℕ) (change : Change)
-    (checked : Checked) : Type 0 where
+    (checked : CheckedUpdate) : Type 0 where
   pub unrefused : first_refusal (change_rows limits files control spent change) ≡ None
   pub made : file_change files change ≡ checked.change
   pub flawless : flaw_of checked.change ≡ None
   pub asked : IsAsked change checked.handle checked.change
 
 -- what a check of a change by its table finds
-abbrev pub Checks : TotalsLimits → List File → Caller → Change → Result Checked Answer → Type 0
+abbrev pub Checks : TotalsLimits → List File → Caller → Change → Result CheckedUpdate Answer → Type 0
 Checks limits files caller change (Ok made) = Passes limits files caller.control caller.spent change made
 Checks limits files caller change (Err refusal) =
     first_refusal (change_rows limits files caller.control caller.spent change) ≡ Some refusal
 
 -- nothing refuses the change of totals that are off, or ready
-abbrev pub PassesIn : TotalsLimits → Mode → ℕ → Option ℕ → Change → Checked → Type 0
+abbrev pub PassesIn : TotalsLimits → Mode → ℕ → Option ℕ → Change → CheckedUpdate → Type 0
 PassesIn limits Off control spent change made = ⊥
 PassesIn limits (Ready files sequence) control spent change made = Passes limits files control spent change made
 
 -- what a check of a change finds
-abbrev pub ChecksAt : Totals → ℕ → Change → Result Checked Answer → Type 0
+abbrev pub ChecksAt : Totals → ℕ → Change → Result CheckedUpdate Answer → Type 0
 ChecksAt totals control change (Ok made) =
     (is_foreign control totals.area ≡ false)
     × PassesIn (totals_limits totals.layout) totals.mode control (spent_by totals control) change made

@@ -1,6 +1,7 @@
 -- Edits: changes of a file that is there, whose size stays (chapter Hard Totals, write and setAll). The other files
 -- know an edit only by what is said of it here.
-use Rattle.std.specs.Prelude.{◌≡◌, ℕ, ◌+◌, ℤ, pos, nat_abs, Bool, true, List, ◌++◌, length, take, drop, replicate, Option, Some, None}
+use Rattle.std.specs.Prelude.{◌≡◌, ℕ, ◌+◌, ℤ, pos, nat_abs, Bool, true, List, ◌++◌, length, take, drop, replicate}
+use Rattle.std.specs.Prelude.{Option, Some, None}
 use Rattle.pos_dir.specs.Changes.{flaw_of}
 use Rattle.pos_dir.specs.declared.change.Change.{Change as FileChange}
 use Rattle.pos_dir.specs.declared.change.Change.TheVariants as file

@@ -1,7 +1,7 @@
 -- Hard Totals: their files, their mode, and what controls have of them (chapter Hard Totals). Numbers of a call may be
 -- below 0.
-use Rattle.std.specs.Prelude.{◌≡◌, ◌⊎◌, ℕ, ◌+◌, ℤ, Bool, true, false, List, [], ◌∷◌, ◌++◌, map, slice_get, slice_set, Option, Some, None, is_some, nat_eq}
-use Rattle.std.specs.Prelude.{if◌then◌else◌}
+use Rattle.std.specs.Prelude.{◌≡◌, ◌⊎◌, ℕ, ◌+◌, ℤ, Bool, true, false, List, [], ◌∷◌, ◌++◌, map, slice_get, slice_set}
+use Rattle.std.specs.Prelude.{Option, Some, None, is_some, nat_eq, if◌then◌else◌}
 use Rattle.std.specs.Option.{option_flatten}
 use Rattle.pos_image.specs.declared.layout.Layout.{Layout}
 use Rattle.pos_store.specs.Layouts.{limits_of}

@@ -1,5 +1,6 @@
 -- What a control arranges for itself: claimFile, releaseFile, beginTrans, rollback (chapter Hard Totals).
-use Rattle.std.specs.Prelude.{◌≡◌, ℕ, ℤ, Bool, false, not, ◌&&◌, ◌||◌, List, [], ◌∷◌, slice_get, Option, Some, None, is_none}
+use Rattle.std.specs.Prelude.{◌≡◌, ℕ, ℤ, Bool, false, not, ◌&&◌, ◌||◌, List, [], ◌∷◌, slice_get, Option, Some, None}
+use Rattle.std.specs.Prelude.{is_none}
 use Rattle.std.specs.List.{find}
 use Rattle.std.specs.Option.{option_flatten}
 use Rattle.pos_service.specs.declared.answer.Answer.{Answer}
@@ -13,8 +14,8 @@ use Rattle.pos_service.specs.Refusals.{Row, when, Decided}
 use Rattle.pos_totals.specs.HardTotals.{File, Change, Totals, with_transaction, with_files}
 use Rattle.pos_totals.specs.declared.arrangements.Arrangement.{Arrangement as Asked}
 use Rattle.pos_totals.specs.declared.arrangements.Arrangement.TheVariants as asked
-use Rattle.pos_totals.specs.declared.claims.Claiming.{Claiming}
-use Rattle.pos_totals.specs.declared.claims.Claiming.TheVariants as claiming
+use Rattle.pos_totals.specs.declared.claims.ClaimRequest.{ClaimRequest}
+use Rattle.pos_totals.specs.declared.claims.ClaimRequest.TheVariants as claiming
 use Rattle.pos_totals.specs.TotalsFiles.{is_called, has_file, is_own_file, is_foreign_file, with_each}
 use Rattle.pos_totals.specs.TotalsRows.{while_ready}
 
@@ -42,11 +43,11 @@ arrangement_asked call.Rollback = Some Rollback
 arrangement_asked other = None
 
 -- the arrangement of a file's claim that a control makes, and the claim that the file has then
-abbrev pub arrangement_by : ℤ → Claiming → Arrangement
+abbrev pub arrangement_by : ℤ → ClaimRequest → Arrangement
 arrangement_by handle (claiming.Claim timeout) = ClaimFile handle timeout
 arrangement_by handle claiming.Release = ReleaseFile handle
 
-abbrev pub claim_after : ℕ → Claiming → Option ℕ
+abbrev pub claim_after : ℕ → ClaimRequest → Option ℕ
 claim_after control (claiming.Claim timeout) = Some control
 claim_after control claiming.Release = None
 

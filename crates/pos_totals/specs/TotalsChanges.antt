@@ -1,6 +1,7 @@
 -- Changes of the files: create, delete, rename, and edits of a file (chapter Hard Totals).
-use Rattle.std.specs.Prelude.{◌≡◌, ◌⊎◌, ℕ, ◌+◌, pos, nat_abs, Bool, true, false, not, ◌&&◌, ◌||◌, List, [], ◌∷◌, ◌++◌, length, replicate, sum_by, Option, Some}
-use Rattle.std.specs.Prelude.{None, is_some, is_none, nat_eq, nat_le, Result, MatchOption, MatchResult, if◌then◌else◌}
+use Rattle.std.specs.Prelude.{◌≡◌, ◌⊎◌, ℕ, ◌+◌, pos, nat_abs, Bool, true, false, not, ◌&&◌, ◌||◌, List, [], ◌∷◌, ◌++◌}
+use Rattle.std.specs.Prelude.{length, replicate, sum_by, Option, Some, None, is_some, is_none, nat_eq, nat_le, Result}
+use Rattle.std.specs.Prelude.{MatchOption, MatchResult, if◌then◌else◌}
 use Rattle.std.specs.List.{find, filter}
 use Rattle.std.specs.Option.{option_map}
 use Rattle.pos_service.specs.declared.answer.Answer.{Answer}
@@ -13,9 +14,10 @@ use Rattle.pos_service.specs.declared.code.Code.TheVariants as code
 use Rattle.pos_service.specs.declared.faults.NoMemory.{NoMemory}
 use Rattle.pos_service.specs.Numbers.{is_natural}
 use Rattle.pos_service.specs.Refusals.{Row, when, first_refusal, Decided}
-use Rattle.pos_totals.specs.HardTotals.{TotalsLimits, totals_limits, last_number, IsAmong, File, Mode, Off, Ready, Change, Create, Delete, Rename}
-use Rattle.pos_totals.specs.HardTotals.{Edit, Totals, transaction_of, in_transaction, sequences_after, after_disk_fault, with_transaction, is_last}
-use Rattle.pos_totals.specs.HardTotals.{files_of, sequence_of}
+use Rattle.pos_totals.specs.HardTotals.{TotalsLimits, totals_limits, last_number, IsAmong, File, Mode, Off, Ready}
+use Rattle.pos_totals.specs.HardTotals.{Change, Create, Delete, Rename, Edit, Totals, transaction_of, in_transaction}
+use Rattle.pos_totals.specs.HardTotals.{sequences_after, after_disk_fault, with_transaction, is_last, files_of}
+use Rattle.pos_totals.specs.HardTotals.{sequence_of}
 use Rattle.pos_totals.specs.Groups.{group_of}
 use Rattle.pos_store.specs.Commits as store
 use Rattle.pos_totals.specs.Edits.{FileEdit, edit_asked, fits, edit_cost, edited}

@@ -1,6 +1,6 @@
 -- What is asked of the files of Hard Totals (chapter Hard Totals).
-use Rattle.std.specs.Prelude.{ℕ, ◌-◌, ℤ, pos, negsuc, Bool, false, ◌&&◌, List, length, map, sum_by, slice_get, Option, Some, None}
-use Rattle.std.specs.Prelude.{is_some, nat_eq, nat_lt, nat_le, bytes_eq, if◌then◌else◌}
+use Rattle.std.specs.Prelude.{ℕ, ◌-◌, ℤ, pos, negsuc, Bool, false, ◌&&◌, List, length, map, sum_by, slice_get, Option}
+use Rattle.std.specs.Prelude.{Some, None, is_some, nat_eq, nat_lt, nat_le, bytes_eq, if◌then◌else◌}
 use Rattle.std.specs.List.{find, list_all}
 use Rattle.pos_service.specs.Claims.{is_own, is_foreign}
 use Rattle.pos_service.specs.Numbers.{is_up_to}

@@ -1,6 +1,6 @@
 -- Questions about the files: find, findByIndex, read (chapter Hard Totals).
-use Rattle.std.specs.Prelude.{◌≡◌, ℕ, ℤ, pos, nat_abs, Bool, true, false, not, List, [], ◌∷◌, length, take, drop, Option, Some, None, is_none}
-use Rattle.std.specs.Prelude.{Result, MatchResult}
+use Rattle.std.specs.Prelude.{◌≡◌, ℕ, ℤ, pos, nat_abs, Bool, true, false, not, List, [], ◌∷◌, length, take, drop}
+use Rattle.std.specs.Prelude.{Option, Some, None, is_none, Result, MatchResult}
 use Rattle.std.specs.List.{find}
 use Rattle.pos_service.specs.declared.answer.Answer.{Answer}
 use Rattle.pos_service.specs.declared.answer.Answer.TheVariants as answer
@@ -69,14 +69,14 @@ told_of files (Read handle offset count) =
     told (find (is_called handle) files) (λ file. value.Bytes (take (nat_abs count) (drop (nat_abs offset) file.bytes)))
 
 -- A question is answered by its table, and then by its value. Nothing changes.
-abbrev pub Tells : Totals → ℕ → Question → Answer → Type 0
-Tells totals control question result =
+abbrev pub Reports : Totals → ℕ → Question → Answer → Type 0
+Reports totals control question result =
     Decided (refusals_of_question totals control question) result (Unit {0})
     (result ≡ answer.Done (told_of (files_of totals.mode) question))
 
 -- The same if memory may run out: only for a question whose answer takes memory, and only after the table.
 abbrev pub MayTell : Totals → ℕ → Question → Result Answer NoMemory → Type 0
 MayTell totals control question outcome =
-    MatchResult outcome (λ result. Tells totals control question result)
+    MatchResult outcome (λ result. Reports totals control question result)
     (λ want. (is_told_in_memory question ≡ true)
     × (first_refusal (refusals_of_question totals control question) ≡ None))

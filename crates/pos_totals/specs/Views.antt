@@ -9,10 +9,10 @@ use Rattle.pos_service.specs.Claims.{is_foreign}
 use Rattle.pos_totals.specs.HardTotals.{File, Mode, Off, Ready, Totals, files_of}
 use Rattle.pos_totals.specs.TotalsClaims.{is_foreign_claim}
 use Rattle.pos_store.specs.Layouts.{limits_of}
-use Rattle.pos_store.specs.StoreViews.{StoreState as State, LeavesItsFiles}
-use Rattle.pos_store.specs.StoreViews.{Off as StoreOff, Ready as StoreReady, StoreView}
+use Rattle.pos_store.specs.StoreViews.{StoreState as State, LeavesItsFiles, Off as StoreOff, Ready as StoreReady}
+use Rattle.pos_store.specs.StoreViews.{StoreView}
 use Rattle.pos_totals.specs.Buffers.{HaveBuffers}
-use Rattle.pos_totals.specs.declared.handles.Tag.{Tag}
+use Rattle.pos_totals.specs.declared.handles.FileTag.{FileTag}
 use Rattle.pos_totals.specs.declared.totals.Holdings.{Holdings}
 
 -- The disk, and what the totals have of it.
@@ -24,7 +24,7 @@ pub record TotalsView (D : Type 0) : Type 0 where
 abbrev pub plain_file : File → PlainFile
 plain_file file = record { name = file.name; bytes = file.bytes }
 
-abbrev pub called : Tag → PlainFile → File
+abbrev pub called : FileTag → PlainFile → File
 called tag file = record { handle = tag.handle; name = file.name; bytes = file.bytes; claim = tag.claim }
 
 -- the files without their handles and claims, as a disk has them
@@ -36,14 +36,14 @@ abbrev pub handles_of : List File → List ℕ
 handles_of files = map (λ file. file.handle) files
 
 -- their handles with their claims
-abbrev pub tag_of : File → Tag
+abbrev pub tag_of : File → FileTag
 tag_of file = record { handle = file.handle; claim = file.claim }
 
-abbrev pub tags_of : List File → List Tag
+abbrev pub tags_of : List File → List FileTag
 tags_of files = map tag_of files
 
 -- the handles of tags
-abbrev pub numbers_of : List Tag → List ℕ
+abbrev pub numbers_of : List FileTag → List ℕ
 numbers_of tags = map (λ tag. tag.handle) tags
 
 -- what a store has of the totals
@@ -76,13 +76,13 @@ abbrev pub LeavesTheirFiles : Layout → Mode → DiskState → Type 0
 LeavesTheirFiles layout mode disk = LeavesItsFiles layout (stored mode) disk
 
 -- files and their tags in one list
-abbrev pub with_tags : List Tag → List PlainFile → List File
+abbrev pub with_tags : List FileTag → List PlainFile → List File
 with_tags [] files = []
 with_tags (tag ∷ tags) [] = []
 with_tags (tag ∷ tags) (file ∷ files) = called tag file ∷ with_tags tags files
 
 -- what a store's state and the tags mean
-abbrev pub mode_of : List Tag → State → Mode
+abbrev pub mode_of : List FileTag → State → Mode
 mode_of tags StoreOff = Off
 mode_of tags (StoreReady files sequence) = Ready (with_tags tags files) sequence
 
@@ -115,18 +115,18 @@ AreDistinct [] = ⊤
 AreDistinct (handle ∷ handles) = AllByRecursion (λ other. ¬ (other ≡ handle)) handles × AreDistinct handles
 
 -- Each file has a handle of its own, below the next one.
-pub record AreHandles (tags : List Tag) (files : List PlainFile) (next : ℕ) : Type 0 where
+pub record AreHandles (tags : List FileTag) (files : List PlainFile) (next : ℕ) : Type 0 where
   pub count : length tags ≡ length files
   pub distinct : AreDistinct (numbers_of tags)
   pub below : AllByRecursion (λ handle. handle < next) (numbers_of tags)
 
 -- if a store is ready, its files have their handles
-abbrev pub HasHandles : State → List Tag → ℕ → Type 0
+abbrev pub HasHandles : State → List FileTag → ℕ → Type 0
 HasHandles StoreOff tags next = ⊤
 HasHandles (StoreReady files sequence) tags next = AreHandles tags files next
 
 -- if a store is ready, and a control has claimed the area, no other has claimed a file
-abbrev pub AreApart : State → Option ℕ → List Tag → Type 0
+abbrev pub AreApart : State → Option ℕ → List FileTag → Type 0
 AreApart StoreOff area tags = ⊤
 AreApart (StoreReady files sequence) area tags =
     IfSome area (λ holder. AllByRecursion (λ tag. is_foreign holder tag.claim ≡ false) tags)

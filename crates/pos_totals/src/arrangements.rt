@@ -4,7 +4,7 @@ ghost use Rattle.std.specs.Option.{option_map};
 ghost use Rattle.pos_totals.specs.TotalsArrangements.{Arranges, arrangement_asked, arrangement_of};
 ghost use Rattle.pos_totals.specs.Views.{IsSound, totals_of};
 
-use crate::claims::{Claiming, claim_file};
+use crate::claims::{ClaimRequest, claim_file};
 use crate::totals::Holdings;
 use crate::transaction_calls::{begin_trans, rollback};
 use pos_disk::Disk;
@@ -76,11 +76,11 @@ pub(crate) fn arrange<D: Disk>(
                 holdings,
                 control,
                 handle,
-                Claiming::Claim { timeout },
+                ClaimRequest::Claim { timeout },
             )
         }
         Arrangement::ReleaseFile { handle } => {
-            claim_file(store, holdings, control, handle, Claiming::Release)
+            claim_file(store, holdings, control, handle, ClaimRequest::Release)
         }
         Arrangement::BeginTrans => begin_trans(alloc, store, holdings, control),
         Arrangement::Rollback => rollback(store, holdings, control),

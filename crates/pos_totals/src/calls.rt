@@ -7,14 +7,14 @@ ghost use Rattle.pos_totals.specs.TotalsCalls.{Calls, file_call};
 use crate::arrangements::Arrangement;
 use crate::edits::Edit;
 use crate::questions::Question;
-use crate::request::Request;
 use crate::totals::Totals;
+use crate::update::TotalsUpdate;
 use pos_disk::Disk;
 use pos_service::{Answer, NoMemory};
 
 impl<D: Disk> Totals<D> {
     /// Adds a file of `size` zero bytes after the others, and answers its handle (`create`). Error detection has no
-    /// effect. It is refused as [`Request::Create`] is.
+    /// effect. It is refused as [`TotalsUpdate::Create`] is.
     ///
     /// # Errors
     ///
@@ -29,10 +29,10 @@ impl<D: Disk> Totals<D> {
         ensures { Calls D.Disk self.old control (file_call (call.Create name.now size error_detection)) result
             self.new }
     {
-        self.change(control, Request::Create { name, size })
+        self.change(control, TotalsUpdate::Create { name, size })
     }
 
-    /// Removes the file with a name (`delete`). It is refused as [`Request::Delete`] is.
+    /// Removes the file with a name (`delete`). It is refused as [`TotalsUpdate::Delete`] is.
     ///
     /// # Errors
     ///
@@ -40,7 +40,7 @@ impl<D: Disk> Totals<D> {
     pub fn delete(&mut self, control: usize, name: &[u8]) -> Result<Answer, NoMemory>
         ensures { Calls D.Disk self.old control (file_call (call.Delete name.now)) result self.new }
     {
-        self.change(control, Request::Delete { name })
+        self.change(control, TotalsUpdate::Delete { name })
     }
 
     /// Answers the handle and the size of the file with a name (`find`). It is refused as [`Question::Find`] is, and
@@ -103,7 +103,7 @@ impl<D: Disk> Totals<D> {
         ensures { Calls D.Disk self.old control (file_call (call.Write handle offset bytes.now)) result self.new }
     {
         let edit = Edit::Write { offset, bytes };
-        self.change(control, Request::Edit { handle, edit })
+        self.change(control, TotalsUpdate::Edit { handle, edit })
     }
 
     /// Makes each byte of a file the same, 0 to 255 (`setAll`). It is refused as [`Edit`] is.
@@ -115,10 +115,10 @@ impl<D: Disk> Totals<D> {
         ensures { Calls D.Disk self.old control (file_call (call.SetAll handle value)) result self.new }
     {
         let edit = Edit::SetAll { value };
-        self.change(control, Request::Edit { handle, edit })
+        self.change(control, TotalsUpdate::Edit { handle, edit })
     }
 
-    /// Gives a file another name (`rename`). It is refused as [`Request::Rename`] is.
+    /// Gives a file another name (`rename`). It is refused as [`TotalsUpdate::Rename`] is.
     ///
     /// # Errors
     ///
@@ -126,7 +126,7 @@ impl<D: Disk> Totals<D> {
     pub fn rename(&mut self, control: usize, handle: i128, name: &[u8]) -> Result<Answer, NoMemory>
         ensures { Calls D.Disk self.old control (file_call (call.Rename handle name.now)) result self.new }
     {
-        self.change(control, Request::Rename { handle, name })
+        self.change(control, TotalsUpdate::Rename { handle, name })
     }
 
     /// Claims a file for the control (`claimFile`). The timeout is in milliseconds, -1 for no end; nothing is waited

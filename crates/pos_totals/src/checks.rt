@@ -8,7 +8,7 @@ ghost use Rattle.pos_totals.specs.Checks.{files_in, limits_in, change_of, AreFil
 
 use crate::edits::Edit;
 use crate::files::{Files, find_handle, find_name, has_room, totals_size};
-use crate::request::{Caller, Checked, Request};
+use crate::update::{Caller, CheckedUpdate, TotalsUpdate};
 use pos_dir::{Change, LentBytes, is_name};
 use pos_image::Layout;
 use pos_service::claims::is_foreign;
@@ -23,16 +23,16 @@ use pos_service::{Answer, Code, ETOT_NOROOM};
 pub(crate) fn check<'a>(
     files: Files<'_>,
     caller: Caller,
-    request: &Request<'a>,
-) -> Result<Checked<'a>, Answer>
+    update: &TotalsUpdate<'a>,
+) -> Result<CheckedUpdate<'a>, Answer>
     requires { AreFiles files }
-    ensures { Checks (limits_in files.entry) (files_in files.entry) caller (change_of request.now) result }
+    ensures { Checks (limits_in files.entry) (files_in files.entry) caller (change_of update.now) result }
 {
-    match request {
-        Request::Create { name, size } => check_create(files, caller, name, *size),
-        Request::Delete { name } => check_delete(files, caller, name),
-        Request::Rename { handle, name } => check_rename(files, caller, *handle, name),
-        Request::Edit { handle, edit } => check_edit(files, caller, *handle, edit),
+    match update {
+        TotalsUpdate::Create { name, size } => check_create(files, caller, name, *size),
+        TotalsUpdate::Delete { name } => check_delete(files, caller, name),
+        TotalsUpdate::Rename { handle, name } => check_rename(files, caller, *handle, name),
+        TotalsUpdate::Edit { handle, edit } => check_edit(files, caller, *handle, edit),
     }
 }
 
@@ -42,7 +42,7 @@ fn check_create<'a>(
     caller: Caller,
     name: &'a [u8],
     size: i128,
-) -> Result<Checked<'a>, Answer>
+) -> Result<CheckedUpdate<'a>, Answer>
     requires { AreFiles files }
     ensures { Checks (limits_in files.entry) (files_in files.entry) caller (Create name.now size) result }
 {
@@ -61,7 +61,7 @@ fn check_create<'a>(
     if !has_room(files, size) {
         return Err(Answer::Refused(Code::Extended, ETOT_NOROOM));
     }
-    Ok(Checked {
+    Ok(CheckedUpdate {
         handle: None,
         change: Change::Create {
             name: LentBytes::from_slice(name),
@@ -71,7 +71,11 @@ fn check_create<'a>(
 }
 
 // Checks a `delete`: a file with the name.
-fn check_delete<'a>(files: Files<'_>, caller: Caller, name: &'a [u8]) -> Result<Checked<'a>, Answer>
+fn check_delete<'a>(
+    files: Files<'_>,
+    caller: Caller,
+    name: &'a [u8],
+) -> Result<CheckedUpdate<'a>, Answer>
     requires { AreFiles files }
     ensures { Checks (limits_in files.entry) (files_in files.entry) caller (Delete name.now) result }
 {
@@ -84,7 +88,7 @@ fn check_delete<'a>(files: Files<'_>, caller: Caller, name: &'a [u8]) -> Result<
     if is_foreign(caller.control, found.claim) {
         return Err(Answer::Refused(Code::Claimed, 0));
     }
-    Ok(Checked {
+    Ok(CheckedUpdate {
         handle: None,
         change: Change::Delete { index: found.index },
     })
@@ -96,7 +100,7 @@ fn check_rename<'a>(
     caller: Caller,
     handle: i128,
     name: &'a [u8],
-) -> Result<Checked<'a>, Answer>
+) -> Result<CheckedUpdate<'a>, Answer>
     requires { AreFiles files }
     ensures { Checks (limits_in files.entry) (files_in files.entry) caller (Rename handle name.now) result }
 {
@@ -115,7 +119,7 @@ fn check_rename<'a>(
     if is_foreign(caller.control, found.claim) {
         return Err(Answer::Refused(Code::Claimed, 0));
     }
-    Ok(Checked {
+    Ok(CheckedUpdate {
         handle: Some(found.handle),
         change: Change::Rename {
             index: found.index,
@@ -130,7 +134,7 @@ fn check_edit<'a>(
     caller: Caller,
     handle: i128,
     edit: &Edit<'a>,
-) -> Result<Checked<'a>, Answer>
+) -> Result<CheckedUpdate<'a>, Answer>
     requires { AreFiles files }
     ensures { Checks (limits_in files.entry) (files_in files.entry) caller
         (model.Edit handle (edit_of edit.now)) result }
@@ -147,7 +151,7 @@ fn check_edit<'a>(
     if is_too_costly(files.layout, caller.spent, edit.cost()) {
         return Err(Answer::Refused(Code::Extended, ETOT_NOROOM));
     }
-    Ok(Checked {
+    Ok(CheckedUpdate {
         handle: Some(found.handle),
         change,
     })

@@ -9,7 +9,7 @@ ghost use Rattle.pos_totals.specs.Checks.{files_in, AreFiles, LetsThrough, LetsT
 ghost use Rattle.pos_totals.specs.Views.{IsSound, totals_of};
 
 use crate::files::{Files, find_handle, see_files};
-use crate::handles::{Tag, Whose};
+use crate::handles::{ClaimScope, FileTag};
 use crate::totals::Holdings;
 use pos_disk::Disk;
 use pos_service::claims::{is_foreign, is_own, is_timeout};
@@ -18,21 +18,21 @@ use pos_store::Store;
 
 /// What a control asks for about the claim of a file.
 #[derive(Clone, Copy)]
-pub(crate) enum Claiming {
+pub(crate) enum ClaimRequest {
     /// To make it. The timeout is in milliseconds, -1 for no end, and nothing is waited for.
     Claim { timeout: i128 },
     /// To end it.
     Release,
 }
 
-impl Claiming {
+impl ClaimRequest {
     // Returns the claim of the file after it.
     fn claim(self, control: usize) -> Option<usize>
         ensures { result ≡ claim_after control self }
     {
         match self {
-            Claiming::Claim { timeout: _ } => Some(control),
-            Claiming::Release => None,
+            ClaimRequest::Claim { timeout: _ } => Some(control),
+            ClaimRequest::Release => None,
         }
     }
 }
@@ -43,7 +43,7 @@ pub(crate) fn claim_file<D: Disk>(
     holdings: &mut Holdings,
     control: usize,
     handle: i128,
-    claiming: Claiming,
+    claiming: ClaimRequest,
 ) -> Answer
     requires sound { IsSound store.now.layout store.now.state holdings.old }
     ensures sound { IsSound store.now.layout store.now.state holdings.new }
@@ -53,7 +53,7 @@ pub(crate) fn claim_file<D: Disk>(
     match check_claim(store, holdings, control, handle, claiming) {
         Ok(number) => {
             let claim = claiming.claim(control);
-            holdings.handles.reclaim(Whose::File(number), claim);
+            holdings.handles.reclaim(ClaimScope::File(number), claim);
             Answer::Done(Value::Empty)
         }
         Err(refusal) => refusal,
@@ -66,7 +66,7 @@ fn check_claim<D: Disk>(
     holdings: &Holdings,
     control: usize,
     handle: i128,
-    claiming: Claiming,
+    claiming: ClaimRequest,
 ) -> Result<u64, Answer>
     requires sound { IsSound store.now.layout store.now.state holdings.now }
     ensures { LetsThroughAt (totals_of store.now holdings.now) control (arrangement_by handle claiming) handle
@@ -84,7 +84,7 @@ fn check_claim_in(
     area: Option<usize>,
     control: usize,
     handle: i128,
-    claiming: Claiming,
+    claiming: ClaimRequest,
 ) -> Result<u64, Answer>
     requires { AreFiles files }
     ensures { LetsThrough area None (files_in files.entry) control (arrangement_by handle claiming) handle result }
@@ -93,7 +93,7 @@ fn check_claim_in(
         return Err(Answer::Refused(Code::Illegal, 0));
     };
     match claiming {
-        Claiming::Claim { timeout } => {
+        ClaimRequest::Claim { timeout } => {
             if !is_timeout(timeout) {
                 return Err(Answer::Refused(Code::Illegal, 0));
             }
@@ -102,7 +102,7 @@ fn check_claim_in(
             }
             Ok(found.handle)
         }
-        Claiming::Release => {
+        ClaimRequest::Release => {
             if !is_own(control, found.claim) {
                 return Err(Answer::Refused(Code::Illegal, 0));
             }
@@ -148,7 +148,7 @@ fn is_area_taken<D: Disk>(store: &Store<D>, holdings: &Holdings, control: usize)
 }
 
 // Returns whether another control has claimed a file.
-fn has_foreign_claim(tags: &[Tag], control: usize) -> bool
+fn has_foreign_claim(tags: &[FileTag], control: usize) -> bool
     ensures { result ≡ list_any (λ tag. is_foreign control tag.claim) tags.now }
 {
     tags.iter().any(|tag| is_foreign(control, tag.claim))

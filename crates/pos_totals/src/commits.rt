@@ -10,7 +10,7 @@ ghost use Rattle.pos_totals.specs.Groups.{file_change, group_of};
 ghost use Rattle.pos_totals.specs.Views.{HasDirectory, IsSound, totals_of, view_of};
 
 use crate::changes::{answer_fault, end_at};
-use crate::files::{Files, Found, find_handle, find_index, see_files};
+use crate::files::{Files, FoundFile, find_handle, find_index, see_files};
 use crate::totals::Holdings;
 use crate::transactions::Buffered;
 use pos_dir::{Change, Group};
@@ -164,7 +164,7 @@ fn refuse_commit(files: Files<'_>, control: usize, changes: &[Buffered]) -> Opti
 }
 
 // Returns the file of a buffered change, if it is still there.
-fn find_changed<'a>(files: Files<'a>, change: &Buffered) -> Option<Found<'a>>
+fn find_changed<'a>(files: Files<'a>, change: &Buffered) -> Option<FoundFile<'a>>
     requires { AreFiles files }
     ensures { option_map file_of result ≡ changed_file (files_in files.entry) change.now }
 {

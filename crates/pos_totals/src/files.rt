@@ -8,7 +8,7 @@ ghost use Rattle.pos_totals.specs.Groups.{index_of};
 ghost use Rattle.pos_totals.specs.Checks.{files_in, limits_in, file_of, AreFiles, FindsFile, IsSeen};
 ghost use Rattle.pos_totals.specs.Views.{HasDirectory, IsSound, mode_of};
 
-use crate::handles::Tag;
+use crate::handles::FileTag;
 use crate::totals::Holdings;
 use pos_dir::Directory;
 use pos_dir::laws::is_directory;
@@ -25,12 +25,12 @@ pub(crate) struct Files<'a> {
     /// Their names and bytes.
     pub directory: &'a Directory,
     /// Their handles and claims, in index order.
-    pub tags: &'a [Tag],
+    pub tags: &'a [FileTag],
 }
 
 /// A file that was found.
 #[derive(Clone, Copy)]
-pub(crate) struct Found<'a> {
+pub(crate) struct FoundFile<'a> {
     /// Its index, from 0.
     pub index: u16,
     /// Its handle.
@@ -67,7 +67,7 @@ pub(crate) fn see_files<'a, D: Disk>(
 
 /// Returns the file at an index, if there is one.
 #[tactic(auto, using(crate::proofs::PairLemmas::placed))]
-pub(crate) fn get_file<'a>(files: Files<'a>, index: usize) -> Option<Found<'a>>
+pub(crate) fn get_file<'a>(files: Files<'a>, index: usize) -> Option<FoundFile<'a>>
     requires { AreFiles files }
     ensures file { option_map file_of result ≡ slice_get (files_in files.entry) index }
     ensures index { IfSome result (λ found. found.index ≡ index) }
@@ -83,7 +83,7 @@ pub(crate) fn get_file<'a>(files: Files<'a>, index: usize) -> Option<Found<'a>>
         return None;
     };
     let tag = files.tags[index];
-    Some(Found {
+    Some(FoundFile {
         index: index as u16,
         handle: tag.handle,
         name,
@@ -94,7 +94,7 @@ pub(crate) fn get_file<'a>(files: Files<'a>, index: usize) -> Option<Found<'a>>
 
 /// Returns the file with a name, if there is one.
 #[tactic(auto, using(crate::proofs::SearchLemmas::searched))]
-pub(crate) fn find_name<'a>(files: Files<'a>, name: &[u8]) -> Option<Found<'a>>
+pub(crate) fn find_name<'a>(files: Files<'a>, name: &[u8]) -> Option<FoundFile<'a>>
     requires { AreFiles files }
     ensures { FindsFile (is_named name.now) (files_in files.entry) result }
 {
@@ -105,7 +105,7 @@ pub(crate) fn find_name<'a>(files: Files<'a>, name: &[u8]) -> Option<Found<'a>>
 }
 
 /// Returns the file with a handle, if there is one.
-pub(crate) fn find_handle<'a>(files: Files<'a>, handle: i128) -> Option<Found<'a>>
+pub(crate) fn find_handle<'a>(files: Files<'a>, handle: i128) -> Option<FoundFile<'a>>
     requires { AreFiles files }
     ensures finds { FindsFile (is_called handle) (files_in files.entry) result }
     ensures called { IfSome result (λ found. handle ≡ pos found.handle) }
@@ -118,7 +118,7 @@ pub(crate) fn find_handle<'a>(files: Files<'a>, handle: i128) -> Option<Found<'a
 
 // Returns the file with a handle that isn't below 0.
 #[tactic(auto, using(crate::proofs::SearchLemmas::searched))]
-fn find_number<'a>(files: Files<'a>, handle: u128) -> Option<Found<'a>>
+fn find_number<'a>(files: Files<'a>, handle: u128) -> Option<FoundFile<'a>>
     requires { AreFiles files }
     ensures { FindsFile (is_called (pos handle)) (files_in files.entry) result }
 {
@@ -141,7 +141,7 @@ pub(crate) fn find_index(files: Files<'_>, handle: u64) -> u16
 }
 
 // Returns the index of a handle.
-fn search(tags: &[Tag], handle: u128) -> Option<usize>
+fn search(tags: &[FileTag], handle: u128) -> Option<usize>
     ensures { result ≡ position (λ tag. nat_eq tag.handle handle) tags.now }
 {
     tags.iter().position(|tag| tag.handle as u128 == handle)

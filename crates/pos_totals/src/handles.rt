@@ -16,7 +16,7 @@ pub(crate) const MOST_FILES: usize = LAYOUT_2.files as usize;
 
 /// What the totals keep for a file besides the directory.
 #[derive(Clone, Copy, Default)]
-pub(crate) struct Tag {
+pub(crate) struct FileTag {
     /// Its handle.
     pub handle: u64,
     /// The control that has claimed it, if one has.
@@ -25,7 +25,7 @@ pub(crate) struct Tag {
 
 /// The claims that a change of claims applies to.
 #[derive(Clone, Copy)]
-pub(crate) enum Whose {
+pub(crate) enum ClaimScope {
     /// That of the file with this handle.
     File(u64),
     /// Each that this control has made.
@@ -36,7 +36,7 @@ pub(crate) enum Whose {
 /// 18,446,744,073,709,551,615 there means that none is left.
 #[derive(Drop)]
 pub(crate) struct Handles {
-    given: ArrayVec<Tag, MOST_FILES>,
+    given: ArrayVec<FileTag, MOST_FILES>,
     next: u64,
 }
 
@@ -60,7 +60,7 @@ impl Handles {
     }
 
     /// Returns the tags in index order.
-    pub fn as_slice(&self) -> &[Tag]
+    pub fn as_slice(&self) -> &[FileTag]
         ensures { result.now ≡ self.now.given }
     {
         self.given.as_slice()
@@ -88,7 +88,7 @@ impl Handles {
         match change {
             Change::Create { .. } => {
                 let handle = self.next;
-                self.given.push(Tag {
+                self.given.push(FileTag {
                     handle,
                     claim: None,
                 });
@@ -104,7 +104,7 @@ impl Handles {
     }
 
     /// Gives each file that `whose` means another claim.
-    pub fn reclaim(&mut self, whose: Whose, claim: Option<usize>)
+    pub fn reclaim(&mut self, whose: ClaimScope, claim: Option<usize>)
         ensures { self.new ≡ record { given = map (reclaimed whose claim) self.old.given; next = self.old.next } }
     {
         reclaim_tags(self.given.as_mut_slice(), whose, claim);
@@ -126,7 +126,7 @@ impl Handles {
 }
 
 // Gives each tag that `whose` means another claim.
-fn reclaim_tags(tags: &mut [Tag], whose: Whose, claim: Option<usize>)
+fn reclaim_tags(tags: &mut [FileTag], whose: ClaimScope, claim: Option<usize>)
     ensures { tags.new ≡ map (reclaimed whose claim) tags.old }
 {
     for tag in tags.iter_mut() {
@@ -135,37 +135,37 @@ fn reclaim_tags(tags: &mut [Tag], whose: Whose, claim: Option<usize>)
 }
 
 // Returns the tag, with another claim if `whose` means it.
-fn reclaim(tag: Tag, whose: Whose, claim: Option<usize>) -> Tag
+fn reclaim(tag: FileTag, whose: ClaimScope, claim: Option<usize>) -> FileTag
     ensures { result ≡ reclaimed whose claim tag }
 {
     if !is_meant(whose, tag) {
         return tag;
     }
-    Tag {
+    FileTag {
         handle: tag.handle,
         claim,
     }
 }
 
 // Returns whether `whose` means a tag's claim.
-fn is_meant(whose: Whose, tag: Tag) -> bool
+fn is_meant(whose: ClaimScope, tag: FileTag) -> bool
     ensures { result ≡ is_meant whose tag }
 {
     match whose {
-        Whose::File(handle) => tag.handle == handle,
-        Whose::Control(control) => is_own(control, tag.claim),
+        ClaimScope::File(handle) => tag.handle == handle,
+        ClaimScope::Control(control) => is_own(control, tag.claim),
     }
 }
 
 // Returns the tags of `count` files, with the handles from the first one on.
-fn count_from(first: u64, count: usize) -> ArrayVec<Tag, MOST_FILES>
+fn count_from(first: u64, count: usize) -> ArrayVec<FileTag, MOST_FILES>
     requires few { count ≤ LAYOUT_2.files }
     requires left { first + count < 2 ^ 64 }
     ensures { result.items ≡ tags_from first count }
 {
     let mut tags = ArrayVec::new();
     for place in 0..count {
-        tags.push(Tag {
+        tags.push(FileTag {
             handle: first + place as u64,
             claim: None,
         });

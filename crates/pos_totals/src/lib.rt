@@ -1,7 +1,8 @@
 //! The calls of Hard Totals on files, each change of which is one group on the disk (chapter Hard Totals).
 //!
 //! - [`Totals`] has the files of a disk with their handles, claims and transactions, and a method for each call.
-//! - [`Question`], [`Request`] and its [`Edit`], and [`Arrangement`] are what a call asks for, each with its refusals.
+//! - [`Question`], [`TotalsUpdate`] and its [`Edit`], and [`Arrangement`] are what a call asks for, each with its
+//!   refusals.
 //! - [`RecoveryFault`] says why a recovery finds no files. [`laws`] says what is true of all totals.
 //!
 //! The layer above relies on this: each call is answered by its table of refusals, and one that the table refuses
@@ -24,14 +25,14 @@ mod numbers;
 mod questions;
 mod recoveries;
 mod relay;
-mod request;
 mod totals;
 mod transaction_calls;
 mod transactions;
+mod update;
 
 pub use arrangements::Arrangement;
 pub use edits::Edit;
 pub use fault::RecoveryFault;
 pub use questions::Question;
-pub use request::Request;
 pub use totals::Totals;
+pub use update::TotalsUpdate;

@@ -4,10 +4,10 @@ ghost use Rattle.std.specs.Option.{option_map};
 ghost use Rattle.pos_service.specs.Calls.{takes_memory};
 ghost use Rattle.pos_totals.specs.TotalsQuestions.{Find, FindByIndex, Read, MayTell, is_told_in_memory, question_asked, question_of};
 ghost use Rattle.pos_totals.specs.TotalsFiles.{file_at};
-ghost use Rattle.pos_totals.specs.Checks.{files_in, file_of, AreFiles, TellsIn, MayTellIn};
+ghost use Rattle.pos_totals.specs.Checks.{files_in, file_of, AreFiles, AnswersIn, MayTellIn};
 ghost use Rattle.pos_totals.specs.Views.{IsSound, totals_of};
 
-use crate::files::{Files, Found, count_files, find_handle, find_name, get_file, see_files};
+use crate::files::{Files, FoundFile, count_files, find_handle, find_name, get_file, see_files};
 use crate::numbers::to_range;
 use crate::totals::Holdings;
 use pos_disk::Disk;
@@ -119,7 +119,7 @@ fn ask_in(
 // Returns the handle and the size of the file with a name.
 fn find(files: Files<'_>, control: usize, name: &[u8]) -> Answer
     requires { AreFiles files }
-    ensures { TellsIn (files_in files.entry) control (Find name.now) result }
+    ensures { AnswersIn (files_in files.entry) control (Find name.now) result }
 {
     match find_name(files, name) {
         Some(found) => {
@@ -147,7 +147,7 @@ fn find_by_index(
 }
 
 // Returns the file at an index that a call names, if there is one.
-fn file_by_index<'a>(files: Files<'a>, index: i128) -> Option<Found<'a>>
+fn file_by_index<'a>(files: Files<'a>, index: i128) -> Option<FoundFile<'a>>
     requires { AreFiles files }
     ensures { option_map file_of result ≡ file_at (files_in files.entry) index }
 {

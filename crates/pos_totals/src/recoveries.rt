@@ -54,7 +54,7 @@ fn recover_off<D: Disk>(
 {
     match store.recover() {
         Ok(()) => {}
-        Err(fault) => return Err(tell_fault(fault)),
+        Err(fault) => return Err(recovery_fault(fault)),
     }
     let count = match store.files() {
         Some(files) => {
@@ -72,7 +72,7 @@ fn recover_off<D: Disk>(
 }
 
 // Returns the totals' fault for a store that finds no files.
-fn tell_fault(fault: StoreFault) -> RecoveryFault
+fn recovery_fault(fault: StoreFault) -> RecoveryFault
     requires { IsSome (told_as fault) }
     ensures { told_as fault ≡ Some result }
 {

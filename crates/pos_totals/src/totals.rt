@@ -10,9 +10,9 @@ use crate::files::{count_files, measure_free, see_files, totals_size};
 use crate::handles::Handles;
 use crate::questions::{Question, ask};
 use crate::recoveries::recover;
-use crate::request::Request;
 use crate::transaction_calls::drop_control;
 use crate::transactions::Transactions;
+use crate::update::TotalsUpdate;
 use pos_disk::Disk;
 use pos_image::Layout;
 use pos_service::{Answer, Call, Code, NoMemory};
@@ -138,8 +138,8 @@ impl<D: Disk> Totals<D> {
         if let Some(question) = Question::of(call) {
             return self.ask(control, question);
         }
-        if let Some(request) = Request::of(call) {
-            return self.change(control, request);
+        if let Some(update) = TotalsUpdate::of(call) {
+            return self.change(control, update);
         }
         if let Some(arrangement) = Arrangement::of(call) {
             return Ok(self.arrange(control, arrangement));
@@ -166,15 +166,15 @@ impl<D: Disk> Totals<D> {
     /// # Errors
     ///
     /// [`NoMemory`] if memory ran out. Nothing changes then.
-    pub fn change(&mut self, control: usize, request: Request<'_>) -> Result<Answer, NoMemory>
-        ensures { Changes D.Disk self.old control (change_of request.entry) result self.new }
+    pub fn change(&mut self, control: usize, update: TotalsUpdate<'_>) -> Result<Answer, NoMemory>
+        ensures { Changes D.Disk self.old control (change_of update.entry) result self.new }
     {
         change(
             self.alloc,
             &mut self.store,
             &mut self.holdings,
             control,
-            request,
+            update,
         )
     }
 

@@ -4,7 +4,7 @@ ghost use Rattle.pos_totals.specs.TotalsClaims.{foreign_area, without_control};
 ghost use Rattle.pos_totals.specs.TotalsArrangements.{Arranges, BeginTrans, Rollback};
 ghost use Rattle.pos_totals.specs.Views.{IsSound, totals_of};
 
-use crate::handles::Whose;
+use crate::handles::ClaimScope;
 use crate::totals::Holdings;
 use crate::transactions::Buffer;
 use pos_disk::Disk;
@@ -59,7 +59,7 @@ pub(crate) fn drop_control<D: Disk>(store: &Store<D>, holdings: &mut Holdings, c
     ensures totals { totals_of store.now holdings.new
         ≡ without_control (totals_of store.now holdings.old) control }
 {
-    holdings.handles.reclaim(Whose::Control(control), None);
+    holdings.handles.reclaim(ClaimScope::Control(control), None);
     holdings.area = keep_foreign(holdings.area, control);
     holdings.transactions.set(control, None);
 }

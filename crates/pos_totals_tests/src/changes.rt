@@ -48,7 +48,7 @@ pub fn overwrite<D: Disk>(totals: &mut Totals<D>) -> Result<Answer, NoMemory> {
 }
 
 /// Carries out a change, where the files have the handles 1 and 2.
-pub fn carry_out<D: Disk>(totals: &mut Totals<D>, change: Change) -> Result<Answer, NoMemory> {
+pub fn apply<D: Disk>(totals: &mut Totals<D>, change: Change) -> Result<Answer, NoMemory> {
     match change {
         Change::Create => totals.create(0, b"C", 1, false),
         Change::Delete => totals.delete(0, b"A"),

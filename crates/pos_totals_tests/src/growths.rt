@@ -1,5 +1,5 @@
 // Refused growths, answers that ample memory gives, and texts.
-use crate::changes::{BEFORE, CHANGES, Change, carry_out, is_after, overwrite};
+use crate::changes::{BEFORE, CHANGES, Change, apply, is_after, overwrite};
 use crate::two_files::{disk_of_layout_2, disk_with_files, over, spell};
 use pos_disk::MemDisk;
 use pos_service::{Answer, Value};
@@ -14,9 +14,9 @@ fn with_repeats(alloc: Global, totals: &mut Totals<MemDisk>, change: Change) -> 
         is_unchanged = !totals.is_ready();
         totals.recover()?;
     }
-    if carry_out(totals, change).is_err() {
+    if apply(totals, change).is_err() {
         is_unchanged &= spell(alloc, totals, 1)?.as_slice() == BEFORE.as_slice();
-        carry_out(totals, change)?;
+        apply(totals, change)?;
     }
     Ok(is_unchanged)
 }

@@ -1,5 +1,5 @@
 // A stop at each call of the disk, and what crashes leave behind it.
-use crate::changes::{CHANGES, Change, carry_out, is_after};
+use crate::changes::{CHANGES, Change, apply, is_after};
 use crate::two_files::{disk_with_files, over};
 use pos_disk::{Fill, FuseDisk, MemDisk};
 use pos_service::Answer;
@@ -16,7 +16,7 @@ fn stop(alloc: Global, change: Change, pass: u64) -> Result<(bool, Stopped), Fai
     if totals.recover() == Err(RecoveryFault::Device) {
         totals.recover()?;
     }
-    let is_done = matches!(carry_out(&mut totals, change)?, Answer::Done(_));
+    let is_done = matches!(apply(&mut totals, change)?, Answer::Done(_));
     Ok((is_done, totals))
 }
 

@@ -1,14 +1,15 @@
--- What devices do with the bytes of an order, by the machine's form.
-use Rattle.std.proofs.Common.{◌≡◌, ℕ, List, [], ◌∷◌, ◌++◌, Bool, true, false, append-nil, refl, sym, ◌∙◌, subst, arith, inl, inr}
+-- What devices do with the bytes of an order, by the machine's mechanism.
+use Rattle.std.proofs.Common.{◌≡◌, ℕ, List, [], ◌∷◌, ◌++◌, Bool, true, false, append-nil, refl, sym, ◌∙◌, subst, arith}
+use Rattle.std.proofs.Common.{inl, inr}
 use Rattle.pos_service.specs.declared.kind.Kind.TheVariants as kind
 use Rattle.pos_service.specs.declared.order.Order.{Order}
 use Rattle.pos_service.specs.declared.order.Order.TheVariants as order
 use Rattle.pos_service.specs.declared.order.Reply.TheVariants as reply
-use Rattle.pos_service.specs.declared.plant.Form.{Form}
-use Rattle.pos_service.specs.declared.plant.Form.TheVariants as form
+use Rattle.pos_service.specs.declared.plant.Mechanism.{Mechanism}
+use Rattle.pos_service.specs.declared.plant.Mechanism.TheVariants as mechanism
 use Rattle.pos_service.specs.declared.plant.Plant.{Plant}
 use Rattle.pos_service.specs.Displays.{Display}
-use Rattle.pos_service.specs.Peripherals.{IsFormOf, IsPlantOf, Obeys, PeripheralState, Performs, order_fits}
+use Rattle.pos_service.specs.Peripherals.{IsMechanismOf, IsPlantOf, Obeys, PeripheralState, Performs, order_fits}
 use Rattle.pos_service.specs.Receipts.{Item, Printer, printed_by}
 use Rattle.pos_sims.specs.Additions.{Adds, PrintsNothing, pieces_ordered}
 use Rattle.pos_escpos.specs.declared.settings.DrawerKick.{DrawerKick}
@@ -23,12 +24,12 @@ use Rattle.pos_wire.specs.Orders.{AllShow, HasNoBytes, Sends, SendsOrder, has_by
 use Rattle.pos_wire.specs.Settings.{cut_of, kick_of}
 
 -- a drawer that takes an order opens by it
-opens : (asked : Order) (old : Form) → IsFormOf kind.Drawer old → order_fits kind.Drawer asked ≡ true
-    → Obeys asked old reply.Done (form.Drawer true)
-opens order.OpenDrawer (form.Drawer was) is fits = refl
-opens order.OpenDrawer form.Scanner is fits = grind arith
-opens order.OpenDrawer (form.Display shown) is fits = grind arith
-opens order.OpenDrawer (form.Printer printed) is fits = grind arith
+opens : (asked : Order) (old : Mechanism) → IsMechanismOf kind.Drawer old → order_fits kind.Drawer asked ≡ true
+    → Obeys asked old reply.Done (mechanism.Drawer true)
+opens order.OpenDrawer (mechanism.Drawer was) is fits = refl
+opens order.OpenDrawer mechanism.Scanner is fits = grind arith
+opens order.OpenDrawer (mechanism.Display shown) is fits = grind arith
+opens order.OpenDrawer (mechanism.Printer printed) is fits = grind arith
 opens (order.ShowText row column style bytes) old is fits = grind arith
 opens order.ClearText old is fits = grind arith
 opens (order.Scroll direction units) old is fits = grind arith
@@ -36,29 +37,34 @@ opens (order.Print bytes) old is fits = grind arith
 opens (order.Cut percentage) old is fits = grind arith
 
 -- a pulse for it
-pulses : (settings : WireSettings) (is_new : Bool) (end : JobEnd) (asked : Order) (old : Form) (bytes : List ℕ) → IsFormOf kind.Drawer old
-    → ((width : ℕ) → AllDo is_new width [] (kick_pulse (kick_of settings) ∷ []) (asked_first is_new ++ asked_last end) bytes)
-    → Sends settings is_new end asked old (form.Drawer true) bytes
-pulses settings is_new end asked (form.Drawer was) bytes is all = all
-pulses settings is_new end asked form.Scanner bytes is all = grind arith
-pulses settings is_new end asked (form.Display shown) bytes is all = grind arith
-pulses settings is_new end asked (form.Printer printed) bytes is all = grind arith
+pulses : (settings : WireSettings) (is_new : Bool) (end : JobEnd) (asked : Order) (old : Mechanism) (bytes : List ℕ)
+    → IsMechanismOf kind.Drawer old
+    → ((width : ℕ) → AllDo is_new width [] (kick_pulse (kick_of settings) ∷ [])
+    (asked_first is_new ++ asked_last end) bytes)
+    → Sends settings is_new end asked old (mechanism.Drawer true) bytes
+pulses settings is_new end asked (mechanism.Drawer was) bytes is all = all
+pulses settings is_new end asked mechanism.Scanner bytes is all = grind arith
+pulses settings is_new end asked (mechanism.Display shown) bytes is all = grind arith
+pulses settings is_new end asked (mechanism.Printer printed) bytes is all = grind arith
 
-pub drawer_sends : (settings : WireSettings) (is_new : Bool) (end : JobEnd) (state : PeripheralState) (asked : Order) (bytes : List ℕ)
+pub drawer_sends : (settings : WireSettings) (is_new : Bool) (end : JobEnd) (state : PeripheralState) (asked : Order)
+    (bytes : List ℕ)
     → state.plant.powered ≡ true → IsPlantOf kind.Drawer state.plant → order_fits kind.Drawer asked ≡ true
-    → ((width : ℕ) → AllDo is_new width [] (kick_pulse (kick_of settings) ∷ []) (asked_first is_new ++ asked_last end) bytes)
+    → ((width : ℕ) → AllDo is_new width [] (kick_pulse (kick_of settings) ∷ [])
+    (asked_first is_new ++ asked_last end) bytes)
     → SendsOrder settings is_new end state asked bytes
 drawer_sends settings is_new end state asked bytes powered is fits all =
-    let there = opens asked state.plant.form is fits in
+    let there = opens asked state.plant.mechanism is fits in
     record {
-      new = record { powered = true; form = form.Drawer true };
+      new = record { powered = true; mechanism = mechanism.Drawer true };
       done = (powered, refl, there);
-      sends = pulses settings is_new end asked state.plant.form bytes is all;
+      sends = pulses settings is_new end asked state.plant.mechanism bytes is all;
     }
 
 -- a printer that gives a pulse alone
 pub kicks_alone : (width : ℕ) (kick : DrawerKick) (sent : List ℕ)
-    → ((press : Press) → press.begun ≡ [] → press_after width press sent ≡ record press { pulses = press.pulses ++ kick_pulse kick ∷ [] })
+    → ((press : Press) → press.begun ≡ []
+    → press_after width press sent ≡ record press { pulses = press.pulses ++ kick_pulse kick ∷ [] })
     → AllDo false width [] (kick_pulse kick ∷ []) [] sent
 kicks_alone width kick sent h press ready =
     subst (λ (new : Press). Does [] (kick_pulse kick ∷ []) [] press new) (sym (h press ready.whole)) (record {
@@ -70,7 +76,8 @@ kicks_alone width kick sent h press ready =
 
 -- a printer that prints alone what is sent
 pub prints_alone : (width : ℕ) (items : List OnPaper) (sent : List ℕ)
-    → ((press : Press) → IsReady press → PrintsOnly press items (press_after width press sent)) → AllDo false width items [] [] sent
+    → ((press : Press) → IsReady press → PrintsOnly press items (press_after width press sent))
+    → AllDo false width items [] [] sent
 prints_alone width items sent h press ready =
     let prints = h press ready in
     record {
@@ -80,52 +87,63 @@ prints_alone width items sent h press ready =
       ready = prints.ready;
     }
 
-pub printer_sends : (settings : WireSettings) (is_new : Bool) (end : JobEnd) (state : PeripheralState) (asked : Order) (roll : Printer) (bytes : List ℕ)
+pub printer_sends : (settings : WireSettings) (is_new : Bool) (end : JobEnd) (state : PeripheralState) (asked : Order)
+    (roll : Printer) (bytes : List ℕ)
     → Adds state.plant asked roll
-    → AllDo is_new settings.width (all_on_paper (cut_of settings) roll.items) [] (asked_first is_new ++ asked_last end) bytes
+    → AllDo is_new settings.width (all_on_paper (cut_of settings) roll.items) []
+    (asked_first is_new ++ asked_last end) bytes
     → SendsOrder settings is_new end state asked bytes
 printer_sends settings is_new end state asked roll bytes adds all =
     let printer = adds.printer in
-    let left = form.Printer (record roll { items = printer.items ++ roll.items }) in
-    let same = subst (λ (items : List Item). AllDo is_new settings.width (all_on_paper (cut_of settings) items) [] (asked_first is_new ++ asked_last end) bytes)
+    let left = mechanism.Printer (record roll { items = printer.items ++ roll.items }) in
+    let same = subst (λ (items : List Item). AllDo is_new settings.width (all_on_paper (cut_of settings) items) []
+    (asked_first is_new ++ asked_last end) bytes)
     adds.items all in
     record {
-      new = record state.plant { form = left };
+      new = record state.plant { mechanism = left };
       done = adds.done;
-      sends = subst (λ (old : Form). Sends settings is_new end asked old left bytes) (sym adds.stands) same;
+      sends = subst (λ (old : Mechanism). Sends settings is_new end asked old left bytes) (sym adds.stands) same;
     }
 
 -- a display that is on
-lit_is : (plant : Plant) (shown : Display) → plant.powered ≡ true → plant.form ≡ form.Display shown → plant ≡ lit shown
+lit_is : (plant : Plant) (shown : Display) → plant.powered ≡ true → plant.mechanism ≡ mechanism.Display shown
+    → plant ≡ lit shown
 lit_is plant shown powered is = grind arith
 
-pub display_sends : (settings : WireSettings) (is_new : Bool) (end : JobEnd) (state : PeripheralState) (asked : Order) (old new : Display) (bytes : List ℕ)
-    → state.plant.powered ≡ true → state.plant.form ≡ form.Display old → Performs asked (lit old) reply.Done (lit new)
+pub display_sends : (settings : WireSettings) (is_new : Bool) (end : JobEnd) (state : PeripheralState) (asked : Order)
+    (old new : Display) (bytes : List ℕ)
+    → state.plant.powered ≡ true → state.plant.mechanism ≡ mechanism.Display old
+    → Performs asked (lit old) reply.Done (lit new)
     → AllShow settings is_new old new bytes → SendsOrder settings is_new end state asked bytes
 display_sends settings is_new end state asked old new bytes powered is done shows = record {
   new = lit new;
-  done = subst (λ (plant : Plant). Performs asked plant reply.Done (lit new)) (sym (lit_is state.plant old powered is)) done;
-  sends = subst (λ (was : Form). Sends settings is_new end asked was (form.Display new) bytes) (sym is) shows;
+  done = subst (λ (plant : Plant). Performs asked plant reply.Done (lit new))
+      (sym (lit_is state.plant old powered is)) done;
+  sends = subst (λ (was : Mechanism). Sends settings is_new end asked was (mechanism.Display new) bytes) (sym is) shows;
 }
 
 -- Orders that have no bytes.
 
 -- a printer that adds nothing carries nothing out
-printer_stays : (chars near : ℕ) (plant : Plant) (asked : Order) (old : Form) → plant.form ≡ old → IsFormOf (kind.Printer chars near) old
+printer_stays : (chars near : ℕ) (plant : Plant) (asked : Order) (old : Mechanism) → plant.mechanism ≡ old
+    → IsMechanismOf (kind.Printer chars near) old
     → PrintsNothing plant asked → (new : Plant) → Performs asked plant reply.Done new → ⊥
-printer_stays chars near plant asked (form.Printer printed) is kind_is nothing = nothing printed is
-printer_stays chars near plant asked (form.Drawer was) is kind_is nothing = absurd kind_is
-printer_stays chars near plant asked form.Scanner is kind_is nothing = absurd kind_is
-printer_stays chars near plant asked (form.Display shown) is kind_is nothing = absurd kind_is
+printer_stays chars near plant asked (mechanism.Printer printed) is kind_is nothing = nothing printed is
+printer_stays chars near plant asked (mechanism.Drawer was) is kind_is nothing = absurd kind_is
+printer_stays chars near plant asked mechanism.Scanner is kind_is nothing = absurd kind_is
+printer_stays chars near plant asked (mechanism.Display shown) is kind_is nothing = absurd kind_is
 
 pub adds_nothing : (chars near : ℕ) (is_new : Bool) (state : PeripheralState) (asked : Order)
     → IsPlantOf (kind.Printer chars near) state.plant → PrintsNothing state.plant asked → HasNoBytes is_new state asked
-adds_nothing chars near is_new state asked is nothing = inl (printer_stays chars near state.plant asked state.plant.form refl is nothing)
+adds_nothing chars near is_new state asked is nothing =
+    inl (printer_stays chars near state.plant asked state.plant.mechanism refl is nothing)
 
 -- a printer's characters a line
-chars_are : (chars near : ℕ) (old : Form) (printer : Printer) → old ≡ form.Printer printer → IsFormOf (kind.Printer chars near) old → printer.chars ≡ chars
+chars_are : (chars near : ℕ) (old : Mechanism) (printer : Printer) → old ≡ mechanism.Printer printer
+    → IsMechanismOf (kind.Printer chars near) old → printer.chars ≡ chars
 chars_are chars near old printer is kind_is =
-    let there : IsFormOf (kind.Printer chars near) (form.Printer printer) = subst (λ (f : Form). IsFormOf (kind.Printer chars near) f) is kind_is in
+    let there : IsMechanismOf (kind.Printer chars near) (mechanism.Printer printer) =
+    subst (λ (f : Mechanism). IsMechanismOf (kind.Printer chars near) f) is kind_is in
     there
 
 -- what a printer adds doesn't fit it
@@ -134,20 +152,27 @@ pub adds_misfit : (chars near : ℕ) (is_new : Bool) (state : PeripheralState) (
     → HasNoBytes is_new state asked
 adds_misfit chars near is_new state asked roll is adds misfit =
     let printer = adds.printer in
-    let left = form.Printer (record roll { items = printer.items ++ roll.items }) in
-    let same : printer.chars ≡ chars = chars_are chars near state.plant.form printer adds.stands is in
+    let left = mechanism.Printer (record roll { items = printer.items ++ roll.items }) in
+    let same : printer.chars ≡ chars = chars_are chars near state.plant.mechanism printer adds.stands is in
     let by_items : all_fit chars (printed_by printer.chars printer.buffer (pieces_ordered asked)).items ≡ false =
     subst (λ (items : List Item). all_fit chars items ≡ false) adds.items misfit in
-    let by_chars : all_fit printer.chars (printed_by printer.chars printer.buffer (pieces_ordered asked)).items ≡ false =
-    subst (λ (k : ℕ). all_fit k (printed_by printer.chars printer.buffer (pieces_ordered asked)).items ≡ false) (sym same) by_items in
-    inr (record state.plant { form = left }, adds.done, subst (λ (old : Form). has_bytes is_new asked old left ≡ false) (sym adds.stands) by_chars)
+    let by_chars : all_fit printer.chars (printed_by printer.chars printer.buffer (pieces_ordered asked)).items
+    ≡ false =
+    subst (λ (k : ℕ). all_fit k (printed_by printer.chars printer.buffer (pieces_ordered asked)).items ≡ false)
+    (sym same) by_items in
+    inr (
+      record state.plant { mechanism = left },
+      adds.done,
+      subst (λ (old : Mechanism). has_bytes is_new asked old left ≡ false) (sym adds.stands) by_chars,
+    )
 
 -- the cells that a display shows have no bytes
 pub display_misfit : (is_new : Bool) (state : PeripheralState) (asked : Order) (old new : Display)
-    → state.plant.powered ≡ true → state.plant.form ≡ form.Display old → Performs asked (lit old) reply.Done (lit new)
+    → state.plant.powered ≡ true → state.plant.mechanism ≡ mechanism.Display old
+    → Performs asked (lit old) reply.Done (lit new)
     → can_become (known_before is_new old new) new ≡ false → HasNoBytes is_new state asked
 display_misfit is_new state asked old new powered is done misfit = inr (
   lit new,
   subst (λ (plant : Plant). Performs asked plant reply.Done (lit new)) (sym (lit_is state.plant old powered is)) done,
-  subst (λ (was : Form). has_bytes is_new asked was (form.Display new) ≡ false) (sym is) misfit,
+  subst (λ (was : Mechanism). has_bytes is_new asked was (mechanism.Display new) ≡ false) (sym is) misfit,
 )

@@ -1,5 +1,7 @@
 -- How the first reply is read.
-use Rattle.std.proofs.Common.{◌≡◌, ℕ, ◌+◌, ◌<◌, true, false, List, [], ◌∷◌, ◌++◌, length, take, drop, get_or, refl, ap, sym, ◌∙◌, length-append, arith, subst, Option, Some, None, ◌||◌, ◌==◌, inl, inr, ⊎_elim, ◌⊎◌}
+use Rattle.std.proofs.Common.{◌≡◌, ℕ, ◌+◌, ◌<◌, true, false, List, [], ◌∷◌, ◌++◌, length, take, drop, get_or, refl, ap}
+use Rattle.std.proofs.Common.{sym, ◌∙◌, length-append, arith, subst, Option, Some, None, ◌||◌, ◌==◌, inl, inr, ⊎_elim}
+use Rattle.std.proofs.Common.{◌⊎◌}
 use Rattle.std.proofs.lemmas.Bool.{cases_Bool}
 use Rattle.std.proofs.lemmas.List.{drop-append-le, drop-drop, drop_all, length-take-le, take_more}
 use Rattle.std.proofs.Math.Seq.{drop-append_seam}
@@ -8,9 +10,13 @@ use Rattle.pos_escpos.specs.declared.printer_commands.OrderStatus.{OrderStatus}
 use Rattle.pos_escpos.specs.declared.statuses.PrinterReply.{PrinterReply}
 use Rattle.pos_escpos.specs.declared.statuses.PrinterReply.TheVariants as reply
 use Rattle.pos_escpos.specs.declared.statuses.Received.{Received}
-use Rattle.pos_escpos.specs.Replies.{Reader, Reading, Step, after_step, answers_now, begins_job, begins_status, byte_received, bytes_told, continued, first_received, goes_on, idle, is_first, is_plain, joined, later_received, lone_received, now_received, order_status, reading_of, reads_none, reads_reply, replies_before, reply_size, skips_all, step_of, whole_reply}
-use Rattle.pos_wire.specs.declared.replies.Asked.{Asked}
-use Rattle.pos_wire.specs.declared.replies.Asked.TheVariants as asked
+use Rattle.pos_escpos.specs.Replies.{Reader, Reading, Step, after_step, answers_now, begins_job, begins_status}
+use Rattle.pos_escpos.specs.Replies.{byte_received, bytes_told, continued, first_received, goes_on, idle, is_first}
+use Rattle.pos_escpos.specs.Replies.{is_plain, joined, later_received, lone_received, now_received, order_status}
+use Rattle.pos_escpos.specs.Replies.{reading_of, reads_none, reads_reply, replies_before, reply_size, skips_all}
+use Rattle.pos_escpos.specs.Replies.{step_of, whole_reply}
+use Rattle.pos_wire.specs.declared.replies.AwaitedReply.{AwaitedReply}
+use Rattle.pos_wire.specs.declared.replies.AwaitedReply.TheVariants as asked
 use Rattle.pos_wire.specs.declared.replies.ReplyRead.{ReplyRead}
 use Rattle.pos_wire.specs.Replies.{EndsWith, reader_of}
 
@@ -29,7 +35,8 @@ abbrev Comes : List ℕ → Reader → ℕ → Step → Type 0
 Comes begun reader b step =
     ((step.received.reply ≡ None → ⊥) × (step.reader.begun ≡ []))
     ⊎ ((step ≡ skips_all begun reader)
-    ⊎ (((step ≡ reads_none (length begun) (b ∷ []) reader) × (byte_received (idle reader) b ≡ reads_none 0 (b ∷ []) reader))
+    ⊎ (((step ≡ reads_none (length begun) (b ∷ []) reader)
+    × (byte_received (idle reader) b ≡ reads_none 0 (b ∷ []) reader))
     ⊎ (step ≡ reads_none 0 (begun ++ b ∷ []) reader)))
 
 -- the bytes of a step are counted
@@ -39,7 +46,8 @@ Counts begun step = step.received.skipped + bytes_told step.received.reply + len
 some_reply : (told : PrinterReply) → Some told ≡ None → ⊥
 some_reply told is = grind arith
 
-now_comes : (asked : Option NowStatus) (begun : List ℕ) (b : ℕ) (reader : Reader) → Comes begun reader b (now_received asked begun b reader)
+now_comes : (asked : Option NowStatus) (begun : List ℕ) (b : ℕ) (reader : Reader)
+    → Comes begun reader b (now_received asked begun b reader)
 now_comes None begun b reader = inr (inl refl)
 now_comes (Some status) begun b reader = inl ((λ none. some_reply _ none), refl)
 
@@ -47,7 +55,8 @@ lone_comes : (asked : Option OrderStatus) (b : ℕ) (reader : Reader) → Comes 
 lone_comes None b reader = inr (inl refl)
 lone_comes (Some status) b reader = ⊎_elim
     (λ (plain : is_plain b ≡ true).
-    let is : lone_received (Some status) b reader ≡ reads_reply 0 (reply.InOrder status (order_status status b)) (record reader { asked_in_order = None }) =
+    let is : lone_received (Some status) b reader ≡ reads_reply 0 (reply.InOrder status (order_status status b))
+    (record reader { asked_in_order = None }) =
     rw plain refl in
     subst (λ (step : Step). Comes [] reader b step) (sym is) (inl ((λ none. some_reply _ none), refl)))
     (λ (other : is_plain b ≡ false).
@@ -63,7 +72,8 @@ continued_comes begun first b reader count = ⊎_elim
     let end = step_of (record { skipped = 0; reply = told }) (idle reader) in
     let is : continued begun first b reader ≡ end = rw whole refl in
     let counted : Counts begun end = subst (λ (step : Step). Counts begun step) is count in
-    let ends : Comes begun reader b end = inl ((λ none. let zero : bytes_told told ≡ 0 = ap bytes_told none in omega (arith, counted, zero)), refl) in
+    let ends : Comes begun reader b end =
+    inl ((λ none. let zero : bytes_told told ≡ 0 = ap bytes_told none in omega (arith, counted, zero)), refl) in
     subst (λ (step : Step). Comes begun reader b step) (sym is) ends)
     (λ (more : (length begun + 1 == reply_size first) ≡ false).
     let is : continued begun first b reader ≡ reads_none 0 (begun ++ b ∷ []) reader = rw more refl in
@@ -76,8 +86,10 @@ later_comes [] b reader count = lone_comes reader.asked_in_order b reader
 later_comes (first ∷ more) b reader count = ⊎_elim
     (λ (goes : goes_on first (length (first ∷ more)) b ≡ true).
     let is : later_received (first ∷ more) b reader ≡ continued (first ∷ more) first b reader = rw goes refl in
-    let counted : Counts (first ∷ more) (continued (first ∷ more) first b reader) = subst (λ (step : Step). Counts (first ∷ more) step) is count in
-    subst (λ (step : Step). Comes (first ∷ more) reader b step) (sym is) (continued_comes (first ∷ more) first b reader counted))
+    let counted : Counts (first ∷ more) (continued (first ∷ more) first b reader) =
+    subst (λ (step : Step). Counts (first ∷ more) step) is count in
+    subst (λ (step : Step). Comes (first ∷ more) reader b step) (sym is)
+    (continued_comes (first ∷ more) first b reader counted))
     (λ (stops : goes_on first (length (first ∷ more)) b ≡ false).
     let is : later_received (first ∷ more) b reader ≡ skips_all (first ∷ more) reader = rw stops refl in
     inr (inl is))
@@ -88,29 +100,34 @@ begins : (b : ℕ) (reader : Reader) → is_first b ≡ true → (begins_status 
     → byte_received (idle reader) b ≡ reads_none 0 (b ∷ []) reader
 begins b reader first starts = rw (first, starts) refl
 
-first_comes : (b : ℕ) (reader : Reader) → is_first b ≡ true → Comes reader.begun reader b (first_received reader.begun b reader)
+first_comes : (b : ℕ) (reader : Reader) → is_first b ≡ true
+    → Comes reader.begun reader b (first_received reader.begun b reader)
 first_comes b reader first = ⊎_elim
     (λ (starts : (begins_status b || begins_job b) ≡ true).
     let is : first_received reader.begun b reader ≡ reads_none (length reader.begun) (b ∷ []) reader = rw starts refl in
     inr (inr (inl (is, begins b reader first starts))))
     (λ (other : (begins_status b || begins_job b) ≡ false). ⊎_elim
     (λ (answers : answers_now b ≡ true).
-    let is : first_received reader.begun b reader ≡ now_received reader.asked_now reader.begun b reader = rw (other, answers) refl in
-    subst (λ (step : Step). Comes reader.begun reader b step) (sym is) (now_comes reader.asked_now reader.begun b reader))
+    let is : first_received reader.begun b reader ≡ now_received reader.asked_now reader.begun b reader =
+    rw (other, answers) refl in
+    subst (λ (step : Step). Comes reader.begun reader b step) (sym is)
+    (now_comes reader.asked_now reader.begun b reader))
     (λ (none : answers_now b ≡ false).
     let is : first_received reader.begun b reader ≡ skips_all reader.begun reader = rw (other, none) refl in
     inr (inl is))
     (cases_Bool (answers_now b)))
     (cases_Bool (begins_status b || begins_job b))
 
-byte_comes : (reader : Reader) (b : ℕ) → Counts reader.begun (byte_received reader b) → Comes reader.begun reader b (byte_received reader b)
+byte_comes : (reader : Reader) (b : ℕ) → Counts reader.begun (byte_received reader b)
+    → Comes reader.begun reader b (byte_received reader b)
 byte_comes reader b count = ⊎_elim
     (λ (first : is_first b ≡ true).
     let is : byte_received reader b ≡ first_received reader.begun b reader = rw first refl in
     subst (λ (step : Step). Comes reader.begun reader b step) (sym is) (first_comes b reader first))
     (λ (other : is_first b ≡ false).
     let is : byte_received reader b ≡ later_received reader.begun b reader = rw other refl in
-    let counted : Counts reader.begun (later_received reader.begun b reader) = subst (λ (step : Step). Counts reader.begun step) is count in
+    let counted : Counts reader.begun (later_received reader.begun b reader) =
+    subst (λ (step : Step). Counts reader.begun step) is count in
     subst (λ (step : Step). Comes reader.begun reader b step) (sym is) (later_comes reader.begun b reader counted))
     (cases_Bool (is_first b))
 
@@ -121,7 +138,8 @@ record After (reader : Reader) (b : ℕ) (step : Step) : Type 0 where
   rest : drop step.received.skipped (reader.begun ++ b ∷ []) ≡ step.reader.begun
 
 after_byte : Pieces → (reader : Reader) (b : ℕ) (step : Step) → reading_of (idle reader) reader.begun ≡ quiet 0 reader
-    → byte_received reader b ≡ step → Comes reader.begun reader b step → step.received.reply ≡ None → After reader b step
+    → byte_received reader b ≡ step → Comes reader.begun reader b step → step.received.reply ≡ None
+    → After reader b step
 after_byte pieces reader b step again is comes none =
     let begun = reader.begun in
     let skips : step ≡ skips_all begun reader → After reader b step = λ e.
@@ -129,7 +147,8 @@ after_byte pieces reader b step again is comes none =
     drop_all (length begun + 1) (begun ++ b ∷ []) (omega (arith, length-append begun (b ∷ []))) in
     let there : After reader b (skips_all begun reader) = record { same = refl; again = refl; rest = all } in
     subst (λ (s : Step). After reader b s) (sym e) there in
-    let begins_one : (step ≡ reads_none (length begun) (b ∷ []) reader) × (byte_received (idle reader) b ≡ reads_none 0 (b ∷ []) reader) → After reader b step = λ e.
+    let begins_one : (step ≡ reads_none (length begun) (b ∷ []) reader)
+    × (byte_received (idle reader) b ≡ reads_none 0 (b ∷ []) reader) → After reader b step = λ e.
     let there : After reader b (reads_none (length begun) (b ∷ []) reader) = record {
       same = refl;
       again = ap (λ (s : Step). after_step s (reading_of s.reader [])) e.1;
@@ -156,14 +175,15 @@ pub record At (start reader : Reader) (bytes : List ℕ) (place none : ℕ) : Ty
   pub rest : drop none (take place bytes) ≡ reader.begun
   pub count : none + length reader.begun ≡ place
 
-pub at_start : (asked : Asked) (bytes : List ℕ) → At (reader_of asked) (reader_of asked) bytes 0 0
+pub at_start : (asked : AwaitedReply) (bytes : List ℕ) → At (reader_of asked) (reader_of asked) bytes 0 0
 at_start asked.Nothing bytes = record { read = refl; same = refl; again = refl; rest = refl; count = refl }
 at_start (asked.Now status) bytes = record { read = refl; same = refl; again = refl; rest = refl; count = refl }
 at_start (asked.InOrder status) bytes = record { read = refl; same = refl; again = refl; rest = refl; count = refl }
 
 -- one byte more
 read_more : Pieces → (start reader next : Reader) (bytes : List ℕ) (place none b : ℕ) (received : Received)
-    → At start reader bytes place none → take (place + 1) bytes ≡ take place bytes ++ b ∷ [] → step_of received next ≡ byte_received reader b
+    → At start reader bytes place none → take (place + 1) bytes ≡ take place bytes ++ b ∷ []
+    → step_of received next ≡ byte_received reader b
     → reading_of start (take (place + 1) bytes)
     ≡ record { replies = replies_before received.reply []; skipped = none + received.skipped; reader = next }
 read_more pieces start reader next bytes place none b received at more is =
@@ -174,12 +194,15 @@ read_more pieces start reader next bytes place none b received at more is =
     ∙ ap (λ (s : Step). joined (quiet none reader) (after_step s (reading_of s.reader []))) (sym is)
     ∙ ap (λ (k : ℕ). record { replies = replies_before received.reply []; skipped = none + k; reader = next }) count
 
-byte_taken : (bytes : List ℕ) (place b : ℕ) → place < length bytes → get_or bytes place 0 ≡ b → take (place + 1) bytes ≡ take place bytes ++ b ∷ []
+byte_taken : (bytes : List ℕ) (place b : ℕ) → place < length bytes → get_or bytes place 0 ≡ b
+    → take (place + 1) bytes ≡ take place bytes ++ b ∷ []
 byte_taken bytes place b within here = take_more bytes place 0 within ∙ ap (λ (k : ℕ). take place bytes ++ k ∷ []) here
 
 pub goes_past : Pieces → (start reader next : Reader) (bytes : List ℕ) (place none b : ℕ) (received : Received)
-    → At start reader bytes place none → place < length bytes → get_or bytes place 0 ≡ b → step_of received next ≡ byte_received reader b
-    → Counts reader.begun (step_of received next) → received.reply ≡ None → At start next bytes (place + 1) (none + received.skipped)
+    → At start reader bytes place none → place < length bytes → get_or bytes place 0 ≡ b
+    → step_of received next ≡ byte_received reader b
+    → Counts reader.begun (step_of received next) → received.reply ≡ None
+    → At start next bytes (place + 1) (none + received.skipped)
 goes_past pieces start reader next bytes place none b received at within here is count told =
     let prefix = take place bytes in
     let more : take (place + 1) bytes ≡ prefix ++ b ∷ [] = byte_taken bytes place b within here in
@@ -191,7 +214,8 @@ goes_past pieces start reader next bytes place none b received at within here is
     let long : length prefix ≡ place = length-take-le place bytes (omega arith) in
     record {
       read = read_more pieces start reader next bytes place none b received at more is
-          ∙ ap (λ (r : Option PrinterReply). record { replies = replies_before r []; skipped = none + received.skipped; reader = next }) told;
+          ∙ ap (λ (r : Option PrinterReply).
+          record { replies = replies_before r []; skipped = none + received.skipped; reader = next }) told;
       same = at.same ∙ sym after.same;
       again = after.again;
       rest = ap (drop (none + received.skipped)) more
@@ -203,17 +227,23 @@ goes_past pieces start reader next bytes place none b received at within here is
     }
 
 -- none has begun behind a reply
-none_begun : (begun : List ℕ) (reader : Reader) (b : ℕ) (step : Step) (told : PrinterReply) → step.received.reply ≡ Some told → Comes begun reader b step
+none_begun : (begun : List ℕ) (reader : Reader) (b : ℕ) (step : Step) (told : PrinterReply)
+    → step.received.reply ≡ Some told → Comes begun reader b step
     → step.reader.begun ≡ []
 none_begun begun reader b step told is = ⊎_elim
     (λ (ends : (step.received.reply ≡ None → ⊥) × (step.reader.begun ≡ [])). ends.1)
-    (⊎_elim (λ (e : step ≡ skips_all begun reader). absurd (some_reply told (sym is ∙ ap (λ (s : Step). s.received.reply) e)))
-    (⊎_elim (λ (e : (step ≡ reads_none (length begun) (b ∷ []) reader) × (byte_received (idle reader) b ≡ reads_none 0 (b ∷ []) reader)).
+    (⊎_elim (λ (e : step ≡ skips_all begun reader).
+    absurd (some_reply told (sym is ∙ ap (λ (s : Step). s.received.reply) e)))
+    (⊎_elim (λ (e : (step ≡ reads_none (length begun) (b ∷ []) reader)
+    × (byte_received (idle reader) b ≡ reads_none 0 (b ∷ []) reader)).
     absurd (some_reply told (sym is ∙ ap (λ (s : Step). s.received.reply) e.0)))
-    (λ (e : step ≡ reads_none 0 (begun ++ b ∷ []) reader). absurd (some_reply told (sym is ∙ ap (λ (s : Step). s.received.reply) e)))))
+    (λ (e : step ≡ reads_none 0 (begun ++ b ∷ []) reader).
+    absurd (some_reply told (sym is ∙ ap (λ (s : Step). s.received.reply) e)))))
 
-pub one_ends : Pieces → (start reader next : Reader) (bytes : List ℕ) (place none b : ℕ) (received : Received) (told : PrinterReply) (read : ReplyRead)
-    → At start reader bytes place none → place < length bytes → get_or bytes place 0 ≡ b → step_of received next ≡ byte_received reader b
+pub one_ends : Pieces → (start reader next : Reader) (bytes : List ℕ) (place none b : ℕ) (received : Received)
+    (told : PrinterReply) (read : ReplyRead)
+    → At start reader bytes place none → place < length bytes → get_or bytes place 0 ≡ b
+    → step_of received next ≡ byte_received reader b
     → Counts reader.begun (step_of received next) → received.reply ≡ Some told
     → read.used ≡ place + 1 → read.skipped ≡ none + received.skipped → EndsWith start bytes read told
 one_ends pieces start reader next bytes place none b received told read at within here is count ends used skipped =
@@ -225,7 +255,8 @@ one_ends pieces start reader next bytes place none b received told read at withi
       left = next;
       one = ap (λ (k : ℕ). reading_of start (take k bytes)) used
           ∙ read_more pieces start reader next bytes place none b received at more is
-          ∙ ap (λ (r : Option PrinterReply). record { replies = replies_before r []; skipped = none + received.skipped; reader = next }) ends
+          ∙ ap (λ (r : Option PrinterReply).
+          record { replies = replies_before r []; skipped = none + received.skipped; reader = next }) ends
           ∙ ap (λ (k : ℕ). record { replies = told ∷ []; skipped = k; reader = next }) (sym skipped);
       whole = none_begun reader.begun reader b (step_of received next) told ends comes;
     }

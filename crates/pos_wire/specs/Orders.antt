@@ -2,8 +2,8 @@
 use Rattle.std.specs.Prelude.{◌≡◌, ℕ, Bool, true, false, List, [], ◌∷◌, ◌++◌, ◌⊎◌}
 use Rattle.pos_service.specs.declared.order.Order.{Order}
 use Rattle.pos_service.specs.declared.order.Reply.TheVariants as reply
-use Rattle.pos_service.specs.declared.plant.Form.{Form}
-use Rattle.pos_service.specs.declared.plant.Form.TheVariants as form
+use Rattle.pos_service.specs.declared.plant.Mechanism.{Mechanism}
+use Rattle.pos_service.specs.declared.plant.Mechanism.TheVariants as mechanism
 use Rattle.pos_service.specs.declared.plant.Plant.{Plant}
 use Rattle.pos_service.specs.Displays.{Display, blank_display}
 use Rattle.pos_service.specs.Peripherals.{PeripheralState, Performs}
@@ -20,7 +20,7 @@ use Rattle.pos_wire.specs.Settings.{cut_of, kick_of, protocol_of}
 
 -- a display that is on and shows this
 abbrev pub lit : Display → Plant
-lit shown = record { powered = true; form = form.Display shown }
+lit shown = record { powered = true; mechanism = mechanism.Display shown }
 
 -- a display whose connection is new may show anything, but has begun no command; else it shows the cells
 abbrev pub IsScreen : Bool → Display → Screen → Type 0
@@ -32,16 +32,17 @@ abbrev pub AllShow : WireSettings → Bool → Display → Display → List ℕ 
 AllShow settings is_new old new bytes = (screen : Screen) → IsScreen is_new old screen →
     IsShowing (characters_of new.cells) (screen_after (make_of (protocol_of settings) new) screen bytes)
 
--- What a device does with the bytes, where the order takes the machine's form to the new one: a drawer's printer gives
+-- What a device does with the bytes, where the order takes the old mechanism to the new one: a drawer's printer gives
 -- one pulse, a printer prints the items that the order adds, and a display shows the new cells.
-abbrev pub Sends : WireSettings → Bool → JobEnd → Order → Form → Form → List ℕ → Type 0
-Sends settings is_new end asked (form.Drawer was) (form.Drawer is) bytes = (width : ℕ) →
+abbrev pub Sends : WireSettings → Bool → JobEnd → Order → Mechanism → Mechanism → List ℕ → Type 0
+Sends settings is_new end asked (mechanism.Drawer was) (mechanism.Drawer is) bytes = (width : ℕ) →
     AllDo is_new width [] (kick_pulse (kick_of settings) ∷ []) (asked_first is_new ++ asked_last end) bytes
-Sends settings is_new end asked (form.Printer old) (form.Printer new) bytes =
+Sends settings is_new end asked (mechanism.Printer old) (mechanism.Printer new) bytes =
     AllDo is_new settings.width
     (all_on_paper (cut_of settings) (printed_by old.chars old.buffer (pieces_ordered asked)).items)
     [] (asked_first is_new ++ asked_last end) bytes
-Sends settings is_new end asked (form.Display old) (form.Display new) bytes = AllShow settings is_new old new bytes
+Sends settings is_new end asked (mechanism.Display old) (mechanism.Display new) bytes =
+    AllShow settings is_new old new bytes
 Sends settings is_new end asked old new bytes = ⊥
 
 -- The machine carries the order out, and the device does the same with the bytes.
@@ -49,7 +50,7 @@ pub record SendsOrder (settings : WireSettings) (is_new : Bool) (end : JobEnd) (
     (bytes : List ℕ) : Type 0 where
   pub new : Plant
   pub done : Performs asked state.plant reply.Done new
-  pub sends : Sends settings is_new end asked state.plant.form new.form bytes
+  pub sends : Sends settings is_new end asked state.plant.mechanism new.mechanism bytes
 
 -- what a display is known to show before the bytes: blanks where the connection is new
 abbrev pub known_before : Bool → Display → Display → Display
@@ -57,10 +58,10 @@ known_before true old new = blank_display new.rows new.columns
 known_before false old new = old
 
 -- what an order leaves has bytes: a printer's new lines fit it, and a display's cells are characters
-abbrev pub has_bytes : Bool → Order → Form → Form → Bool
-has_bytes is_new asked (form.Printer old) (form.Printer new) =
+abbrev pub has_bytes : Bool → Order → Mechanism → Mechanism → Bool
+has_bytes is_new asked (mechanism.Printer old) (mechanism.Printer new) =
     all_fit old.chars (printed_by old.chars old.buffer (pieces_ordered asked)).items
-has_bytes is_new asked (form.Display old) (form.Display new) = can_become (known_before is_new old new) new
+has_bytes is_new asked (mechanism.Display old) (mechanism.Display new) = can_become (known_before is_new old new) new
 has_bytes is_new asked old new = true
 
 -- The machine doesn't carry the order out, or what it leaves has no bytes.
@@ -68,4 +69,4 @@ abbrev pub HasNoBytes : Bool → PeripheralState → Order → Type 0
 HasNoBytes is_new state asked =
     ((new : Plant) → Performs asked state.plant reply.Done new → ⊥)
     ⊎ ((new : Plant) × Performs asked state.plant reply.Done new
-    × (has_bytes is_new asked state.plant.form new.form ≡ false))
+    × (has_bytes is_new asked state.plant.mechanism new.mechanism ≡ false))

@@ -2,12 +2,12 @@
 use Rattle.std.specs.Prelude.{◌≡◌, ℕ, List, [], ◌∷◌, take, drop, Option, Some, None}
 use Rattle.pos_escpos.specs.declared.statuses.PrinterReply.{PrinterReply}
 use Rattle.pos_escpos.specs.Replies.{Reader, reading_of}
-use Rattle.pos_wire.specs.declared.replies.Asked.{Asked}
-use Rattle.pos_wire.specs.declared.replies.Asked.TheVariants as asked
+use Rattle.pos_wire.specs.declared.replies.AwaitedReply.{AwaitedReply}
+use Rattle.pos_wire.specs.declared.replies.AwaitedReply.TheVariants as asked
 use Rattle.pos_wire.specs.declared.replies.ReplyRead.{ReplyRead}
 
 -- a reader that expects the reply to what was asked
-abbrev pub reader_of : Asked → Reader
+abbrev pub reader_of : AwaitedReply → Reader
 reader_of asked.Nothing = record { asked_now = None; asked_in_order = None; begun = [] }
 reader_of (asked.Now status) = record { asked_now = Some status; asked_in_order = None; begun = [] }
 reader_of (asked.InOrder status) = record { asked_now = None; asked_in_order = Some status; begun = [] }

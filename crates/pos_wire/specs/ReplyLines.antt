@@ -104,7 +104,7 @@ reply_lines sensors name (kind.Printer chars near) signs told = printer_lines se
 reply_lines sensors name other signs told = []
 
 -- A text is the lines of a reply.
-pub record TellsReply (settings : WireSettings) (name : List ℕ) (is : Kind) (signs : Signs) (told : PrinterReply)
+pub record ReplyHasText (settings : WireSettings) (name : List ℕ) (is : Kind) (signs : Signs) (told : PrinterReply)
     (text : List ℕ) : Type 0 where
   pub sensors : SensorSettings
   pub sensors_are : SensorsAre settings is sensors

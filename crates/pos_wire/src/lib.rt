@@ -21,7 +21,7 @@ mod wire_fault;
 
 pub use frames::JobEnd;
 pub use orders::order_bytes;
-pub use replies::{Asked, ReplyRead, read_reply};
+pub use replies::{AwaitedReply, ReplyRead, read_reply};
 pub use reply_lines::reply_text;
 pub use settings::WireSettings;
 pub use wire_fault::WireFault;

@@ -15,7 +15,7 @@ use crate::rows::{row_bytes, shown_after};
 use crate::settings::WireSettings;
 use crate::wire_fault::WireFault;
 use pos_escpos::{BytesFault, receipt_bytes};
-use pos_service::{Form, Kind, Order, Snapshot};
+use pos_service::{Kind, Mechanism, Order, Snapshot};
 use pos_sims::{PrintPreview, Roll};
 use std::alloc::Global;
 
@@ -116,7 +116,7 @@ fn display_bytes<P: PrintPreview>(
     if !plant.powered {
         return Err(WireFault::NoBytes);
     }
-    let Form::Display(before) = plant.form else {
+    let Mechanism::Display(before) = plant.mechanism else {
         return Err(WireFault::NoBytes);
     };
     let after = shown_after(alloc, &before, order)?;

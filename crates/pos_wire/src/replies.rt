@@ -6,7 +6,7 @@ use pos_escpos::{NowStatus, OrderStatus, PrinterReply, ReplyReader, losses_are_s
 
 /// What a printer was asked for, and has not told yet.
 #[derive(Clone, Copy, PartialEq, Eq)]
-pub enum Asked {
+pub enum AwaitedReply {
     /// Nothing.
     Nothing,
     /// A status at once (DLE EOT).
@@ -27,14 +27,14 @@ pub struct ReplyRead {
 }
 
 /// Returns a reader that expects the reply to what was asked.
-fn reader_for(asked: Asked) -> ReplyReader
+fn reader_for(asked: AwaitedReply) -> ReplyReader
     ensures { result ≡ reader_of asked }
 {
     let mut reader = ReplyReader::new();
     match asked {
-        Asked::Nothing => {}
-        Asked::Now(status) => reader.expect_now(status),
-        Asked::InOrder(status) => reader.expect_in_order(status),
+        AwaitedReply::Nothing => {}
+        AwaitedReply::Now(status) => reader.expect_now(status),
+        AwaitedReply::InOrder(status) => reader.expect_in_order(status),
     }
     reader
 }
@@ -43,7 +43,7 @@ fn reader_for(asked: Asked) -> ReplyReader
 ///
 /// Pass the bytes that aren't used again, before those that come next: a reply that has only begun is then read whole.
 /// Pass what was asked until its reply has come.
-pub fn read_reply(asked: Asked, bytes: &[u8]) -> ReplyRead
+pub fn read_reply(asked: AwaitedReply, bytes: &[u8]) -> ReplyRead
     ensures reads { Reads (reader_of asked) bytes.now result result.reply }
     ensures used { result.used ≤ length bytes.now }
     ensures skipped { result.skipped ≤ result.used }

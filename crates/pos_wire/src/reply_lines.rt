@@ -2,7 +2,7 @@
 ghost use Rattle.std.specs.Prelude.{◌≡◌, ◌<◌, ◌≤◌, ◌++◌, ℕ, true, false, IfOk, OnOk, IsErrOf};
 ghost use Rattle.pos_service.specs.declared.kind.Kind.TheVariants as kind;
 ghost use Rattle.pos_wire.specs.declared.wire_fault.WireFault.TheVariants as fault;
-ghost use Rattle.pos_wire.specs.ReplyLines.{TellsReply, drawer_lines, has_replies, input_line, input_lines, input_words, job_line, paper_word, printer_lines, status_line, word_if};
+ghost use Rattle.pos_wire.specs.ReplyLines.{ReplyHasText, drawer_lines, has_replies, input_line, input_lines, input_words, job_line, paper_word, printer_lines, status_line, word_if};
 ghost use Rattle.pos_wire.specs.Settings.{settings_fit};
 
 use crate::settings::WireSettings;
@@ -164,7 +164,7 @@ fn drawer_text(
     signs: Signs,
     reply: PrinterReply,
 ) -> Result<Vec<u8>, WireFault>
-    ensures text { IfOk result (λ text. TellsReply settings.now name.now kind.Drawer signs reply text.items) }
+    ensures text { IfOk result (λ text. ReplyHasText settings.now name.now kind.Drawer signs reply text.items) }
     ensures no_bytes { IsErrOf result fault.NoBytes → ⊥ }
     ensures settings { IsErrOf result fault.BadSettings → ⊥ }
 {
@@ -186,7 +186,7 @@ fn printer_text(
     requires more { near < settings.now.lines }
     requires most { settings.now.lines ≤ 100000 }
     ensures text { IfOk result (λ text. (chars : ℕ) →
-        TellsReply settings.now name.now (kind.Printer chars near) signs reply text.items) }
+        ReplyHasText settings.now name.now (kind.Printer chars near) signs reply text.items) }
     ensures no_bytes { IsErrOf result fault.NoBytes → ⊥ }
     ensures settings { IsErrOf result fault.BadSettings → ⊥ }
 {
@@ -213,7 +213,7 @@ pub fn reply_text(
     signs: Signs,
     reply: PrinterReply,
 ) -> Result<Vec<u8>, WireFault>
-    ensures text { IfOk result (λ text. TellsReply settings.now name.now kind signs reply text.items) }
+    ensures text { IfOk result (λ text. ReplyHasText settings.now name.now kind signs reply text.items) }
     ensures no_bytes { IsErrOf result fault.NoBytes → has_replies kind ≡ false }
     ensures bad_settings { IsErrOf result fault.BadSettings → settings_fit kind settings.now ≡ false }
     ensures good_settings { OnOk result (settings_fit kind settings.now ≡ true) }

@@ -11,7 +11,7 @@ ghost use Rattle.pos_wire.specs.Orders.{AllShow, known_before, lit};
 use crate::settings::WireSettings;
 use crate::wire_fault::WireFault;
 use pos_escpos::{BytesFault, DisplayProtocol, blank_cells, display_start_bytes, rows_bytes};
-use pos_service::{DisplayCells, Form, Order, Peripheral, Reply, Snapshot};
+use pos_service::{DisplayCells, Mechanism, Order, Peripheral, Reply, Snapshot};
 use pos_sims::PlainDisplay;
 use std::alloc::Global;
 
@@ -35,8 +35,8 @@ pub(crate) fn shown_after(
         unreachable!();
     }
     let Snapshot(plant) = display.snapshot()?;
-    match plant.form {
-        Form::Display(after) => Ok(after),
+    match plant.mechanism {
+        Mechanism::Display(after) => Ok(after),
         _ => unreachable!(),
     }
 }

@@ -1,5 +1,5 @@
 //! What devices get for orders, and what is read of their replies: that the definitions are those of the devices.
-use crate::{Asked, JobEnd, WireFault, WireSettings, order_bytes, read_reply, reply_text};
+use crate::{AwaitedReply, JobEnd, WireFault, WireSettings, order_bytes, read_reply, reply_text};
 use pos_escpos::{NowStatus, OrderStatus, PrinterReply};
 use pos_service::display_text::Attribute;
 use pos_service::{
@@ -188,17 +188,17 @@ fn settings_have_their_ranges(rt: HostRuntime) -> Result<(), Fail> {
 fn a_reply_that_has_begun_is_read_again(rt: HostRuntime) {
     // Noise, an automatic status, and the beginning of an acknowledgement.
     let stream = [0x41, 0x10, 0x10, 0, 0x0F, 0, 0x37, 0x22];
-    let read = read_reply(Asked::Nothing, &stream);
+    let read = read_reply(AwaitedReply::Nothing, &stream);
     assert!(rt; read.used == 6 && read.skipped == 2);
     assert!(rt; matches!(read.reply, Some(PrinterReply::Automatic(_))));
-    let read = read_reply(Asked::Nothing, &stream[6..]);
+    let read = read_reply(AwaitedReply::Nothing, &stream[6..]);
     assert!(rt; read.used == 0 && read.skipped == 0 && read.reply.is_none());
     let whole = [0x37, 0x22, 0x41, 0x42, 0x43, 0x44, 0];
-    let read = read_reply(Asked::Nothing, &whole);
+    let read = read_reply(AwaitedReply::Nothing, &whole);
     assert!(rt; read.used == 7 && matches!(read.reply, Some(PrinterReply::JobDone(0x1234))));
-    let read = read_reply(Asked::Nothing, &[0x16, 0x10]);
+    let read = read_reply(AwaitedReply::Nothing, &[0x16, 0x10]);
     assert!(rt; read.used == 1 && read.skipped == 1 && read.reply.is_none());
-    let read = read_reply(Asked::Now(NowStatus::Paper), &[0x10, 0x12]);
+    let read = read_reply(AwaitedReply::Now(NowStatus::Paper), &[0x10, 0x12]);
     assert!(rt; read.used == 2 && read.skipped == 1 && read.reply.is_some());
 }
 
@@ -213,7 +213,7 @@ fn a_reply_has_its_lines(rt: HostRuntime) -> Result<(), Fail> {
     };
     let printer = Kind::Printer { chars: 42, near: 5 };
     // The pin is high, the cover open, and the paper near its end.
-    let status = read_reply(Asked::Nothing, &[0x3C, 0, 0x03, 0])
+    let status = read_reply(AwaitedReply::Nothing, &[0x3C, 0, 0x03, 0])
         .reply
         .expect(&rt, "a status");
     let job = PrinterReply::JobDone(65_535);
@@ -239,7 +239,7 @@ fn a_reply_has_its_lines(rt: HostRuntime) -> Result<(), Fail> {
         want.extend_from_slice(last.as_bytes())?;
         assert!(rt; lines.as_slice() == want.as_slice());
     }
-    let now = read_reply(Asked::Now(NowStatus::OfflineCause), &[0x12]);
+    let now = read_reply(AwaitedReply::Now(NowStatus::OfflineCause), &[0x12]);
     let told = now.reply.expect(&rt, "a status");
     let lines = reply_text(alloc, &SETTINGS, b"d", Kind::Drawer, signs, told)?;
     assert!(rt; lines.as_slice() == b"input d power on\nstatus cover closed fault no\n".as_slice());

@@ -633,8 +633,8 @@ impl<'till> LineDisplay<'till> {
     /// - [`E_CLAIMED`](ResultCode::Claimed): another control has claimed the device.
     /// - [`E_NOTCLAIMED`](ResultCode::NotClaimed): no control has claimed the device.
     /// - [`E_DISABLED`](ResultCode::Disabled): the control is disabled.
-    /// - [`E_ILLEGAL`](ResultCode::Illegal): the text has a byte that a display doesn't take, or the attribute is out
-    ///   of its range.
+    /// - [`E_ILLEGAL`](ResultCode::Illegal): the text has a byte other than 0x20 to 0x7E, LF and CR, or the attribute
+    ///   is out of its range.
     /// - [`E_FAILURE`](ResultCode::Failure): the display didn't answer.
     /// - [`E_OFFLINE`](ResultCode::Offline): the display is off.
     /// - [`Cause::NoMemory`]: there was no memory.
@@ -659,8 +659,8 @@ impl<'till> LineDisplay<'till> {
     /// - [`E_CLAIMED`](ResultCode::Claimed): another control has claimed the device.
     /// - [`E_NOTCLAIMED`](ResultCode::NotClaimed): no control has claimed the device.
     /// - [`E_DISABLED`](ResultCode::Disabled): the control is disabled.
-    /// - [`E_ILLEGAL`](ResultCode::Illegal): the row, the column or the attribute is out of its range, or the text has
-    ///   another byte.
+    /// - [`E_ILLEGAL`](ResultCode::Illegal): the row, column or attribute is out of its range, or displayText refuses a
+    ///   byte of the text.
     /// - [`E_FAILURE`](ResultCode::Failure): the display didn't answer.
     /// - [`E_OFFLINE`](ResultCode::Offline): the display is off.
     /// - [`Cause::NoMemory`]: there was no memory.

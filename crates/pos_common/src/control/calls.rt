@@ -12,7 +12,7 @@ use super::Control;
 use crate::claims::Claims;
 use pos_service::claims::{is_foreign, is_own, is_timeout};
 use pos_service::display_text::Cursor;
-use pos_service::{Answer, Call, Category, ClaimNeed, Code, Finding, Needs, Settings, Value};
+use pos_service::{Answer, Call, Category, ClaimNeed, Code, Needs, OpenTarget, Settings, Value};
 
 impl Control {
     /// `open`: opens it for the device that was found, with all properties at their defaults (common chapter).
@@ -21,7 +21,7 @@ impl Control {
     ///
     /// Refused with E_ILLEGAL if it is open, E_NOEXIST if there is no such device, and E_NOSERVICE if the device has no
     /// peripheral.
-    pub fn open(&mut self, found: Finding) -> Answer
+    pub fn open(&mut self, found: OpenTarget) -> Answer
         ensures { TurnsInto (open_rows self.old.control found) result self.old self.new
             (opened self.old.control (place_found found)) }
     {
@@ -29,9 +29,9 @@ impl Control {
             return Answer::Refused(Code::Illegal, 0);
         }
         match found {
-            Finding::NotThere => Answer::Refused(Code::NoExist, 0),
-            Finding::Vacant => Answer::Refused(Code::NoService, 0),
-            Finding::At(place) => {
+            OpenTarget::NotThere => Answer::Refused(Code::NoExist, 0),
+            OpenTarget::Vacant => Answer::Refused(Code::NoService, 0),
+            OpenTarget::At(place) => {
                 self.start_over(place);
                 Answer::Done(Value::Empty)
             }

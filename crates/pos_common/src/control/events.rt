@@ -52,20 +52,20 @@ impl Control {
         ensures room { self.old.spare ≤ self.new.spare + sign_events }
     {
         if self.listens(place) {
-            self.tell(
+            self.enqueue_status(
                 drawer_status(old.drawer_open),
                 drawer_status(new.drawer_open),
             );
-            self.tell(cover_status(old.cover_open), cover_status(new.cover_open));
-            self.tell(paper_status(old.paper), paper_status(new.paper));
+            self.enqueue_status(cover_status(old.cover_open), cover_status(new.cover_open));
+            self.enqueue_status(paper_status(old.paper), paper_status(new.paper));
             if self.is_notified() {
-                self.tell(power_status(old.powered), power_status(new.powered));
+                self.enqueue_status(power_status(old.powered), power_status(new.powered));
             }
         }
     }
 
     /// Enqueues a status, if it has changed.
-    fn tell(&mut self, old: u32, new: u32)
+    fn enqueue_status(&mut self, old: u32, new: u32)
         requires { 1 ≤ self.old.spare }
         ensures told { self.new.control ≡ heard (changed_status old new) self.old.control }
         ensures room { self.old.spare ≤ self.new.spare + 1 }

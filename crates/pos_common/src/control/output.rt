@@ -3,7 +3,7 @@ ghost use Rattle.std.specs.Prelude.{◌≡◌, ◌≤◌, ◌==◌, ◌∷◌, [
 ghost use Rattle.pos_service.specs.Controls.{completed, output_failed, queued, without_output};
 ghost use Rattle.pos_service.specs.Output.{is_outstanding, request_to_do};
 ghost use Rattle.pos_service.specs.Peripherals.{PrintersTake};
-ghost use Rattle.pos_service.specs.Deeds.{id_rows};
+ghost use Rattle.pos_service.specs.Actions.{id_rows};
 ghost use Rattle.pos_common.specs.DueRequests.{first_request};
 ghost use Rattle.pos_common.specs.KeptControls.{TurnsInto};
 

@@ -13,8 +13,8 @@ use super::Control;
 use crate::status::power_status;
 use pos_service::numbers::{to_count, to_index};
 use pos_service::{
-    Answer, Bytes, Code, Facts, Kind, NoMemory, Property, Signs, Value, chars_of, columns_of,
-    rows_of,
+    Answer, Bytes, Code, Kind, NoMemory, Property, PropertyContext, Signs, Value, chars_of,
+    columns_of, rows_of,
 };
 
 impl Control {
@@ -195,7 +195,7 @@ impl Control {
 
     /// Returns the value of a property (common chapter, chapters Cash Drawer, Scanner, Line Display, POS Printer and
     /// Hard Totals). The number is the control's, and the holder is the number of the control that holds the device.
-    /// The facts are what is known of the device. Bytes are copied.
+    /// The context is what is known of the device. Bytes are copied.
     ///
     /// # Errors
     ///
@@ -212,13 +212,13 @@ impl Control {
         number: usize,
         holder: Option<usize>,
         property: Property,
-        facts: &Facts,
+        context: &PropertyContext,
     ) -> Result<Answer, NoMemory>
-        ensures { Gets (get_rows number holder self.now.control facts.now property) property
-            (property_of self.now.control facts.now property) result }
+        ensures { Gets (get_rows number holder self.now.control context.now property) property
+            (property_of self.now.control context.now property) result }
     {
         match self.check_by(number, holder, property.needs(self.category)) {
-            Ok(()) => self.tell_property(property, facts),
+            Ok(()) => self.read_property(property, context),
             Err(code) => Ok(Answer::Refused(code, 0)),
         }
     }
@@ -229,14 +229,18 @@ impl Control {
     ///
     /// [`NoMemory`] if there is no memory for that copy. Refused with E_FAILURE if the property is of the files and the
     /// totals are off.
-    fn tell_property(&self, property: Property, facts: &Facts) -> Result<Answer, NoMemory>
-        ensures { Gets (when ((row_of property).is_of_files && is_none facts.now.files) Code.Failure ∷ []) property
-            (property_of self.now.control facts.now property) result }
+    fn read_property(
+        &self,
+        property: Property,
+        context: &PropertyContext,
+    ) -> Result<Answer, NoMemory>
+        ensures { Gets (when ((row_of property).is_of_files && is_none context.now.files) Code.Failure ∷ []) property
+            (property_of self.now.control context.now property) result }
     {
         match property {
             Property::ScanData => Ok(done_with(self.shown.copy_of_bytes()?)),
             Property::ScanDataLabel => Ok(done_with(self.shown.copy_of_label()?)),
-            _ => Ok(self.value_of(property, facts)),
+            _ => Ok(self.value_of(property, context)),
         }
     }
 
@@ -287,14 +291,14 @@ impl Control {
     /// # Errors
     ///
     /// Refused with E_FAILURE if the property is of the files and the totals are off.
-    fn value_of(&self, property: Property, facts: &Facts) -> Answer
+    fn value_of(&self, property: Property, context: &PropertyContext) -> Answer
         requires { is_of_bytes property ≡ false }
-        ensures { Decided (when ((row_of property).is_of_files && is_none facts.now.files) Code.Failure ∷ []) result ⊤
-            (result ≡ Answer.Done (property_of self.now.control facts.now property)) }
+        ensures { Decided (when ((row_of property).is_of_files && is_none context.now.files) Code.Failure ∷ []) result ⊤
+            (result ≡ Answer.Done (property_of self.now.control context.now property)) }
     {
         match property {
             Property::State => Answer::Done(Value::Number(i128::from(self.state()))),
-            Property::Claimed => Answer::Done(Value::Truth(facts.is_claimed)),
+            Property::Claimed => Answer::Done(Value::Truth(context.is_claimed)),
             Property::DeviceEnabled => Answer::Done(Value::Truth(self.is_enabled)),
             Property::FreezeEvents => Answer::Done(Value::Truth(self.settings.freeze_events)),
             Property::CapPowerReporting => {
@@ -302,7 +306,7 @@ impl Control {
             }
             Property::PowerNotify => Answer::Done(Value::Number(i128::from(self.notify_number()))),
             Property::PowerState => {
-                Answer::Done(Value::Number(i128::from(self.power_state(facts.signs))))
+                Answer::Done(Value::Number(i128::from(self.power_state(context.signs))))
             }
             Property::DataEventEnabled => Answer::Done(Value::Truth(
                 self.settings.data_event_enabled,
@@ -312,8 +316,8 @@ impl Control {
             Property::DecodeData => Answer::Done(Value::Truth(self.settings.decode_data)),
             Property::ScanData | Property::ScanDataLabel => unreachable!(),
             Property::ScanDataType => Answer::Done(Value::Number(i128::from(self.shown.kind()))),
-            Property::Rows => Answer::Done(Value::Number(i128::from(rows_of(facts.kind)))),
-            Property::Columns => Answer::Done(Value::Number(i128::from(columns_of(facts.kind)))),
+            Property::Rows => Answer::Done(Value::Number(i128::from(rows_of(context.kind)))),
+            Property::Columns => Answer::Done(Value::Number(i128::from(columns_of(context.kind)))),
             Property::CursorRow => Answer::Done(Value::Number(i128::from(self.cursor.place.row))),
             Property::CursorColumn => {
                 Answer::Done(Value::Number(i128::from(self.cursor.place.column)))
@@ -321,22 +325,24 @@ impl Control {
             Property::CursorUpdate => Answer::Done(Value::Truth(self.cursor.update)),
             Property::AsyncMode => Answer::Done(Value::Truth(self.settings.async_mode)),
             Property::OutputId => Answer::Done(Value::Number(i128::from(self.writer.output_id()))),
-            Property::RecLineChars => Answer::Done(Value::Number(i128::from(chars_of(facts.kind)))),
-            Property::CoverOpen => Answer::Done(Value::Truth(facts.signs.cover_open)),
-            Property::RecEmpty => Answer::Done(Value::Truth(facts.signs.paper.is_empty())),
-            Property::RecNearEnd => Answer::Done(Value::Truth(facts.signs.paper.is_near_end())),
+            Property::RecLineChars => Answer::Done(Value::Number(i128::from(chars_of(
+                context.kind,
+            )))),
+            Property::CoverOpen => Answer::Done(Value::Truth(context.signs.cover_open)),
+            Property::RecEmpty => Answer::Done(Value::Truth(context.signs.paper.is_empty())),
+            Property::RecNearEnd => Answer::Done(Value::Truth(context.signs.paper.is_near_end())),
             Property::CapStatus | Property::CapTransactions => Answer::Done(Value::Truth(true)),
-            Property::TransactionInProgress => Answer::Done(Value::Truth(facts.in_transaction)),
+            Property::TransactionInProgress => Answer::Done(Value::Truth(context.in_transaction)),
             Property::CapSingleFile | Property::CapErrorDetection => {
                 Answer::Done(Value::Truth(false))
             }
-            Property::DrawerOpened => Answer::Done(Value::Truth(facts.signs.drawer_open)),
-            Property::TotalsSize => Answer::Done(Value::Number(facts.totals_size as i128)),
-            Property::FreeData => match facts.files {
+            Property::DrawerOpened => Answer::Done(Value::Truth(context.signs.drawer_open)),
+            Property::TotalsSize => Answer::Done(Value::Number(context.totals_size as i128)),
+            Property::FreeData => match context.files {
                 Some(files) => Answer::Done(Value::Number(files.free as i128)),
                 None => Answer::Refused(Code::Failure, 0),
             },
-            Property::NumberOfFiles => match facts.files {
+            Property::NumberOfFiles => match context.files {
                 Some(files) => Answer::Done(Value::Number(files.count as i128)),
                 None => Answer::Refused(Code::Failure, 0),
             },

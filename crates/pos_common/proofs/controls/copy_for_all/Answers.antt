@@ -14,6 +14,19 @@ loop-control-preserved c =
     let count = length-map hs (λ (h : KeptControl). h.control) in
     elim c.if-listens.branch [
       | then-listens+in_ok-reserve+in_ok-copy_of w ↦
-          grind (arith, at, count, w, copies_more scan w.in_ok-copy_of.field-0 c.args.place (controls_of hs) c.loop-control.copies.items i d.control)
-      | else-listens w ↦ grind (arith, at, count, w, copies_same scan c.args.place (controls_of hs) c.loop-control.copies.items i d.control)
+          grind (
+            arith,
+            at,
+            count,
+            w,
+            copies_more scan w.in_ok-copy_of.field-0 c.args.place
+                (controls_of hs) c.loop-control.copies.items i d.control,
+          )
+      | else-listens w ↦ grind (
+        arith,
+        at,
+        count,
+        w,
+        copies_same scan c.args.place (controls_of hs) c.loop-control.copies.items i d.control,
+      )
     ]

@@ -1,4 +1,5 @@
-use Rattle.pos_common.proofs.Common.{All, HasRoom, controls_of, drop, heard_signs, if_listening, map, sign_events, take, ℕ, ◌++◌, ◌+◌, ◌≡◌}
+use Rattle.pos_common.proofs.Common.{All, HasRoom, controls_of, drop, heard_signs, if_listening, map, sign_events, take}
+use Rattle.pos_common.proofs.Common.{ℕ, ◌++◌, ◌+◌, ◌≡◌}
 use Rattle.pos_common.proofs.controls.hear_all.Given as goal
 
 -- the controls before the place have heard, and the others have room; what was more than that is left

@@ -16,7 +16,8 @@ loop-control-preserved c =
       read = λ scan are.
           let so_far = c.loop-control.invariant.read scan are in
           let done = c.read_copy.ensures scan (copies_at scan place hs _ _ _ lt so_far.1) in (
-            mapped_more (if_listening place (read scan)) c.args.controls.now hs _ c.control-item.result _ lt done.read so_far.0 (omega arith),
+            mapped_more (if_listening place (read scan)) c.args.controls.now hs _ c.control-item.result _ lt done.read
+                so_far.0 (omega arith),
             copies_behind scan place hs _ _ _ c.control-item.result _ lt done.most done.each so_far.1,
           );
     }

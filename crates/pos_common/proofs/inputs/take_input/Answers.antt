@@ -6,5 +6,7 @@ use Rattle.pos_common.proofs.inputs.take_input.Goals as goal
 pub returns-in-Scan-clause-taken : goal.returns-in-Scan-clause-taken
 returns-in-Scan-clause-taken g c =
     let state = g.P.Peripheral.state in
-    let fed : Fed (state c.args.peripheral.now) c.args.input.now (Ok taken.Scan) (state c.feed.new.self) = grind arith in
-    scan_taken _ _ c.args.input.now c.args.place _ _ _ _ c.requires.fits fed c.room_all.ensures.same c.in_ok-copies.ensures c.read_all.ensures
+    let fed : Fed (state c.args.peripheral.now) c.args.input.now (Ok taken.Scan) (state c.feed.new.self) =
+    grind arith in
+    scan_taken _ _ c.args.input.now c.args.place _ _ _ _ c.requires.fits fed c.room_all.ensures.same
+    c.in_ok-copies.ensures c.read_all.ensures

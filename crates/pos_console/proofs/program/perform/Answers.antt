@@ -6,7 +6,8 @@ use Rattle.pos_console.proofs.program.perform.Goals as goal
 
 pub returns-in-Err : goal.returns-in-Err
 returns-in-Err g c =
-    let streams = streams_of g.R.Source c.args.reader.now c.args.reader.now g.W.Sink c.args.writer.now c.args.writer.now in
+    let streams = streams_of g.R.Source c.args.reader.now c.args.reader.now g.W.Sink c.args.writer.now c.args.writer.now
+    in
     let outcome = Err (fault.Words c.in-Err.fault) in
     record {
       outcome = outcome;

@@ -7,10 +7,13 @@ pub returns-clause-moved : goal.returns-clause-moved
 returns-clause-moved c = moved_prefix
 
 pub returns-clause-after : goal.returns-clause-after
-returns-clause-after c history held files sequence is first last steps run starts = search (rules, fits_leaves, run_fits, fits_moved)
+returns-clause-after c history held files sequence is first last steps run starts =
+    search (rules, fits_leaves, run_fits, fits_moved)
 
 pub returns-clause-along : goal.returns-clause-along
-returns-clause-along c history held files sequence is first last steps run starts = search (rules, bytes_along, fits_moved)
+returns-clause-along c history held files sequence is first last steps run starts =
+    search (rules, bytes_along, fits_moved)
 
 pub returns-clause-held : goal.returns-clause-held
-returns-clause-held c history held files sequence is first last steps run = held_along (moved_with history is.prefix) held first steps last run is.holds
+returns-clause-held c history held files sequence is first last steps run =
+    held_along (moved_with history is.prefix) held first steps last run is.holds

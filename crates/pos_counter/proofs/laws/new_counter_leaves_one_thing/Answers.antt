@@ -8,7 +8,8 @@ pub returns : goal.returns
 returns g c entries disk begins honest rest =
     let state = g.D.Disk.state in
     let same = c.disk.ensures ∙ ap (λ (t : TotalsView g.row.D.Denot). t.disk) begins.totals in
-    let stands = subst (λ d. g.D.Disk.honest d → (standing : Standing) × StandsFor standing (state d).reading) same c.disk_stands.ensures honest in (
+    let stands = subst (λ d. g.D.Disk.honest d → (standing : Standing) × StandsFor standing (state d).reading) same
+    c.disk_stands.ensures honest in (
       stands.0,
       rw begins.totals (record {
         honest = honest;

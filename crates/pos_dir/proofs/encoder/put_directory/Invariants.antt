@@ -1,4 +1,5 @@
-use Rattle.pos_dir.proofs.Common.{drop, file_spelling, flat_map, length, take, to_be_bytes, vec_capacity, vec_len, w16, ◌++◌, ◌+◌, ◌≡◌, ◌≤◌}
+use Rattle.pos_dir.proofs.Common.{drop, file_spelling, flat_map, length, take, to_be_bytes, vec_capacity, vec_len, w16}
+use Rattle.pos_dir.proofs.Common.{◌++◌, ◌+◌, ◌≡◌, ◌≤◌}
 use Rattle.pos_dir.proofs.encoder.put_directory.Given as goal
 
 abbrev pub invariant-loop-file : goal.invariant-loop-file

@@ -1,5 +1,6 @@
-use Rattle.pos_dir.proofs.Common.{File, Limits, List, Some, [], ap, arith, directory_at, drop, eqb-false, file_at, file_spelling, flat_map, inr, items_at}
-use Rattle.pos_dir.proofs.Common.{length, length-append, length-drop, nat_tests, nil_from_length, subst, sym, ℕ, ◌+◌, ◌∙◌, ◌≡◌, ◌≤◌}
+use Rattle.pos_dir.proofs.Common.{File, Limits, List, Some, [], ap, arith, directory_at, drop, eqb-false, file_at}
+use Rattle.pos_dir.proofs.Common.{file_spelling, flat_map, inr, items_at, length, length-append, length-drop, nat_tests}
+use Rattle.pos_dir.proofs.Common.{nil_from_length, subst, sym, ℕ, ◌+◌, ◌∙◌, ◌≡◌, ◌≤◌}
 use Rattle.pos_dir.proofs.DirectoryLemmas.{directory_takes, file_reads}
 use Rattle.pos_dir.proofs.ItemLemmas.{items_take}
 use Rattle.pos_dir.proofs.FieldLemmas.{IsBytes, IsBytes-drop}
@@ -10,7 +11,8 @@ use Rattle.pos_dir.proofs.flaws.find_flaw.Goals.{In-Some}
 use Rattle.pos_dir.proofs.flaws.find_flaw.Goals as goal
 
 -- where the bytes behind files stand
-ends : (c : In-Some) (files : List File) (rest : List ℕ) → items_at file_at (length files) c.in-Some.text.now ≡ Some (files, rest)
+ends : (c : In-Some) (files : List File) (rest : List ℕ)
+    → items_at file_at (length files) c.in-Some.text.now ≡ Some (files, rest)
     → length c.args.bytes.now ≡ end_of_files files + length rest
 ends c files rest read =
     let bytes = c.args.bytes.now in
@@ -19,10 +21,18 @@ ends c files rest read =
     let whole : 2 ≤ length bytes = grind (arith, nat_tests) in
     let fits = subst IsBytes cut (IsBytes-drop 2 bytes (λ i. omega (arith, c.type_inv.bytes i))) in
     let parts = (items_take file_reads (length files) c.in-Some.text.now files rest fits read).0 in
-    omega (arith, whole, ap length parts, length-append (flat_map file_spelling files) rest, length-drop 2 bytes, ap length cut)
+    omega (
+      arith,
+      whole,
+      ap length parts,
+      length-append (flat_map file_spelling files) rest,
+      length-drop 2 bytes,
+      ap length cut,
+    )
 
 -- a flaw of a file is one of the bytes
-file_flaw : (limits : Limits) (bytes : List ℕ) (at : ℕ) (broken : Flaw) → HasFileFlaw limits bytes at broken → HasFlaw limits bytes at broken
+file_flaw : (limits : Limits) (bytes : List ℕ) (at : ℕ) (broken : Flaw) → HasFileFlaw limits bytes at broken
+    → HasFlaw limits bytes at broken
 file_flaw limits bytes at flaw.TooManyFiles has = absurd has.why
 file_flaw limits bytes at flaw.BytesMissing has = inr has
 file_flaw limits bytes at flaw.BytesLeft has = absurd has.why
@@ -36,11 +46,15 @@ unfolding directory_at
 unreachable-requires c =
     let passes = c.in-Ok.ensures.passed in
     let none : c.in-Ok.rest.now ≡ [] = nil_from_length c.in-Ok.rest.now (grind (arith, nat_tests)) in
-    let takes = directory_takes c.args.limits c.args.bytes.now passes.files (λ i. omega (arith, c.type_inv.bytes i)) (grind (arith, nat_tests, passes)) in
+    let takes = directory_takes c.args.limits c.args.bytes.now passes.files (λ i. omega (arith, c.type_inv.bytes i))
+    (grind (arith, nat_tests, passes)) in
     c.requires (passes.files, takes.0, takes.1)
 
 pub overflow_sub-result-in-Ok : goal.overflow_sub-result-in-Ok
-overflow_sub-result-in-Ok c = omega (arith, ends (goal.at.overflow_sub-result-in-Ok c).In-Some _ _ c.in-Ok.ensures.passed.read)
+overflow_sub-result-in-Ok c = omega (
+  arith,
+  ends (goal.at.overflow_sub-result-in-Ok c).In-Some _ _ c.in-Ok.ensures.passed.read,
+)
 
 pub returns-else-is_empty-clause-flaw : goal.returns-else-is_empty-clause-flaw
 returns-else-is_empty-clause-flaw c =

@@ -1,4 +1,5 @@
-use Rattle.pos_dir.proofs.Common.{[], add-one, arith, file_at, items_at, length, length-append, nat_tests, refl, sum_by_push, sym, ◌++◌, ◌∷◌}
+use Rattle.pos_dir.proofs.Common.{[], add-one, arith, file_at, items_at, length, length-append, nat_tests, refl}
+use Rattle.pos_dir.proofs.Common.{sum_by_push, sym, ◌++◌, ◌∷◌}
 use Rattle.pos_dir.specs.Texts.{file_of}
 use Rattle.pos_dir.proofs.ItemLemmas.{items_push}
 use Rattle.pos_dir.proofs.ChangeLemmas.{are_distinct-append}
@@ -15,7 +16,7 @@ returns-in_default-clause-stopped c =
       files = read.files;
       read = read.read;
       fewer = omega (arith, read.count, c.loop-i-test.true);
-      why = c.tell_file.ensures c.args.room read.files (sym c.in_default.ensures);
+      why = c.file_flaw.ensures c.args.room read.files (sym c.in_default.ensures);
     }
 
 pub returns-then-is_used-clause-stopped : goal.returns-then-is_used-clause-stopped
@@ -25,7 +26,11 @@ returns-then-is_used-clause-stopped c =
       files = read.files;
       read = read.read;
       fewer = omega (arith, read.count, c.loop-i-test.true);
-      why = ((file_of c.in-Some.file, c.in-Some.after.now), sym c.in-Some.ensures, grind (arith, nat_tests, read.read, read.count));
+      why = (
+        (file_of c.in-Some.file, c.in-Some.after.now),
+        sym c.in-Some.ensures,
+        grind (arith, nat_tests, read.read, read.count),
+      );
     }
 
 pub loop-i-preserved : goal.loop-i-preserved
@@ -35,7 +40,8 @@ loop-i-preserved c =
     record {
       files = read.files ++ file ∷ [];
       count = omega (arith, length-append read.files (file ∷ []), read.count);
-      read = rw (length-append, add-one) (items_push file_at _ c.args.text.now read.files c.loop-i.rest.now file c.in-Some.after.now read.read
+      read = rw (length-append, add-one)
+          (items_push file_at _ c.args.text.now read.files c.loop-i.rest.now file c.in-Some.after.now read.read
           (sym c.in-Some.ensures));
       room = omega (arith, sum_by_push (λ f. length f.bytes) read.files file, read.room, c.if-file-left.false);
       distinct = are_distinct-append read.files file read.distinct (grind (arith, nat_tests, read.read, read.count));

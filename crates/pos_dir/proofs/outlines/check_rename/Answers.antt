@@ -1,4 +1,5 @@
-use Rattle.pos_dir.proofs.Common.{Outline, arith, map-set, nat_tests, shape_of, shape_of_file, slice_get-get_or, slice_get_within, slice_set, ◌≡◌}
+use Rattle.pos_dir.proofs.Common.{Outline, arith, map-set, nat_tests, shape_of, shape_of_file, slice_get-get_or}
+use Rattle.pos_dir.proofs.Common.{slice_get_within, slice_set, ◌≡◌}
 use Rattle.pos_dir.proofs.OutlineLemmas.{file_at, remove-insert, same_name}
 use Rattle.pos_dir.proofs.outlines.check_rename.Goals as goal
 

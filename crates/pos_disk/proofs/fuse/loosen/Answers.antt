@@ -1,4 +1,4 @@
-use Rattle.pos_disk.proofs.Common.{arith, length, rules, ◌+◌, ◌-◌, ◌∙◌, ◌≡◌, ◌≤◌}
+use Rattle.pos_disk.proofs.Common.{arith, length, rules, ◌+◌, ◌-◌, ◌≡◌, ◌≤◌}
 use Rattle.pos_disk.proofs.SpoilLemmas.{loosens_on}
 use Rattle.pos_disk.proofs.fuse.loosen.Goals as goal
 
@@ -8,22 +8,27 @@ loop-place-preserved g c =
     let k = c.loop-place.place in
     let from = c.args.from in
     let inv = c.loop-place.invariant in
+    let place : from + (k - from) ≡ k = omega (arith, inv.from) in
+    let one : length c.read.new.out ≡ 1 = search rules in
+    let next : k + 1 - from ≡ k - from + 1 = omega (arith, inv.from) in
     record {
       from = omega (arith, inv.from);
-      size = c.write.ensures.size ∙ c.read.ensures.size ∙ inv.size;
-      fixed = c.write.ensures.fixed ∙ c.read.ensures.fixed ∙ inv.fixed;
-      honest = (
-        λ h. c.write.ensures.honest.0 (c.read.ensures.honest.0 (inv.honest.0 h)),
-        λ h. inv.honest.1 (c.read.ensures.honest.1 (c.write.ensures.honest.1 h)),
-      );
+      size = cc;
+      fixed = cc;
+      honest = search rules;
       loosens = λ h.
           let start = inv.honest.0 h in
-          let place : from + (k - from) ≡ k = omega (arith, inv.from) in
-          let one : length c.read.new.out ≡ 1 = search rules in
           let fits : from + (k - from) + 1 ≤ length (D.state c.loop-place.disk).reading =
-          omega (arith, inv.from, inv.size, c.requires.size, c.loop-place-test.true, g.met.D.Disk.whole c.loop-place.disk start) in
-          let next : k + 1 - from ≡ k - from + 1 = omega (arith, inv.from) in
-          rw next (loosens_on (D.state c.args.disk.now) (D.state c.loop-place.disk) (D.state c.read.new.self) (D.state c.write.new.self) from
-          (k - from) c.read.new.out c.read.result c.write.result (inv.loosens h) one fits
+          omega (
+            arith,
+            inv.from,
+            inv.size,
+            c.requires.size,
+            c.loop-place-test.true,
+            g.met.D.Disk.whole c.loop-place.disk start,
+          ) in
+          rw next (loosens_on (D.state c.args.disk.now) (D.state c.loop-place.disk) (D.state c.read.new.self)
+          (D.state c.write.new.self) from (k - from) c.read.new.out c.read.result c.write.result
+          (inv.loosens h) one fits
           (rw place (c.read.ensures.reads start)) (rw place (c.write.ensures.writes (c.read.ensures.honest.0 start))));
     }

@@ -7,5 +7,6 @@ invariant-loop-place g l = record {
   size : g.D.Disk.size l.disk ≡ g.D.Disk.size l.initial.disk;
   fixed : g.D.Disk.fixed l.disk ≡ g.D.Disk.fixed l.initial.disk;
   honest : g.D.Disk.honest l.initial.disk ↔ g.D.Disk.honest l.disk;
-  loosens : g.D.Disk.honest l.initial.disk → Loosens (g.D.Disk.state l.initial.disk) (g.D.Disk.state l.disk) l.from (l.place - l.from);
+  loosens : g.D.Disk.honest l.initial.disk
+      → Loosens (g.D.Disk.state l.initial.disk) (g.D.Disk.state l.disk) l.from (l.place - l.from);
 }

@@ -1,4 +1,5 @@
-use Rattle.pos_escpos.proofs.LossLemmas.{begun_gives_none, counts_all, job_is_long, lost_gives_none, reads_pieces, status_is_long}
+use Rattle.pos_escpos.proofs.LossLemmas.{begun_gives_none, counts_all, job_is_long, lost_gives_none, reads_pieces}
+use Rattle.pos_escpos.proofs.LossLemmas.{status_is_long}
 use Rattle.pos_escpos.proofs.laws.losses_are_seen.Goals as goal
 
 pub returns-clause-pieces : goal.returns-clause-pieces

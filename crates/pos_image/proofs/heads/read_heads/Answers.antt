@@ -1,7 +1,8 @@
 use Rattle.pos_image.proofs.Common.{Fourth, Third, arith, length, refl, ◌∙◌, ◌≡◌, ◌≤◌}
 use Rattle.pos_image.proofs.CurrentImageLemmas.{first_here, second_layout}
 use Rattle.pos_image.proofs.heads.read_heads.Given.{Over}
-use Rattle.pos_image.proofs.heads.read_heads.Goals.{After-read_head-2, then-third-via-else-third+then-fourth, then-third-via-then-third}
+use Rattle.pos_image.proofs.heads.read_heads.Goals.{After-read_head-2, then-third-via-else-third+then-fourth}
+use Rattle.pos_image.proofs.heads.read_heads.Goals.{then-third-via-then-third}
 use Rattle.pos_image.proofs.heads.read_heads.Goals as goal
 
 module _ (g : Over) (c : After-read_head-2 g) (honest : g.D.Disk.honest c.args.disk.now) where

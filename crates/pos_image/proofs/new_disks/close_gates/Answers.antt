@@ -1,4 +1,5 @@
-use Rattle.pos_image.proofs.Common.{GATES, SameBut, arith, cases_lt, get_or, inl, inr, length, rules, ℕ, ◌+◌, ◌<◌, ◌≡◌, ◌≤◌}
+use Rattle.pos_image.proofs.Common.{GATES, SameBut, arith, cases_lt, get_or, inl, inr, length, rules, ℕ, ◌+◌, ◌<◌, ◌≡◌}
+use Rattle.pos_image.proofs.Common.{◌≤◌}
 use Rattle.std.proofs.lemmas.List.Elements.{All-get_or}
 use Rattle.pos_image.proofs.ChangeLemmas.{written_gate}
 use Rattle.pos_image.proofs.NewDiskLemmas.{stays_closed}
@@ -21,10 +22,12 @@ loop-at-preserved g c = record {
       let whole = g.met.D.Disk.whole c.loop-at.disk now in
       let low = gates_low c.loop-at.at-index c.loop-at-test.true in
       let fits : at + 1 ≤ length s1.reading = omega (arith, low, whole, c.requires.large, c.loop-at.invariant.size) in
-      let same : SameBut at 1 s1.reading s2.reading = record { same_length = wrote.same_length; elsewhere = wrote.elsewhere } in
+      let same : SameBut at 1 s1.reading s2.reading =
+      record { same_length = wrote.same_length; elsewhere = wrote.elsewhere } in
       let shut : get_or s2.reading at 0 ≡ 0 = (written_gate s1.reading s2.reading at 0 fits wrote.written).1 in
       elim (cases_lt k c.loop-at.at-index) [
-        | inl earlier ↦ stays_closed s1.reading s2.reading at (get_or GATES k 0) same shut (c.loop-at.invariant.closed honest k earlier)
+        | inl earlier ↦ stays_closed s1.reading s2.reading at (get_or GATES k 0) same shut
+            (c.loop-at.invariant.closed honest k earlier)
         | inr not_earlier ↦
             let here : k ≡ c.loop-at.at-index = omega (arith, less, not_earlier) in rw here shut
       ];

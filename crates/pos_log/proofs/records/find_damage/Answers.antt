@@ -8,5 +8,6 @@ loop-length-preserved c =
     let at = c.loop-length.at in
     let group = part (at + 5) c.in-Some.length c.args.span.now in (
       before.0 ++ group ∷ [],
-      begins_more before.0 at c.in-Some.length c.args.span.now group before.1 (open_byte _ (search rules)) c.in-Some.ensures refl,
+      begins_more before.0 at c.in-Some.length c.args.span.now group before.1
+          (open_byte _ (search rules)) c.in-Some.ensures refl,
     )

@@ -1,4 +1,5 @@
-use Rattle.pos_profile.proofs.Common.{Some, entry_of, false, is_refused, length, map, take, vec_capacity, vec_len, view, ℕ, ◌<◌, ◌≡◌, ◌≤◌}
+use Rattle.pos_profile.proofs.Common.{Some, entry_of, false, is_refused, length, map, take, vec_capacity, vec_len, view}
+use Rattle.pos_profile.proofs.Common.{ℕ, ◌<◌, ◌≡◌, ◌≤◌}
 use Rattle.pos_profile.proofs.entry_list.read_entries.Given as goal
 
 -- the entries so far are those that the values so far are, and none of them is refused

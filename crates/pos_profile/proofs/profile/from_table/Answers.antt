@@ -20,5 +20,6 @@ returns-in-Ok-Some c =
       read = c.in-Ok.ensures;
       place = c.in-Ok-Some.place;
       first = first;
-      name_is = name_at devices _ c.swap_remove.result _ (omega (arith, within, length-map devices (λ (e : Entry). e.name))) c.swap_remove.ensures.value refl;
+      name_is = name_at devices _ c.swap_remove.result _
+          (omega (arith, within, length-map devices (λ (e : Entry). e.name))) c.swap_remove.ensures.value refl;
     }

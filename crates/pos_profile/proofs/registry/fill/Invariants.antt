@@ -6,6 +6,7 @@ use Rattle.pos_profile.proofs.registry.fill.Given as goal
 abbrev pub invariant-loop-planned : goal.invariant-loop-planned
 invariant-loop-planned g l =
     record {
-      so_far : devices_of g.P.Peripheral l.slots.items ++ map vacant (into_iter_items l.planned-iterator) ≡ map vacant l.fn.plan.items;
+      so_far : devices_of g.P.Peripheral l.slots.items ++ map vacant (into_iter_items l.planned-iterator)
+          ≡ map vacant l.fn.plan.items;
       room : vec_len l.slots + length (into_iter_items l.planned-iterator) ≤ vec_capacity l.slots;
     }

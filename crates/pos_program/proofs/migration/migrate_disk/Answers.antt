@@ -6,7 +6,8 @@ returns-clause-moves g c = λ honest.
     let bound = g.D.Disk in
     let mid = c.recover.new.self in
     let end = c.migrate-outcome.new.self in
-    rw c.into_disk-2.ensures.disk (migrated_moves bound c.args.disk mid.disk mid.layout mid.state mid.tail (rw c.new-store.ensures at c.in_default.ensures)
+    rw c.into_disk-2.ensures.disk (migrated_moves bound c.args.disk mid.disk mid.layout mid.state mid.tail
+    (rw c.new-store.ensures at c.in_default.ensures)
     c.migrate-outcome.result end c.migrate-outcome.ensures c.into_disk-2.ensures.at_rest honest)
 
 pub returns-clause-rest : goal.returns-clause-rest
@@ -16,5 +17,6 @@ returns-clause-rest g c = λ honest.
 
 pub returns-clause-counts : goal.returns-clause-counts
 returns-clause-counts g c = λ honest.
-    rw c.into_disk-2.ensures.disk (moved_counts g.D.Disk c.args.disk c.recover.new.self c.migrate-outcome.new.self c.migrate-outcome.result
+    rw c.into_disk-2.ensures.disk
+    (moved_counts g.D.Disk c.args.disk c.recover.new.self c.migrate-outcome.new.self c.migrate-outcome.result
     (rw c.new-store.ensures at c.in_default.ensures) c.migrate-outcome.ensures honest)

@@ -6,6 +6,7 @@ returns g c =
     let (after, outcome) = c.migrate_disk-after.result in (
       after,
       outcome,
-      leaves_moved c.args.totals after c.requires c.file_is_mirrored.ensures.file outcome (c.migrate_disk-after.ensures.moves tt),
-      c.tell_outcome.ensures,
+      leaves_moved c.args.totals after c.requires c.file_is_mirrored.ensures.file outcome
+          (c.migrate_disk-after.ensures.moves tt),
+      c.file_result.ensures,
     )

@@ -5,13 +5,15 @@ pub returns-in-Ok : goal.returns-in-Ok
 returns-in-Ok g c =
     let after = c.in-Ok.after in (
       after,
-      leaves_formatted c.args.totals after c.requires.new c.file_is_mirrored.ensures.file (c.in-Ok.ensures.rest tt) (c.in-Ok.ensures.formatted tt),
+      leaves_formatted c.args.totals after c.requires.new c.file_is_mirrored.ensures.file (c.in-Ok.ensures.rest tt)
+          (c.in-Ok.ensures.formatted tt),
     )
 
 pub returns-in-Err : goal.returns-in-Err
 returns-in-Err g c =
     let after = c.in-Err.after in (
       after,
-      leaves_unformatted c.args.totals after c.requires.new c.file_is_mirrored-in-Err.ensures.file (c.in-Err.ensures.rest tt) c.in-Err.fault
+      leaves_unformatted c.args.totals after c.requires.new c.file_is_mirrored-in-Err.ensures.file
+          (c.in-Err.ensures.rest tt) c.in-Err.fault
           (c.in-Err.ensures.refused tt),
     )

@@ -13,4 +13,5 @@ returns-in-Err-Sync-default g c =
     let at = c.in-Err-Sync-default in (c.over.result, c.over.ensures.opens, rw at.is (rw at.field-0-0-is refl))
 
 pub returns : goal.returns
-returns g c = let at = c.in-Err-Read-default in (c.over.result, c.over.ensures.opens, rw at.is (rw at.field-0-0-is refl))
+returns g c = let at = c.in-Err-Read-default in
+    (c.over.result, c.over.ensures.opens, rw at.is (rw at.field-0-0-is refl))

@@ -11,5 +11,6 @@ returns c =
     record {
       json = string_bytes c.in_ok-json.json;
       text_is = search rules;
-      reads = c.in_ok-json.ensures.reads_back (subst (λ d. depth d ≤ 127) (sym value) (shallow it it.room refl)) ∙ ap Some value;
+      reads = c.in_ok-json.ensures.reads_back (subst (λ d. depth d ≤ 127) (sym value) (shallow it it.room refl))
+          ∙ ap Some value;
     }

@@ -18,5 +18,10 @@ pub returns : goal.returns
 returns c =
     let found = c.in-Ok-Some.found in
     let finds = subst (λ o. Finds c.as_slice.result.now (Ok o)) c.in-Ok-Some.field-0-is c.in-Ok-Some.ensures in
-    let closes = ap (λ gate. slice_set c.args.copy.now.items gate 0) c.gate_of-gate.ensures in
-    (found.0, found.1, subst (λ bytes. Breaks bytes (Damaged found.0 found.1)) c.as_slice.ensures.value finds, closes, c.in_ok-put_lost.ensures)
+    let closes = ap (λ gate. slice_set c.args.copy.now.items gate 0) c.gate_of-gate.ensures in (
+      found.0,
+      found.1,
+      subst (λ bytes. Breaks bytes (Damaged found.0 found.1)) c.as_slice.ensures.value finds,
+      closes,
+      c.in_ok-put_lost.ensures,
+    )

@@ -1,7 +1,8 @@
-use Rattle.pos_run.proofs.Common.{IsCounterSound, TotalsPart, length, machine, off_over, simulated_all, states_in, take, vec_capacity, vec_len, ◌≡◌, ◌≤◌}
+use Rattle.pos_run.proofs.Common.{IsCounterSound, TotalsPart, length, machine, off_over, simulated_all, states_in, take}
+use Rattle.pos_run.proofs.Common.{vec_capacity, vec_len, ◌≡◌, ◌≤◌}
 use Rattle.pos_run.proofs.DeviceLemmas.{begun_partly}
 use Rattle.pos_counter.specs.KeptDevices.{slots_in}
-use Rattle.pos_run.specs.Simulating.{AreSparesMounted, HasMounted}
+use Rattle.pos_run.specs.Simulations.{AreSparesMounted, HasMounted}
 use Rattle.std.specs.List.{AllByRecursion}
 use Rattle.pos_run.proofs.profile_run.simulate_profile.Given as goal
 
@@ -10,7 +11,8 @@ abbrev pub invariant-loop-entry : goal.invariant-loop-entry
 invariant-loop-entry g l = record {
   sound : IsCounterSound g.P.Peripheral l.counter;
   totals : l.counter.totals ≡ off_over l.fn.disk;
-  served : (part : TotalsPart) → machine g.P.Peripheral l.counter part ≡ begun_partly l.fn.profile.devices l.entry-index part;
+  served : (part : TotalsPart) → machine g.P.Peripheral l.counter part
+      ≡ begun_partly l.fn.profile.devices l.entry-index part;
   mounted : AllByRecursion (HasMounted g.M.Mount.mounts l.fn.profile.devices) (slots_in l.counter.devices);
 }
 

@@ -1,5 +1,5 @@
-use Rattle.pos_run.proofs.Common.{IsRun, RunsScript, [], begun_session, lines_read, names_of, refl, runs_join, script_steps, session_with}
-use Rattle.pos_run.proofs.Common.{spares_in, streams_of, subst}
+use Rattle.pos_run.proofs.Common.{IsRun, RunsScript, [], begun_session, lines_read, names_of, refl, runs_join}
+use Rattle.pos_run.proofs.Common.{script_steps, session_with, spares_in, streams_of, subst}
 use Rattle.pos_run.proofs.LineLemmas.{carried_run}
 use Rattle.pos_run.proofs.RunLemmas.{runs_through}
 use Rattle.pos_run.proofs.scripts.run.Goals as goal
@@ -9,7 +9,8 @@ returns-in_default-clause-script g c = (
   [],
   record {
     script = record { input = []; reader = (refl, refl); run = (refl, refl, refl) };
-    through = runs_through g.D.Disk g.P.Peripheral (λ disk bytes honest since. g.met.D.Disk.only_now disk bytes honest since)
+    through = runs_through g.D.Disk g.P.Peripheral
+        (λ disk bytes honest since. g.met.D.Disk.only_now disk bytes honest since)
         c.args.counter.now c.args.counter.now [] refl;
   },
 )
@@ -25,14 +26,17 @@ returns-clause-script g c =
     c.run_named.new.writer in
     let left = session_with (names_of c.run_named.new.names) (spares_in g.P.Peripheral c.run_named.new.spares) in
     let script : RunsScript Runs old session streams result left new =
-    subst (λ names. RunsScript Runs old (session_with names (spares_in g.P.Peripheral c.args.spares.now)) streams result left new)
+    subst (λ names. RunsScript Runs old
+    (session_with names (spares_in g.P.Peripheral c.args.spares.now)) streams result left new)
     c.new-names.ensures c.run_named.ensures.script in
-    let run = carried_run Runs (λ counter. refl) (runs_join g.D.Disk g.P.Peripheral) old session (lines_read streams.reader_after.state script.input)
+    let run = carried_run Runs (λ counter. refl) (runs_join g.D.Disk g.P.Peripheral) old session
+    (lines_read streams.reader_after.state script.input)
     streams.writer streams.writer_after result left new script.run in (
       names_of c.run_named.new.names,
       record {
         script = script;
-        through = runs_through g.D.Disk g.P.Peripheral (λ disk bytes honest since. g.met.D.Disk.only_now disk bytes honest since) old new
+        through = runs_through g.D.Disk g.P.Peripheral
+            (λ disk bytes honest since. g.met.D.Disk.only_now disk bytes honest since) old new
             (script_steps script) run;
       },
     )

@@ -8,9 +8,13 @@ pub returns-in_err-write_hex : goal.returns-in_err-write_hex
 returns-in_err-write_hex g c =
     let character = g.G.Glyph.character in
     rw (← hex_of_glyphs character c.args.glyphs.now)
-    (failed_part _ _ _ _ (λ glyph. encode_lower (character glyph ∷ [])) c.args.glyphs.now c.loop-glyph.glyph-index _ _ _ c.from_residual.ensures.1
+    (failed_part _ _ _ _ (λ glyph. encode_lower (character glyph ∷ [])) c.args.glyphs.now c.loop-glyph.glyph-index _ _ _
+    c.from_residual.ensures.1
     c.loop-glyph-test.true (ap (λ n. encode_lower (n ∷ [])) (c.character.ensures ∙ ap character c.glyph-item.is))
     c.loop-glyph.invariant c.in_err-write_hex.ensures)
 
 pub returns : goal.returns
-returns g c = rw (take_all c.loop-glyph.glyph-index c.args.glyphs.now c.loop-glyph-test.false, hex_of_glyphs g.G.Glyph.character) at c.loop-glyph.invariant
+returns g c = rw (
+  take_all c.loop-glyph.glyph-index c.args.glyphs.now c.loop-glyph-test.false,
+  hex_of_glyphs g.G.Glyph.character,
+) at c.loop-glyph.invariant

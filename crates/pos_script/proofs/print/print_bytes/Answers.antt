@@ -16,7 +16,8 @@ returns-in_err-write_parts g c = failed_front _ _ _ _ _ _ c.from_residual.ensure
 pub returns-in_err-write_hex : goal.returns-in_err-write_hex
 returns-in_err-write_hex g c =
     rw (some_bytes c.args.bytes.now c.if-is_empty.ensures)
-    (failed_between _ _ _ _ _ _ _ _ c.from_residual-in_err-write_hex.ensures.1 c.in_ok-write_parts.ensures c.in_err-write_hex.ensures)
+    (failed_between _ _ _ _ _ _ _ _ c.from_residual-in_err-write_hex.ensures.1 c.in_ok-write_parts.ensures
+    c.in_err-write_hex.ensures)
 
 pub returns : goal.returns
 returns g c = rw (some_bytes c.args.bytes.now c.if-is_empty.ensures)

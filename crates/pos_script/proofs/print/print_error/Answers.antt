@@ -6,7 +6,13 @@ pub returns : goal.returns
 returns g c =
     let a = c.format-code.result.now in
     let b = c.format-extended.result.now in
-    rw (← c.number.ensures, ← c.number-2.ensures, ← c.format-code.ensures.text, ← c.format-extended.ensures.text, ← c.format-locus.ensures.text)
+    rw (
+      ← c.number.ensures,
+      ← c.number-2.ensures,
+      ← c.format-code.ensures.text,
+      ← c.format-extended.ensures.text,
+      ← c.format-locus.ensures.text,
+    )
     (rw (
       append_assoc (a ++ codes " " ++ b ++ codes " ") c.format-locus.result.now (10 ∷ []),
       append_assoc (a ++ codes " " ++ b) (codes " "),

@@ -6,4 +6,5 @@ pub returns : goal.returns
 returns g c =
     let code = c.format-code.result.now in
     rw (← c.number.ensures, ← c.format-code.ensures.text, ← c.format-extended.ensures.text)
-    (rw (append_assoc (code ++ codes " ") c.format-extended.result.now (10 ∷ []), append_assoc code (codes " ")) c.write_parts.ensures)
+    (rw (append_assoc (code ++ codes " ") c.format-extended.result.now (10 ∷ []), append_assoc code (codes " "))
+    c.write_parts.ensures)

@@ -10,16 +10,19 @@ use Rattle.pos_script.proofs.receipt.write_items.Goals as goal
 
 pub returns-in_err-write_line-in-Line : goal.returns-in_err-write_line-in-Line
 returns-in_err-write_line-in-Line g c =
-    let more = text_at c.args.marks.now c.loop-mark.mark-index _ _ c.loop-mark.rest.now c.loop-mark-test.true c.in-Line.is in
+    let more = text_at c.args.marks.now c.loop-mark.mark-index _ _ c.loop-mark.rest.now c.loop-mark-test.true
+    c.in-Line.is in
     rw (c.loop-mark.invariant.2, more)
     (failed_between _ _ _ _ _ _ _ _ c.from_residual.ensures.1 c.loop-mark.invariant.1
     (rw c.split_line.ensures.line at c.in_err-write_line-in-Line.ensures))
 
 pub returns-in_err-write_cut-in-Cut : goal.returns-in_err-write_cut-in-Cut
 returns-in_err-write_cut-in-Cut g c =
-    let more = text_at c.args.marks.now c.loop-mark.mark-index _ _ c.loop-mark.rest.now c.loop-mark-test.true c.in-Cut.is in
+    let more = text_at c.args.marks.now c.loop-mark.mark-index _ _ c.loop-mark.rest.now c.loop-mark-test.true
+    c.in-Cut.is in
     rw (c.loop-mark.invariant.2, more)
-    (failed_between _ _ _ _ _ _ _ _ c.from_residual-in_err-write_cut-in-Cut.ensures.1 c.loop-mark.invariant.1 c.in_err-write_cut-in-Cut.ensures)
+    (failed_between _ _ _ _ _ _ _ _ c.from_residual-in_err-write_cut-in-Cut.ensures.1 c.loop-mark.invariant.1
+    c.in_err-write_cut-in-Cut.ensures)
 
 pub loop-mark-preserved : goal.loop-mark-preserved
 loop-mark-preserved g c =

@@ -24,4 +24,5 @@ digits_decide word even =
 pub returns-then-word-eq0 : goal.returns-then-word-eq0
 returns-then-word-eq0 c =
     c.all_hex_digits.ensures ∙ digits_decide c.args.word.now c.if-word-eq0.true
-    ∙ ap (λ hyphen. is_some (cond hyphen (Some []) (value_of (decode_of c.args.word.now)))) (sym (sym c.is.ensures ∙ c.if-is.false))
+    ∙ ap (λ hyphen. is_some (cond hyphen (Some []) (value_of (decode_of c.args.word.now))))
+    (sym (sym c.is.ensures ∙ c.if-is.false))

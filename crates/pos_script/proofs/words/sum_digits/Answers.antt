@@ -15,13 +15,15 @@ below n i k lt le = let p : 10 ^ i ≤ 10 ^ k = pow-le-pow_right {n = 10} (omega
 pub overflow_mul-number : goal.overflow_mul-number
 overflow_mul-number c =
     let s = short c.args.digits.now c.requires in
-    let b : c.loop-digit.number < 10 ^ 17 = below _ c.loop-digit.digit-index 17 c.loop-digit.invariant.bound (omega arith) in
+    let b : c.loop-digit.number < 10 ^ 17 =
+    below _ c.loop-digit.digit-index 17 c.loop-digit.invariant.bound (omega arith) in
     omega arith
 
 pub overflow_add-number : goal.overflow_add-number
 overflow_add-number c =
     let s = short c.args.digits.now c.requires in
-    let b : c.loop-digit.number < 10 ^ 17 = below _ c.loop-digit.digit-index 17 c.loop-digit.invariant.bound (omega arith) in
+    let b : c.loop-digit.number < 10 ^ 17 =
+    below _ c.loop-digit.digit-index 17 c.loop-digit.invariant.bound (omega arith) in
     omega arith
 
 pub returns-clause-bound : goal.returns-clause-bound

@@ -7,5 +7,8 @@ pub loop-rest-preserved : goal.loop-rest-preserved
 loop-rest-preserved g c =
     let (done, split, appended) = c.loop-rest.invariant in
     let rest = c.loop-rest.rest.now in
-    let n = c.in-Ok.count in
-    (done ++ take n rest, rw (split, take_rest rest n, append_assoc, take-append-drop n rest) refl, Appends-trans _ _ _ _ _ appended c.in-Ok.ensures.2)
+    let n = c.in-Ok.count in (
+      done ++ take n rest,
+      rw (split, take_rest rest n, append_assoc, take-append-drop n rest) refl,
+      Appends-trans _ _ _ _ _ appended c.in-Ok.ensures.2,
+    )

@@ -6,4 +6,8 @@ use Rattle.pos_service.proofs.display_text.place_after.Goals as goal
 pub loop-byte-preserved : goal.loop-byte-preserved
 loop-byte-preserved c =
     let so_far = text_from c.args.columns c.args.start (take c.loop-byte.byte-index c.args.bytes.now) in
-    grind (arith, c.place_after_byte-place.ensures.follows so_far, text_more c.args.columns c.args.start c.args.bytes.now c.loop-byte.byte-index)
+    grind (
+      arith,
+      c.place_after_byte-place.ensures.follows so_far,
+      text_more c.args.columns c.args.start c.args.bytes.now c.loop-byte.byte-index,
+    )

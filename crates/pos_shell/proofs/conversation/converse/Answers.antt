@@ -1,13 +1,14 @@
-use Rattle.std.proofs.Common.{Ok, Result, [], ap, append-nil, arith, inl, inr, length, refl, subst, sym, ◌++◌, ◌+◌, ◌∙◌, ◌∷◌, ◌≤◌}
+use Rattle.std.proofs.Common.{Ok, Result, [], ap, append-nil, arith, inl, inr, length, refl, subst, sym, ◌++◌, ◌+◌, ◌∙◌}
+use Rattle.std.proofs.Common.{◌∷◌, ◌≤◌}
 use Rattle.std.proofs.lemmas.List.{length-append}
 use Rattle.pos_counter.proofs.RunLemmas.{runs_join}
 use Rattle.pos_run.proofs.Common.{Appends-nil, taken_none}
-use Rattle.pos_run.specs.Carried.{session_of}
+use Rattle.pos_run.specs.LineRuns.{session_of}
 use Rattle.pos_shell.proofs.ConversationLemmas.{answers_more, ends_typed}
-use Rattle.pos_shell.specs.Conversation.{TellsExchange, most}
+use Rattle.pos_shell.specs.Conversation.{PrintsExchange, most}
 use Rattle.pos_shell.specs.Outputs.{output_of, streams_of}
 use Rattle.pos_shell.specs.declared.conversation.Next.{Next}
-use Rattle.pos_shell.specs.declared.scripts.TellFault.{TellFault}
+use Rattle.pos_shell.specs.declared.scripts.ScriptsFault.{ScriptsFault}
 use Rattle.pos_shell.proofs.conversation.converse.Goals as goal
 
 pub loop-turn-init : goal.loop-turn-init
@@ -30,9 +31,10 @@ loop-turn-preserved g c =
     let (last, ran, told) = c.exchange-told.ensures.told in
     let new = streams_of g.R.Source c.exchange-told.new.reader g.W.Sink c.exchange-told.new.writer in
     let left = session_of g.P.Peripheral c.exchange-told.new.names c.exchange-told.new.spares in
-    let one = subst (λ (told : Result Next TellFault). TellsExchange c.args.manner.now middle last between new told left)
+    let one = subst (λ (told : Result Next ScriptsFault).
+    PrintsExchange c.args.style.now middle last between new told left)
     (c.in-Ok-Asked.is ∙ ap (λ (next : Next). Ok next) (rw c.in-Ok-Asked.is at c.in-Ok-Asked.field-0-is)) told in
-    let (turn, more) = answers_more c.args.manner.now turns session middle left first last _ between new done one in (
+    let (turn, more) = answers_more c.args.style.now turns session middle left first last _ between new done one in (
       c.exchange-told.ensures.sound,
       c.exchange-told.ensures.spares,
       first ++ last,
@@ -51,7 +53,8 @@ returns-in-Ok-Ended-clause-told g c =
     let (last, ran, told) = c.exchange-told.ensures.told in
     let new = streams_of g.R.Source c.exchange-told.new.reader g.W.Sink c.exchange-told.new.writer in
     let left = session_of g.P.Peripheral c.exchange-told.new.names c.exchange-told.new.spares in
-    let one = subst (λ (told : Result Next TellFault). TellsExchange c.args.manner.now middle last between new told left)
+    let one = subst (λ (told : Result Next ScriptsFault).
+    PrintsExchange c.args.style.now middle last between new told left)
     (c.in-Ok-Ended.is ∙ ap (λ (next : Next). Ok next) (rw c.in-Ok-Ended.is at c.in-Ok-Ended.field-0-is)) told in (
       first ++ last,
       runs_join g.D.Disk g.P.Peripheral _ _ _ _ _ run ran,
@@ -63,7 +66,8 @@ returns-in-Ok-Ended-clause-told g c =
         between = between;
         middle = middle;
         done = done;
-        last = inl (ends_typed c.args.manner.now middle last between new (output_of g.W.Sink c.end_line.new.writer) c.end_line.result left one c.end_line.ensures);
+        last = inl (ends_typed c.args.style.now middle last between new
+            (output_of g.W.Sink c.end_line.new.writer) c.end_line.result left one c.end_line.ensures);
       },
     )
 

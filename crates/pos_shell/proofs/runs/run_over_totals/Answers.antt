@@ -10,6 +10,7 @@ returns g c =
       answer = _;
       runs = ran.runs;
       file = mirrored.file;
-      cuts = λ left leaves. leaves_cuts _ _ c.args.totals c.requires _ mirrored.cut left (steps_of ran.runs) (ran.moments left tt leaves);
+      cuts = λ left leaves. leaves_cuts _ _ c.args.totals c.requires _ mirrored.cut left (steps_of ran.runs)
+          (ran.moments left tt leaves);
       ends = c.at_end.ensures;
     }

@@ -4,7 +4,8 @@ use Rattle.pos_sims.proofs.WindowLemmas.{wrapped}
 use Rattle.pos_sims.proofs.text_layout.lay_byte.Goals as goal
 
 pub returns-then-byte-eq10-clause-follows : goal.returns-then-byte-eq10-clause-follows
-returns-then-byte-eq10-clause-follows g c = λ old strip h. grind (arith, line_feed_text, c.next_row.ensures.follows old strip h)
+returns-then-byte-eq10-clause-follows g c =
+    λ old strip h. grind (arith, line_feed_text, c.next_row.ensures.follows old strip h)
 
 pub returns-clause-follows : goal.returns-clause-follows
 returns-clause-follows g c = λ old strip h.

@@ -1,5 +1,6 @@
 use Rattle.pos_store.proofs.Common.{Layout1, Layout2, ap, layout_of, limits_of, refl, rules, sym, ⊎_elim, ◌∙◌, ◌≡◌}
-use Rattle.pos_store.proofs.MigrationLemmas.{Moves, refused_migrates, moved_holds, moved_migrates, failed_migrates, keeps_first}
+use Rattle.pos_store.proofs.MigrationLemmas.{Moves, refused_migrates, moved_holds, moved_migrates, failed_migrates}
+use Rattle.pos_store.proofs.MigrationLemmas.{keeps_first}
 use Rattle.pos_store.proofs.migrations.migrate_files.Given.{Over}
 use Rattle.pos_store.proofs.migrations.migrate_files.Goals.{After-migrate}
 use Rattle.pos_store.specs.declared.fault.StoreFault.TheVariants as fault
@@ -9,7 +10,8 @@ pub returns-then-eq-clause-migrates : goal.returns-then-eq-clause-migrates
 returns-then-eq-clause-migrates g c =
     let sound = rw c.in-Ready.is at c.requires.sound in
     let second : layout_of c.in-Ready.log.images.slot ≡ Layout2 = search rules in
-    rw c.in-Ready.is (refused_migrates g.D.Disk c.in-Ready.log c.in-Ready.directory.files sound.0 sound.1 fault.AlreadyLayout2
+    rw c.in-Ready.is
+    (refused_migrates g.D.Disk c.in-Ready.log c.in-Ready.directory.files sound.0 sound.1 fault.AlreadyLayout2
     (rw second (refl, refl)) (λ is. absurd cc) (g.met.D.Disk.only_now c.in-Ready.log.images.disk))
 
 pub returns-in_default-clause-migrates : goal.returns-in_default-clause-migrates
@@ -28,7 +30,8 @@ moves g c =
       ready = sound.0;
       holds = sound.1;
       first = first;
-      sound = c.wider_directory.ensures (limits_of Layout1) (limits_of Layout2) c.in-Ready.directory.files (search rules)
+      sound = c.wider_directory.ensures (limits_of Layout1) (limits_of Layout2) c.in-Ready.directory.files
+          (search rules)
           (rw limits at c.encode.ensures.directory);
       spelled = c.in-Ok.ensures.spelling;
     }
@@ -38,7 +41,12 @@ returns-in-Ok-migrate g c =
     let it = moves g (goal.at.returns-in-Ok-migrate g c).After-migrate in
     let renews = c.in-Ok-migrate.ensures.migrates in
     rw (c.in-Ready.is, c.widen.ensures) (record {
-      sound = (renews.ready, moved_holds it c.migrate.new.self renews, c.limits_of.ensures ∙ ap limits_of (sym renews.layout_is));
+      sound = (
+        renews.ready,
+        moved_holds it c.migrate.new.self renews,
+        c.limits_of.ensures
+            ∙ ap limits_of (sym renews.layout_is),
+      );
       migrates = moved_migrates it c.migrate.new.self renews (λ h. keeps_first _ _ _ (c.in-Ok-migrate.ensures.rest h));
     })
 
@@ -48,7 +56,8 @@ returns-in-Device-clause-migrates g c =
     let renews = rw c.in-Device.is at c.in-Err.ensures.migrates in
     rw (c.in-Ready.is, c.turn_off.ensures)
     (failed_migrates (moves g here) c.migrate.new.self renews
-    (λ h bytes. g.met.D.Disk.counts_now c.migrate.new.self.images.disk (g.D.Disk.state c.in-Ready.log.images.disk).moment bytes (renews.keeps.honest.0 h))
+    (λ h bytes. g.met.D.Disk.counts_now c.migrate.new.self.images.disk
+    (g.D.Disk.state c.in-Ready.log.images.disk).moment bytes (renews.keeps.honest.0 h))
     (λ h. keeps_first _ _ _ (c.in-Err.ensures.rest h)))
 
 pub returns-in-NoMemory : goal.returns-in-NoMemory

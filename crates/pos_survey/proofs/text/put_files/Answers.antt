@@ -12,4 +12,5 @@ loop-index-preserved c =
     let bytes = c.in-Some-Some.bytes.now in
     c.in_ok-put_file.ensures ∙ ap (λ t. t ++ file_text name bytes) c.loop-index.invariant
     ∙ append_assoc c.args.text.now.items (files_text (take i files)) (file_text name bytes)
-    ∙ ap (λ t. c.args.text.now.items ++ t) (sym (one_file_more files i name bytes (slice_get files i) refl c.in-Some-Some.ensures c.in-Some-Some.ensures'))
+    ∙ ap (λ t. c.args.text.now.items ++ t)
+    (sym (one_file_more files i name bytes (slice_get files i) refl c.in-Some-Some.ensures c.in-Some-Some.ensures'))

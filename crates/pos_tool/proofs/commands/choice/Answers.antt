@@ -10,10 +10,12 @@ returns-in-Ok-task_of g c =
     let parse = c.in-Ok-try_get_matches_from in
     inl (
       accepted (app_of c.in-Ok.line) words c.in-Ok.ensures parse.ensures.kinds,
-      subst (λ found. Asks found c.in-Ok-task_of.task) (met (app_of c.in-Ok.line) words c.in-Ok.ensures parse.matches parse.ensures.matches) c.in-Ok-task_of.ensures,
+      subst (λ found. Asks found c.in-Ok-task_of.task)
+          (met (app_of c.in-Ok.line) words c.in-Ok.ensures parse.matches parse.ensures.matches) c.in-Ok-task_of.ensures,
     )
 
 pub returns-in-Err : goal.returns-in-Err
 returns-in-Err g c =
-    told (app_of c.in-Ok.line) (map g.S.AsStr.text c.args.words.now) c.in-Ok.ensures c.in-Err.error c.task_of_error.result c.in-Err.ensures.kinds
+    told (app_of c.in-Ok.line) (map g.S.AsStr.text c.args.words.now) c.in-Ok.ensures c.in-Err.error
+    c.task_of_error.result c.in-Err.ensures.kinds
     c.task_of_error.ensures

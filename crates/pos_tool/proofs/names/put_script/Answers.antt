@@ -5,4 +5,5 @@ use Rattle.pos_tool.proofs.names.put_script.Goals as goal
 
 pub returns-in-None : goal.returns-in-None
 returns-in-None c =
-    sym (ap (λ script. texts c.args.scripts.now.items ++ script) (without_end c.args.name.now c.in-None.ensures.cases) ∙ append-nil _)
+    sym (ap (λ script. texts c.args.scripts.now.items ++ script) (without_end c.args.name.now c.in-None.ensures.cases)
+    ∙ append-nil _)

@@ -1,4 +1,5 @@
-use Rattle.pos_totals.proofs.Common.{Change, File, FileChange, Gathers, List, Some, [], false, files_in, group_of, length, nat_eq, refl, sym, ◌∙◌, ◌∷◌, ◌≡◌}
+use Rattle.pos_totals.proofs.Common.{Change, File, FileChange, Gathers, List, Some, [], false, files_in, group_of}
+use Rattle.pos_totals.proofs.Common.{length, nat_eq, refl, sym, ◌∙◌, ◌∷◌, ◌≡◌}
 use Rattle.pos_totals.proofs.commits.plan_in.Goals as goal
 
 -- what is buffered and isn't nothing makes a group
@@ -10,5 +11,6 @@ gathers files (first ∷ others) group some made = record { first = first; other
 pub returns-in-Ok : goal.returns-in-Ok
 returns-in-Ok c = (
   sym c.in-None.ensures,
-  gathers (files_in c.args.files) c.args.changes.now c.in-Ok.group (sym c.is_empty.ensures ∙ c.if-is_empty.false) c.in-Ok.ensures,
+  gathers (files_in c.args.files) c.args.changes.now c.in-Ok.group
+      (sym c.is_empty.ensures ∙ c.if-is_empty.false) c.in-Ok.ensures,
 )

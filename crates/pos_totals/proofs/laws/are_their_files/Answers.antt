@@ -4,4 +4,5 @@ use Rattle.pos_totals.proofs.laws.are_their_files.Goals as goal
 pub returns : goal.returns
 returns g c =
     let inside = c.totals.inside in
-    rw (← c.totals.view_is) (theirs inside.store.state inside.store.tail inside.holdings c.see_files.ensures.directory c.totals.invariant)
+    rw (← c.totals.view_is)
+    (theirs inside.store.state inside.store.tail inside.holdings c.see_files.ensures.directory c.totals.invariant)

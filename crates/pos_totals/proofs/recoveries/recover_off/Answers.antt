@@ -2,8 +2,8 @@ use Rattle.pos_totals.proofs.Common.{Limits, ap, arith, sym}
 use Rattle.pos_totals.proofs.RecoveryLemmas.{is_told, shown, store_failed, store_found, store_found_more, was_off}
 use Rattle.pos_totals.proofs.recoveries.recover_off.Goals as goal
 
-pub tell_fault-requires : goal.tell_fault-requires
-tell_fault-requires g c = is_told (was_off c.args.store.now c.requires.off) c.in-Err.fault c.in-Err.ensures
+pub recovery_fault-requires : goal.recovery_fault-requires
+recovery_fault-requires g c = is_told (was_off c.args.store.now c.requires.off) c.in-Err.fault c.in-Err.ensures
 
 pub number-requires : goal.number-requires
 number-requires g c =
@@ -13,20 +13,24 @@ number-requires g c =
 
 pub returns-in-Err : goal.returns-in-Err
 returns-in-Err g c =
-    let both = store_failed (was_off c.args.store.now c.requires.off) c.args.holdings.now c.requires.sound c.in-Err.fault c.tell_fault.result c.in-Err.ensures
-    c.tell_fault.ensures in
+    let both = store_failed (was_off c.args.store.now c.requires.off) c.args.holdings.now c.requires.sound
+    c.in-Err.fault c.recovery_fault.result c.in-Err.ensures
+    c.recovery_fault.ensures in
     record { sound = both.1; recovers = both.0 }
 
 pub returns-then-number : goal.returns-then-number
 returns-then-number g c =
     let shows = shown c.recover.new.self c.in-Some.files.now.files (sym c.in-Some.ensures.files) in
-    let both = store_found (was_off c.args.store.now c.requires.off) shows c.args.holdings.now c.requires.sound c.number.new.self c.in-Ok.ensures
+    let both = store_found (was_off c.args.store.now c.requires.off) shows c.args.holdings.now c.requires.sound
+    c.number.new.self c.in-Ok.ensures
     (rw (c.if-number.true, c.len-count.ensures) at c.number.ensures) in
     rw c.layout-holdings.ensures (record { sound = both.1; recovers = both.0 })
 
 pub returns : goal.returns
 returns g c =
     let shows = shown c.recover.new.self c.in-Some.files.now.files (sym c.in-Some.ensures.files) in
-    let both = store_found_more (was_off c.args.store.now c.requires.off) shows c.args.holdings.now c.requires.sound c.number.new.self
-    c.replace_with.new.dest c.in-Ok.ensures (rw (c.if-number.false, c.len-count.ensures) at c.number.ensures) c.replace_with.ensures in
+    let both = store_found_more (was_off c.args.store.now c.requires.off) shows c.args.holdings.now c.requires.sound
+    c.number.new.self
+    c.replace_with.new.dest c.in-Ok.ensures
+    (rw (c.if-number.false, c.len-count.ensures) at c.number.ensures) c.replace_with.ensures in
     record { sound = both.1; recovers = both.0 }

@@ -1,7 +1,7 @@
 use Rattle.std.proofs.Common.{◌≡◌, true, rules}
 use Rattle.std.proofs.lemmas.Result.{IfOk-weaker}
 use Rattle.pos_service.specs.declared.order.Reply.TheVariants as reply
-use Rattle.pos_service.specs.declared.plant.Form.TheVariants as form
+use Rattle.pos_service.specs.declared.plant.Mechanism.TheVariants as mechanism
 use Rattle.pos_service.specs.Peripherals.{Performs}
 use Rattle.pos_wire.specs.Orders.{lit}
 use Rattle.pos_wire.proofs.OrderLemmas.{display_misfit, display_sends}
@@ -12,10 +12,12 @@ returns-clause-sends g c =
     let state = g.P.Peripheral.state c.args.twin.now in
     let is = c.in-Display.before-is in
     let powered : state.plant.powered ≡ true = search rules in
-    let shown : state.plant.form ≡ form.Display c.in-Display.before = search rules in
-    let done : Performs c.args.order.now (lit c.in-Display.before) reply.Done (lit c.in_ok-after.after) = rw (← is) c.in_ok-after.ensures.done in
+    let shown : state.plant.mechanism ≡ mechanism.Display c.in-Display.before = search rules in
+    let done : Performs c.args.order.now (lit c.in-Display.before) reply.Done (lit c.in_ok-after.after) =
+    rw (← is) c.in_ok-after.ensures.done in
     IfOk-weaker c.row_bytes.result _ _ (λ bytes shows end.
-    display_sends c.args.settings.now c.args.is_new end state c.args.order.now c.in-Display.before c.in_ok-after.after _ powered shown
+    display_sends c.args.settings.now c.args.is_new end state c.args.order.now c.in-Display.before c.in_ok-after.after _
+    powered shown
     done (rw (← is) shows))
     c.row_bytes.ensures.shows
 
@@ -24,7 +26,8 @@ returns-clause-no_bytes g c = λ none.
     let state = g.P.Peripheral.state c.args.twin.now in
     let is = c.in-Display.before-is in
     let powered : state.plant.powered ≡ true = search rules in
-    let shown : state.plant.form ≡ form.Display c.in-Display.before = search rules in
-    let done : Performs c.args.order.now (lit c.in-Display.before) reply.Done (lit c.in_ok-after.after) = rw (← is) c.in_ok-after.ensures.done in
+    let shown : state.plant.mechanism ≡ mechanism.Display c.in-Display.before = search rules in
+    let done : Performs c.args.order.now (lit c.in-Display.before) reply.Done (lit c.in_ok-after.after) =
+    rw (← is) c.in_ok-after.ensures.done in
     display_misfit c.args.is_new state c.args.order.now c.in-Display.before c.in_ok-after.after powered shown done
     (rw (← is) (c.row_bytes.ensures.no_bytes none))

@@ -10,7 +10,8 @@ pub returns-in-None-clause-no_bytes : goal.returns-in-None-clause-no_bytes
 returns-in-None-clause-no_bytes g c = λ is.
     let state = g.P.Peripheral.state c.args.twin.now in
     let none : c.would_add.result ≡ Ok None = search rules in
-    adds_nothing c.args.chars 0 c.args.is_new state c.args.order.now (c.requires.plant 0) (c.would_add.ensures.nothing c.requires.fits none)
+    adds_nothing c.args.chars 0 c.args.is_new state c.args.order.now (c.requires.plant 0)
+    (c.would_add.ensures.nothing c.requires.fits none)
 
 pub returns-in-Ok-clause-sends : goal.returns-in-Ok-clause-sends
 returns-in-Ok-clause-sends g c =
@@ -20,7 +21,8 @@ returns-in-Ok-clause-sends g c =
     let cut = cut_of settings in
     let adds : Adds state.plant c.args.order.now roll = search rules in
     let given : AllDo false settings.width (all_on_paper cut roll.items) [] [] c.as_slice.result.now =
-    subst (λ (bytes : List ℕ). AllDo false settings.width (all_on_paper cut roll.items) [] [] bytes) (sym c.as_slice.ensures.value)
+    subst (λ (bytes : List ℕ). AllDo false settings.width (all_on_paper cut roll.items) [] [] bytes)
+    (sym c.as_slice.ensures.value)
     c.in-Ok.ensures.prints in
     printer_sends settings c.args.is_new c.args.end state c.args.order.now roll _ adds
     (c.in_ok-framed-in-Ok.ensures settings.width (all_on_paper cut roll.items) [] given)
@@ -29,4 +31,5 @@ pub returns-clause-no_bytes : goal.returns-clause-no_bytes
 returns-clause-no_bytes g c = λ is.
     let state = g.P.Peripheral.state c.args.twin.now in
     let adds : Adds state.plant c.args.order.now c.in-Some.roll = search rules in
-    adds_misfit c.args.chars 0 c.args.is_new state c.args.order.now c.in-Some.roll (c.requires.plant 0) adds (c.in-Err.ensures.no_bytes is)
+    adds_misfit c.args.chars 0 c.args.is_new state c.args.order.now c.in-Some.roll (c.requires.plant 0) adds
+    (c.in-Err.ensures.no_bytes is)

@@ -16,7 +16,9 @@ returns-in-Ok-clause-prints c =
     let raw : AllDo false c.line-line.result.width (all_on_paper c.cut-cut.result made) [] [] sent =
     prints_alone c.line-line.result.width (all_on_paper c.cut-cut.result made) sent c.in-Ok.ensures.prints in
     let by_cut : AllDo false c.line-line.result.width (all_on_paper cut made) [] [] sent =
-    subst (λ (is : CutSettings). AllDo false c.line-line.result.width (all_on_paper is made) [] [] sent) c.cut-cut.ensures raw in
+    subst (λ (is : CutSettings). AllDo false c.line-line.result.width (all_on_paper is made) [] [] sent)
+    c.cut-cut.ensures raw in
     let by_width : AllDo false settings.width (all_on_paper cut made) [] [] sent =
     subst (λ (width : ℕ). AllDo false width (all_on_paper cut made) [] [] sent) c.line-line.ensures.0 by_cut in
-    subst (λ (items : List Item). AllDo false settings.width (all_on_paper cut items) [] [] sent) c.printed.ensures.items by_width
+    subst (λ (items : List Item). AllDo false settings.width (all_on_paper cut items) [] [] sent)
+    c.printed.ensures.items by_width

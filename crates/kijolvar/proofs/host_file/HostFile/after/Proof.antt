@@ -1,9 +1,10 @@
 -- The empty body makes a value of no bytes, with the bytes that its clause names.
-use Rattle.pos_disk.proofs.Common.{ !, Args, Calls, Fun, Goes-none_ref, Logic, Loops, Meets, Routine, SProp, Stays, Tables, Ura, Val, Walks}
-use Rattle.pos_disk.proofs.Common.{WpFn, WpFn-mono, [], agg, alive, alloc_all, done, emp, ends_at, ent, enter, entered, free_all, fst∗, look_at}
-use Rattle.pos_disk.proofs.Common.{move, no_more, on_entry, owns, pass_all, pure_i, qed, raw, refl, returns, says, sets, stay_none_ref}
-use Rattle.pos_disk.proofs.Common.{suffices, tables, tables_of, triple_of, via, vnil, vptr, vstruct, walk_Meets, walk_of, walked, ‵, ◌$◌}
-use Rattle.pos_disk.proofs.Common.{◌∵◌, ◌∷◌}
+use Rattle.pos_disk.proofs.Common.{ !, Args, Calls, Fun, Goes-none_ref, Logic, Loops, Meets, Routine, SProp, Stays}
+use Rattle.pos_disk.proofs.Common.{Tables, Ura, Val, Walks, WpFn, WpFn-mono, [], agg, alive, alloc_all, done, emp}
+use Rattle.pos_disk.proofs.Common.{ends_at, ent, enter, entered, free_all, fst∗, look_at, move, no_more, on_entry, owns}
+use Rattle.pos_disk.proofs.Common.{pass_all, pure_i, qed, raw, refl, returns, says, sets, stay_none_ref, suffices}
+use Rattle.pos_disk.proofs.Common.{tables, tables_of, triple_of, via, vnil, vptr, vstruct, walk_Meets, walk_of, walked}
+use Rattle.pos_disk.proofs.Common.{‵, ◌$◌, ◌∵◌, ◌∷◌}
 use Rattle.kijolvar.specs.contracts.host_file.HostFile.after.Key.{name as key}
 use base.Fml.{Fml}
 use contract.Lifetimes.{Lfts, Shares}
@@ -20,9 +21,13 @@ use Rattle.kijolvar.proofs.host_file.HostFile.after.Statement as stated
 use Rattle.kijolvar.proofs.host_file.HostFile.after.Code as code
 
 abbrev stayed : Stays (f.ended).signature.params (f.ended).kept
-stayed = (stay_none_ref (0 ∷ []) tt (plain (λ _. made_of.the_row)) yes, (stay_none_ref (1 ∷ []) tt (plain (λ _. errand_row)) yes, tt))
+stayed = (
+  stay_none_ref (0 ∷ []) tt (plain (λ _. made_of.the_row)) yes,
+  (stay_none_ref (1 ∷ []) tt (plain (λ _. errand_row)) yes, tt),
+)
 
-module _ {M : Type 1} {𝓤 : Ura M} (𝓛 : Logic 𝓤) (mem : Memory → SProp 𝓤) (run : Routine → Fun 𝓤) (C : Calls 𝓤 𝓛.H) (Λ : Loops 𝓤 𝓛.H) where
+module _ {M : Type 1} {𝓤 : Ura M} (𝓛 : Logic 𝓤) (mem : Memory → SProp 𝓤) (run : Routine → Fun 𝓤) (C : Calls 𝓤 𝓛.H)
+    (Λ : Loops 𝓤 𝓛.H) where
   open 𝓛 use {H}
 
   module _ (κs : Lfts 2) (qs : Shares 2) (a : Args f.signature κs) where
@@ -42,15 +47,18 @@ module _ {M : Type 1} {𝓤 : Ura M} (𝓛 : Logic 𝓤) (mem : Memory → SProp
     made = record { bytes = file_after a.1.0.now a.0.now.bytes }
 
     walk : ent 𝓤 (on_entry 𝓛 f.signature κs qs a (before ∷ [], (errand ∷ [], tt)))
-        (WpFn 𝓤 H C Λ code.function (before ∷ errand ∷ []) ((walk_of 𝓛 f.ended stayed (f.clauses 𝓛 mem run)).post bound))
+        (WpFn 𝓤 H C Λ code.function (before ∷ errand ∷ [])
+        ((walk_of 𝓛 f.ended stayed (f.clauses 𝓛 mem run)).post bound))
     walk =
         qed 𝓛 (raw (alive 𝓛 f.signature κs qs) ∷ ‵ passed ∷ []) ∵ enter ! C Λ code.function (before ∷ errand ∷ []) _ $
         alloc_all ! (λ l. pass_all ! refl
         ((tt, tt), ((tt, tt), tt)) $
         sets ! (agg ! (no_more !)) refl (tt, tt) $
         returns ! (look_at ! 0 refl) $ free_all ! refl $
-        suffices ! _ (ends_at 𝓛 f.ended stayed (f.clauses 𝓛 mem run) bound (vstruct vnil) made (tt, (tt, tt)) (tt, (tt, tt))) $
-        says ! refl $ pure_i ! (made_of.the_row.own_val made (vstruct vnil ∷ [])) ((λ vss. (tt, tt)), tt) ((tt, (refl, tt)), tt) $
+        suffices ! _ (ends_at 𝓛 f.ended stayed (f.clauses 𝓛 mem run) bound (vstruct vnil) made (tt, (tt, tt))
+        (tt, (tt, tt))) $
+        says ! refl $ pure_i ! (made_of.the_row.own_val made (vstruct vnil ∷ [])) ((λ vss. (tt, tt)), tt)
+        ((tt, (refl, tt)), tt) $
         move ! (1 ∷ 2 ∷ 0 ∷ []) $ done !)
 
   walks : Walks 𝓛 f.ended stayed (WpFn 𝓤 H C Λ code.function) (f.clauses 𝓛 mem run)

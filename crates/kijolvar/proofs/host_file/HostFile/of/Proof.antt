@@ -1,9 +1,10 @@
 -- The empty body makes a value of no bytes, with the bytes that its clause names.
-use Rattle.pos_disk.proofs.Common.{ !, Args, Calls, Fun, Goes-none_slice, Logic, Loops, Meets, Routine, SProp, Stays, Tables, Ura, Val, Walks}
-use Rattle.pos_disk.proofs.Common.{WpFn, WpFn-mono, [], agg, alive, alloc_all, done, emp, ends_at, ent, enter, entered, free_all, fst∗, look_at}
-use Rattle.pos_disk.proofs.Common.{move, no_more, on_entry, owns, pass_all, pure_i, qed, raw, refl, returns, says, sets, stay_none_slice}
-use Rattle.pos_disk.proofs.Common.{suffices, tables, tables_of, triple_of, via, vnil, vstruct, walk_Meets, walk_of, walked, ‵, ◌$◌}
-use Rattle.pos_disk.proofs.Common.{length, ◌<◌, ◌^◌, ◌∵◌, ◌∷◌}
+use Rattle.pos_disk.proofs.Common.{ !, Args, Calls, Fun, Goes-none_slice, Logic, Loops, Meets, Routine, SProp, Stays}
+use Rattle.pos_disk.proofs.Common.{Tables, Ura, Val, Walks, WpFn, WpFn-mono, [], agg, alive, alloc_all, done, emp}
+use Rattle.pos_disk.proofs.Common.{ends_at, ent, enter, entered, free_all, fst∗, look_at, move, no_more, on_entry, owns}
+use Rattle.pos_disk.proofs.Common.{pass_all, pure_i, qed, raw, refl, returns, says, sets, stay_none_slice, suffices}
+use Rattle.pos_disk.proofs.Common.{tables, tables_of, triple_of, via, vnil, vstruct, walk_Meets, walk_of, walked, ‵}
+use Rattle.pos_disk.proofs.Common.{◌$◌, length, ◌<◌, ◌^◌, ◌∵◌, ◌∷◌}
 use Rattle.kijolvar.specs.contracts.host_file.HostFile.of.Key.{name as key}
 use base.Fml.{Fml}
 use contract.Lifetimes.{Lfts, Shares}
@@ -21,7 +22,8 @@ use Rattle.kijolvar.proofs.host_file.HostFile.of.Code as code
 abbrev stayed : Stays (f.ended).signature.params (f.ended).kept
 stayed = (stay_none_slice (0 ∷ []) tt (plain (λ _. u8)) yes, tt)
 
-module _ {M : Type 1} {𝓤 : Ura M} (𝓛 : Logic 𝓤) (mem : Memory → SProp 𝓤) (run : Routine → Fun 𝓤) (C : Calls 𝓤 𝓛.H) (Λ : Loops 𝓤 𝓛.H) where
+module _ {M : Type 1} {𝓤 : Ura M} (𝓛 : Logic 𝓤) (mem : Memory → SProp 𝓤) (run : Routine → Fun 𝓤) (C : Calls 𝓤 𝓛.H)
+    (Λ : Loops 𝓤 𝓛.H) where
   open 𝓛 use {H}
 
   module _ (κs : Lfts 1) (qs : Shares 1) (a : Args f.signature κs) where
@@ -46,7 +48,8 @@ module _ {M : Type 1} {𝓤 : Ura M} (𝓛 : Logic 𝓤) (mem : Memory → SProp
         sets ! (agg ! (no_more !)) refl (tt, tt) $
         returns ! (look_at ! 0 refl) $ free_all ! refl $
         suffices ! _ (ends_at 𝓛 f.ended stayed (f.clauses 𝓛 mem run) bound (vstruct vnil) made (tt, tt) (tt, tt)) $
-        says ! refl $ pure_i ! (made_of.the_row.own_val made (vstruct vnil ∷ [])) ((λ vss. (tt, tt)), tt) ((tt, (refl, tt)), tt) $
+        says ! refl $ pure_i ! (made_of.the_row.own_val made (vstruct vnil ∷ [])) ((λ vss. (tt, tt)), tt)
+        ((tt, (refl, tt)), tt) $
         move ! (1 ∷ 2 ∷ 0 ∷ []) $ done !)
 
   walks : Walks 𝓛 f.ended stayed (WpFn 𝓤 H C Λ code.function) (f.clauses 𝓛 mem run)
@@ -58,7 +61,8 @@ module _ {M : Type 1} {𝓤 : Ura M} (𝓛 : Logic 𝓤) (mem : Memory → SProp
 meets : {M : Type 1} {𝓤 : Ura M} (𝓛 : Logic 𝓤) (mem : Memory → SProp 𝓤) (run : Routine → Fun 𝓤) (𝓣 : Tables 𝓤 𝓛.H)
     → Meets 𝓛 f.signature (WpFn 𝓤 𝓛.H 𝓣.C 𝓣.Λ code.function) (f.spec 𝓛 mem run)
 meets {𝓤 = 𝓤} 𝓛 mem run 𝓣 =
-    walk_Meets 𝓛 f.ended stayed (Goes-none_slice 𝓛 1 (0 ∷ []) tt (plain (λ _. u8)) yes, tt) (f.clauses 𝓛 mem run) (WpFn 𝓤 𝓛.H 𝓣.C 𝓣.Λ code.function)
+    walk_Meets 𝓛 f.ended stayed (Goes-none_slice 𝓛 1 (0 ∷ []) tt (plain (λ _. u8)) yes, tt) (f.clauses 𝓛 mem run)
+    (WpFn 𝓤 𝓛.H 𝓣.C 𝓣.Λ code.function)
     (WpFn-mono 𝓤 𝓛.H 𝓛.laws 𝓣 code.function) (walks 𝓛 mem run 𝓣.C 𝓣.Λ)
 
 pub of_spec : {M : Type 1} → stated.statement M

@@ -5,7 +5,7 @@ use Rattle.kijolvar.proofs.session.Session.fail.Goals as goal
 
 pub returns : goal.returns
 returns c =
-    let old = c.self.inside.kept in
+    let old = c.self.inside.till_state in
     rw (← c.self.view_is) record {
       stays = refl;
       failed = failed_now (disk_of old).work old.failed;

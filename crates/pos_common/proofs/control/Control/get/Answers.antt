@@ -5,12 +5,17 @@ use Rattle.pos_common.proofs.control.Control.get.Goals as goal
 
 pub returns-in-Ok : goal.returns-in-Ok
 returns-in-Ok c =
-    let needs = c.needs.ensures ∙ ap (λ (held : KeptControl). needs_of held.control.category c.args.property) c.self.view_is in
-    gets_by_rest _ _ _ _ _ (let_through c.args.number _ _ c.args.self.now.control _ (needs_of _ c.args.property) _ _ c.in-Ok.is refl needs c.check_by.ensures
-    (when ((row_of c.args.property).is_of_files && is_none c.args.facts.now.files) code.Failure ∷ [])) c.tell_property.ensures
+    let needs = c.needs.ensures ∙ ap (λ (held : KeptControl). needs_of held.control.category c.args.property)
+    c.self.view_is in
+    gets_by_rest _ _ _ _ _ (let_through c.args.number _ _ c.args.self.now.control _
+    (needs_of _ c.args.property) _ _ c.in-Ok.is refl needs c.check_by.ensures
+    (when ((row_of c.args.property).is_of_files && is_none c.args.context.now.files) code.Failure ∷ []))
+    c.read_property.ensures
 
 pub returns-in-Err : goal.returns-in-Err
 returns-in-Err c =
-    let needs = c.needs.ensures ∙ ap (λ (held : KeptControl). needs_of held.control.category c.args.property) c.self.view_is in
-    refused _ _ _ _ (kept_out c.args.number _ _ c.args.self.now.control _ (needs_of _ c.args.property) _ _ c.in-Err.is refl needs c.check_by.ensures
-    (when ((row_of c.args.property).is_of_files && is_none c.args.facts.now.files) code.Failure ∷ [])) tt
+    let needs = c.needs.ensures ∙ ap (λ (held : KeptControl). needs_of held.control.category c.args.property)
+    c.self.view_is in
+    refused _ _ _ _ (kept_out c.args.number _ _ c.args.self.now.control _
+    (needs_of _ c.args.property) _ _ c.in-Err.is refl needs c.check_by.ensures
+    (when ((row_of c.args.property).is_of_files && is_none c.args.context.now.files) code.Failure ∷ [])) tt

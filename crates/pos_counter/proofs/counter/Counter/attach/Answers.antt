@@ -6,8 +6,17 @@ use Rattle.pos_counter.proofs.counter.Counter.attach.Goals as goal
 pub returns : goal.returns
 returns g c =
     let old = c.args.self.now in
-    let both = steps_beside g.P.Peripheral old _ _ _ c.requires.sound (record { registry = c.attach.ensures.sound }) refl
-    (λ part. attach_step old.controls.items (registered g.P.Peripheral old.devices.registry) (registered g.P.Peripheral c.attach.new.self)
-    old.devices.totals c.args.name.now old.claims part g.P.Peripheral.state c.args.peripheral c.attach.result c.attach.ensures.handed_back
+    let both = steps_beside g.P.Peripheral old _ _ _ c.requires.sound
+    (record { registry = c.attach.ensures.sound }) refl
+    (λ part. attach_step old.controls.items (registered g.P.Peripheral old.devices.registry)
+    (registered g.P.Peripheral c.attach.new.self)
+    old.devices.totals c.args.name.now old.claims part g.P.Peripheral.state c.args.peripheral c.attach.result
+    c.attach.ensures.handed_back
     c.attach.ensures.attaches) in
-    record { step = both.step; puts = c.attach.ensures.puts; handed_back = c.attach.ensures.handed_back; sound = both.sound }
+    record {
+      step = both.step;
+      puts = c.attach.ensures.puts;
+      handed_back = c.attach.ensures.handed_back;
+      sound =
+          both.sound;
+    }

@@ -1,4 +1,5 @@
-use Rattle.pos_counter.proofs.Common.{HardTotals, [], controls_of, is_totals, machine, needs_of, part_with, refl, true, ◌≡◌}
+use Rattle.pos_counter.proofs.Common.{HardTotals, [], controls_of, is_totals, machine, needs_of, part_with, refl, true}
+use Rattle.pos_counter.proofs.Common.{◌≡◌}
 use Rattle.pos_counter.proofs.HardwareLemmas.{are_totals, at_number, own_call, totals_let, totals_refuse}
 use Rattle.pos_counter.proofs.LiftLemmas.{decided_some, kept_at}
 use Rattle.pos_counter.proofs.ServiceLemmas.{quiet_serves}
@@ -11,10 +12,12 @@ returns-in-Err g c =
     let old = c.args.self.now in
     let h = c.index-control.result.now in
     let found = kept_at _ _ _ c.requires.in_range c.index-control.ensures in
-    let is = are_totals h.control.category (at_number (controls_of c.args.self.now.controls.items) c.args.number h.control
+    let is = are_totals h.control.category
+    (at_number (controls_of c.args.self.now.controls.items) c.args.number h.control
     (λ control. is_totals control.category ≡ true) found c.requires.totals) in
     let out = simp (c.in-Err.is, c.area.ensures, c.needs-needs.ensures) at c.check_by.ensures in
-    quiet_serves g.D.Disk g.P.Peripheral old _ _ _ old.totals.totals (g.met.D.Disk.only_now _) refl refl (λ left. refl) c.requires.sound
+    quiet_serves g.D.Disk g.P.Peripheral old _ _ _ old.totals.totals (g.met.D.Disk.only_now _) refl refl
+    (λ left. refl) c.requires.sound
     c.requires.sound.devices
     (λ left failures so.
     let m = machine g.P.Peripheral old (part_with old.totals.totals left failures) in
@@ -33,8 +36,12 @@ returns g c =
     let h = c.index-control.result.now in
     let found = kept_at _ _ _ c.requires.in_range c.index-control.ensures in
     let lets = simp (c.in_default.is, c.area.ensures, c.needs-needs.ensures) at c.check_by.ensures in
-    let is = are_totals h.control.category (at_number (controls_of c.args.self.now.controls.items) c.args.number h.control
+    let is = are_totals h.control.category
+    (at_number (controls_of c.args.self.now.controls.items) c.args.number h.control
     (λ control. is_totals control.category ≡ true) found c.requires.totals) in
-    files_serve g.D.Disk g.P.Peripheral c.args.self.now c.call_files.new.totals c.args.number h.control c.args.call.now c.call_files.result c.requires.own
+    files_serve g.D.Disk g.P.Peripheral c.args.self.now c.call_files.new.totals c.args.number h.control c.args.call.now
+    c.call_files.result c.requires.own
     found is
-    (λ left failures. totals_let (machine g.P.Peripheral c.args.self.now (part_with c.args.self.now.totals.totals left failures)) c.args.number h.control c.args.call.now is lets) (g.met.D.Disk.only_now _) c.call_files.ensures c.requires.sound
+    (λ left failures. totals_let (machine g.P.Peripheral c.args.self.now
+    (part_with c.args.self.now.totals.totals left failures)) c.args.number h.control c.args.call.now is lets)
+    (g.met.D.Disk.only_now _) c.call_files.ensures c.requires.sound

@@ -1,4 +1,5 @@
-use Rattle.pos_counter.proofs.Common.{List, Machine, Option, SFits, Totals, [], ap, machine, part_with, refl, settled, sym, to_z-of_z, w128, ℕ, ◌∙◌}
+use Rattle.pos_counter.proofs.Common.{List, Machine, Option, SFits, Totals, [], ap, machine, part_with, refl, settled}
+use Rattle.pos_counter.proofs.Common.{sym, to_z-of_z, w128, ℕ, ◌∙◌}
 use Rattle.pos_counter.proofs.HardwareLemmas.{are_totals, covered, of_devices}
 use Rattle.pos_counter.proofs.LiftLemmas.{decided_weaker, kept_at}
 use Rattle.pos_counter.proofs.ServiceLemmas.{quiet_serves, stays_serves}
@@ -7,7 +8,8 @@ use Rattle.pos_counter.proofs.counter.Counter.claim.Goals as goal
 pub claim-requires : goal.claim-requires
 claim-requires g c =
     let part = part_with c.args.self.now.totals.totals [] 0 in
-    covered (machine g.P.Peripheral c.args.self.now part) c.args.number c.index-control.result.now.control (c.requires.sound.machine part)
+    covered (machine g.P.Peripheral c.args.self.now part) c.args.number c.index-control.result.now.control
+    (c.requires.sound.machine part)
     (kept_at _ _ _ c.requires.in_range c.index-control.ensures)
 
 pub returns-then-is_totals : goal.returns-then-is_totals
@@ -16,20 +18,26 @@ returns-then-is_totals g c =
     let is = are_totals _ (sym c.is_totals.ensures ∙ c.if-is_totals.true) in
     let fits : SFits w128 c.args.timeout = c.ranges.timeout in
     let decided = simp to_z-of_z at c.claim_area.ensures.answer in
-    quiet_serves g.D.Disk g.P.Peripheral old _ _ _ c.claim_area.new.totals.totals (g.met.D.Disk.only_now _) c.claim_area.ensures.disk refl
-    (λ left. ap (λ (t : Totals). settled t.layout t.mode left) c.claim_area.ensures.rest) c.requires.sound c.requires.sound.devices
+    quiet_serves g.D.Disk g.P.Peripheral old _ _ _ c.claim_area.new.totals.totals
+    (g.met.D.Disk.only_now _) c.claim_area.ensures.disk refl
+    (λ left. ap (λ (t : Totals). settled t.layout t.mode left) c.claim_area.ensures.rest) c.requires.sound
+    c.requires.sound.devices
     (λ left failures so.
     let over = λ (t : Totals). machine g.P.Peripheral old (part_with t left failures) in
-    rw (kept_at _ _ _ c.requires.in_range c.index-control.ensures, is) (decided_weaker (λ done. (done.0, ap over done.1)) (ap over) decided))
+    rw (kept_at _ _ _ c.requires.in_range c.index-control.ensures, is)
+    (decided_weaker (λ done. (done.0, ap over done.1)) (ap over) decided))
 
 pub returns : goal.returns
 returns g c =
     let old = c.args.self.now in
-    let table = of_devices c.index-control.result.now.control.category (sym c.is_totals.ensures ∙ c.if-is_totals.false) in
+    let table = of_devices c.index-control.result.now.control.category
+    (sym c.is_totals.ensures ∙ c.if-is_totals.false) in
     let fits : SFits w128 c.args.timeout = c.ranges.timeout in
     let decided = simp to_z-of_z at c.claim.ensures in
-    stays_serves g.D.Disk g.P.Peripheral old _ _ _ (g.met.D.Disk.only_now _) c.requires.sound refl c.requires.sound.devices
+    stays_serves g.D.Disk g.P.Peripheral old _ _ _
+    (g.met.D.Disk.only_now _) c.requires.sound refl c.requires.sound.devices
     (λ part.
-    let over = λ (claims : List (Option ℕ)). let o : Machine = record (machine g.P.Peripheral old part) { claims = claims } in o in
+    let over = λ (claims : List (Option ℕ)). let o : Machine =
+    record (machine g.P.Peripheral old part) { claims = claims } in o in
     rw (kept_at _ _ _ c.requires.in_range c.index-control.ensures, table.takes, table.claims)
     (decided_weaker (λ done. (done.0, ap over done.1)) (ap over) decided))

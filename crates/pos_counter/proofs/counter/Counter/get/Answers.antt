@@ -8,6 +8,8 @@ returns g c = λ left failures.
     let n = c.args.number in
     let h = c.index-control.result.now in
     let own = rw (c.find_holder-holder.ensures, c.area.ensures) at c.is_own.ensures in
-    let facts = c.find_facts-facts.ensures left failures own in
-    get_step (machine g.P.Peripheral old (part_with old.totals.totals left failures)) n h.control c.args.property c.get.result
-    (kept_at old.controls.items n h c.requires c.index-control.ensures) (simp (facts, c.find_holder-holder.ensures, c.area.ensures) at c.get.ensures)
+    let context = c.find_context-context.ensures left failures own in
+    get_step (machine g.P.Peripheral old (part_with old.totals.totals left failures)) n h.control c.args.property
+    c.get.result
+    (kept_at old.controls.items n h c.requires c.index-control.ensures)
+    (simp (context, c.find_holder-holder.ensures, c.area.ensures) at c.get.ensures)

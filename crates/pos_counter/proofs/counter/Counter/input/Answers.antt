@@ -4,17 +4,20 @@ use Rattle.pos_counter.proofs.ServiceLemmas.{steps_beside}
 use Rattle.pos_counter.proofs.counter.Counter.input.Goals as goal
 
 pub returns-then-not-fits-clause-step : goal.returns-then-not-fits-clause-step
-returns-then-not-fits-clause-step g c = search (rules, c.kind.ensures.kind, c.fits.ensures, c.if-not-fits.true, c.in-Some.ensures.0, c.in-Some.ensures.1)
+returns-then-not-fits-clause-step g c =
+    search (rules, c.kind.ensures.kind, c.fits.ensures, c.if-not-fits.true, c.in-Some.ensures.0, c.in-Some.ensures.1)
 
 pub input_there-requires-clause-fits : goal.input_there-requires-clause-fits
-input_there-requires-clause-fits g c = search (rules, c.in-Some.ensures.1, c.kind.ensures.kind, c.fits.ensures, c.if-not-fits.false)
+input_there-requires-clause-fits g c =
+    search (rules, c.in-Some.ensures.1, c.kind.ensures.kind, c.fits.ensures, c.if-not-fits.false)
 
 pub returns-in-Ok : goal.returns-in-Ok
 returns-in-Ok g c =
     let old = c.args.self.now in
     let kept = kept_in_place old.controls _ _ c.deref_mut.ensures.value c.input_there.auto.controls in
     steps_beside g.P.Peripheral old _ _ _ c.requires.sound c.in-Ok.ensures.sound refl
-    (λ part. on_hardware _ _ _ _ _ part c.in-Some.place _ (λ place. TakenAt c.args.input.now place (Ok tt)) c.in-Some.ensures.0
+    (λ part. on_hardware _ _ _ _ _ part c.in-Some.place _
+    (λ place. TakenAt c.args.input.now place (Ok tt)) c.in-Some.ensures.0
     (rw (← kept) at (rw c.deref_mut.ensures.value at c.in-Ok.ensures.done)))
 
 pub returns-in-Err : goal.returns-in-Err

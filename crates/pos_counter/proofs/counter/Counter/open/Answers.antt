@@ -7,7 +7,8 @@ pub returns : goal.returns
 returns g c =
     let old = c.args.self.now in
     let is = c.index_mut-control.ensures.value in
-    stays_serves g.D.Disk g.P.Peripheral old _ _ _ (g.met.D.Disk.only_now _) c.requires.sound refl c.requires.sound.devices
+    stays_serves g.D.Disk g.P.Peripheral old _ _ _
+    (g.met.D.Disk.only_now _) c.requires.sound refl c.requires.sound.devices
     (λ part. rw (kept_at old.controls.items c.args.number c.index_mut-control.result.now c.requires.in_range is)
     (decided_weaker (λ done. (done.0, set_machine _ _ _ part c.args.number c.open.new.self _ done.1))
     (λ same. kept_machine _ _ _ part c.args.number c.open.new.self c.index_mut-control.result.now same is)

@@ -1,6 +1,7 @@
-use Rattle.pos_counter.proofs.Common.{◌++◌, All, All-nil, All-push, HandsOut, IsRun, List, OffersInService, [], ap, append-nil, append_assoc, arith, length}
-use Rattle.pos_counter.proofs.Common.{length_push, nil_from_length, refl, request_of, response_of, reverse, reverse-append, reverse-reverse, rules, steps_of}
-use Rattle.pos_counter.proofs.Common.{subst, suc, sym, ◌∙◌, ◌∷◌, ◌≡◌}
+use Rattle.pos_counter.proofs.Common.{◌++◌, All, All-nil, All-push, HandsOut, IsRun, List, OffersInService, [], ap}
+use Rattle.pos_counter.proofs.Common.{append-nil, append_assoc, arith, length, length_push, nil_from_length, refl}
+use Rattle.pos_counter.proofs.Common.{request_of, response_of, reverse, reverse-append, reverse-reverse, rules}
+use Rattle.pos_counter.proofs.Common.{steps_of, subst, suc, sym, ◌∙◌, ◌∷◌, ◌≡◌}
 use Rattle.pos_counter.proofs.RunLemmas.{runs_more, steps_push}
 use Rattle.pos_counter.proofs.counter.Counter.perform.Goals as goal
 
@@ -13,28 +14,31 @@ loop-request-init g c =
         run = refl;
         whole = ap length c.in-Ok.ensures.items;
         in_service = subst (All (OffersInService g.P.Peripheral)) (sym order) c.requires.in_service;
-        handed_out = subst (All (HandsOut g.P.Peripheral)) (sym c.in-Ok.ensures.items) (All-nil (HandsOut g.P.Peripheral));
+        handed_out = subst (All (HandsOut g.P.Peripheral)) (sym c.in-Ok.ensures.items)
+            (All-nil (HandsOut g.P.Peripheral));
         room = omega (arith, c.in-Ok.ensures.exact, c.len.ensures);
         sound = c.requires.sound;
       },
     )
 
 -- the next of those that wait
-next : {A : Type 0} (waiting rest : List A) (request : A) → waiting ≡ rest ++ request ∷ [] → reverse waiting ≡ request ∷ reverse rest
+next : {A : Type 0} (waiting rest : List A) (request : A) → waiting ≡ rest ++ request ∷ []
+    → reverse waiting ≡ request ∷ reverse rest
 next waiting rest request is = ap reverse is ∙ reverse-append rest (request ∷ [])
 
-pub carry_out-response-requires-clause-in_service : goal.carry_out-response-requires-clause-in_service
-carry_out-response-requires-clause-in_service g c =
+pub respond-response-requires-clause-in_service : goal.respond-response-requires-clause-in_service
+respond-response-requires-clause-in_service g c =
     let request = c.in-Some.request in
     let waiting = subst (All (OffersInService g.P.Peripheral))
-    (next c.loop-request.waiting.items c.pop.new.self.items request c.in-Some.ensures.items) c.loop-request.invariant.1.in_service in
+    (next c.loop-request.waiting.items c.pop.new.self.items request c.in-Some.ensures.items)
+    c.loop-request.invariant.1.in_service in
     waiting 0 request (omega arith)
 
 pub loop-request-preserved : goal.loop-request-preserved
 loop-request-preserved g c =
     let (done, before) = c.loop-request.invariant in
     let request = c.in-Some.request in
-    let response = c.carry_out-response.result in
+    let response = c.respond-response.result in
     let responses = c.loop-request.responses.items in
     let rest = c.pop.new.self.items in
     let order = next c.loop-request.waiting.items rest request c.in-Some.ensures.items in
@@ -44,16 +48,23 @@ loop-request-preserved g c =
       done ++ request ∷ [],
       record {
         all = before.all ∙ ap (λ xs. done ++ xs) order ∙ sym (append_assoc done (request ∷ []) (reverse rest));
-        run = subst (λ xs. IsRun g.D.Disk g.P.Peripheral c.args.self.now xs c.carry_out-response.new.self) (sym steps)
-            (runs_more g.D.Disk g.P.Peripheral c.args.self.now c.loop-request.self c.carry_out-response.new.self
+        run = subst (λ xs. IsRun g.D.Disk g.P.Peripheral c.args.self.now xs c.respond-response.new.self) (sym steps)
+            (runs_more g.D.Disk g.P.Peripheral c.args.self.now c.loop-request.self c.respond-response.new.self
             (steps_of g.P.Peripheral done responses) (request_of g.P.Peripheral request)
-            (response_of g.P.Peripheral response) before.run c.carry_out-response.ensures.step);
-        whole = omega (arith, ap length c.push_reserved.ensures.items, length_push responses response, length_push done request, before.whole);
+            (response_of g.P.Peripheral response) before.run c.respond-response.ensures.step);
+        whole = omega (
+          arith,
+          ap length c.push_reserved.ensures.items,
+          length_push responses response,
+          length_push done request,
+          before.whole,
+        );
         in_service = λ i d lt. waiting (suc i) d (omega arith);
         handed_out = subst (All (HandsOut g.P.Peripheral)) (sym c.push_reserved.ensures.items)
-            (All-push (HandsOut g.P.Peripheral) responses response before.handed_out c.carry_out-response.ensures.handed_out);
+            (All-push (HandsOut g.P.Peripheral) responses response before.handed_out
+            c.respond-response.ensures.handed_out);
         room = omega (arith, before.room);
-        sound = c.carry_out-response.ensures.sound;
+        sound = c.respond-response.ensures.sound;
       },
     )
 

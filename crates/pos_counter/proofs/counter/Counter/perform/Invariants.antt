@@ -1,4 +1,5 @@
-use Rattle.pos_counter.proofs.Common.{◌++◌, All, HandsOut, IsCounterSound, IsRun, List, OffersInService, length, reverse, steps_of, vec_capacity, ℕ, ◌≡◌, ◌≤◌}
+use Rattle.pos_counter.proofs.Common.{◌++◌, All, HandsOut, IsCounterSound, IsRun, List, OffersInService, length}
+use Rattle.pos_counter.proofs.Common.{reverse, steps_of, vec_capacity, ℕ, ◌≡◌, ◌≤◌}
 use Rattle.pos_service.specs.declared.request.Request.{Request}
 use Rattle.pos_counter.proofs.counter.Counter.perform.Given as goal
 

@@ -5,7 +5,8 @@ use Rattle.pos_counter.proofs.counter.Counter.served.Goals as goal
 pub returns-in_err-place : goal.returns-in_err-place
 returns-in_err-place g c =
     let slots = c.args.self.now.devices.registry.slots.items in
-    rw c.from_residual.ensures (sym (unserved_from g.P.Peripheral slots 0 c.args.device.now (sym c.find.ensures ∙ c.in_err-place.was)))
+    rw c.from_residual.ensures (sym
+    (unserved_from g.P.Peripheral slots 0 c.args.device.now (sym c.find.ensures ∙ c.in_err-place.was)))
 
 pub returns-in_err-slot : goal.returns-in_err-slot
 returns-in_err-slot g c =

@@ -6,7 +6,15 @@ use Rattle.pos_counter.proofs.counter.Counter.set.Goals as goal
 
 pub set_recovered-requires-clause-recovers : goal.set_recovered-requires-clause-recovers
 set_recovered-requires-clause-recovers g c =
-    search (rules, kept_at, c.requires.in_range, c.index.ensures, c.is_ready.ensures, c.is_recovering.ensures, c.if-is_recovering.true)
+    search (
+      rules,
+      kept_at,
+      c.requires.in_range,
+      c.index.ensures,
+      c.is_ready.ensures,
+      c.is_recovering.ensures,
+      c.if-is_recovering.true,
+    )
 
 pub returns : goal.returns
 returns g c =
@@ -16,7 +24,10 @@ returns g c =
     let same = kept_same old.controls.items c.args.number c.index.result.now h c.requires.in_range c.index.ensures is in
     let plain = rw (same, c.is_ready.ensures) at (sym c.is_recovering.ensures ∙ c.if-is_recovering.false) in
     let turns = simp (c.find_holder-holder.ensures, c.area.ensures) at c.set_control.ensures in
-    quiet_serves g.D.Disk g.P.Peripheral old _ _ _ old.totals.totals (g.met.D.Disk.only_now _) refl refl (λ left. refl) c.requires.sound
+    quiet_serves g.D.Disk g.P.Peripheral old _ _ _ old.totals.totals (g.met.D.Disk.only_now _) refl refl
+    (λ left. refl) c.requires.sound
     c.requires.sound.devices
-    (λ left failures so. plain_set _ _ _ (part_with old.totals.totals left failures) c.args.number c.set_control.new.control h c.args.property c.args.value.now
+    (λ left failures so. plain_set _ _ _
+    (part_with old.totals.totals left failures) c.args.number c.set_control.new.control h c.args.property
+    c.args.value.now
     c.set_control.result c.requires.in_range is plain turns)

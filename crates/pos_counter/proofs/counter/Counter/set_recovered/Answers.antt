@@ -10,16 +10,20 @@ returns-in-Ok g c =
     let h = c.index_mut-control.result.now in
     let m = machine g.P.Peripheral c.args.self.now (part_with c.args.self.now.totals.totals [] 0) in
     let there = asks_there hs n c.args.property c.args.value.now _ c.requires.recovers in
-    let same = same_Some h.control there.control (sym (kept_at hs n h c.requires.in_range c.index_mut-control.ensures.value) ∙ there.at) in
-    let done = done_set there.control there.totals n _ (kind_of m h.control) (signs_at m h.control) h c.set_control.new.control _ _ c.set_control.result
+    let same = same_Some h.control there.control
+    (sym (kept_at hs n h c.requires.in_range c.index_mut-control.ensures.value) ∙ there.at) in
+    let done = done_set there.control there.totals n _ (kind_of m h.control)
+    (signs_at m h.control) h c.set_control.new.control _ _ c.set_control.result
     there.opened same there.names there.gives c.set_control.ensures in
-    recovered_serves g.D.Disk g.P.Peripheral c.args.self.now _ c.requires.sound c.requires.sound.devices n _ _ there c.set_control.result done.0
+    recovered_serves g.D.Disk g.P.Peripheral c.args.self.now _ c.requires.sound c.requires.sound.devices n _ _ there
+    c.set_control.result done.0
     c.in-Ok.ensures (λ part. set_machine hs _ _ part n c.set_control.new.control _ (rw same at done.1))
 
 pub returns-in-Ok-code : goal.returns-in-Ok-code
 returns-in-Ok-code g c =
     failed_serves g.D.Disk g.P.Peripheral c.args.self.now _ c.requires.sound c.requires.sound.devices c.args.number _ _
-    (asks_there _ _ _ _ _ c.requires.recovers) c.in-Err.fault c.in-Err.ensures (λ part. refl) c.in-Ok-code.code c.in-Ok-code.ensures
+    (asks_there _ _ _ _ _ c.requires.recovers) c.in-Err.fault c.in-Err.ensures
+    (λ part. refl) c.in-Ok-code.code c.in-Ok-code.ensures
 
 pub returns-in-Err-code : goal.returns-in-Err-code
 returns-in-Err-code g c =

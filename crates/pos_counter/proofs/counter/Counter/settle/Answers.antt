@@ -11,7 +11,8 @@ loop-place-preserved g c =
     let place = c.loop-place.place in
     let one_more : suc place ≡ place + 1 = omega arith in
     record {
-      hosts = c.settle_at.ensures.hosts ∙ ap (changed_at settled_course place) c.loop-place.invariant.hosts ∙ front_more settled_course place hosts
+      hosts = c.settle_at.ensures.hosts ∙ ap (changed_at settled_course place) c.loop-place.invariant.hosts
+          ∙ front_more settled_course place hosts
           ∙ ap (λ n. changed_front settled_course n hosts) one_more;
       stays = record {
         machine = λ part. c.settle_at.ensures.stays.machine part ∙ c.loop-place.invariant.stays.machine part;
@@ -26,7 +27,13 @@ returns-clause-hosts g c =
     let hosts = hosts_in g.P.Awaits.course c.args.self.now in
     c.loop-place.invariant.hosts
     ∙ front_all settled_course c.loop-place.place hosts
-    (omega (arith, c.loop-place-test.false, c.count-place-end.ensures, length-map slots (λ s. device_of g.P.Peripheral s), length-map slots (λ s. host_of g.P.Awaits.course s)))
+    (omega (
+      arith,
+      c.loop-place-test.false,
+      c.count-place-end.ensures,
+      length-map slots (λ s. device_of g.P.Peripheral s),
+      length-map slots (λ s. host_of g.P.Awaits.course s),
+    ))
 
 pub returns-clause-progress : goal.returns-clause-progress
 returns-clause-progress g c =
@@ -34,5 +41,11 @@ returns-clause-progress g c =
     let hosts = hosts_in g.P.Awaits.course c.args.self.now in
     ap (λ hs. progress_with (pending_of hs)) (c.loop-place.invariant.hosts
     ∙ front_all settled_course c.loop-place.place hosts
-    (omega (arith, c.loop-place-test.false, c.count-place-end.ensures, length-map slots (λ s. device_of g.P.Peripheral s), length-map slots (λ s. host_of g.P.Awaits.course s))))
+    (omega (
+      arith,
+      c.loop-place-test.false,
+      c.count-place-end.ensures,
+      length-map slots (λ s. device_of g.P.Peripheral s),
+      length-map slots (λ s. host_of g.P.Awaits.course s),
+    )))
     ∙ ap progress_with (settled_none hosts)

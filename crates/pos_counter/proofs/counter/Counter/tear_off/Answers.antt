@@ -10,7 +10,8 @@ pub returns-in-Ok-clause-torn : goal.returns-in-Ok-clause-torn
 returns-in-Ok-clause-torn g c =
     let old = c.args.self.now in
     record {
-      machine = λ part. on_hardware _ _ _ _ _ part c.in-Some.place _ (λ place. IsTorn) c.in-Some.ensures.0 (c.in-Ok.ensures.done old.controls.items);
+      machine = λ part. on_hardware _ _ _ _ _ part c.in-Some.place _ (λ place. IsTorn) c.in-Some.ensures.0
+          (c.in-Ok.ensures.done old.controls.items);
       totals = refl;
     }
 
@@ -19,7 +20,8 @@ returns-in-Ok-clause-sound g c =
     let old = c.args.self.now in
     record {
       machine = λ part. torn_sound _ _ _
-          (on_hardware _ _ _ _ _ part c.in-Some.place _ (λ place. IsTorn) c.in-Some.ensures.0 (c.in-Ok.ensures.done old.controls.items))
+          (on_hardware _ _ _ _ _ part c.in-Some.place _ (λ place. IsTorn) c.in-Some.ensures.0
+          (c.in-Ok.ensures.done old.controls.items))
           (c.requires.sound.machine part);
       devices = c.in-Ok.ensures.sound;
     }
@@ -28,11 +30,13 @@ pub returns-in-Err-clause-torn : goal.returns-in-Err-clause-torn
 returns-in-Err-clause-torn g c =
     let old = c.args.self.now in
     record {
-      machine = λ part. ap (λ ds. machine_with old.controls.items old.claims ds part) (c.in-Err.ensures.done old.controls.items);
+      machine = λ part. ap (λ ds. machine_with old.controls.items old.claims ds part)
+          (c.in-Err.ensures.done old.controls.items);
       totals = refl;
     }
 
 pub returns-in-Err-clause-sound : goal.returns-in-Err-clause-sound
 returns-in-Err-clause-sound g c =
     let old = c.args.self.now in
-    same_sound g.P.Peripheral old c.tear_off.new.self (c.in-Err.ensures.done old.controls.items) c.requires.sound c.in-Err.ensures.sound
+    same_sound g.P.Peripheral old c.tear_off.new.self
+    (c.in-Err.ensures.done old.controls.items) c.requires.sound c.in-Err.ensures.sound

@@ -11,17 +11,21 @@ module _ (c : After-next_stamp-self-inside) where
       memory_of d.bytes.items d.saved.items d.stamps.items d.stamp d.past.moments
 
   -- the disk afterwards
-  becomes : memory_of c.self.inside.bytes.items c.self.inside.saved.items c.next_stamp-self-inside.new.stamps.items c.next_stamp-self-inside.result
+  becomes : memory_of c.self.inside.bytes.items c.self.inside.saved.items c.next_stamp-self-inside.new.stamps.items
+      c.next_stamp-self-inside.result
       c.and-self-inside.result.moments ≡ synced shown
   becomes =
       let d = c.self.inside in
-      let is = memory_fresh d.bytes.items d.saved.items c.next_stamp-self-inside.new.stamps.items c.next_stamp-self-inside.result
+      let is = memory_fresh d.bytes.items d.saved.items c.next_stamp-self-inside.new.stamps.items
+      c.next_stamp-self-inside.result
       c.and-self-inside.result.moments c.self.invariant.saved_length
-      (c.next_stamp-self-inside.ensures.length ∙ c.self.invariant.stamps_length) c.next_stamp-self-inside.ensures.later in
+      (c.next_stamp-self-inside.ensures.length ∙ c.self.invariant.stamps_length) c.next_stamp-self-inside.ensures.later
+      in
       grind (arith, is)
 
 pub returns-clause-memory : goal.returns-clause-memory
-returns-clause-memory c = let d = (goal.at.returns-clause-memory c).After-next_stamp-self-inside in rw (← d.self.view_is) (becomes d)
+returns-clause-memory c = let d = (goal.at.returns-clause-memory c).After-next_stamp-self-inside in
+    rw (← d.self.view_is) (becomes d)
 
 pub returns-clause-syncs : goal.returns-clause-syncs
 returns-clause-syncs c = grind (arith, state_of, becomes, syncs)

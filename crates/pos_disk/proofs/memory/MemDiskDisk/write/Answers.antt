@@ -1,4 +1,5 @@
-use Rattle.pos_disk.proofs.Common.{IsSaved, Memory, arith, length, length-map, memory_of, rules, state_of, written, ◌+◌, ◌≡◌, ◌≤◌}
+use Rattle.pos_disk.proofs.Common.{IsSaved, Memory, arith, length, length-map, memory_of, rules, state_of, written, ◌+◌}
+use Rattle.pos_disk.proofs.Common.{◌≡◌, ◌≤◌}
 use Rattle.pos_disk.proofs.CallLemmas.{writes}
 use Rattle.pos_disk.proofs.WriteLemmas.{is_written, still_kept}
 use Rattle.pos_disk.proofs.memory.MemDiskDisk.write.Goals.{After-overwrite}
@@ -13,12 +14,14 @@ module _ (c : After-overwrite) where
   fits : c.args.at + length c.args.bytes.now ≤ length c.self.inside.bytes.items
   fits = rw (← c.self.view_is) at c.requires
 
-  saved : IsSaved c.self.inside.stamps.items c.self.inside.stamp c.self.inside.bytes.items c.args.at (length c.args.bytes.now)
+  saved : IsSaved c.self.inside.stamps.items c.self.inside.stamp c.self.inside.bytes.items c.args.at
+      (length c.args.bytes.now)
       c.self.inside.saved.items c.save.new.saved.items
   saved = search rules
 
   -- the disk afterwards
-  becomes : memory_of c.overwrite.new.bytes.items c.save.new.saved.items c.mark.new.stamps.items c.self.inside.stamp c.and-self-inside.result.moments
+  becomes : memory_of c.overwrite.new.bytes.items c.save.new.saved.items c.mark.new.stamps.items c.self.inside.stamp
+      c.and-self-inside.result.moments
       ≡ written c.args.at c.args.bytes.now shown
   becomes = grind (arith, is_written, length, fits, saved)
 

@@ -8,7 +8,8 @@ pub returns : goal.returns
 returns c =
     let marks = c.printed.result.0.now in
     let characters = c.printed.result.1.now in
-    let its : (added : List Item) → Added c.args.receipt.now.items c.args.self added → Behind marks characters c.args.self added =
+    let its : (added : List Item) → Added c.args.receipt.now.items c.args.self added
+    → Behind marks characters c.args.self added =
     λ added h. behind marks characters c.args.self added
     (subst (λ (items : List Item). Added items c.args.self added) (sym c.printed.ensures.items) h) in
     let marks_fit : length marks < 2 ^ 64 = omega (arith, c.printed.type_inv) in
@@ -16,9 +17,22 @@ returns c =
     record {
       items = λ added h.
           let all_marks : c.min.result ≡ c.args.self.marks = omega (arith, (its added h).marks_within, c.min.ensures) in
-          let all_characters : c.min-2.result ≡ c.args.self.characters = omega (arith, (its added h).characters_within, c.min-2.ensures) in
+          let all_characters : c.min-2.result ≡ c.args.self.characters =
+          omega (arith, (its added h).characters_within, c.min-2.ensures) in
           rw (c.split_at.ensures.back, c.split_at-2.ensures.back, all_marks, all_characters) (its added h).items;
-      marks = λ added h. omega (arith, (its added h).marks_within, c.min.ensures, c.split_at.ensures.back_len, marks_fit);
+      marks = λ added h. omega (
+        arith,
+        (its added h).marks_within,
+        c.min.ensures,
+        c.split_at.ensures.back_len,
+        marks_fit,
+      );
       characters = λ added h.
-          omega (arith, (its added h).characters_within, c.min-2.ensures, c.split_at-2.ensures.back_len, characters_fit);
+          omega (
+            arith,
+            (its added h).characters_within,
+            c.min-2.ensures,
+            c.split_at-2.ensures.back_len,
+            characters_fit,
+          );
     }

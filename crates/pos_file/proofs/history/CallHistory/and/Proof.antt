@@ -1,128 +1,45 @@
 -- The empty body makes a value of no bytes, with the calls that its clause names.
-use Rattle.pos_file.proofs.Common.{ !, Args, Calls, Fun, Goes-none_ref, Goes-none_slice, Logic, Loops, Meets, None, Routine, SProp, Some, Stays, Tables, Ura, Val, Walks}
-use Rattle.pos_file.proofs.Common.{WpFn, WpFn-mono, [], agg, alive, alloc_all, cond, done, emp, ends_at, ent, enter, entered, free_all, fst∗, length, look_at}
-use Rattle.pos_file.proofs.Common.{move, no_more, on_entry, owns, pass_all, pure_i, qed, raw, refl, returns, says, sets, stay_none_ref}
-use Rattle.pos_file.proofs.Common.{stay_none_slice, suffices, tables, tables_of, triple_of, via, vnil, vptr, vstruct, walk_Meets, walk_of, walked, ‵, ◌$◌, ◌++◌}
-use Rattle.pos_file.proofs.Common.{◌<◌, ◌^◌, ◌∵◌, ◌∷◌}
+use Rattle.pos_disk.proofs.Common.{ !, Args, List, [], agg, alive, alloc_all, done, enter, free_all, look_at, move}
+use Rattle.pos_disk.proofs.Common.{no_more, owns, pass_all, pure_i, qed, raw, refl, returns, says, sets, suffices, vnil}
+use Rattle.pos_disk.proofs.Common.{vstruct, ‵, ◌$◌, ◌++◌, ◌∵◌, ◌∷◌}
+use Rattle.pos_disk.proofs.EmptyBodyLemmas.{Passed, ref, slice}
+use Rattle.pos_disk.proofs.EmptyBodyLemmas as empty
+use Rattle.pos_file.proofs.Common.{None, Some, cond}
 use Rattle.pos_file.specs.Calls.{call_of}
 use Rattle.pos_file.specs.contracts.history.CallHistory.and.Key.{name as key}
-use base.Fml.{Fml}
-use contract.Lifetimes.{Lfts, Shares}
+use contract.Lifetimes.{Lfts}
 use denote.Builtin.{bool, u64, u8}
-use denote.Exit.{yes}
-use denote.Ref.{shr_Tells, shr_vals}
-use denote.Signature.{plain, types_at}
-use denote.Slice.{shr_slice_Tells, shr_slice_vals, slice_val}
-use mir.Syntax.{named}
-use prog.Memory.{Memory}
-use Rattle.pos_file.specs.contracts.history.CallHistory as kept
-use Rattle.pos_file.specs.contracts.history.CallKind as kinds
+use denote.RattleType.{flat}
+use denote.Signature.{types_at}
+use Rattle.pos_file.specs.contracts.history.CallHistory as history
 use Rattle.pos_file.specs.contracts.history.CallHistory.and as f
+use Rattle.pos_file.specs.contracts.history.CallKind as kind
 use Rattle.pos_file.proofs.history.CallHistory.and.Statement as stated
 use Rattle.pos_file.proofs.history.CallHistory.and.Code as code
 
-abbrev stayed : Stays (f.ended).signature.params (f.ended).kept
-stayed = (
-  stay_none_ref (0 ∷ []) tt (plain (λ _. kept.the_row)) yes,
-  (
-    stay_none_ref (1 ∷ []) tt (plain (λ _. kinds.the_row)) yes,
-    (
-      stay_none_ref (2 ∷ []) tt (plain (λ _. u64)) yes,
-      (
-        stay_none_slice (3 ∷ []) tt (plain (λ _. u8)) yes,
-        (stay_none_ref (4 ∷ []) tt (plain (λ _. bool)) yes, (stay_none_ref (5 ∷ []) tt (plain (λ _. u64)) yes, tt)),
-      ),
-    ),
-  ),
-)
+abbrev passed : List (Passed 6)
+passed = ref 0 tt history.the_row ∷ ref 1 tt kind.the_row ∷ ref 2 tt u64 ∷ slice 3 tt u8 ∷ ref 4 tt bool ∷ ref 5 tt u64
+    ∷ []
 
-module _ {M : Type 1} {𝓤 : Ura M} (𝓛 : Logic 𝓤) (mem : Memory → SProp 𝓤) (run : Routine → Fun 𝓤) (C : Calls 𝓤 𝓛.H) (Λ : Loops 𝓤 𝓛.H) where
-  open 𝓛 use {H}
-
-  module _ (κs : Lfts 6) (qs : Shares 6) (a : Args f.signature κs) where
-    abbrev before : Val
-    before = vptr a.0.ref_ptr.0 a.0.ref_ptr.1
-
-    abbrev kind : Val
-    kind = vptr a.1.0.ref_ptr.0 a.1.0.ref_ptr.1
-
-    abbrev at : Val
-    at = vptr a.1.1.0.ref_ptr.0 a.1.1.0.ref_ptr.1
-
-    abbrev bytes : Val
-    bytes = slice_val a.1.1.1.0.ref_ptr (length a.1.1.1.0.now)
-
-    abbrev is_done : Val
-    is_done = vptr a.1.1.1.1.0.ref_ptr.0 a.1.1.1.1.0.ref_ptr.1
-
-    abbrev number : Val
-    number = vptr a.1.1.1.1.1.0.ref_ptr.0 a.1.1.1.1.1.0.ref_ptr.1
-
-    abbrev bound : (walk_of 𝓛 f.ended stayed (f.clauses 𝓛 mem run)).Ghost
-    bound = ((κs, qs, tt, a, (before ∷ [], (kind ∷ [], (at ∷ [], (bytes ∷ [], (is_done ∷ [], (number ∷ [], tt))))))), tt)
-
-    abbrev passed : Fml
-    passed = owns (types_at f.signature.params κs) a (before ∷ [], (kind ∷ [], (at ∷ [], (bytes ∷ [], (is_done ∷ [], (number ∷ [], tt))))))
-
-    abbrev made : kept.the_row.Denot
-    made = record {
-      calls = a.0.now.calls ++ call_of a.1.0.now a.1.1.0.now a.1.1.1.0.now (cond a.1.1.1.1.0.now (Some a.1.1.1.1.1.0.now) None) ∷ [];
+-- the history with one call more
+abbrev made : (κs : Lfts 6) → Args f.signature κs → history.the_row.Denot
+made κs (self, (kind, (at, (bytes, (is_done, (number, _)))))) =
+    record {
+      calls = self.now.calls ++ call_of kind.now at.now bytes.now (cond is_done.now (Some number.now) None)
+          ∷ [];
     }
 
-    walk : length a.1.1.1.0.now < 2 ^ 64
-        → ent 𝓤 (on_entry 𝓛 f.signature κs qs a (before ∷ [], (kind ∷ [], (at ∷ [], (bytes ∷ [], (is_done ∷ [], (number ∷ [], tt)))))))
-        (WpFn 𝓤 H C Λ code.function (before ∷ kind ∷ at ∷ bytes ∷ is_done ∷ number ∷ []) ((walk_of 𝓛 f.ended stayed (f.clauses 𝓛 mem run)).post bound))
-    walk fits_bytes =
-        qed 𝓛 (raw (alive 𝓛 f.signature κs qs) ∷ ‵ passed ∷ []) ∵ enter ! C Λ code.function (before ∷ kind ∷ at ∷ bytes ∷ is_done ∷ number ∷ []) _ $
-        alloc_all ! (λ l. pass_all ! refl
-        ((tt, tt), ((tt, tt), ((tt, tt), ((tt, (tt, (record { fits = fits_bytes }, tt))), ((tt, tt), ((tt, tt), tt)))))) $
-        sets ! (agg ! (no_more !)) refl (tt, tt) $
-        returns ! (look_at ! 0 refl) $ free_all ! refl $
-        suffices ! _ (ends_at 𝓛 f.ended stayed (f.clauses 𝓛 mem run) bound (vstruct vnil) made (tt, (tt, (tt, (tt, (tt, (tt, tt))))))
-        (tt, (tt, (tt, (tt, (tt, (tt, tt))))))) $
-        says ! refl $ pure_i ! (kept.the_row.own_val made (vstruct vnil ∷ [])) ((λ vss. (tt, tt)), tt) ((tt, (refl, tt)), tt) $
-        move ! (1 ∷ 2 ∷ 0 ∷ []) $ done !)
-
-  walks : Walks 𝓛 f.ended stayed (WpFn 𝓤 H C Λ code.function) (f.clauses 𝓛 mem run)
-  walks =
-      walked 𝓛 f.ended stayed (f.clauses 𝓛 mem run) (WpFn 𝓤 H C Λ code.function)
-      (λ κs. (shr_vals, (shr_vals, (shr_vals, (shr_slice_vals, (shr_vals, (shr_vals, tt)))))))
-      (λ κs. (
-        shr_Tells (named 0) κs.0 kept.the_row,
-        (
-          shr_Tells (named 1) κs.1.0 kinds.the_row,
-          (
-            shr_Tells (named 2) κs.1.1.0 u64,
-            (
-              shr_slice_Tells (named 3) κs.1.1.1.0 u8,
-              (shr_Tells (named 4) κs.1.1.1.1.0 bool, (shr_Tells (named 5) κs.1.1.1.1.1.0 u64, tt)),
-            ),
-          ),
-        ),
-      ))
-      (λ κs qs bounds a g are. via 𝓤 _ (fst∗ 𝓤 _ (emp 𝓤)) (walk κs qs a are.1.1.1.0.0.1.0))
-
-meets : {M : Type 1} {𝓤 : Ura M} (𝓛 : Logic 𝓤) (mem : Memory → SProp 𝓤) (run : Routine → Fun 𝓤) (𝓣 : Tables 𝓤 𝓛.H)
-    → Meets 𝓛 f.signature (WpFn 𝓤 𝓛.H 𝓣.C 𝓣.Λ code.function) (f.spec 𝓛 mem run)
-meets {𝓤 = 𝓤} 𝓛 mem run 𝓣 =
-    walk_Meets 𝓛 f.ended stayed (
-      Goes-none_ref 𝓛 6 (0 ∷ []) tt (plain (λ _. kept.the_row)) yes,
-      (
-        Goes-none_ref 𝓛 6 (1 ∷ []) tt (plain (λ _. kinds.the_row)) yes,
-        (
-          Goes-none_ref 𝓛 6 (2 ∷ []) tt (plain (λ _. u64)) yes,
-          (
-            Goes-none_slice 𝓛 6 (3 ∷ []) tt (plain (λ _. u8)) yes,
-            (Goes-none_ref 𝓛 6 (4 ∷ []) tt (plain (λ _. bool)) yes, (Goes-none_ref 𝓛 6 (5 ∷ []) tt (plain (λ _. u64)) yes, tt)),
-          ),
-        ),
-      ),
-    ) (f.clauses 𝓛 mem run) (WpFn 𝓤 𝓛.H 𝓣.C 𝓣.Λ code.function)
-    (WpFn-mono 𝓤 𝓛.H 𝓛.laws 𝓣 code.function) (walks 𝓛 mem run 𝓣.C 𝓣.Λ)
-
 pub and_spec : {M : Type 1} → stated.statement M
-unfolding tables_of
 and_spec 𝓤 𝓛 𝓜 𝓡 wired =
-    entered 𝓤 𝓛.H (triple_of 𝓛 f.signature (f.spec 𝓛 𝓜.mem 𝓡.returns))
-    (tables 𝓤 𝓛.H 𝓜 𝓡 𝓡.env).C (tables 𝓤 𝓛.H 𝓜 𝓡 𝓡.env).Λ key code.function (code.unfolded 𝓤 𝓛.H 𝓜 𝓡 wired)
-    (meets 𝓛 𝓜.mem 𝓡.returns (tables_of 𝓤 𝓛.H 𝓜 (tables 𝓤 𝓛.H 𝓜 𝓡 𝓡.env)))
+    let clauses = f.clauses 𝓛 𝓜.mem 𝓡.returns in
+    empty.stated 𝓛 passed history.the_row clauses 𝓜 𝓡 key code.function (code.unfolded 𝓤 𝓛.H 𝓜 𝓡 wired)
+    (λ κs qs bounds a g are.
+    let types = types_at f.signature.params κs in let values = empty.values passed κs a in
+    qed 𝓛 (raw (alive 𝓛 f.signature κs qs) ∷ ‵ (owns types a values) ∷ []) ∵ enter ! _ _ code.function
+    (flat types values) _ $
+    alloc_all ! (λ l. pass_all ! refl are $ sets ! (agg ! (no_more !)) refl (tt, tt) $ returns !
+    (look_at ! 0 refl) $ free_all ! refl $
+    suffices ! _ (empty.ends 𝓛 passed history.the_row clauses κs qs bounds a g (made κs a)) $
+    says ! refl $ pure_i ! (history.the_row.own_val (made κs a) (vstruct vnil ∷ [])) ((λ vss. (tt, tt)), tt)
+    ((tt, (refl, tt)), tt) $
+    move ! (1 ∷ 2 ∷ 0 ∷ []) $ done !))

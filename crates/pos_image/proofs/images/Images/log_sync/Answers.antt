@@ -12,7 +12,8 @@ moments g c =
     let was = rw (← c.self.view_is) at c.requires in
     rw (← c.self.view_is) (λ honest.
     watched_image (was.held honest)
-    (watches_sync _ _ (λ f left. g.met.D.Disk.only_now c.self.inside.disk f honest left) _ (c.sync.ensures.syncs honest)))
+    (watches_sync _ _ (λ f left. g.met.D.Disk.only_now c.self.inside.disk f honest left) _
+    (c.sync.ensures.syncs honest)))
 
 pub returns-in_err-sync-clause-any_moment : goal.returns-in_err-sync-clause-any_moment
 returns-in_err-sync-clause-any_moment g c = moments g (goal.at.returns-in_err-sync-clause-any_moment g c).After-sync
@@ -23,5 +24,6 @@ returns-clause-any_moment g c = moments g (goal.at.returns-clause-any_moment g c
 pub returns-clause-ready : goal.returns-clause-ready
 returns-clause-ready g c =
     let was = rw (← c.self.view_is) at c.requires in
-    let ready = synced g.D.Disk _ c.sync.new.self c.sync.result was c.sync.ensures.size c.sync.ensures.honest c.sync.ensures.syncs in
+    let ready = synced g.D.Disk _ c.sync.new.self c.sync.result was c.sync.ensures.size c.sync.ensures.honest
+    c.sync.ensures.syncs in
     search rules

@@ -1,4 +1,5 @@
-use Rattle.pos_image.proofs.Common.{IsWritable, KeepsImage, LeavesOnly, View, WritesOnly, arith, images_of, length, prepared_image, rules, span_of, start, ◌+◌}
+use Rattle.pos_image.proofs.Common.{IsWritable, KeepsImage, LeavesOnly, View, WritesOnly, arith, images_of, length}
+use Rattle.pos_image.proofs.Common.{prepared_image, rules, span_of, start, ◌+◌}
 use Rattle.pos_image.proofs.SpanLemmas.{WritesLog, writable, write_held, write_moments, writes_only, writes_span}
 use Rattle.pos_image.proofs.images.Images.log_write.Given.{Over}
 use Rattle.pos_image.proofs.images.Images.log_write.Goals.{After-write}
@@ -15,7 +16,8 @@ module _ (g : Over) (c : After-write g) where
 
   -- the write began at its place in the slot
   wrote : g.D.Disk.honest c.self.inside.disk
-      → WritesLog images (g.D.Disk.state c.self.inside.disk) (g.D.Disk.state c.write.new.self) c.args.at c.args.bytes.now c.write.result
+      → WritesLog images (g.D.Disk.state c.self.inside.disk)
+      (g.D.Disk.state c.write.new.self) c.args.at c.args.bytes.now c.write.result
   wrote honest = record {
     held = is_writable.held honest;
     only = λ f left. g.met.D.Disk.only_now c.self.inside.disk f honest left;
@@ -31,7 +33,8 @@ module _ (g : Over) (c : After-write g) where
 
   -- all else is as it was
   rest : g.D.Disk.honest c.args.self.now.disk
-      → WritesOnly (start c.args.self.now.slot + c.args.at) (length c.args.bytes.now) (g.D.Disk.state c.args.self.now.disk) (g.D.Disk.state c.write.new.self)
+      → WritesOnly (start c.args.self.now.slot + c.args.at) (length c.args.bytes.now)
+      (g.D.Disk.state c.args.self.now.disk) (g.D.Disk.state c.write.new.self)
   rest = rw (← c.self.view_is) (λ honest. writes_only (wrote honest).writes)
 
 pub returns-in_err-write-clause-rest : goal.returns-in_err-write-clause-rest
@@ -54,7 +57,8 @@ returns-in_err-write-clause-span g c =
 pub returns-clause-span : goal.returns-clause-span
 returns-clause-span g c =
     let here = (goal.at.returns-clause-span g c).After-write in
-    rw (← c.self.view_is) (λ honest. writes_span (wrote g here honest) _ (rw c.start.ensures at (c.in_ok-write.ensures.writes honest).written))
+    rw (← c.self.view_is) (λ honest. writes_span (wrote g here honest) _
+    (rw c.start.ensures at (c.in_ok-write.ensures.writes honest).written))
 
 pub returns-clause-writable : goal.returns-clause-writable
 returns-clause-writable g c =

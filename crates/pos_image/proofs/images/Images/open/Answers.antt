@@ -11,7 +11,12 @@ pub returns-in-Ok-clause-ready : goal.returns-in-Ok-clause-ready
 returns-in-Ok-clause-ready g c = (
   ready g.D.Disk _ (omega (arith, c.find.ensures.keeps.size)) (omega arith) (λ honest.
       let was = c.find.ensures.keeps.honest.1 honest in
-      record { at_rest = c.in-Ok.ensures.at_rest was; current = rw (c.find.ensures.watches was).reading (c.in-Ok.ensures.found was); prepared = tt }),
+      record {
+        at_rest = c.in-Ok.ensures.at_rest was;
+        current =
+            rw (c.find.ensures.watches was).reading (c.in-Ok.ensures.found was);
+        prepared = tt;
+      }),
   refl,
 )
 

@@ -7,8 +7,10 @@ returns-then-len-longest-clause-prepares g c =
     let images = c.args.self.now in
     let s = g.D.Disk.state images.disk in
     let any_moment : g.D.Disk.honest images.disk → LeavesOnly s s (KeepsImage images (span_of images s)) =
-    λ honest. started s _ (λ f left. c.requires.ready.leaves honest f (g.met.D.Disk.only_now images.disk f honest left)) in
-    let long : 81907 < length c.args.body.items = omega (arith, c.if-len-longest.true, c.len.ensures, c.longest.ensures) in
+    λ honest. started s _ (λ f left. c.requires.ready.leaves honest f (g.met.D.Disk.only_now images.disk f honest left))
+    in
+    let long : 81907 < length c.args.body.items =
+    omega (arith, c.if-len-longest.true, c.len.ensures, c.longest.ensures) in
     record {
       ready = tt;
       prepared = tt;

@@ -1,76 +1,37 @@
 -- The empty body makes a value of no bytes, with the disk that its clause names.
-use Rattle.pos_disk.proofs.Common.{ !, Args, Calls, Fun, Goes-none_ref, Goes-none_slice, Logic, Loops, Meets, Routine, SProp, Stays, Tables, Ura, Val, Walks}
-use Rattle.pos_disk.proofs.Common.{WpFn, WpFn-mono, [], agg, alive, alloc_all, done, emp, ends_at, ent, enter, entered, free_all, fst∗, look_at}
-use Rattle.pos_disk.proofs.Common.{move, no_more, on_entry, owns, pass_all, pure_i, qed, raw, refl, returns, says, sets, stay_none_ref, stay_none_slice}
-use Rattle.pos_disk.proofs.Common.{suffices, tables, tables_of, triple_of, via, vnil, vptr, vstruct, walk_Meets, walk_of, walked, ‵, ◌$◌}
-use Rattle.pos_disk.proofs.Common.{length, written, ◌<◌, ◌^◌, ◌∵◌, ◌∷◌}
+use Rattle.pos_disk.proofs.Common.{ !, Args, List, [], agg, alive, alloc_all, done, enter, free_all, look_at, move}
+use Rattle.pos_disk.proofs.Common.{no_more, owns, pass_all, pure_i, qed, raw, refl, returns, says, sets, suffices}
+use Rattle.pos_disk.proofs.Common.{written, vnil, vstruct, ‵, ◌$◌, ◌∵◌, ◌∷◌}
+use Rattle.pos_disk.proofs.EmptyBodyLemmas.{Passed, ref, slice}
+use Rattle.pos_disk.proofs.EmptyBodyLemmas as empty
 use Rattle.pos_mirror.specs.contracts.known.Known.written.Key.{name as key}
-use base.Fml.{Fml}
-use contract.Lifetimes.{Lfts, Shares}
+use contract.Lifetimes.{Lfts}
 use denote.Builtin.{u64, u8}
-use denote.Exit.{yes}
-use denote.Ref.{shr_Tells, shr_vals}
-use denote.Signature.{plain, types_at}
-use denote.Slice.{shr_slice_Tells, shr_slice_vals, slice_val}
-use mir.Syntax.{named}
-use prog.Memory.{Memory}
+use denote.RattleType.{flat}
+use denote.Signature.{types_at}
 use Rattle.pos_mirror.specs.contracts.known.Known as kept
 use Rattle.pos_mirror.specs.contracts.known.Known.written as f
 use Rattle.pos_mirror.proofs.known.Known.written.Statement as stated
 use Rattle.pos_mirror.proofs.known.Known.written.Code as code
 
-abbrev stayed : Stays (f.ended).signature.params (f.ended).kept
-stayed = (stay_none_ref (0 ∷ []) tt (plain (λ _. kept.the_row)) yes, (stay_none_ref (1 ∷ []) tt (plain (λ _. u64)) yes, (stay_none_slice (2 ∷ []) tt (plain (λ _. u8)) yes, tt)))
+abbrev passed : List (Passed 3)
+passed = ref 0 tt kept.the_row ∷ ref 1 tt u64 ∷ slice 2 tt u8 ∷ []
 
-module _ {M : Type 1} {𝓤 : Ura M} (𝓛 : Logic 𝓤) (mem : Memory → SProp 𝓤) (run : Routine → Fun 𝓤) (C : Calls 𝓤 𝓛.H) (Λ : Loops 𝓤 𝓛.H) where
-  open 𝓛 use {H}
-
-  module _ (κs : Lfts 3) (qs : Shares 3) (a : Args f.signature κs) where
-    abbrev before : Val
-    before = vptr a.0.ref_ptr.0 a.0.ref_ptr.1
-
-    abbrev at : Val
-    at = vptr a.1.0.ref_ptr.0 a.1.0.ref_ptr.1
-
-    abbrev bytes : Val
-    bytes = slice_val a.1.1.0.ref_ptr (length a.1.1.0.now)
-
-    abbrev bound : (walk_of 𝓛 f.ended stayed (f.clauses 𝓛 mem run)).Ghost
-    bound = ((κs, qs, tt, a, (before ∷ [], (at ∷ [], (bytes ∷ [], tt)))), tt)
-
-    abbrev passed : Fml
-    passed = owns (types_at f.signature.params κs) a (before ∷ [], (at ∷ [], (bytes ∷ [], tt)))
-
-    abbrev made : kept.the_row.Denot
-    made = record { memory = written a.1.0.now a.1.1.0.now a.0.now.memory }
-
-    walk : length a.1.1.0.now < 2 ^ 64 → ent 𝓤 (on_entry 𝓛 f.signature κs qs a (before ∷ [], (at ∷ [], (bytes ∷ [], tt))))
-        (WpFn 𝓤 H C Λ code.function (before ∷ at ∷ bytes ∷ []) ((walk_of 𝓛 f.ended stayed (f.clauses 𝓛 mem run)).post bound))
-    walk fits =
-        qed 𝓛 (raw (alive 𝓛 f.signature κs qs) ∷ ‵ passed ∷ []) ∵ enter ! C Λ code.function (before ∷ at ∷ bytes ∷ []) _ $
-        alloc_all ! (λ l. pass_all ! refl
-        ((tt, tt), ((tt, tt), ((tt, (tt, (record { fits = fits }, tt))), tt))) $
-        sets ! (agg ! (no_more !)) refl (tt, tt) $
-        returns ! (look_at ! 0 refl) $ free_all ! refl $
-        suffices ! _ (ends_at 𝓛 f.ended stayed (f.clauses 𝓛 mem run) bound (vstruct vnil) made (tt, (tt, (tt, tt))) (tt, (tt, (tt, tt)))) $
-        says ! refl $ pure_i ! (kept.the_row.own_val made (vstruct vnil ∷ [])) ((λ vss. (tt, tt)), tt) ((tt, (refl, tt)), tt) $
-        move ! (1 ∷ 2 ∷ 0 ∷ []) $ done !)
-
-  walks : Walks 𝓛 f.ended stayed (WpFn 𝓤 H C Λ code.function) (f.clauses 𝓛 mem run)
-  walks =
-      walked 𝓛 f.ended stayed (f.clauses 𝓛 mem run) (WpFn 𝓤 H C Λ code.function) (λ κs. (shr_vals, (shr_vals, (shr_slice_vals, tt))))
-      (λ κs. (shr_Tells (named 0) κs.0 kept.the_row, (shr_Tells (named 1) κs.1.0 u64, (shr_slice_Tells (named 2) κs.1.1.0 u8, tt))))
-      (λ κs qs bounds a g are. via 𝓤 _ (fst∗ 𝓤 _ (emp 𝓤)) (walk κs qs a are.1.1.0.0.1.0))
-
-meets : {M : Type 1} {𝓤 : Ura M} (𝓛 : Logic 𝓤) (mem : Memory → SProp 𝓤) (run : Routine → Fun 𝓤) (𝓣 : Tables 𝓤 𝓛.H)
-    → Meets 𝓛 f.signature (WpFn 𝓤 𝓛.H 𝓣.C 𝓣.Λ code.function) (f.spec 𝓛 mem run)
-meets {𝓤 = 𝓤} 𝓛 mem run 𝓣 =
-    walk_Meets 𝓛 f.ended stayed (Goes-none_ref 𝓛 3 (0 ∷ []) tt (plain (λ _. kept.the_row)) yes, (Goes-none_ref 𝓛 3 (1 ∷ []) tt (plain (λ _. u64)) yes, (Goes-none_slice 𝓛 3 (2 ∷ []) tt (plain (λ _. u8)) yes, tt))) (f.clauses 𝓛 mem run) (WpFn 𝓤 𝓛.H 𝓣.C 𝓣.Λ code.function)
-    (WpFn-mono 𝓤 𝓛.H 𝓛.laws 𝓣 code.function) (walks 𝓛 mem run 𝓣.C 𝓣.Λ)
+-- the disk after the write
+abbrev made : (κs : Lfts 3) → Args f.signature κs → kept.the_row.Denot
+made κs (self, (at, (bytes, _))) = record { memory = written at.now bytes.now self.now.memory }
 
 pub written_spec : {M : Type 1} → stated.statement M
-unfolding tables_of
 written_spec 𝓤 𝓛 𝓜 𝓡 wired =
-    entered 𝓤 𝓛.H (triple_of 𝓛 f.signature (f.spec 𝓛 𝓜.mem 𝓡.returns))
-    (tables 𝓤 𝓛.H 𝓜 𝓡 𝓡.env).C (tables 𝓤 𝓛.H 𝓜 𝓡 𝓡.env).Λ key code.function (code.unfolded 𝓤 𝓛.H 𝓜 𝓡 wired)
-    (meets 𝓛 𝓜.mem 𝓡.returns (tables_of 𝓤 𝓛.H 𝓜 (tables 𝓤 𝓛.H 𝓜 𝓡 𝓡.env)))
+    let clauses = f.clauses 𝓛 𝓜.mem 𝓡.returns in
+    empty.stated 𝓛 passed kept.the_row clauses 𝓜 𝓡 key code.function (code.unfolded 𝓤 𝓛.H 𝓜 𝓡 wired)
+    (λ κs qs bounds a g are.
+    let types = types_at f.signature.params κs in let values = empty.values passed κs a in
+    qed 𝓛 (raw (alive 𝓛 f.signature κs qs) ∷ ‵ (owns types a values) ∷ []) ∵ enter ! _ _ code.function
+    (flat types values) _ $
+    alloc_all ! (λ l. pass_all ! refl are $ sets ! (agg ! (no_more !)) refl (tt, tt) $ returns !
+    (look_at ! 0 refl) $ free_all ! refl $
+    suffices ! _ (empty.ends 𝓛 passed kept.the_row clauses κs qs bounds a g (made κs a)) $
+    says ! refl $ pure_i ! (kept.the_row.own_val (made κs a) (vstruct vnil ∷ [])) ((λ vss. (tt, tt)), tt)
+    ((tt, (refl, tt)), tt) $
+    move ! (1 ∷ 2 ∷ 0 ∷ []) $ done !))

@@ -4,4 +4,5 @@ use Rattle.pos_mirror.proofs.mirror.MirrorDiskDisk.read.Goals as goal
 
 pub returns-clause-reads : goal.returns-clause-reads
 returns-clause-reads g c = λ honest.
-    rw (← c.self.view_is) (reads_under c.self.inside.failures c.self.invariant.last c.args.at c.read.new.out (Ok tt) tt refl c.read.ensures)
+    rw (← c.self.view_is) (reads_under c.self.inside.failures c.self.invariant.last c.args.at c.read.new.out
+    (Ok tt) tt refl c.read.ensures)

@@ -1,4 +1,4 @@
-use Rattle.pos_mirror.proofs.ShownLemmas.{syncs}
+use Rattle.pos_disk.proofs.CallLemmas.{syncs}
 use Rattle.pos_mirror.proofs.shown.Shown.sync.Goals as goal
 
 pub returns-clause-syncs : goal.returns-clause-syncs

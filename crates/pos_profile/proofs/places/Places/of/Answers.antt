@@ -6,9 +6,19 @@ pub loop-place-preserved : goal.loop-place-preserved
 loop-place-preserved c = λ name.
     let planned = c.index-plan-place.result in
     let at = planned_name c.args.plan.now c.loop-place.place planned c.loop-place-test.true c.index-plan-place.is in
-    grind (arith, c.in_ok-note.ensures name, c.loop-place.invariant name, place_more _ c.loop-place.place planned.name at name)
+    grind (
+      arith,
+      c.in_ok-note.ensures name,
+      c.loop-place.invariant name,
+      place_more _ c.loop-place.place planned.name at name,
+    )
 
 pub returns : goal.returns
 returns c = λ name.
     let names = map (λ (planned : Planned). planned.name) c.args.plan.now in
-    grind (arith, c.loop-place.invariant name, take_all c.loop-place.place names, length-map c.args.plan.now (λ (planned : Planned). planned.name))
+    grind (
+      arith,
+      c.loop-place.invariant name,
+      take_all c.loop-place.place names,
+      length-map c.args.plan.now (λ (planned : Planned). planned.name),
+    )

@@ -13,6 +13,7 @@ pub returns-clause-puts : goal.returns-clause-puts
 returns-clause-puts g c = (
   c.in-Some.place,
   c.put.ensures.put,
-  put_named g.P.Peripheral c.args.self.now.slots.items c.put.new.self.slots.items c.args.name.now c.in-Some.place c.args.peripheral
+  put_named g.P.Peripheral c.args.self.now.slots.items c.put.new.self.slots.items c.args.name.now c.in-Some.place
+      c.args.peripheral
       (sym c.in-Some.ensures.place) c.put.ensures.put,
 )

@@ -10,7 +10,8 @@ loop-place-preserved g c =
     let whole : length slots ≡ length olds = c.loop-place.invariant.whole ∙ sym count in
     let within : c.loop-place.place < length olds = omega (arith, count, c.args.self.slots.ok.0) in
     record {
-      front = parked_more g.P.Peripheral slots olds c.loop-place.place c.index_mut.result.now c.park.new.self within whole
+      front = parked_more g.P.Peripheral slots olds c.loop-place.place c.index_mut.result.now c.park.new.self within
+          whole
           c.loop-place.invariant.front c.index_mut.ensures.value c.park.ensures;
       whole = length-set slots c.loop-place.place c.park.new.self ∙ c.loop-place.invariant.whole;
     }
@@ -18,8 +19,10 @@ loop-place-preserved g c =
 pub returns-clause-entries : goal.returns-clause-entries
 returns-clause-entries g c =
     let olds = devices g.P.Peripheral c.args.self in
-    let all : length olds ≤ c.loop-place.place = omega (arith, devices_count g.P.Peripheral c.args.self.slots.items, c.args.self.slots.ok.0) in
-    parked_whole (devices_of g.P.Peripheral c.loop-place.slots.items) olds c.loop-place.place all c.loop-place.invariant.front
+    let all : length olds ≤ c.loop-place.place =
+    omega (arith, devices_count g.P.Peripheral c.args.self.slots.items, c.args.self.slots.ok.0) in
+    parked_whole (devices_of g.P.Peripheral c.loop-place.slots.items) olds c.loop-place.place all
+    c.loop-place.invariant.front
 
 pub returns-clause-parked : goal.returns-clause-parked
 returns-clause-parked g c = rw (returns-clause-entries g c) (all_parked (devices g.P.Peripheral c.args.self))

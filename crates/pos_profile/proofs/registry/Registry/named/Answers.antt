@@ -10,4 +10,9 @@ pub returns-clause-device : goal.returns-clause-device
 returns-clause-device g c = grind (arith, device_at, devices_count, names_count, place_within)
 
 pub returns-clause-named : goal.returns-clause-named
-returns-clause-named g c = record { place = c.in_ok-place.place; found = sym c.in_ok-place.ensures; at = returns-clause-device g c }
+returns-clause-named g c = record {
+  place = c.in_ok-place.place;
+  found = sym c.in_ok-place.ensures;
+  at =
+      returns-clause-device g c;
+}

@@ -11,8 +11,10 @@ returns-clause-taken g c = grind (arith, devices_count, device_at)
 pub returns-clause-vacated : goal.returns-clause-vacated
 returns-clause-vacated g c =
     let slot = c.index_mut.result.now in
-    rw c.take.ensures.after (devices_set g.P.Peripheral c.args.self.now.slots.items c.args.place slot None c.index_mut.ensures.value)
+    rw c.take.ensures.after
+    (devices_set g.P.Peripheral c.args.self.now.slots.items c.args.place slot None c.index_mut.ensures.value)
 
 pub returns-clause-sound : goal.returns-clause-sound
 returns-clause-sound g c =
-    sound_with g.P.Peripheral c.args.self.now _ c.args.place None c.requires.sound refl (returns-clause-vacated g c) (λ (d : Device) at. tt)
+    sound_with g.P.Peripheral c.args.self.now _ c.args.place None c.requires.sound refl (returns-clause-vacated g c)
+    (λ (d : Device) at. tt)

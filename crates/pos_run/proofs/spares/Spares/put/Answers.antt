@@ -7,7 +7,8 @@ unreachable-requires g c =
     let list = c.args.self.now.peripherals.items in
     let place = c.args.number - 1 in
     let is : c.args.number ≡ suc place = omega (arith, c.requires.empty.1) in
-    no_box g.P.Peripheral list place c.args.number c.index_mut.result.now c.in-Some.field-0 is c.requires.empty c.index_mut.ensures.value
+    no_box g.P.Peripheral list place c.args.number c.index_mut.result.now c.in-Some.field-0 is c.requires.empty
+    c.index_mut.ensures.value
     (sym c.replace.ensures.value ∙ c.in-Some.is)
 
 pub returns-clause-spares : goal.returns-clause-spares

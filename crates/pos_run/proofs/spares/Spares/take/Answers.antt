@@ -18,7 +18,8 @@ returns-clause-left g c =
     let list = c.args.self.now.peripherals.items in
     let place = c.args.number - 1 in
     let is : c.args.number ≡ suc place = omega arith in
-    rw c.take.ensures.after (states_set g.P.Peripheral list place None ∙ with_is (states_in g.P.Peripheral list) c.args.number place None is)
+    rw c.take.ensures.after (states_set g.P.Peripheral list place None
+    ∙ with_is (states_in g.P.Peripheral list) c.args.number place None is)
 
 pub returns-clause-in_service : goal.returns-clause-in_service
 returns-clause-in_service g c =
@@ -26,9 +27,14 @@ returns-clause-in_service g c =
     let place = c.args.number - 1 in
     let spare = c.index_mut.result.now in
     let within : place < length list = omega arith in
-    rw c.take.ensures.value (serves_there g.P.Peripheral list place spare c.requires.sound.in_service within c.index_mut.ensures.value)
+    rw c.take.ensures.value
+    (serves_there g.P.Peripheral list place spare c.requires.sound.in_service within c.index_mut.ensures.value)
 
 pub returns-clause-sound : goal.returns-clause-sound
 returns-clause-sound g c =
     let list = c.args.self.now.peripherals.items in
-    rw c.take.ensures.after (record { in_service = service_set g.P.Peripheral list (c.args.number - 1) None c.requires.sound.in_service tt })
+    rw c.take.ensures.after
+    (record {
+      in_service = service_set g.P.Peripheral list
+          (c.args.number - 1) None c.requires.sound.in_service tt;
+    })

@@ -21,11 +21,13 @@ returns-in-Left c =
     let was = c.args.self.now in
     let moved = rw c.as_mut_slice.ensures.value at c.move_to_front.ensures in
     rw (c.in-Left.is, with_items_is was.cells c.move_to_front.new.cells (omega (arith, moved.count, was.cells.ok.0)))
-    (turned_left was.rows was.columns was.first c.args.units _ _ was.within (sized was) (moved.count ∙ sized was) moved.moved)
+    (turned_left was.rows was.columns was.first c.args.units _ _ was.within (sized was)
+    (moved.count ∙ sized was) moved.moved)
 
 pub returns-in-Right : goal.returns-in-Right
 returns-in-Right c =
     let was = c.args.self.now in
     let moved = rw c.as_mut_slice-in-Right.ensures.value at c.move_to_end.ensures in
     rw (c.in-Right.is, with_items_is was.cells c.move_to_end.new.cells (omega (arith, moved.count, was.cells.ok.0)))
-    (turned_right was.rows was.columns was.first c.args.units _ _ was.within (sized was) (moved.count ∙ sized was) moved.moved)
+    (turned_right was.rows was.columns was.first c.args.units _ _ was.within (sized was)
+    (moved.count ∙ sized was) moved.moved)

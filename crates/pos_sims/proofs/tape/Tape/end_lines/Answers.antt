@@ -7,7 +7,8 @@ use Rattle.pos_sims.proofs.tape.Tape.end_lines.Goals as goal
 pub returns-in-Err-clause-paper : goal.returns-in-Err-clause-paper
 returns-in-Err-clause-paper c = λ e.
     past_front c.args.self.now.chars (work_of c.loop.self) _ (piece.LineEnd ∷ []) _ _ c.args.self.now.limit
-    (next_line c.args.count c.loop.counter c.loop-test.true) c.loop.invariant.work (grind (arith, c.in-Err.ensures.paper e, c.loop.invariant.adds))
+    (next_line c.args.count c.loop.counter c.loop-test.true) c.loop.invariant.work
+    (grind (arith, c.in-Err.ensures.paper e, c.loop.invariant.adds))
 
 pub loop-preserved : goal.loop-preserved
 loop-preserved c = record {

@@ -1,9 +1,10 @@
 -- The empty body makes a value of no bytes, with the moments that its clause names.
-use Rattle.pos_streams.proofs.Common.{ !, Args, Calls, Fun, Goes-none_ref, Logic, Loops, Meets, Routine, SProp, Stays, Tables, Ura, Val, Walks}
-use Rattle.pos_streams.proofs.Common.{WpFn, WpFn-mono, [], agg, alive, alloc_all, done, emp, ends_at, ent, enter, entered, free_all, fst∗, look_at}
-use Rattle.pos_streams.proofs.Common.{move, no_more, on_entry, owns, pass_all, pure_i, qed, raw, refl, returns, says, sets, stay_none_ref}
-use Rattle.pos_streams.proofs.Common.{suffices, tables, tables_of, triple_of, via, vnil, vptr, vstruct, walk_Meets, walk_of, walked, ‵, ◌$◌, ◌+◌}
-use Rattle.pos_streams.proofs.Common.{◌∵◌, ◌∷◌}
+use Rattle.pos_streams.proofs.Common.{ !, Args, Calls, Fun, Goes-none_ref, Logic, Loops, Meets, Routine, SProp, Stays}
+use Rattle.pos_streams.proofs.Common.{Tables, Ura, Val, Walks, WpFn, WpFn-mono, [], agg, alive, alloc_all, done, emp}
+use Rattle.pos_streams.proofs.Common.{ends_at, ent, enter, entered, free_all, fst∗, look_at, move, no_more, on_entry}
+use Rattle.pos_streams.proofs.Common.{owns, pass_all, pure_i, qed, raw, refl, returns, says, sets, stay_none_ref}
+use Rattle.pos_streams.proofs.Common.{suffices, tables, tables_of, triple_of, via, vnil, vptr, vstruct, walk_Meets}
+use Rattle.pos_streams.proofs.Common.{walk_of, walked, ‵, ◌$◌, ◌+◌, ◌∵◌, ◌∷◌}
 use Rattle.pos_streams.specs.contracts.trace.Count.once_more.Key.{name as key}
 use base.Fml.{Fml}
 use contract.Lifetimes.{Lfts, Shares}
@@ -23,7 +24,8 @@ stayed = (
   tt,
 )
 
-module _ {M : Type 1} {𝓤 : Ura M} (𝓛 : Logic 𝓤) (mem : Memory → SProp 𝓤) (run : Routine → Fun 𝓤) (C : Calls 𝓤 𝓛.H) (Λ : Loops 𝓤 𝓛.H) where
+module _ {M : Type 1} {𝓤 : Ura M} (𝓛 : Logic 𝓤) (mem : Memory → SProp 𝓤) (run : Routine → Fun 𝓤) (C : Calls 𝓤 𝓛.H)
+    (Λ : Loops 𝓤 𝓛.H) where
   open 𝓛 use {H}
 
   module _ (κs : Lfts 1) (qs : Shares 1) (a : Args f.signature κs) where
@@ -48,7 +50,8 @@ module _ {M : Type 1} {𝓤 : Ura M} (𝓛 : Logic 𝓤) (mem : Memory → SProp
         sets ! (agg ! (no_more !)) refl (tt, tt) $
         returns ! (look_at ! 0 refl) $ free_all ! refl $
         suffices ! _ (ends_at 𝓛 f.ended stayed (f.clauses 𝓛 mem run) bound (vstruct vnil) made (tt, tt) (tt, tt)) $
-        says ! refl $ pure_i ! (kept.the_row.own_val made (vstruct vnil ∷ [])) ((λ vss. (tt, tt)), tt) ((tt, (refl, tt)), tt) $
+        says ! refl $ pure_i ! (kept.the_row.own_val made (vstruct vnil ∷ [])) ((λ vss. (tt, tt)), tt)
+        ((tt, (refl, tt)), tt) $
         move ! (1 ∷ 2 ∷ 0 ∷ []) $ done !)
 
   walks : Walks 𝓛 f.ended stayed (WpFn 𝓤 H C Λ code.function) (f.clauses 𝓛 mem run)

@@ -1,8 +1,10 @@
 -- The empty body makes a value of no bytes, with the moments that its clause names.
-use Rattle.pos_streams.proofs.Common.{ !, Args, Calls, Fun, Goes-none_ref, Goes-none_slice, Logic, Loops, Meets, Routine, SProp, Stays, Tables, Ura, Val, Walks}
-use Rattle.pos_streams.proofs.Common.{WpFn, WpFn-mono, [], agg, alive, alloc_all, done, emp, ends_at, ent, enter, entered, free_all, fst∗, length, look_at}
-use Rattle.pos_streams.proofs.Common.{move, no_more, on_entry, owns, pass_all, pure_i, qed, raw, refl, returns, says, sets, stay_none_ref}
-use Rattle.pos_streams.proofs.Common.{stay_none_slice, suffices, tables, tables_of, triple_of, via, vnil, vptr, vstruct, walk_Meets, walk_of, walked, ‵, ◌$◌, ◌++◌}
+use Rattle.pos_streams.proofs.Common.{ !, Args, Calls, Fun, Goes-none_ref, Goes-none_slice, Logic, Loops, Meets}
+use Rattle.pos_streams.proofs.Common.{Routine, SProp, Stays, Tables, Ura, Val, Walks, WpFn, WpFn-mono, [], agg, alive}
+use Rattle.pos_streams.proofs.Common.{alloc_all, done, emp, ends_at, ent, enter, entered, free_all, fst∗, length}
+use Rattle.pos_streams.proofs.Common.{look_at, move, no_more, on_entry, owns, pass_all, pure_i, qed, raw, refl, returns}
+use Rattle.pos_streams.proofs.Common.{says, sets, stay_none_ref, stay_none_slice, suffices, tables, tables_of}
+use Rattle.pos_streams.proofs.Common.{triple_of, via, vnil, vptr, vstruct, walk_Meets, walk_of, walked, ‵, ◌$◌, ◌++◌}
 use Rattle.pos_streams.proofs.Common.{◌<◌, ◌^◌, ◌∵◌, ◌∷◌}
 use Rattle.pos_streams.specs.contracts.trace.Trace.and.Key.{name as key}
 use base.Fml.{Fml}
@@ -28,7 +30,8 @@ stayed = (
   ),
 )
 
-module _ {M : Type 1} {𝓤 : Ura M} (𝓛 : Logic 𝓤) (mem : Memory → SProp 𝓤) (run : Routine → Fun 𝓤) (C : Calls 𝓤 𝓛.H) (Λ : Loops 𝓤 𝓛.H) where
+module _ {M : Type 1} {𝓤 : Ura M} (𝓛 : Logic 𝓤) (mem : Memory → SProp 𝓤) (run : Routine → Fun 𝓤) (C : Calls 𝓤 𝓛.H)
+    (Λ : Loops 𝓤 𝓛.H) where
   open 𝓛 use {H}
 
   module _ (κs : Lfts 2) (qs : Shares 2) (a : Args f.signature κs) where
@@ -55,13 +58,16 @@ module _ {M : Type 1} {𝓤 : Ura M} (𝓛 : Logic 𝓤) (mem : Memory → SProp
         ((tt, tt), ((tt, (tt, (record { fits = fits_bytes }, tt))), tt)) $
         sets ! (agg ! (no_more !)) refl (tt, tt) $
         returns ! (look_at ! 0 refl) $ free_all ! refl $
-        suffices ! _ (ends_at 𝓛 f.ended stayed (f.clauses 𝓛 mem run) bound (vstruct vnil) made (tt, (tt, tt)) (tt, (tt, tt))) $
-        says ! refl $ pure_i ! (kept.the_row.own_val made (vstruct vnil ∷ [])) ((λ vss. (tt, tt)), tt) ((tt, (refl, tt)), tt) $
+        suffices ! _ (ends_at 𝓛 f.ended stayed (f.clauses 𝓛 mem run) bound (vstruct vnil) made (tt, (tt, tt))
+        (tt, (tt, tt))) $
+        says ! refl $ pure_i ! (kept.the_row.own_val made (vstruct vnil ∷ [])) ((λ vss. (tt, tt)), tt)
+        ((tt, (refl, tt)), tt) $
         move ! (1 ∷ 2 ∷ 0 ∷ []) $ done !)
 
   walks : Walks 𝓛 f.ended stayed (WpFn 𝓤 H C Λ code.function) (f.clauses 𝓛 mem run)
   walks =
-      walked 𝓛 f.ended stayed (f.clauses 𝓛 mem run) (WpFn 𝓤 H C Λ code.function) (λ κs. (shr_vals, (shr_slice_vals, tt)))
+      walked 𝓛 f.ended stayed (f.clauses 𝓛 mem run) (WpFn 𝓤 H C Λ code.function)
+      (λ κs. (shr_vals, (shr_slice_vals, tt)))
       (λ κs. (
         shr_Tells (named 0) κs.0 kept.the_row,
         (shr_slice_Tells (named 1) κs.1.0 u8, tt),

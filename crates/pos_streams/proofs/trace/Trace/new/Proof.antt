@@ -1,7 +1,8 @@
-use Rattle.pos_streams.proofs.Common.{ !, Calls, Fun, Logic, Loops, Meets, Routine, SProp, Stays, Tables, Ura, Walks, WpFn, WpFn-mono, [], agg, alive, alloc_all}
-use Rattle.pos_streams.proofs.Common.{done, emp, ends_at, ent, enter, entered, free_all, fst∗, look_at, move, no_more, on_entry, owns, pass_all, pure_i, qed, raw}
-use Rattle.pos_streams.proofs.Common.{refl, returns, says, sets, suffices, tables, tables_of, triple_of, via, vnil, vstruct, walk_Meets, walk_of, walked, ‵, ◌$◌}
-use Rattle.pos_streams.proofs.Common.{◌∵◌, ◌∷◌}
+use Rattle.pos_streams.proofs.Common.{ !, Calls, Fun, Logic, Loops, Meets, Routine, SProp, Stays, Tables, Ura, Walks}
+use Rattle.pos_streams.proofs.Common.{WpFn, WpFn-mono, [], agg, alive, alloc_all, done, emp, ends_at, ent, enter}
+use Rattle.pos_streams.proofs.Common.{entered, free_all, fst∗, look_at, move, no_more, on_entry, owns, pass_all, pure_i}
+use Rattle.pos_streams.proofs.Common.{qed, raw, refl, returns, says, sets, suffices, tables, tables_of, triple_of, via}
+use Rattle.pos_streams.proofs.Common.{vnil, vstruct, walk_Meets, walk_of, walked, ‵, ◌$◌, ◌∵◌, ◌∷◌}
 use Rattle.pos_streams.specs.contracts.trace.Trace.new.Key.{name as key}
 use prog.Memory.{Memory}
 use Rattle.pos_streams.specs.contracts.trace.Trace.new as f
@@ -12,19 +13,22 @@ use Rattle.pos_streams.specs.contracts.trace.Trace as made
 abbrev stayed : Stays (f.ended).signature.params (f.ended).kept
 stayed = tt
 
-module _ {M : Type 1} {𝓤 : Ura M} (𝓛 : Logic 𝓤) (mem : Memory → SProp 𝓤) (run : Routine → Fun 𝓤) (C : Calls 𝓤 𝓛.H) (Λ : Loops 𝓤 𝓛.H) where
+module _ {M : Type 1} {𝓤 : Ura M} (𝓛 : Logic 𝓤) (mem : Memory → SProp 𝓤) (run : Routine → Fun 𝓤) (C : Calls 𝓤 𝓛.H)
+    (Λ : Loops 𝓤 𝓛.H) where
   open 𝓛 use {H}
 
   abbrev bound : (walk_of 𝓛 f.ended stayed (f.clauses 𝓛 mem run)).Ghost
   bound = ((tt, tt, tt, tt, tt), tt)
 
-  walk : ent 𝓤 (on_entry 𝓛 f.signature tt tt tt tt) (WpFn 𝓤 H C Λ code.function [] ((walk_of 𝓛 f.ended stayed (f.clauses 𝓛 mem run)).post bound))
+  walk : ent 𝓤 (on_entry 𝓛 f.signature tt tt tt tt)
+      (WpFn 𝓤 H C Λ code.function [] ((walk_of 𝓛 f.ended stayed (f.clauses 𝓛 mem run)).post bound))
   walk =
       qed 𝓛 (raw (alive 𝓛 f.signature tt tt) ∷ ‵ (owns [] tt tt) ∷ []) ∵ enter ! C Λ code.function [] _ $
       alloc_all ! (λ l. pass_all ! refl tt $ sets ! (agg ! (no_more !)) refl (tt, tt) $
       returns ! (look_at ! 0 refl) $ free_all ! refl $
       suffices ! _ (ends_at 𝓛 f.ended stayed (f.clauses 𝓛 mem run) bound (vstruct vnil) (record { bytes = [] }) tt tt) $
-      says ! refl $ pure_i ! (made.the_row.own_val (record { bytes = [] }) (vstruct vnil ∷ [])) ((λ vss. (tt, tt)), tt) ((tt, (refl, tt)), tt) $
+      says ! refl $ pure_i ! (made.the_row.own_val (record { bytes = [] }) (vstruct vnil ∷ [])) ((λ vss. (tt, tt)), tt)
+      ((tt, (refl, tt)), tt) $
       move ! (1 ∷ 2 ∷ 0 ∷ []) $ done !)
 
   walks : Walks 𝓛 f.ended stayed (WpFn 𝓤 H C Λ code.function) (f.clauses 𝓛 mem run)

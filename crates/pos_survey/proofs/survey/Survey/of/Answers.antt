@@ -15,7 +15,8 @@ returns-in_err-directory-clause-broken c =
     let p = err_from_is_err_and c.from_residual-in_err-directory.result c.from_residual-in_err-directory.ensures.1 in
     let images = c.in_ok-images.images in
     rw (p.1, p.2)
-    (no_files c.args.bytes.now images.body images.slot images.sequence c.in_err-directory.field-0.0 c.in_ok-images.ensures.current
+    (no_files c.args.bytes.now images.body images.slot images.sequence c.in_err-directory.field-0.0
+    c.in_ok-images.ensures.current
     c.in_err-directory.ensures.broken)
 
 pub returns-in_err-log-clause-broken : goal.returns-in_err-log-clause-broken
@@ -24,12 +25,14 @@ returns-in_err-log-clause-broken c =
     let images = c.in_ok-images.images in
     let read = c.in_ok-directory.ensures in
     rw (p.1, p.2)
-    (long_record c.args.bytes.now images.body images.slot c.in_ok-directory.directory.files images.sequence c.in_ok-images.ensures.current
+    (long_record c.args.bytes.now images.body images.slot c.in_ok-directory.directory.files images.sequence
+    c.in_ok-images.ensures.current
     read.directory read.spelled c.in_err-log.field-0.0 c.in_err-log.ensures.broken)
 
 pub returns-in_err-apply_texts-clause-broken : goal.returns-in_err-apply_texts-clause-broken
 returns-in_err-apply_texts-clause-broken c =
-    let p = err_from_is_err_and c.from_residual-in_err-apply_texts.result c.from_residual-in_err-apply_texts.ensures.1 in
+    let p = err_from_is_err_and c.from_residual-in_err-apply_texts.result c.from_residual-in_err-apply_texts.ensures.1
+    in
     let images = c.in_ok-images.images in
     let base = c.in_ok-directory.directory.files in
     let read = c.in_ok-directory.ensures in
@@ -38,7 +41,8 @@ returns-in_err-apply_texts-clause-broken c =
     let texts = map (λ (t : Vec ℕ Global). t.items) c.in_ok-log.texts.items in
     let found = c.log_begins.ensures ∙ ap log_begins c.slot-slot.ensures in
     rw (p.1, p.2)
-    (bad_record c.args.bytes.now images.body images.slot base images.sequence c.in_ok-images.ensures.current read.directory read.spelled texts
+    (bad_record c.args.bytes.now images.body images.slot base images.sequence c.in_ok-images.ensures.current
+    read.directory read.spelled texts
     c.in_ok-log.ensures.records fault
     (rw (read.limits, found, c.deref.ensures.value) at c.in_err-apply_texts.ensures.broken))
 
@@ -70,6 +74,7 @@ returns-clause-told c =
         texts = texts;
         held = log.records;
         count = omega (arith, c.len.ensures, size);
-        room_is = c.room.ensures ∙ ap (λ (s : Slot). room_of (layout_of s) c.in_ok-log.log.tail) log.slot ∙ ap (room_of layout) log.tail;
+        room_is = c.room.ensures ∙ ap (λ (s : Slot). room_of (layout_of s) c.in_ok-log.log.tail) log.slot
+            ∙ ap (room_of layout) log.tail;
       };
     }

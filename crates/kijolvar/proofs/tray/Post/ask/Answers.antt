@@ -1,5 +1,0 @@
-use Rattle.kijolvar.proofs.Common.{inl}
-use Rattle.kijolvar.proofs.tray.Post.ask.Goals as goal
-
-pub returns-then-not-is_hosted : goal.returns-then-not-is_hosted
-returns-then-not-is_hosted c = inl c.ask.ensures.asked

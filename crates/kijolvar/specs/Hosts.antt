@@ -1,0 +1,54 @@
+-- Which devices a till's host may have (abi/README.md, "Devices of one's own").
+use Rattle.std.specs.Prelude.{◌≡◌, ◌⊎◌, ◌&&◌, ℕ, Bool, List, bytes_eq, is_none, is_some, true}
+use Rattle.std.specs.List.{list_any}
+use Rattle.std.specs.Bool.{MatchBool}
+use Rattle.pos_profile.specs.declared.entry.Entry.{Entry}
+use Rattle.pos_profile.specs.Kinds.{kind_of}
+use Rattle.pos_drive.specs.Courses.{driven_course}
+use Rattle.pos_drive.specs.declared.courses.Course.{Course}
+use Rattle.pos_service.specs.declared.peripheral.Peripheral.{Ghosts}
+use Rattle.pos_counter.specs.Counters.{Stays}
+use Rattle.pos_counter.specs.Hosts.{changed_named, course_named, hosts_in}
+use Rattle.kijolvar.specs.Codes.{no_device, no_memory, ok}
+use Rattle.kijolvar.specs.declared.device.Device.{Device}
+use Rattle.kijolvar.specs.declared.till_state.TillState.{TillState}
+
+-- an entry has this name, and may have a peripheral, so it isn't one of Hard Totals
+abbrev pub is_hostable : List ℕ → Entry → Bool
+is_hostable name entry = bytes_eq entry.name name && is_some (kind_of entry)
+
+-- a device of this name may have a peripheral
+abbrev pub may_be_hosted : List Entry → List ℕ → Bool
+may_be_hosted entries name = list_any (is_hostable name) entries
+
+-- what a host is told that asks for a device, of these entries
+abbrev pub IsHostCode : List Entry → List ℕ → (code : ℕ) → Type 0
+IsHostCode entries name code =
+    MatchBool (may_be_hosted entries name) ((code ≡ ok) ⊎ (code ≡ no_memory)) (code ≡ no_device)
+
+-- likewise, and its line doesn't fail
+abbrev pub is_drivable : List ℕ → Entry → Bool
+is_drivable name entry = is_hostable name entry && is_none entry.flaky
+
+-- a device of this name may be driven
+abbrev pub may_be_driven : List Entry → List ℕ → Bool
+may_be_driven entries name = list_any (is_drivable name) entries
+
+-- a device of this name may be driven, and has a peripheral
+abbrev pub is_drivable_now : (Device → Course) → TillState → List ℕ → Bool
+is_drivable_now hosts till name =
+    may_be_driven till.profile.devices name && is_some (course_named name (hosts_in hosts till.counter))
+
+-- Each order of the device of this name waits for the host from now on. Nothing else changes.
+pub record IsDriven (hosts : Device → Course) (peripherals : Ghosts Device) (old : TillState) (name : List ℕ) (code : ℕ)
+    (new : TillState) : Type 0 where
+  pub code_told : code ≡ ok
+  pub counter : Stays peripherals old.counter new.counter
+  pub course : hosts_in hosts new.counter ≡ changed_named driven_course name (hosts_in hosts old.counter)
+  pub stays : new ≡ record old { counter = new.counter; is_driven = true }
+
+-- what a host is told that drives a device, and what that does
+abbrev pub Drives : (Device → Course) → Ghosts Device → (old : TillState) (name : List ℕ) (code : ℕ) (new : TillState)
+    → Type 0
+Drives hosts peripherals old name code new = MatchBool (is_drivable_now hosts old name)
+    (IsDriven hosts peripherals old name code new) ((code ≡ no_device) × (new ≡ old))

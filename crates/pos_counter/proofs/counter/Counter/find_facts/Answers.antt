@@ -1,5 +1,0 @@
-use Rattle.pos_counter.proofs.counter.Counter.find_facts.Goals as goal
-
-pub returns : goal.returns
-returns g c = λ left failures claimed.
-    simp (c.kind_at.ensures, c.signs_at.ensures, c.device-device.ensures, c.size.ensures, c.find_file_facts.ensures, claimed, c.in_transaction.ensures)

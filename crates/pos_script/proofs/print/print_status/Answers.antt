@@ -1,0 +1,5 @@
+use Rattle.std.proofs.lemmas.Fmt.{decimal_digit}
+use Rattle.pos_script.proofs.print.print_status.Goals as goal
+
+pub returns : goal.returns
+returns g c = rw (decimal_digit c.args.status c.requires) c.write_bytes.ensures
