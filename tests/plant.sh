@@ -35,7 +35,7 @@ plant() {
 # keep LIST: prints what was found, with the reasons of the list
 keep() {
   awk '
-    NR == FNR { at = index($0, " -- "); if (at > 0) why[substr($0, 1, at - 1)] = substr($0, at); next }
+    FILENAME == ARGV[1] { at = index($0, " -- "); if (at > 0) why[substr($0, 1, at - 1)] = substr($0, at); next }
     { print $0 (($0 in why) ? why[$0] : " -- ?") }
   ' "$1" found
 }

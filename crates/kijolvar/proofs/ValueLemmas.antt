@@ -34,15 +34,15 @@ module _ (R Z : RattleType) (L : Laws Z) (g : Ghosts Z.Denot) where
         (block_ptr b o) d.value) ∷ ‵ (Z.own_val d.alloc (h ∷ [])) ∷ Γ) G)
         → Seq K 𝓛 (‵ (RawBox.own_val d vs) ∷ Γ) G
     loose_out t d vs k =
-        fsplit t $ fpick t (λ vss. fsplit t $ feq_l t (λ ev. fsplit t $ feq_l t (λ ep. fsplit t $
-        handle_tells al t d.alloc vss.1.0 (λ h ea fits. move t (1 ∷ []) $ drop t $ move t (1 ∷ []) $
+        fsplit t $ fpick t (λ (parts : Valss (RawPtr ∷ Z ∷ [])). let (_, (handle, _)) = parts in
+        fsplit t $ feq_l t (λ ev. fsplit t $ feq_l t (λ ep. fsplit t $
+        handle_tells al t d.alloc handle (λ h ea fits. move t (1 ∷ []) $ drop t $ move t (1 ∷ []) $
         in_a_block t d.at (λ p. box_owns (g.dealloc_token d.alloc) R p d.value)
         (fst∗ 𝓤 (never 𝓤) (sem 𝓛 (g.dealloc_token d.alloc (bare (lone R.mir))
         null_ptr))) (λ b o e. k b o h e
         (subst (λ (p : Ptr). vs ≡ vstruct (of_list (ptr_val p ∷ h ∷ [])) ∷ []) e
         (subst (λ (ws : List Val). vs ≡ vstruct (of_list (ptr_val d.at ∷ (ws ++ []))) ∷ []) ea
-        (subst (λ (ps : List Val). vs ≡ vstruct (of_list (ps ++ (vss.1.0
-        ++ []))) ∷ []) ep ev))) fits)))))
+        (subst (λ (ps : List Val). vs ≡ vstruct (of_list (ps ++ (handle ++ []))) ∷ []) ep ev))) fits)))))
 
     pub loose_in : K → (b o : ℕ) (h : Val) (a : Z.Denot) (x : R.Denot)
         → Step K 𝓛 (‵ (RawBox.own_val (record { at = block_ptr b o; alloc = a; value = x }) (both (vptr b o) h ∷ []))

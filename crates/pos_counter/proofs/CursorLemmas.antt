@@ -126,10 +126,11 @@ module _ (rows columns : ℕ) (cursor : Cursor) (tall : 1 ≤ rows) (wide : 1 �
   display_stays (DisplayText text attribute) d allowed is =
       text_stays cursor.place text (attribute_of attribute) d (λ i. i) is
   display_stays (DisplayTextAt row column text attribute) d allowed is =
-      let first = with_row rows columns origin row (unless_not (is_index rows row) allowed.0)
+      let (row_allowed, others) = allowed in
+      let first = with_row rows columns origin row (unless_not (is_index rows row) row_allowed)
       (first_place rows columns tall) in
       let start = with_column rows columns (record { row = nat_abs row; column = 0 }) column
-      (unless_not (is_up_to columns column) allowed.1.0) first in
+      (unless_not (is_up_to columns column) others.0) first in
       text_stays (record { row = nat_abs row; column = nat_abs column }) text (attribute_of attribute) d (λ i. start) is
   display_stays ClearText d allowed is =
       subst (DeedStaysOn at cursor.place) (same_Some _ d is) (λ i display. first_place rows columns tall)

@@ -123,7 +123,7 @@ module _ (hs gs : List KeptControl) (ds es : List Device) (cl : List (Option ℕ
   want_finds_work name want finds done =
       elim (match_cases (due_request_at done.before.kind place (holder_at cl (Some place)) (controls_of hs)) _ _
       done.does) [
-        | inl x ↦ absurd (let no : Err want ≡ Ok worked.Idle = x.1.0 in cc)
+        | inl x ↦ absurd (let (_, idle) = x in let no : Err want ≡ Ok worked.Idle = idle.0 in cc)
         | inr x ↦ (
           record {
             place = place;

@@ -44,7 +44,7 @@ taken_in (Err input_fault.NoMemory) = response.OutOfMemory
 
 -- what `work` answers
 abbrev pub worked : {P : Type 0} → Result WorkResult WorkFault → Response P
-worked (Ok result) = response.WorkResult result
+worked (Ok result) = response.Worked result
 worked (Err work_fault.NoDevice) = response.NoDevice
 worked (Err work_fault.NoMemory) = response.OutOfMemory
 

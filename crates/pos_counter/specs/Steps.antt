@@ -40,7 +40,7 @@ pub use Rattle.pos_service.specs.declared.request.Request.TheVariants.{NewContro
 pub use Rattle.pos_service.specs.declared.request.Request.TheVariants.{Snapshot, Attach, Detach}
 use Rattle.pos_service.specs.declared.request.Response.{Response as ResponseOf}
 pub use Rattle.pos_service.specs.declared.request.Response.TheVariants.{Made, Full, Answered, TakenIn, NoDevice}
-pub use Rattle.pos_service.specs.declared.request.Response.TheVariants.{WrongInput, WorkResult as Worked, Delivered, Shown}
+pub use Rattle.pos_service.specs.declared.request.Response.TheVariants.{WrongInput, Worked, Delivered, Shown}
 pub use Rattle.pos_service.specs.declared.request.Response.TheVariants.{Attached, NotAttached, Detached, NotDetached}
 pub use Rattle.pos_service.specs.declared.request.Response.TheVariants.{OutOfMemory}
 use Rattle.pos_service.specs.declared.faults.AttachFault.{AttachFault}

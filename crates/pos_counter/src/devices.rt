@@ -6,7 +6,7 @@ ghost use Rattle.pos_counter.specs.Machine.{device_at, found_at, kind_in, place_
 ghost use Rattle.pos_counter.specs.KeptDevices.{AreDevicesSound, devices_in, profile_devices, totals_name, totals_place};
 
 use pos_profile::{Profile, Registry, Slot};
-use pos_service::{Bytes, Category, Kind, NoMemory, OpenTarget, PaperLevel, Peripheral, Signs};
+use pos_service::{Bytes, Category, Kind, NoMemory, OpenTarget, Peripheral, Signs};
 use std::alloc::Global;
 
 /// The devices of a profile. Those that may have a peripheral have the first places, in its order. The Hard Totals
@@ -142,8 +142,7 @@ impl<P: Peripheral> Devices<P> {
         registry.into_entries()
     }
 
-    /// Returns the signs of the peripheral at the place. Without a peripheral it is on, nothing is open, and the paper
-    /// is good.
+    /// Returns the signs of the peripheral at the place, or those of a vacant device.
     pub(crate) fn signs_at(&self, place: Option<usize>) -> Signs
         ensures { let devices = devices_in P.Peripheral self.now in
             result ≡ signs_in (hardware_in (device_at devices place)) }
@@ -153,11 +152,6 @@ impl<P: Peripheral> Devices<P> {
                 return peripheral.signs();
             }
         }
-        Signs {
-            powered: true,
-            drawer_open: false,
-            cover_open: false,
-            paper: PaperLevel::Good,
-        }
+        Signs::vacant()
     }
 }

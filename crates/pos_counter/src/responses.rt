@@ -49,7 +49,7 @@ pub fn of_work<P>(answer: Result<WorkResult, WorkFault>) -> Response<P>
     ensures { result ≡ worked answer }
 {
     match answer {
-        Ok(worked) => Response::WorkResult(worked),
+        Ok(worked) => Response::Worked(worked),
         Err(WorkFault::NoDevice) => Response::NoDevice,
         Err(WorkFault::NoMemory) => Response::OutOfMemory,
     }

@@ -28,7 +28,9 @@ file_reads = record {
 
 good_names : (files : List File) → AllByRecursion IsFile files → list_all (λ file. is_name file.name) files ≡ true
 good_names [] fits = refl
-good_names (file ∷ files) fits = grind (arith, nat_tests, fits.0.0, good_names files fits.1)
+good_names (file ∷ files) fits =
+    let (file_fits, others_fit) = fits in
+    grind (arith, nat_tests, file_fits.0, good_names files others_fit)
 
 are_files : (files : List File) (limit : ℕ) → limit < 2 ^ 32 → total_size files ≤ limit
     → list_all (λ file. is_name file.name) files ≡ true

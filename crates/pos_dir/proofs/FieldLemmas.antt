@@ -58,15 +58,16 @@ pub step : {A B G : Type 0} {read : List ℕ → Option (A × List ℕ)} {spell 
     → IsReader read spell Fits → (bytes : List ℕ) → IsBytes bytes → (read bytes >>= next) ≡ Some y
     → (Step spell Fits bytes next y → G) → G
 step {spell = spell} {next = next} {y = y} reads bytes fits e proved =
-    let a = bind_some _ next y e in
-    let t = reads.takes bytes a.0.0 a.0.1 fits a.1 in
+    let (found, is_read, on) = bind_some _ next y e in
+    let (x, rest) = found in
+    let (parts, fit) = reads.takes bytes x rest fits is_read in
     proved (record {
-      x = a.0.0;
-      rest = a.0.1;
-      parts = t.0;
-      fits = t.1;
-      bytes_left = λ i. rw (← (get_or-append-add (spell a.0.0) a.0.1 i 0), ← t.0) (fits (length (spell a.0.0) + i));
-      on = a.2;
+      x = x;
+      rest = rest;
+      parts = parts;
+      fits = fit;
+      bytes_left = λ i. rw (← (get_or-append-add (spell x) rest i 0), ← parts) (fits (length (spell x) + i));
+      on = on;
     })
 
 -- ---- bytes, numbers and parts

@@ -26,15 +26,16 @@ module _ {A : Type 0} {read : List ℕ → Option (A × List ℕ)} {spell : A �
       let none : [] ≡ xs = grind arith in
       rw (← none) (grind arith, refl, tt)
   items_take (suc count) bytes xs rest fits e = step reads bytes fits e (λ first.
-      let others = bind_some (items_at read count first.rest) _ (xs, rest) first.on in
-      let second = items_take count first.rest others.0.0 others.0.1 first.bytes_left others.1 in
-      let all : first.x ∷ others.0.0 ≡ xs = grind (arith, others.2) in
-      let left : others.0.1 ≡ rest = grind (arith, others.2) in
+      let (items, is_read, joined) = bind_some (items_at read count first.rest) _ (xs, rest) first.on in
+      let (others, left) = items in
+      let (spelled, counted, fit) = items_take count first.rest others left first.bytes_left is_read in
+      let all : first.x ∷ others ≡ xs = grind (arith, joined) in
+      let behind : left ≡ rest = grind (arith, joined) in
       subst (λ (ys : List A). (bytes ≡ flat_map spell ys ++ rest) × (length ys ≡ suc count) × AllByRecursion Fits ys)
       all (
-        cc (append_assoc (spell first.x) (flat_map spell others.0.0) others.0.1),
-        ap suc second.1,
-        (first.fits, second.2),
+        cc (append_assoc (spell first.x) (flat_map spell others) left),
+        ap suc counted,
+        (first.fits, fit),
       ))
 
   -- items that are spelled one behind the other are read
@@ -68,15 +69,16 @@ module _ {A : Type 0} {read : List ℕ → Option (A × List ℕ)} {spell : A �
       → (keeps (xs, []) ≡ true) × AllByRecursion Fits xs × (length xs < 2 ^ 16)
       × (bytes ≡ to_be_bytes w16 (length xs) ++ flat_map spell xs)
   counted_take ends bytes xs fits e = step u16_reads bytes fits e (λ count.
-      let items = bind_some (items_at read count.x count.rest) _ xs count.on in
-      let g = passed (keeps items.0) items.0.0 xs items.2 in
-      let none = ended items.0.1 (ends items.0 g.0) in
-      let second = items_take reads count.x count.rest items.0.0 items.0.1 count.bytes_left items.1 in
-      rw (← g.1) (
-        subst (λ (r : List ℕ). keeps (items.0.0, r) ≡ true) none g.0,
-        second.2,
-        omega (arith, count.fits, second.1),
-        cc (append-nil (flat_map spell items.0.0)),
+      let (items, is_read, tested) = bind_some (items_at read count.x count.rest) _ xs count.on in
+      let (found, left) = items in
+      let (is_kept, same) = passed (keeps items) found xs tested in
+      let none = ended left (ends items is_kept) in
+      let (spelled, counted, fit) = items_take reads count.x count.rest found left count.bytes_left is_read in
+      rw (← same) (
+        subst (λ (r : List ℕ). keeps (found, r) ≡ true) none is_kept,
+        fit,
+        omega (arith, count.fits, counted),
+        cc (append-nil (flat_map spell found)),
       ))
 
   -- and what is spelled so is read

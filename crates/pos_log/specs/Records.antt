@@ -30,7 +30,7 @@ pub record HoldsRecords (groups : List (List ℕ)) (span : List ℕ) : Type 0 wh
   pub inside : length (spelling groups) < length span
   pub behind : is_open span (length (spelling groups)) ≡ false
 
--- the span holds some records
+-- the span holds records, or none: else it is damaged, and BreaksAt says where
 abbrev pub HoldsSome : List ℕ → Type 0
 HoldsSome span = (groups : List (List ℕ)) × HoldsRecords groups span
 

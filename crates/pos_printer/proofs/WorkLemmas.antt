@@ -153,11 +153,11 @@ module _ (at : Option ℕ) (holder place : ℕ) (result : WorkResult) (old new :
     (found : is_some (option_and_then (first_request place) (slice_get old holder)) ≡ true)
     (same : controls_of hs ≡ old) where
   -- work on a request, by what the printer has said
-  works_so : (said : Reply) (mid : List Control) (f : (request : ℕ × Order) × IsFirst place holder request old)
-      → Ordered f.0.1 place said old (hardware_of s) mid (hardware_of t) → result ≡ worked_by f.0.0 said
-      → MatchOption (slice_get mid holder) ⊥ (λ control. new ≡ slice_set mid holder (after_work f.0.0 said control))
+  works_so : (said : Reply) (mid : List Control) (request : ℕ × Order) → IsFirst place holder request old
+      → Ordered request.1 place said old (hardware_of s) mid (hardware_of t) → result ≡ worked_by request.0 said
+      → MatchOption (slice_get mid holder) ⊥ (λ control. new ≡ slice_set mid holder (after_work request.0 said control))
       → WorksAt at place (Ok result) old (hardware_of s) new (hardware_of t)
-  works_so said mid f ordered answered changed = rw (is, printer, f.1.there, f.1.first)
+  works_so said mid request first ordered answered changed = rw (is, printer, first.there, first.first)
       (record { said = said; controls = mid; ordered = ordered; worked = changed; answer = answered })
 
   -- on a request that it does
@@ -171,13 +171,13 @@ module _ (at : Option ℕ) (holder place : ℕ) (result : WorkResult) (old new :
       → WorksAt at place (Ok result) old (hardware_of s) new (hardware_of t)
   does mid a b asked was now said done =
       let heard_all = heard_of place s t a b old (controls_of hs) mid was now same said in
-      let f = first_found place holder old found in
-      let given = first_asked place holder f.0 hs d (Ok reply.Done) s t
-      (subst (IsFirst place holder f.0) (sym same) f.1) asked in
-      let still = first_heard place holder f.0 (signs_of s.kind s.plant)
-      (signs_of t.kind t.plant) old mid f.1 heard_all in
-      let worked = first_done place holder f.0 mid new result still done in
-      works_so reply.Done mid f (ordered_done f.0.1 place s t old mid given heard_all) worked.0 worked.1
+      let (request, first) = first_found place holder old found in
+      let given = first_asked place holder request hs d (Ok reply.Done) s t
+      (subst (IsFirst place holder request) (sym same) first) asked in
+      let still = first_heard place holder request (signs_of s.kind s.plant)
+      (signs_of t.kind t.plant) old mid first heard_all in
+      let (answered, changed) = first_done place holder request mid new result still done in
+      works_so reply.Done mid request first (ordered_done request.1 place s t old mid given heard_all) answered changed
 
   -- on a request that it doesn't do
   pub fails : (said : Reply) → (said ≡ reply.Done → ⊥)
@@ -187,8 +187,8 @@ module _ (at : Option ℕ) (holder place : ℕ) (result : WorkResult) (old new :
       (λ control. new ≡ slice_set (controls_of hs) holder (output_failed (code_by said) (extended_by said) control))
       → WorksAt at place (Ok result) old (hardware_of s) new (hardware_of t)
   fails said undone asked answer changed =
-      let f = first_found place holder old found in
-      let given = first_asked place holder f.0 hs d (Ok said) s t
-      (subst (IsFirst place holder f.0) (sym same) f.1) asked in
-      let told = undone_said said undone f.0.0 holder result old new answer (rw same at changed) in
-      works_so said old f (ordered_undone said undone f.0.1 place s t old given) told.0 told.1
+      let (request, first) = first_found place holder old found in
+      let given = first_asked place holder request hs d (Ok said) s t
+      (subst (IsFirst place holder request) (sym same) first) asked in
+      let (answered, left) = undone_said said undone request.0 holder result old new answer (rw same at changed) in
+      works_so said old request first (ordered_undone said undone request.1 place s t old given) answered left

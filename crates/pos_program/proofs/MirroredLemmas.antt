@@ -138,7 +138,7 @@ module _ {F : Type 0} (calls : F → List Call) (bound : Ghosts (FileDisk F))
       → FileMakes calls before below memory lost
   file_makes _ _ _ (begun below was bytes read) =
       let asks = reads first below 0 was bytes (Ok tt) read in
-      let sound = sound_of _ _ first.has_failed (λ nothing. ap is_fault nothing.0.0) asks in
+      let sound = sound_of _ _ first.has_failed (λ nothing. let (same, _) = nothing in ap is_fault same.0) asks in
       let start : Follows calls before (fresh bytes) first.file (fresh bytes) =
       record { since = []; asked = sym (append-nil before); course = refl } in
       let (moved, asked, same, is) = unfailed _ _ first.has_failed sound asks in

@@ -20,8 +20,8 @@ use Rattle.pos_script.specs.Arguments.{Reading}
 use Rattle.pos_script.specs.Commands.{LineRequest, asked_by}
 use Rattle.pos_script.specs.Lines.{is_quiet}
 use Rattle.pos_counter.specs.Machine.{Machine}
-use Rattle.pos_counter.specs.Steps.{Request, Response, Run, Step, Wants, NewControl, CallOf, InputTo, WorkOn, Deliver}
-use Rattle.pos_counter.specs.Steps.{Snapshot, Attach, Detach, Made, Full, Answered, TakenIn, NoDevice, WrongInput}
+use Rattle.pos_counter.specs.Steps.{Request, Response, Run, Step, Wants, NewControl, CallOf, InputTo, WorkOn}
+use Rattle.pos_counter.specs.Steps.{Snapshot, Made, Full, Answered, TakenIn, NoDevice, WrongInput}
 use Rattle.pos_counter.specs.Steps.{Worked, Delivered, Shown, Attached, NotAttached, Detached, NotDetached, OutOfMemory}
 use Rattle.pos_run.specs.Transcript.{AskingBecomes, LineBecomes, LinesPrint, Outcome, ReadingBecomes, RequestBecomes}
 use Rattle.pos_run.specs.Transcript.{Session, passed_over, rebuke, request_of, session_after, turned_down}
@@ -33,12 +33,12 @@ head_of l m e = ap (λ x. get_or x 0 0) e
 clash : (n : ℕ) (l : List ℕ) → (n ≡ 109 → ⊥) → n ∷ l ≡ codes "memory" → ⊥
 clash n l differs e = differs (head_of (n ∷ l) (codes "memory") e)
 
-form_differs : (f : Mechanism) → mechanism_text f ≡ codes "memory" → ⊥
-form_differs (mechanism.Drawer true) e = clash 111 _ (λ x. omega (arith, x)) e
-form_differs (mechanism.Drawer false) e = clash 111 _ (λ x. omega (arith, x)) e
-form_differs mechanism.Scanner e = clash 111 _ (λ x. omega (arith, x)) e
-form_differs (mechanism.Display shown) e = clash 111 _ (λ x. omega (arith, x)) e
-form_differs (mechanism.Printer paper) e = clash 111 _ (λ x. omega (arith, x)) e
+mechanism_differs : (f : Mechanism) → mechanism_text f ≡ codes "memory" → ⊥
+mechanism_differs (mechanism.Drawer true) e = clash 111 _ (λ x. omega (arith, x)) e
+mechanism_differs (mechanism.Drawer false) e = clash 111 _ (λ x. omega (arith, x)) e
+mechanism_differs mechanism.Scanner e = clash 111 _ (λ x. omega (arith, x)) e
+mechanism_differs (mechanism.Display shown) e = clash 111 _ (λ x. omega (arith, x)) e
+mechanism_differs (mechanism.Printer paper) e = clash 111 _ (λ x. omega (arith, x)) e
 
 -- only want of memory is told as `memory`
 wants_memory : (r : Response) → response_text r ≡ codes "memory" → r ≡ OutOfMemory
@@ -57,7 +57,7 @@ wants_memory (Delivered (Some (event.StatusUpdate n))) e = absurd (clash 101 _ (
 wants_memory (Delivered (Some event.Data)) e = absurd (clash 101 _ (λ x. omega (arith, x)) e)
 wants_memory (Delivered (Some (event.Error code extended locus))) e = absurd (clash 101 _ (λ x. omega (arith, x)) e)
 wants_memory (Delivered (Some (event.OutputComplete id))) e = absurd (clash 101 _ (λ x. omega (arith, x)) e)
-wants_memory (Shown snapshot) e = absurd (form_differs snapshot.0.mechanism e)
+wants_memory (Shown snapshot) e = absurd (mechanism_differs snapshot.0.mechanism e)
 wants_memory Attached e = absurd (clash 111 _ (λ x. omega (arith, x)) e)
 wants_memory (NotAttached attach.Unknown given) e = absurd (clash 114 _ (λ x. omega (arith, x)) e)
 wants_memory (NotAttached attach.KindDiffers given) e = absurd (clash 114 _ (λ x. omega (arith, x)) e)
@@ -79,21 +79,13 @@ no_step m n (NewControl u category) h = h.1
 no_step m n (CallOf number call) h = of_wants m n number call (slice_get m.controls number) h
 no_step m n (InputTo name input) h = h.1
 no_step m n (WorkOn name) h = h.1
-no_step m n (Deliver number reply) h = absurd h
 no_step m n (Snapshot name) h = h.1
-no_step m n (Attach name hardware) h = absurd h
-no_step m n (Detach name) h = absurd h
+no_step m n other h = absurd h
 
 -- and the names and the spares
 kept : (s : Session) (asking : LineRequest) → session_after s asking OutOfMemory ≡ s
 kept s (NewControl name category) = refl
-kept s (CallOf name call) = refl
-kept s (InputTo name input) = refl
-kept s (WorkOn name) = refl
-kept s (Deliver name reply) = refl
-kept s (Snapshot name) = refl
-kept s (Attach name hardware) = refl
-kept s (Detach name) = refl
+kept s asking = refl
 
 -- a line of this outcome changed nothing, where it told that there was no memory
 abbrev Quiets : Session → Outcome → Machine → Machine → Type 0

@@ -7,7 +7,7 @@ use Rattle.pos_service.specs.declared.plant.Mechanism.{Mechanism}
 use Rattle.pos_service.specs.declared.plant.Mechanism.TheVariants as mechanism
 use Rattle.pos_service.specs.declared.peripheral.Peripheral.{Ghosts}
 use Rattle.pos_service.specs.Displays.{blank_display}
-use Rattle.pos_service.specs.Peripherals.{IsInRange, PeripheralState}
+use Rattle.pos_service.specs.Peripherals.{IsInRange, PeripheralState, switched_on}
 use Rattle.pos_service.specs.Receipts.{empty_roll}
 use Rattle.pos_sims.specs.declared.flaky.Flaky.{Flaky}
 use Rattle.pos_sims.specs.Drawers.{state_of as state_of_drawer}
@@ -94,7 +94,7 @@ new_mechanism (kind.Printer chars near) lines = mechanism.Printer (empty_roll ch
 abbrev pub new_device : Kind → ℕ → PeripheralState
 new_device is lines = record {
   kind = is;
-  plant = record { powered = true; mechanism = new_mechanism is lines };
+  plant = switched_on (new_mechanism is lines);
   is_parked = false;
   failures = 0;
   orders = 0;

@@ -77,13 +77,14 @@ from_two s t make words = become (λ read. make read.0 read.1) (two s t words)
 -- what is made of three arguments
 abbrev pub from_three : {A B C R : Type 0} → Shape A → Shape B → Shape C → (A → B → C → R)
     → List (List ℕ) → Reading R
-from_three s t u make words = become (λ read. make read.0 read.1.0 read.1.1) (three s t u words)
+from_three s t u make words =
+    become (λ read. let (first, others) = read in make first others.0 others.1) (three s t u words)
 
 -- what is made of four arguments
 abbrev pub from_four : {A B C D R : Type 0} → Shape A → Shape B → Shape C → Shape D → (A → B → C → D → R)
     → List (List ℕ) → Reading R
 from_four s t u v make words =
-    become (λ read. make read.0 read.1.0 read.1.1.0 read.1.1.1) (four s t u v words)
+    become (λ read. let (first, (second, others)) = read in make first second others.0 others.1) (four s t u v words)
 
 -- the value of a result, if it succeeded
 abbrev pub value_of : {A E : Type 0} → Result A E → Option A

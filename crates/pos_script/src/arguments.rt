@@ -5,7 +5,8 @@ ghost use Rattle.pos_script.specs.Arguments.{Shape, Reads, Glances, word_as, non
 ghost use Rattle.pos_script.specs.Words.{decoded, number_shape, count_shape, truth_shape, bytes_shape, device_shape, category_shape, property_shape, value_shape, error_reply_shape};
 
 use crate::lines::next_word;
-use crate::words::{count, decode, error_reply, is, is_hex_word, number, truth, value};
+use crate::words::{count, decode, error_reply, is_hex_word, number, truth, value};
+use pos_service::words::is;
 use pos_service::{Bytes, Category, ErrorReply, Property, Value, is_device_name};
 use std::alloc::Global;
 use thiserror::Error;

@@ -9,7 +9,7 @@ ghost use Rattle.pos_script.specs.Commands.{called, choice_of, happening, input_
 use crate::arguments::{ArgumentFault, DeviceName, read_none, read_one, read_three, read_two};
 use crate::lines::next_word;
 use crate::methods::read_call;
-use crate::words::is;
+use pos_service::words::is;
 use pos_service::{Call, Category, ErrorReply, Input, LentBytes, Property, is_device_name};
 use std::alloc::Global;
 

@@ -6,8 +6,8 @@ ghost use Rattle.pos_script.specs.Words.{bytes_shape, number_shape, truth_shape}
 ghost use Rattle.pos_script.specs.Methods.{call_in, call_of, display_methods, handle_methods, printer_methods, totals_methods, transaction_methods};
 
 use crate::arguments::{ArgumentFault, read_four, read_none, read_one, read_three, read_two};
-use crate::words::is;
 use pos_service::Call;
+use pos_service::words::is;
 use std::alloc::Global;
 
 /// Returns the call of a method, by its word and the words after it, whatever its control is.

@@ -1,29 +1,13 @@
 //! What words stand for.
-ghost use Rattle.std.specs.Prelude.{◌≡◌, ◌<◌, ◌^◌, true, is_some, Some, IfSome, IfOk, bytes_eq};
+ghost use Rattle.std.specs.Prelude.{◌≡◌, ◌<◌, ◌^◌, true, is_some, Some, IfSome, IfOk};
 ghost use Rattle.std.specs.List.{list_all};
 ghost use Rattle.hex.specs.Hex.{is_hex_digit};
 ghost use Rattle.pos_script.specs.Words.{number_of_digits, is_digit, is_digits, digits_named, number_named, count_named, truth_named, bytes_named};
 ghost use Rattle.pos_script.specs.Words.{value_named, error_reply_named};
 
+use pos_service::words::is;
 use pos_service::{Bytes, ErrorReply, NoMemory, Value};
 use std::alloc::Global;
-
-/// Returns whether a word is this text. It is inlined, and the text's bytes are known there, so each costs one compare.
-#[inline(always)]
-pub(crate) fn is(word: &[u8], text: &str) -> bool
-    ensures { result ≡ bytes_eq word.now text.now }
-{
-    let text = text.as_bytes();
-    if word.len() != text.len() {
-        return false;
-    }
-    for place in 0..text.len() {
-        if word[place] != text[place] {
-            return false;
-        }
-    }
-    true
-}
 
 /// Returns whether a byte is a digit.
 fn is_digit_byte(b: u8) -> bool

@@ -1,4 +1,3 @@
 pub mod StripLemmas
 pub mod PieceLemmas
-pub mod WordLemmas
 pub mod NameLemmas

@@ -20,7 +20,7 @@ use Rattle.pos_service.specs.Events.{deliverable as deliverable_in, delivered as
 use Rattle.pos_service.specs.Output.{Output, is_outstanding, no_output, with_request, request_done, request_failed}
 use Rattle.pos_service.specs.Output.{output_deleted, output_after}
 
--- the defaults of the properties that are set: all are false, and PowerNotify is PN_DISABLED
+-- the defaults of the properties that are set: all here are false, and PowerNotify is PN_DISABLED
 abbrev pub default_settings : Settings
 default_settings = record {
   freeze_events = false;

@@ -1,6 +1,6 @@
 -- What contracts see of a peripheral, and what its calls do.
 use Rattle.std.specs.Prelude.{◌≡◌, ℕ, ◌+◌, ◌-◌, ◌*◌, ◌^◌, ◌<◌, ◌≤◌, ◌⊎◌, min, nat_le, Bool, true, false, ◌&&◌, Some}
-use Rattle.std.specs.Prelude.{List, [], ◌∷◌, codes, length, ⊤, Result, MatchResult}
+use Rattle.std.specs.Prelude.{List, [], ◌∷◌, codes, length, ⊤, Option, None, Result, MatchResult}
 use Rattle.pos_service.specs.declared.display_text.Attribute.{Attribute}
 use Rattle.pos_service.specs.declared.display_text.Direction.{Direction}
 use Rattle.pos_service.specs.declared.display_text.Place.{Place}
@@ -62,6 +62,14 @@ IsMechanismOf is of_another = ⊥
 -- a kind's plant, on or off
 abbrev pub IsPlantOf : Kind → Plant → Type 0
 IsPlantOf is plant = IsMechanismOf is plant.mechanism
+
+-- it is on
+abbrev pub IsOn : Plant → Type 0
+IsOn plant = plant.powered ≡ true
+
+-- a plant with this mechanism that is on
+abbrev pub switched_on : Mechanism → Plant
+switched_on m = record { powered = true; mechanism = m }
 
 -- what a peripheral of this kind and mechanism shows, on or off
 abbrev pub signs_by : Bool → Kind → Mechanism → Signs
@@ -134,6 +142,22 @@ input_fits (kind.Printer chars near) (input.CoverMoved is_open) = true
 input_fits (kind.Printer chars near) (input.PaperLoaded lines) = nat_le lines 100000
 input_fits is of_another = false
 
+-- the words that tell an input of a printer or of a drawer
+abbrev pub input_words : Input → List ℕ
+input_words (input.PowerMoved true) = codes "power on"
+input_words (input.PowerMoved false) = codes "power off"
+input_words (input.CoverMoved true) = codes "cover open"
+input_words (input.CoverMoved false) = codes "cover closed"
+input_words (input.DrawerMoved true) = codes "open"
+input_words (input.DrawerMoved false) = codes "closed"
+input_words (input.PaperLoaded lines) = codes "paper"
+input_words of_a_scanner = []
+
+-- the number that an input is told with behind its words, if there is one
+abbrev pub input_number : Input → Option ℕ
+input_number (input.PaperLoaded lines) = Some lines
+input_number other = None
+
 -- one more; the last value stays
 abbrev pub counted : ℕ → ℕ
 counted n = min (n + 1) (2 ^ 64 - 1)
@@ -186,7 +210,7 @@ Obeys asked old said new = ⊥
 -- answers that, and is as it was; one that is on answers by its mechanism, and stays on.
 abbrev pub Performs : Order → Plant → Reply → Plant → Type 0
 Performs asked old reply.Offline new = (old.powered ≡ false) × (new ≡ old)
-Performs asked old said new = (old.powered ≡ true) × (new.powered ≡ true) × Obeys asked old.mechanism said new.mechanism
+Performs asked old said new = IsOn old × IsOn new × Obeys asked old.mechanism said new.mechanism
 
 -- From the old mechanism, an input of a peripheral that is on may be taken so and leave the new: a drawer is open or
 -- closed as it was moved, so is a printer's cover, or it has so many lines of paper left, and nothing of a scanner or
@@ -204,7 +228,7 @@ Receives other old taken new = ⊥
 
 -- The same of a peripheral that is on, which stays on, or off, which tells nothing and is as it was.
 abbrev pub TakesWhile : Bool → Input → Plant → Taken → Plant → Type 0
-TakesWhile true given old taken new = (new.powered ≡ true) × Receives given old.mechanism taken new.mechanism
+TakesWhile true given old taken new = IsOn new × Receives given old.mechanism taken new.mechanism
 TakesWhile false given old taken.Quiet new = new ≡ old
 TakesWhile false given old taken new = ⊥
 

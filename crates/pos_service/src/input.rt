@@ -1,6 +1,6 @@
 //! What happens at a peripheral from outside.
 ghost use Rattle.std.specs.Prelude.{◌≡◌};
-ghost use Rattle.pos_service.specs.Peripherals.{input_fits};
+ghost use Rattle.pos_service.specs.Peripherals.{input_fits, input_number, input_words};
 
 use crate::kind::Kind;
 use pos_bytes::Bytes;
@@ -49,6 +49,32 @@ impl Input {
             (Input::CoverMoved(_), Kind::Printer { chars: _, near: _ }) => true,
             (Input::PaperLoaded(lines), Kind::Printer { chars: _, near: _ }) => *lines <= 100_000,
             _ => false,
+        }
+    }
+
+    /// Returns the words that tell it, if it is one of a printer or of a drawer; otherwise none.
+    pub fn words(&self) -> &'static str
+        ensures { result.now ≡ input_words self.now }
+    {
+        match self {
+            Input::PowerMoved(true) => "power on",
+            Input::PowerMoved(false) => "power off",
+            Input::CoverMoved(true) => "cover open",
+            Input::CoverMoved(false) => "cover closed",
+            Input::DrawerMoved(true) => "open",
+            Input::DrawerMoved(false) => "closed",
+            Input::PaperLoaded(_) => "paper",
+            _ => "",
+        }
+    }
+
+    /// Returns the number that it is told with behind its words, if there is one.
+    pub fn number(&self) -> Option<u32>
+        ensures { result ≡ input_number self.now }
+    {
+        match self {
+            Input::PaperLoaded(lines) => Some(*lines),
+            _ => None,
         }
     }
 }

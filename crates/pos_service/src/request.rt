@@ -49,7 +49,7 @@ pub enum Response<P> {
     /// The device has no such input.
     WrongInput,
     /// What came of the work.
-    WorkResult(WorkResult),
+    Worked(WorkResult),
     /// The event, or none.
     Delivered(Option<Event>),
     /// What the device is physically.

@@ -1,5 +1,7 @@
 //! What a peripheral shows of itself.
 ghost use Rattle.std.specs.Prelude.{◌≡◌};
+ghost use Rattle.std.specs.Prelude.{None};
+ghost use Rattle.pos_service.specs.Hardware.{signs_in};
 ghost use Rattle.pos_service.specs.Receipts.{paper_level, is_empty, is_near_end};
 
 /// How much paper a printer has (chapter POS Printer).
@@ -59,4 +61,18 @@ pub struct Signs {
     pub cover_open: bool,
     /// How much paper the printer has.
     pub paper: PaperLevel,
+}
+
+impl Signs {
+    /// Returns the signs of a device without a peripheral: it is on, nothing is open, and the paper is good.
+    pub fn vacant() -> Self
+        ensures { result ≡ signs_in None }
+    {
+        Signs {
+            powered: true,
+            drawer_open: false,
+            cover_open: false,
+            paper: PaperLevel::Good,
+        }
+    }
 }

@@ -3,15 +3,21 @@ ghost use Rattle.std.specs.Prelude.{◌≡◌, bytes_eq};
 ghost use Rattle.std.specs.List.{list_all};
 ghost use Rattle.pos_service.specs.Names.{is_device_name, is_device_name_byte};
 
-/// Returns whether a word is this text. It is inlined, so that a text of few bytes is compared at once.
+/// Returns whether a word is this text. It is inlined, and the text's bytes are known there, so each costs one compare.
 #[inline(always)]
 pub fn is(word: &[u8], text: &str) -> bool
     ensures { result ≡ bytes_eq word.now text.now }
 {
+    let text = text.as_bytes();
     if word.len() != text.len() {
         return false;
     }
-    word.starts_with(text.as_bytes())
+    for place in 0..text.len() {
+        if word[place] != text[place] {
+            return false;
+        }
+    }
+    true
 }
 
 /// The most bytes of a device's name.

@@ -15,7 +15,8 @@ use Rattle.pos_shell.specs.Scripts.{Turn, turn_text}
 use Rattle.pos_shell.specs.declared.scripts.ScriptsFault.{ScriptsFault}
 use Rattle.pos_shell.specs.declared.scripts.ScriptsFault.TheVariants as fault
 use Rattle.pos_shell.specs.declared.answer_texts.AnswerStyle.{AnswerStyle}
-use Rattle.pos_shell.proofs.RunLemmas.{one_more, prints_join}
+use Rattle.pos_run.proofs.LineLemmas.{prints_join}
+use Rattle.pos_shell.proofs.RunLemmas.{one_more}
 
 -- lines fall in two
 lines_two : (bytes : List ℕ) → lines_of bytes ≡ complete_lines bytes ++ last_line (unfinished bytes)

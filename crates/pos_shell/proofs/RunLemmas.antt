@@ -1,5 +1,5 @@
 -- Scripts that are run one after another.
-use Rattle.std.proofs.Common.{ap, append-nil, append_assoc, drop, get_or, inl, length, map, sym, take, ◌+◌, ◌<◌, ◌++◌}
+use Rattle.std.proofs.Common.{ap, append-nil, drop, get_or, inl, length, map, sym, take, ◌+◌, ◌<◌, ◌++◌}
 use Rattle.std.proofs.Common.{◌∙◌, ◌∷◌, ◌≡◌, List, [], ℕ}
 use Rattle.std.specs.Prelude.{flat_map}
 use Rattle.std.proofs.lemmas.List.{drop_more, map-append, take-append-drop, take_more}
@@ -9,8 +9,8 @@ use Rattle.pos_shell.specs.Runs.{AreRead, ReadsScript}
 use Rattle.std.proofs.lemmas.Grind.{flat_map-append}
 use Rattle.pos_counter.specs.Steps.{Request, Response}
 use Rattle.pos_run.proofs.Common.{Appends-trans}
+use Rattle.pos_run.proofs.LineLemmas.{prints_join}
 use Rattle.pos_run.specs.Transcript.{LinesPrint, Session}
-use Rattle.pos_script.specs.Text.{printed}
 use Rattle.pos_shell.specs.Outputs.{IsWritten, Output}
 use Rattle.pos_shell.specs.Scripts.{AreTurns, PrintsTurns, Turn, script_of, script_run, turn_lines, turn_text}
 use Rattle.pos_shell.specs.declared.scripts.Script.{Script}
@@ -43,25 +43,6 @@ reads_more system them [] (other ∷ scripts) path script are one = absurd are
 reads_more system them (other ∷ paths) [] path script are one = absurd are
 reads_more system them (other ∷ paths) (first ∷ scripts) path script (is, are) one =
     (is, reads_more system them paths scripts path script are one)
-
--- lines and then more
-pub prints_join : (session : Session) (lines : List (List ℕ)) (steps : List (Request × Response)) (text : List ℕ)
-    (mid : Session) (more : List (List ℕ))
-    (further : List (Request × Response)) (rest : List ℕ) (after : Session) → LinesPrint session lines steps text mid
-    → LinesPrint mid more further rest after
-    → LinesPrint session (lines ++ more) (steps ++ further) (text ++ rest) after
-prints_join session [] steps text mid more further rest after (none, nothing, same) second =
-    rw (none, nothing, ← same) second
-prints_join session (line ∷ lines) steps text mid more further rest after
-    (outcome, some, back, becomes, prints, is_steps, is_text) second = (
-      outcome,
-      some ++ further,
-      back ++ rest,
-      becomes,
-      prints_join outcome.session lines some back mid more further rest after prints second,
-      ap (λ s. s ++ further) is_steps ∙ append_assoc outcome.steps some further,
-      ap (λ t. t ++ rest) is_text ∙ append_assoc (printed outcome.reply) back rest,
-    )
 
 -- one more is at the end of what all are mapped to
 pub one_more : {A : Type 0} (f : Turn → List A) (turns : List Turn) (turn : Turn)

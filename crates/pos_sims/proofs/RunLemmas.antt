@@ -63,25 +63,25 @@ text_further columns start bytes i n some =
     rw (take-add, with_text_append columns [] (take i bytes) (take n (drop i bytes)) (strip_at [] start) some)
 
 -- a run of characters in the window
-pub run_here : (manner : TextStyle) (old : List DisplayCell) (run : List ℕ) (cells : List DisplayCell) (strip : Strip)
+pub run_here : (style : TextStyle) (old : List DisplayCell) (run : List ℕ) (cells : List DisplayCell) (strip : Strip)
     (place : Place)
-    → IsWithin manner cells place → list_all is_character run ≡ true → place.column + length run ≤ manner.columns
-    → Follows manner old strip cells place
-    → Follows manner old (with_text manner.columns [] run strip)
-    (with_run_at (place.row * manner.columns + place.column) manner.attribute run cells)
+    → IsWithin style cells place → list_all is_character run ≡ true → place.column + length run ≤ style.columns
+    → Follows style old strip cells place
+    → Follows style old (with_text style.columns [] run strip)
+    (with_run_at (place.row * style.columns + place.column) style.attribute run cells)
     (place_at place.row (place.column + length run))
-run_here manner old [] cells strip place within all room h =
-    let at : place.row * manner.columns + place.column + 0 ≡ place.row * manner.columns + place.column = omega arith in
+run_here style old [] cells strip place within all room h =
+    let at : place.row * style.columns + place.column + 0 ≡ place.row * style.columns + place.column = omega arith in
     rw (at, take-append-drop)
     (record { window = h.window; below = h.below; row = h.row; column = omega (arith, h.column) })
-run_here manner old (b ∷ run) cells strip place within all room h =
-    let at = place.row * manner.columns + place.column in
+run_here style old (b ∷ run) cells strip place within all room h =
+    let at = place.row * style.columns + place.column in
     let parts = and_parts (is_character b) (list_all is_character run) all in
-    let first = cell_with manner.attribute b in
-    let inside = in_rows manner.rows manner.columns place.row (place.column + length run) (omega arith) in
-    let one = placed_here manner old cells strip place b within (omega arith) (grind (arith, nat_tests))
+    let first = cell_with style.attribute b in
+    let inside = in_rows style.rows style.columns place.row (place.column + length run) (omega arith) in
+    let one = placed_here style old cells strip place b within (omega arith) (grind (arith, nat_tests))
     (grind (arith, nat_tests)) h in
-    let rest = run_here manner old run (set cells at first) (with_text manner.columns [] (b ∷ []) strip)
+    let rest = run_here style old run (set cells at first) (with_text style.columns [] (b ∷ []) strip)
     (place_at place.row (place.column + 1))
     (record {
       count = length-set cells at first ∙ within.count;
@@ -93,6 +93,6 @@ run_here manner old (b ∷ run) cells strip place within all room h =
     grind (
       arith,
       rest,
-      run_first at manner.attribute b run cells,
-      with_text_append manner.columns [] (b ∷ []) run strip,
+      run_first at style.attribute b run cells,
+      with_text_append style.columns [] (b ∷ []) run strip,
     )

@@ -50,19 +50,19 @@ scrolled_window rows columns above cells next see count moved window below row c
     grind (arith, in_rows rows columns (row + 1) column c, get_or_past)
 
 -- a row further, below the window
-pub scrolled : (manner : TextStyle) (old cells next : List DisplayCell) (strip : Strip) (place : Place)
-    → IsWithin manner cells place
-    → manner.rows ≤ place.row + 1 → ShiftsToFront manner.columns cells next → Follows manner old strip cells place
-    → Follows manner old (fed strip) next (place_at place.row 0)
-scrolled manner old cells next strip place within last moved h =
+pub scrolled : (style : TextStyle) (old cells next : List DisplayCell) (strip : Strip) (place : Place)
+    → IsWithin style cells place
+    → style.rows ≤ place.row + 1 → ShiftsToFront style.columns cells next → Follows style old strip cells place
+    → Follows style old (fed strip) next (place_at place.row 0)
+scrolled style old cells next strip place within last moved h =
     let at = h.row in
     let lt = within.row in
-    let above = rows_above manner.rows strip.place in
-    let see = shown_at manner.columns manner.attribute old strip.placed in
+    let above = rows_above style.rows strip.place in
+    let see = shown_at style.columns style.attribute old strip.placed in
     record {
       window = λ row column.
-          let now = scrolled_window manner.rows manner.columns above cells next see within.count
-          (shifted cells next manner.columns moved) in
+          let now = scrolled_window style.rows style.columns above cells next see within.count
+          (shifted cells next style.columns moved) in
           grind (arith, now h.window h.below row column);
       below = λ row column le. h.below row column (omega arith);
       row = omega arith;
@@ -89,21 +89,21 @@ text_free : (columns b : ℕ) (strip : Strip) → strip.place.column < columns �
 text_free columns b strip lt e f = grind (arith, character_text, first_free)
 
 -- a character in the window
-pub placed_here : (manner : TextStyle) (old cells : List DisplayCell) (strip : Strip) (place : Place) (b : ℕ)
-    → IsWithin manner cells place
-    → place.column < manner.columns → b ≢ 10 → b ≢ 13 → Follows manner old strip cells place →
-    Follows manner old (with_text manner.columns [] (b ∷ []) strip)
-    (set cells (place.row * manner.columns + place.column) (cell_with manner.attribute b))
+pub placed_here : (style : TextStyle) (old cells : List DisplayCell) (strip : Strip) (place : Place) (b : ℕ)
+    → IsWithin style cells place
+    → place.column < style.columns → b ≢ 10 → b ≢ 13 → Follows style old strip cells place →
+    Follows style old (with_text style.columns [] (b ∷ []) strip)
+    (set cells (place.row * style.columns + place.column) (cell_with style.attribute b))
     (place_at place.row (place.column + 1))
-placed_here manner old cells strip place b within free e f h =
-    let columns = manner.columns in
+placed_here style old cells strip place b within free e f h =
+    let columns = style.columns in
     let across = h.column in
     let at = place.row * columns + place.column in
     let in_range : at < length cells =
-    omega (arith, within.count, within.row, in_rows manner.rows columns place.row place.column free) in
+    omega (arith, within.count, within.row, in_rows style.rows columns place.row place.column free) in
     rw (text_free columns b strip (omega arith) e f) (record {
-      window = λ row column r c. placed_cell columns at row column (rows_above manner.rows strip.place) b
-          manner.attribute old cells strip.placed place strip.place refl in_range free c h.row across
+      window = λ row column r c. placed_cell columns at row column (rows_above style.rows strip.place) b
+          style.attribute old cells strip.placed place strip.place refl in_range free c h.row across
           (h.window row column r c);
       below = λ row column le c. grind (arith, nat_tests, shown_more, h.below row column le c, h.row);
       row = h.row;

@@ -1,5 +1,5 @@
 -- The power of a simulated peripheral.
-use Rattle.std.specs.Prelude.{Bool, true, not, if◌then◌else◌}
+use Rattle.std.specs.Prelude.{Bool, true, not, Option, Some, None, if◌then◌else◌}
 use Rattle.pos_service.specs.declared.input.Input.{Input}
 use Rattle.pos_service.specs.declared.input.Input.TheVariants as input
 use Rattle.pos_service.specs.declared.order.Reply.{Reply}
@@ -19,6 +19,10 @@ power_after other powered = powered
 abbrev pub passes_by : Bool → Input → Bool
 passes_by powered (input.PowerMoved is_on) = true
 passes_by powered other = not powered
+
+-- what one that is off replies to an order, or none where it is on
+abbrev pub off_reply : Bool → Option Reply
+off_reply powered = if powered then None else Some reply.Offline
 
 -- what is replied, by what one that is on replies
 abbrev pub reply_while : Bool → Reply → Reply

@@ -13,16 +13,16 @@ abbrev pub Cells : Type 0
 Cells = List DisplayCell
 
 -- there are cells of so many rows and columns, and the place is one where a text may begin
-pub record IsWithin (manner : TextStyle) (cells : List DisplayCell) (place : Place) : Type 0 where
-  pub count : length cells ≡ manner.rows * manner.columns
-  pub some : 1 ≤ manner.columns
-  pub row : place.row < manner.rows
-  pub column : place.column ≤ manner.columns
+pub record IsWithin (style : TextStyle) (cells : List DisplayCell) (place : Place) : Type 0 where
+  pub count : length cells ≡ style.rows * style.columns
+  pub some : 1 ≤ style.columns
+  pub row : place.row < style.rows
+  pub column : place.column ≤ style.columns
 
 -- a display has the size that a text is laid for
-pub record IsOfManner (manner : TextStyle) (display : Display) : Type 0 where
-  pub rows : display.rows ≡ manner.rows
-  pub columns : display.columns ≡ manner.columns
+pub record IsOfStyle (style : TextStyle) (display : Display) : Type 0 where
+  pub rows : display.rows ≡ style.rows
+  pub columns : display.columns ≡ style.columns
 
 -- cells over which characters with an attribute stand, from a place on
 abbrev pub with_run_at : ℕ → Attribute → List ℕ → List DisplayCell → List DisplayCell
@@ -33,23 +33,23 @@ abbrev pub is_character : ℕ → Bool
 is_character b = not (b == 10) && not (b == 13)
 
 -- The cells are the window at the end of the strip, the place is the strip's, and below the window the strip is blank.
-pub record Follows (manner : TextStyle) (old : Cells) (strip : Strip) (cells : Cells) (place : Place) : Type 0 where
-  pub window : IsWindow manner.rows manner.columns manner.attribute old strip cells
-  pub below : (row column : ℕ) → manner.rows + rows_above manner.rows strip.place ≤ row → column < manner.columns →
-      shown_at manner.columns manner.attribute old strip.placed row column ≡ blank
-  pub row : place.row + rows_above manner.rows strip.place ≡ strip.place.row
+pub record Follows (style : TextStyle) (old : Cells) (strip : Strip) (cells : Cells) (place : Place) : Type 0 where
+  pub window : IsWindow style.rows style.columns style.attribute old strip cells
+  pub below : (row column : ℕ) → style.rows + rows_above style.rows strip.place ≤ row → column < style.columns →
+      shown_at style.columns style.attribute old strip.placed row column ≡ blank
+  pub row : place.row + rows_above style.rows strip.place ≡ strip.place.row
   pub column : place.column ≡ strip.place.column
 
 -- whatever strip the cells and the place follow, after these bytes they follow it with the bytes on it
 abbrev pub Lays : TextStyle → List DisplayCell → Place → List ℕ → List DisplayCell → Place → Type 0
-Lays manner was place bytes now reached =
+Lays style was place bytes now reached =
     (old : List DisplayCell) (strip : Strip) →
-    Follows manner old strip was place → Follows manner old (with_text manner.columns [] bytes strip) now reached
+    Follows style old strip was place → Follows style old (with_text style.columns [] bytes strip) now reached
 
 -- over the old cells, the new ones show a text that begins at a place
 abbrev pub ShowsOver : TextStyle → List DisplayCell → Place → List ℕ → List DisplayCell → Type 0
-ShowsOver manner old start bytes now =
-    IsWindow manner.rows manner.columns manner.attribute old (text_from manner.columns start bytes) now
+ShowsOver style old start bytes now =
+    IsWindow style.rows style.columns style.attribute old (text_from style.columns start bytes) now
 
 -- a window's size is one that a display may have, and so many cells fill it
 pub record IsSized (rows columns cells : ℕ) : Type 0 where

@@ -4,7 +4,7 @@ ghost use Rattle.pos_service.specs.Displays.{blank_display};
 ghost use Rattle.pos_service.specs.Peripherals.{Asked, Fed, order_fits};
 ghost use Rattle.pos_sims.specs.LineDisplays.{display_state, state_on};
 
-use crate::power::{passes_by, reply_while};
+use crate::power::{off_reply, passes_by, reply_while};
 use crate::ring::Ring;
 use crate::screen::Screen;
 use crate::window::Window;
@@ -103,8 +103,8 @@ impl<S: Screen> Peripheral for LineDisplay<S> {
         ensures takes_no_memory { IsOk result }
     {
         self.orders = self.orders.saturating_add(1);
-        if !self.powered {
-            return Ok(Reply::Offline);
+        if let Some(off) = off_reply(self.powered) {
+            return Ok(off);
         }
         if !order.fits(self.kind()) {
             return Ok(Reply::LineFault);

@@ -3,7 +3,7 @@ ghost use Rattle.std.specs.Prelude.{◌≡◌, true, false, IsOk, IfOk};
 ghost use Rattle.pos_service.specs.Peripherals.{Asked, Fed, input_fits, order_fits};
 ghost use Rattle.pos_sims.specs.Drawers.{drawer_state, state_of};
 
-use crate::power::{passes_by, reply_while};
+use crate::power::{off_reply, passes_by, reply_while};
 use pos_drive::{Preview, Tears};
 use pos_service::{
     Input, Kind, Mechanism, NoMemory, Order, PaperLevel, Peripheral, Plant, Reply, Signs, Snapshot,
@@ -55,8 +55,8 @@ impl Peripheral for PlainDrawer {
         ensures takes_no_memory { IsOk result }
     {
         self.orders = self.orders.saturating_add(1);
-        if !self.powered {
-            return Ok(Reply::Offline);
+        if let Some(off) = off_reply(self.powered) {
+            return Ok(off);
         }
         match order {
             Order::OpenDrawer => {

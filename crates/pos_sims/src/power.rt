@@ -1,6 +1,6 @@
 //! The power of a simulated peripheral.
 ghost use Rattle.std.specs.Prelude.{◌≡◌};
-ghost use Rattle.pos_sims.specs.Powers.{passes_by, power_after, reply_while};
+ghost use Rattle.pos_sims.specs.Powers.{off_reply, passes_by, power_after, reply_while};
 
 use pos_service::{Input, Reply};
 
@@ -15,6 +15,13 @@ pub(crate) fn passes_by(powered: &mut bool, input: &Input) -> bool
         return true;
     }
     !*powered
+}
+
+/// Returns what a peripheral that is off replies to an order, or none if it is on.
+pub(crate) fn off_reply(powered: bool) -> Option<Reply>
+    ensures { result ≡ off_reply powered }
+{
+    if powered { None } else { Some(Reply::Offline) }
 }
 
 /// Returns what a peripheral replies: what it replies while it is on, or that it is off.

@@ -1,7 +1,7 @@
 //! A simulated receipt printer.
 ghost use Rattle.std.specs.Prelude.{◌≤◌};
 
-use crate::power::passes_by;
+use crate::power::{off_reply, passes_by};
 use crate::print_preview::PrintPreview;
 use crate::roll::{Roll, reply_of};
 use pos_drive::{Preview, Tears};
@@ -74,8 +74,8 @@ impl Peripheral for RollPrinter {
 
     fn ask(&mut self, order: &Order) -> Result<Reply, NoMemory> {
         self.orders = self.orders.saturating_add(1);
-        if !self.powered {
-            return Ok(Reply::Offline);
+        if let Some(off) = off_reply(self.powered) {
+            return Ok(off);
         }
         if !order.fits(self.kind()) {
             return Ok(Reply::LineFault);
@@ -136,8 +136,8 @@ impl Preview for RollPrinter {
     ghost use Rattle.pos_sims.specs.ReceiptPrinters.{reply_of};
 
     fn would(&self, order: &Order) -> Reply {
-        if !self.powered {
-            return Reply::Offline;
+        if let Some(off) = off_reply(self.powered) {
+            return off;
         }
         match order {
             Order::Print { bytes } => reply_of(self.roll.would_print(bytes.as_slice())),

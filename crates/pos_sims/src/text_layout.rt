@@ -1,7 +1,7 @@
 //! How a text is laid on the cells of a window.
 ghost use Rattle.std.specs.Prelude.{◌≡◌, ◌+◌, ◌<◌, ◌≤◌, true, false, [], ◌∷◌, length, slice_index, take};
 ghost use Rattle.std.specs.List.{list_all};
-ghost use Rattle.pos_sims.specs.Windows.{IsOfManner, IsWithin, Lays, SameSize, ShowsOver, is_character, with_run_at};
+ghost use Rattle.pos_sims.specs.Windows.{IsOfStyle, IsWithin, Lays, SameSize, ShowsOver, is_character, with_run_at};
 
 use crate::grid::Grid;
 use pos_service::display_text::{Attribute, DisplayCell, Place};
@@ -18,16 +18,16 @@ pub(crate) struct TextStyle {
 }
 
 /// Returns the start of the next row. Below the last row the cells scroll.
-fn next_row<W: Grid>(window: &mut W, manner: TextStyle, place: Place) -> Place
-    requires within { IsWithin manner (W.Grid.shown window.old).cells place }
-    requires size { IsOfManner manner (W.Grid.shown window.old) }
+fn next_row<W: Grid>(window: &mut W, style: TextStyle, place: Place) -> Place
+    requires within { IsWithin style (W.Grid.shown window.old).cells place }
+    requires size { IsOfStyle style (W.Grid.shown window.old) }
     ensures follows { let shown = W.Grid.shown in
-        Lays manner (shown window.old).cells place (10 ∷ []) (shown window.new).cells result }
-    ensures within { IsWithin manner (W.Grid.shown window.new).cells result }
+        Lays style (shown window.old).cells place (10 ∷ []) (shown window.new).cells result }
+    ensures within { IsWithin style (W.Grid.shown window.new).cells result }
     ensures size { SameSize (W.Grid.shown window.old) (W.Grid.shown window.new) }
     ensures column { result.column ≡ 0 }
 {
-    if place.row + 1 < manner.rows {
+    if place.row + 1 < style.rows {
         return Place {
             row: place.row + 1,
             column: 0,
@@ -60,18 +60,18 @@ pub(crate) fn put_characters(
 }
 
 /// Puts characters for which there is room in the row, and returns the place after them.
-fn lay_run<W: Grid>(window: &mut W, manner: TextStyle, place: Place, characters: &[u8]) -> Place
-    requires within { IsWithin manner (W.Grid.shown window.old).cells place }
-    requires size { IsOfManner manner (W.Grid.shown window.old) }
-    requires room { place.column + length characters.now ≤ manner.columns }
+fn lay_run<W: Grid>(window: &mut W, style: TextStyle, place: Place, characters: &[u8]) -> Place
+    requires within { IsWithin style (W.Grid.shown window.old).cells place }
+    requires size { IsOfStyle style (W.Grid.shown window.old) }
+    requires room { place.column + length characters.now ≤ style.columns }
     requires some { 1 ≤ length characters.now }
     requires printed { list_all is_character characters.now ≡ true }
     ensures follows { let shown = W.Grid.shown in
-        Lays manner (shown window.old).cells place characters.now (shown window.new).cells result }
-    ensures within { IsWithin manner (W.Grid.shown window.new).cells result }
+        Lays style (shown window.old).cells place characters.now (shown window.new).cells result }
+    ensures within { IsWithin style (W.Grid.shown window.new).cells result }
     ensures size { SameSize (W.Grid.shown window.old) (W.Grid.shown window.new) }
 {
-    window.put_run(place, manner.attribute, characters);
+    window.put_run(place, style.attribute, characters);
     Place {
         row: place.row,
         column: place.column + characters.len() as u32,
@@ -80,17 +80,17 @@ fn lay_run<W: Grid>(window: &mut W, manner: TextStyle, place: Place, characters:
 
 /// Puts one byte of a text for which there is no room in the row, and returns the place after it. It is a line feed, a
 /// carriage return, or a character right of the last column, which goes to the next row first.
-fn lay_byte<W: Grid>(window: &mut W, manner: TextStyle, place: Place, byte: u8) -> Place
-    requires within { IsWithin manner (W.Grid.shown window.old).cells place }
-    requires size { IsOfManner manner (W.Grid.shown window.old) }
-    requires full { place.column < manner.columns → is_character byte ≡ false }
+fn lay_byte<W: Grid>(window: &mut W, style: TextStyle, place: Place, byte: u8) -> Place
+    requires within { IsWithin style (W.Grid.shown window.old).cells place }
+    requires size { IsOfStyle style (W.Grid.shown window.old) }
+    requires full { place.column < style.columns → is_character byte ≡ false }
     ensures follows { let shown = W.Grid.shown in
-        Lays manner (shown window.old).cells place (byte ∷ []) (shown window.new).cells result }
-    ensures within { IsWithin manner (W.Grid.shown window.new).cells result }
+        Lays style (shown window.old).cells place (byte ∷ []) (shown window.new).cells result }
+    ensures within { IsWithin style (W.Grid.shown window.new).cells result }
     ensures size { SameSize (W.Grid.shown window.old) (W.Grid.shown window.new) }
 {
     if byte == b'\n' {
-        return next_row(window, manner, place);
+        return next_row(window, style, place);
     }
     if byte == b'\r' {
         return Place {
@@ -98,8 +98,8 @@ fn lay_byte<W: Grid>(window: &mut W, manner: TextStyle, place: Place, byte: u8) 
             column: 0,
         };
     }
-    let start = next_row(window, manner, place);
-    lay_run(window, manner, start, &[byte])
+    let start = next_row(window, style, place);
+    lay_run(window, style, start, &[byte])
 }
 
 /// Returns whether a byte of a text is a character: neither a line feed nor a carriage return.
@@ -152,38 +152,38 @@ fn count_characters(bytes: &[u8], most: usize) -> usize
 /// which there is room in the row, or otherwise one byte.
 fn lay_front<W: Grid>(
     window: &mut W,
-    manner: TextStyle,
+    style: TextStyle,
     place: Place,
     bytes: &[u8],
 ) -> (Place, usize)
-    requires within { IsWithin manner (W.Grid.shown window.old).cells place }
-    requires size { IsOfManner manner (W.Grid.shown window.old) }
+    requires within { IsWithin style (W.Grid.shown window.old).cells place }
+    requires size { IsOfStyle style (W.Grid.shown window.old) }
     requires some { 1 ≤ length bytes.now }
     ensures count { (1 ≤ result.1) × (result.1 ≤ length bytes.now) }
     ensures follows { let shown = W.Grid.shown in
-        Lays manner (shown window.old).cells place (take result.1 bytes.now) (shown window.new).cells result.0 }
-    ensures within { IsWithin manner (W.Grid.shown window.new).cells result.0 }
+        Lays style (shown window.old).cells place (take result.1 bytes.now) (shown window.new).cells result.0 }
+    ensures within { IsWithin style (W.Grid.shown window.new).cells result.0 }
     ensures size { SameSize (W.Grid.shown window.old) (W.Grid.shown window.new) }
 {
-    let count = count_characters(bytes, (manner.columns - place.column) as usize);
+    let count = count_characters(bytes, (style.columns - place.column) as usize);
     if count == 0 {
-        return (lay_byte(window, manner, place, bytes[0]), 1);
+        return (lay_byte(window, style, place, bytes[0]), 1);
     }
-    (lay_run(window, manner, place, &bytes[..count]), count)
+    (lay_run(window, style, place, &bytes[..count]), count)
 }
 
 /// Puts a text from a place on.
-pub(crate) fn lay_text<W: Grid>(window: &mut W, manner: TextStyle, start: Place, bytes: &[u8])
-    requires within { IsWithin manner (W.Grid.shown window.old).cells start }
-    requires size { IsOfManner manner (W.Grid.shown window.old) }
+pub(crate) fn lay_text<W: Grid>(window: &mut W, style: TextStyle, start: Place, bytes: &[u8])
+    requires within { IsWithin style (W.Grid.shown window.old).cells start }
+    requires size { IsOfStyle style (W.Grid.shown window.old) }
     ensures window { let shown = W.Grid.shown in
-        ShowsOver manner (shown window.old).cells start bytes.now (shown window.new).cells }
+        ShowsOver style (shown window.old).cells start bytes.now (shown window.new).cells }
     ensures size { SameSize (W.Grid.shown window.old) (W.Grid.shown window.new) }
 {
     let mut place = start;
     let mut done = 0;
     while done < bytes.len() {
-        let (reached, count) = lay_front(window, manner, place, &bytes[done..]);
+        let (reached, count) = lay_front(window, style, place, &bytes[done..]);
         place = reached;
         done += count;
     }

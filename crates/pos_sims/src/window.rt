@@ -73,12 +73,12 @@ impl Screen for Window {
     }
 
     fn show(&mut self, start: Place, attribute: Attribute, bytes: &[u8]) {
-        let manner = TextStyle {
+        let style = TextStyle {
             rows: self.rows,
             columns: self.columns,
             attribute,
         };
-        lay_text(self, manner, start, bytes);
+        lay_text(self, style, start, bytes);
     }
 
     fn scroll(&mut self, direction: Direction, units: u32) {

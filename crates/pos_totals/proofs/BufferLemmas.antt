@@ -70,9 +70,10 @@ pub keeps_all : (files : List File) (next : ℕ) (changes : List Change) → All
     (outlines after ≡ outlines files) × (tags_of after ≡ tags_of files) × (next_after_all next changes ≡ next)
 keeps_all files next [] all = (refl, refl, refl)
 keeps_all files next (Edit handle edit ∷ changes) all =
-    let same = edits_keep files handle edit all.0.1 in
+    let (first, others) = all in
+    let same = edits_keep files handle edit first.1 in
     let rest = keeps_all (files_after next files (Edit handle edit)) next changes
-    (all_so _ _ changes (λ change is. same_buffered files _ next change (sym same) is) all.1) in (
+    (all_so _ _ changes (λ change is. same_buffered files _ next change (sym same) is) others) in (
       rest.0 ∙ same,
       rest.1 ∙ kept tag_of (is_called handle)
           (λ file. record file { bytes = edited edit file.bytes }) files (λ file. refl),
@@ -89,15 +90,16 @@ pub makes_all : (layout : Layout) (files : List File) (next : ℕ) (changes : Li
 makes_all layout files next [] distinct all there = refl
 makes_all layout files next (Edit handle edit ∷ changes) distinct all there =
     let after = files_after next files (Edit handle edit) in
-    let found = some_of (find (is_called handle) files) (grind (arith, nat_tests)) in
+    let (first, others) = all in
+    let (file, is_found) = some_of (find (is_called handle) files) (grind (arith, nat_tests)) in
     let fit : fits_file (find (is_called handle) files) edit ≡ true =
-    ap (λ (o : Option File). fits_file o edit) found.1
-    ∙ found_has (is_called handle) (λ file. fits (length file.bytes) edit ≡ true) files found.0 all.0.1 found.1 in
-    let same = edits_keep files handle edit all.0.1 in
-    let alike = same_group files after next changes (sym same) all.1 in
+    ap (λ (o : Option File). fits_file o edit) is_found
+    ∙ found_has (is_called handle) (λ file. fits (length file.bytes) edit ≡ true) files file first.1 is_found in
+    let same = edits_keep files handle edit first.1 in
+    let alike = same_group files after next changes (sym same) others in
     rw (made_edit layout files handle edit next distinct fit, alike.0)
     (makes_all layout after next changes (same_distinct files after (sym same) distinct)
-    (all_so _ _ changes (λ change is. same_buffered files after next change (sym same) is) all.1)
+    (all_so _ _ changes (λ change is. same_buffered files after next change (sym same) is) others)
     (sym alike.1 ∙ grind (arith, nat_tests, there)))
 makes_all layout files next (other ∷ changes) distinct all there = absurd all.0
 

@@ -300,11 +300,11 @@ module _ {D : Type 0} {bound : Ghosts D} {disk : D} {files : List PlainFile} {se
       rw (put_down (Err fault.NoMemory) new commits.answer)
       (it.wants _, rests it.begins (change ∷ changes) _ it.group, it.begins.sound)
   puts new (Err fault.Exhausted) commits =
-      let down = put_down (Err fault.Exhausted) new commits.answer in
-      let last : nat_eq sequence last_number ≡ true =
-      eq-eqb sequence last_number (let l = down.0.1 in omega (arith, l)) in
-      rw down.1 (
-        it.does _ _ _ (inl (last, down.0.0, refl, refl)),
+      let (refused, is_same) = put_down (Err fault.Exhausted) new commits.answer in
+      let (needs_image, is_last) = refused in
+      let last : nat_eq sequence last_number ≡ true = eq-eqb sequence last_number (omega (arith, is_last)) in
+      rw is_same (
+        it.does _ _ _ (inl (last, needs_image, refl, refl)),
         rests it.begins (change ∷ changes) _ it.group,
         it.begins.sound,
       )

@@ -66,8 +66,8 @@ IsDone (Err want) = ⊥
 abbrev pub HasFailed : {D : Type 0} → Ghosts D → D → D → Type 0
 HasFailed bound old new = bound.honest old → Rises (bound.state old).failures (bound.state new).failures
 
--- What a call does that puts changes on the disk as one group. About the disk itself, and about what a crash may leave,
--- it says something only if the disk is honest.
+-- What a call does that puts changes on the disk as one group. Where a call has no changes, and where it is refused,
+-- the disk is as it was; whatever else is said of the disk, and of what a crash may leave, is of an honest one.
 pub record PutsGroup {D : Type 0} (bound : Ghosts D) (old : TotalsView D) (changes : List Change)
     (outcome : Result Answer NoMemory) (new : TotalsView D) : Type 0 where
   pub group : IsOneGroup old.totals changes

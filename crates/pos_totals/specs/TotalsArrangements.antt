@@ -68,6 +68,7 @@ arrangement_rows area place files control (ReleaseFile handle) =
 arrangement_rows area place files control BeginTrans = when (not (may_begin place)) code.Illegal ∷ []
 arrangement_rows area place files control Rollback = when (is_none (option_flatten place)) code.Illegal ∷ []
 
+-- E_FAILURE while the totals are off, and otherwise the rows above
 abbrev pub refusals_of_arrangement : Totals → ℕ → Arrangement → List Row
 refusals_of_arrangement totals control arrangement =
     let place = slice_get totals.transactions control in

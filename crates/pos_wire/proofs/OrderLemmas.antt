@@ -9,7 +9,8 @@ use Rattle.pos_service.specs.declared.plant.Mechanism.{Mechanism}
 use Rattle.pos_service.specs.declared.plant.Mechanism.TheVariants as mechanism
 use Rattle.pos_service.specs.declared.plant.Plant.{Plant}
 use Rattle.pos_service.specs.Displays.{Display}
-use Rattle.pos_service.specs.Peripherals.{IsMechanismOf, IsPlantOf, Obeys, PeripheralState, Performs, order_fits}
+use Rattle.pos_service.specs.Peripherals.{IsMechanismOf, IsOn, IsPlantOf, Obeys, PeripheralState, Performs}
+use Rattle.pos_service.specs.Peripherals.{order_fits, switched_on}
 use Rattle.pos_service.specs.Receipts.{Item, Printer, printed_by}
 use Rattle.pos_sims.specs.Additions.{Adds, PrintsNothing, pieces_ordered}
 use Rattle.pos_escpos.specs.declared.settings.DrawerKick.{DrawerKick}
@@ -49,15 +50,15 @@ pulses settings is_new end asked (mechanism.Printer printed) bytes is all = grin
 
 pub drawer_sends : (settings : WireSettings) (is_new : Bool) (end : JobEnd) (state : PeripheralState) (asked : Order)
     (bytes : List ℕ)
-    → state.plant.powered ≡ true → IsPlantOf kind.Drawer state.plant → order_fits kind.Drawer asked ≡ true
+    → IsOn state.plant → IsPlantOf kind.Drawer state.plant → order_fits kind.Drawer asked ≡ true
     → ((width : ℕ) → AllDo is_new width [] (kick_pulse (kick_of settings) ∷ [])
     (asked_first is_new ++ asked_last end) bytes)
     → SendsOrder settings is_new end state asked bytes
-drawer_sends settings is_new end state asked bytes powered is fits all =
+drawer_sends settings is_new end state asked bytes is_on is fits all =
     let there = opens asked state.plant.mechanism is fits in
     record {
-      new = record { powered = true; mechanism = mechanism.Drawer true };
-      done = (powered, refl, there);
+      new = switched_on (mechanism.Drawer true);
+      done = (is_on, refl, there);
       sends = pulses settings is_new end asked state.plant.mechanism bytes is all;
     }
 
@@ -106,19 +107,19 @@ printer_sends settings is_new end state asked roll bytes adds all =
     }
 
 -- a display that is on
-lit_is : (plant : Plant) (shown : Display) → plant.powered ≡ true → plant.mechanism ≡ mechanism.Display shown
+lit_is : (plant : Plant) (shown : Display) → IsOn plant → plant.mechanism ≡ mechanism.Display shown
     → plant ≡ lit shown
-lit_is plant shown powered is = grind arith
+lit_is plant shown is_on is = grind arith
 
 pub display_sends : (settings : WireSettings) (is_new : Bool) (end : JobEnd) (state : PeripheralState) (asked : Order)
     (old new : Display) (bytes : List ℕ)
-    → state.plant.powered ≡ true → state.plant.mechanism ≡ mechanism.Display old
+    → IsOn state.plant → state.plant.mechanism ≡ mechanism.Display old
     → Performs asked (lit old) reply.Done (lit new)
     → AllShow settings is_new old new bytes → SendsOrder settings is_new end state asked bytes
-display_sends settings is_new end state asked old new bytes powered is done shows = record {
+display_sends settings is_new end state asked old new bytes is_on is done shows = record {
   new = lit new;
   done = subst (λ (plant : Plant). Performs asked plant reply.Done (lit new))
-      (sym (lit_is state.plant old powered is)) done;
+      (sym (lit_is state.plant old is_on is)) done;
   sends = subst (λ (was : Mechanism). Sends settings is_new end asked was (mechanism.Display new) bytes) (sym is) shows;
 }
 
@@ -168,11 +169,11 @@ adds_misfit chars near is_new state asked roll is adds misfit =
 
 -- the cells that a display shows have no bytes
 pub display_misfit : (is_new : Bool) (state : PeripheralState) (asked : Order) (old new : Display)
-    → state.plant.powered ≡ true → state.plant.mechanism ≡ mechanism.Display old
+    → IsOn state.plant → state.plant.mechanism ≡ mechanism.Display old
     → Performs asked (lit old) reply.Done (lit new)
     → can_become (known_before is_new old new) new ≡ false → HasNoBytes is_new state asked
-display_misfit is_new state asked old new powered is done misfit = inr (
+display_misfit is_new state asked old new is_on is done misfit = inr (
   lit new,
-  subst (λ (plant : Plant). Performs asked plant reply.Done (lit new)) (sym (lit_is state.plant old powered is)) done,
+  subst (λ (plant : Plant). Performs asked plant reply.Done (lit new)) (sym (lit_is state.plant old is_on is)) done,
   subst (λ (was : Mechanism). has_bytes is_new asked was (mechanism.Display new) ≡ false) (sym is) misfit,
 )

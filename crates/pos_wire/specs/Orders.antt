@@ -6,7 +6,7 @@ use Rattle.pos_service.specs.declared.plant.Mechanism.{Mechanism}
 use Rattle.pos_service.specs.declared.plant.Mechanism.TheVariants as mechanism
 use Rattle.pos_service.specs.declared.plant.Plant.{Plant}
 use Rattle.pos_service.specs.Displays.{Display, blank_display}
-use Rattle.pos_service.specs.Peripherals.{PeripheralState, Performs}
+use Rattle.pos_service.specs.Peripherals.{PeripheralState, Performs, switched_on}
 use Rattle.pos_service.specs.Receipts.{printed_by}
 use Rattle.pos_sims.specs.Additions.{pieces_ordered}
 use Rattle.pos_escpos.specs.DisplayBytes.{can_become, characters_of, make_of}
@@ -20,7 +20,7 @@ use Rattle.pos_wire.specs.Settings.{cut_of, kick_of, protocol_of}
 
 -- a display that is on and shows this
 abbrev pub lit : Display → Plant
-lit shown = record { powered = true; mechanism = mechanism.Display shown }
+lit shown = switched_on (mechanism.Display shown)
 
 -- a display whose connection is new may show anything, but has begun no command; else it shows the cells
 abbrev pub IsScreen : Bool → Display → Screen → Type 0

@@ -2,12 +2,12 @@
 use Rattle.std.specs.Prelude.{◌≡◌, ℕ, Bool, true, false, List, [], ◌++◌, Option, Some, None, codes, decimal, ◌==◌}
 use Rattle.std.specs.List.{flat_map}
 use Rattle.pos_service.specs.declared.input.Input.{Input}
-use Rattle.pos_service.specs.declared.input.Input.TheVariants as input
 use Rattle.pos_service.specs.declared.kind.Kind.{Kind}
 use Rattle.pos_service.specs.declared.kind.Kind.TheVariants as kind
 use Rattle.pos_service.specs.declared.signs.PaperLevel.{PaperLevel}
 use Rattle.pos_service.specs.declared.signs.PaperLevel.TheVariants as paper
 use Rattle.pos_service.specs.declared.signs.Signs.{Signs}
+use Rattle.pos_service.specs.Peripherals.{input_number, input_words}
 use Rattle.pos_escpos.specs.declared.settings.SensorSettings.{SensorSettings}
 use Rattle.pos_escpos.specs.declared.statuses.PrinterReply.{PrinterReply}
 use Rattle.pos_escpos.specs.declared.statuses.PrinterReply.TheVariants as reply
@@ -15,21 +15,16 @@ use Rattle.pos_escpos.specs.declared.statuses.Status.{Status}
 use Rattle.pos_escpos.specs.Inputs.{drawer_table, printer_table}
 use Rattle.pos_wire.specs.declared.settings.WireSettings.{WireSettings}
 
--- the words of an input of a printer or of a drawer
-abbrev pub input_words : Input → List ℕ
-input_words (input.PowerMoved true) = codes "power on"
-input_words (input.PowerMoved false) = codes "power off"
-input_words (input.CoverMoved true) = codes "cover open"
-input_words (input.CoverMoved false) = codes "cover closed"
-input_words (input.DrawerMoved true) = codes "open"
-input_words (input.DrawerMoved false) = codes "closed"
-input_words (input.PaperLoaded lines) = codes "paper " ++ decimal lines
-input_words of_a_scanner = []
+-- a number behind words, if there is one
+abbrev pub number_word : Option ℕ → List ℕ
+number_word None = []
+number_word (Some number) = codes " " ++ decimal number
 
 -- the line of an input of a device, if there is one
 abbrev pub input_line : List ℕ → Option Input → List ℕ
 input_line name None = []
-input_line name (Some given) = codes "input " ++ name ++ codes " " ++ input_words given ++ codes "\n"
+input_line name (Some given) =
+    codes "input " ++ name ++ codes " " ++ input_words given ++ number_word (input_number given) ++ codes "\n"
 
 -- the lines of inputs
 abbrev pub input_lines : List ℕ → List (Option Input) → List ℕ

@@ -2,7 +2,7 @@
 ghost use Rattle.std.specs.Prelude.{◌≡◌, ◌<◌, ◌≤◌, ◌++◌, ℕ, true, false, IfOk, OnOk, IsErrOf};
 ghost use Rattle.pos_service.specs.declared.kind.Kind.TheVariants as kind;
 ghost use Rattle.pos_wire.specs.declared.wire_fault.WireFault.TheVariants as fault;
-ghost use Rattle.pos_wire.specs.ReplyLines.{ReplyHasText, drawer_lines, has_replies, input_line, input_lines, input_words, job_line, paper_word, printer_lines, status_line, word_if};
+ghost use Rattle.pos_wire.specs.ReplyLines.{ReplyHasText, drawer_lines, has_replies, input_line, input_lines, job_line, number_word, paper_word, printer_lines, status_line, word_if};
 ghost use Rattle.pos_wire.specs.Settings.{settings_fit};
 
 use crate::settings::WireSettings;
@@ -19,24 +19,16 @@ fn push_text(out: &mut Vec<u8>, text: &str) -> Result<(), AllocError>
     out.extend_from_slice(text.as_bytes())
 }
 
-/// Adds the words of an input.
-fn push_words(out: &mut Vec<u8>, input: &Input) -> Result<(), AllocError>
-    ensures { OnOk result (out.new.items ≡ out.old.items ++ input_words input.now) }
+/// Adds a number behind words, if there is one.
+fn push_number(out: &mut Vec<u8>, number: Option<u32>) -> Result<(), AllocError>
+    ensures { OnOk result (out.new.items ≡ out.old.items ++ number_word number) }
 {
-    match input {
-        Input::PowerMoved(true) => push_text(out, "power on"),
-        Input::PowerMoved(false) => push_text(out, "power off"),
-        Input::CoverMoved(true) => push_text(out, "cover open"),
-        Input::CoverMoved(false) => push_text(out, "cover closed"),
-        Input::DrawerMoved(true) => push_text(out, "open"),
-        Input::DrawerMoved(false) => push_text(out, "closed"),
-        Input::PaperLoaded(lines) => {
-            let mut buffer = Buffer::new();
-            push_text(out, "paper ")?;
-            push_text(out, buffer.format(*lines))
-        }
-        _ => Ok(()),
-    }
+    let Some(number) = number else {
+        return Ok(());
+    };
+    let mut buffer = Buffer::new();
+    push_text(out, " ")?;
+    push_text(out, buffer.format(number))
 }
 
 /// Adds the line of an input, if there is one.
@@ -49,7 +41,8 @@ fn push_input(out: &mut Vec<u8>, name: &[u8], input: &Option<Input>) -> Result<(
     push_text(out, "input ")?;
     out.extend_from_slice(name)?;
     push_text(out, " ")?;
-    push_words(out, input)?;
+    push_text(out, input.words())?;
+    push_number(out, input.number())?;
     push_text(out, "\n")
 }
 

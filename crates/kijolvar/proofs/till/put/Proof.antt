@@ -19,12 +19,15 @@ put_spec 𝓤 𝓛 𝓜 𝓡 wired =
     let hs : Stays ended.signature.params ended.kept = (stay_dropped (plain (λ _. Till)) yes, tt) in
     proved_at 𝓛 ended hs c 𝓜 𝓡 (Goes-blank 𝓛 0 (plain (λ _. Till)) yes (λ κs x f. tt), tt) #self code.function
     (code.unfolded 𝓤 H 𝓜 𝓡 wired) (λ z are.
-    let v = z.0.3.0 in let Post : Val → SProp 𝓤 = (walk_of 𝓛 ended hs c).post z in
+    let (entry, ghost) = z in let (lifetimes, shares, _, arguments, values) = entry in
+    let (till, _) = arguments in let (words, _) = values in
+    let Post : Val → SProp 𝓤 = (walk_of 𝓛 ended hs c).post z in
     let Run : List Val → SProp 𝓤 = λ ws. WpFn 𝓤 H 𝓣.C 𝓣.Λ code.function ws Post in
-    let asked = raw ((c z.0.0 z.0.3).requires z.1) in
-    qed 𝓛 ((raw (alive 𝓛 ended.signature z.0.0 z.0.1) ⊛ ‵ (owns (types_at ended.signature.params z.0.0) z.0.3 z.0.4))
-    ∷ asked ∷ []) ∵ split ! $
-    move ! (1 ∷ []) $ fsplit ! $ loose_out R Z LZ g ! (as_loose v) z.0.4.0 (λ b o h e ws fits.
+    let tokens = raw (alive 𝓛 ended.signature lifetimes shares) in
+    let owned = ‵ (owns (types_at ended.signature.params lifetimes) arguments values) in
+    let asked = raw ((c lifetimes arguments).requires ghost) in
+    qed 𝓛 ((tokens ⊛ owned) ∷ asked ∷ []) ∵ split ! $
+    move ! (1 ∷ []) $ fsplit ! $ loose_out R Z LZ g ! (as_loose till) words (λ b o h e ws fits.
     let w : Val = both (vptr b o) h in let typed = loose_good R Z LZ g b o h fits in
     suffices ! (Run (w ∷ [])) (subst (λ (us : List Val). ent 𝓤 (Run (w ∷ [])) (Run us)) (sym (λ i. ws i ++ []))
     (id⊢ 𝓤 (Run (w ∷ [])))) $
@@ -32,9 +35,9 @@ put_spec 𝓤 𝓛 𝓜 𝓡 wired =
     sets ! (of_opd ! (get_in ! (fld ! refl (stop !)) (sub ! 0 refl (whole !)))) refl (tt, tt) $
     sets ! (of_opd ! (get_in ! (fld ! refl (stop !)) (sub ! 1 refl (whole !)))) refl fits $
     sets ! (agg ! (and_then ! (get ! refl) (and_then ! (get ! refl) (no_more !)))) refl typed $
-    loose_in R Z LZ g ! b o h v.alloc v.session $
-    use0 𝓛 (raw (fact 𝓤 (Some v.session ≡ Some v.session)))
-    (fact_i 𝓤 (Some v.session ≡ Some v.session) (emp 𝓤) refl) $ nothing ! $ nothing ! $ fjoin ! $
+    loose_in R Z LZ g ! b o h till.alloc till.session $
+    use0 𝓛 (raw (fact 𝓤 (Some till.session ≡ Some till.session)))
+    (fact_i 𝓤 (Some till.session ≡ Some till.session) (emp 𝓤) refl) $ nothing ! $ nothing ! $ fjoin ! $
     returns ! (look_at ! 0 refl) $ free_all ! refl $ keep ! (4 ∷ 0 ∷ 2 ∷ 1 ∷ []) $
-    by ! (leaves 𝓛 ended hs c z w (record { at = block_ptr b o; alloc = v.alloc; left = Some v.session }) (tt, tt)
+    by ! (leaves 𝓛 ended hs c z w (record { at = block_ptr b o; alloc = till.alloc; left = Some till.session }) (tt, tt)
     (tt, tt)))))

@@ -21,4 +21,5 @@ returns-clause-elsewhere c m n control asked at other = search (rules, not_total
 pub returns-clause-run : goal.returns-clause-run
 returns-clause-run c old new [] run all = run
 returns-clause-run c old new (s ∷ steps) run all =
-    (run.0, run.1.0 all.0, returns-clause-run c run.0 new steps run.2 all.1)
+    let (mid, first, others) = run in
+    (mid, first.0 all.0, returns-clause-run c mid new steps others all.1)

@@ -10,4 +10,4 @@ returns-then-byte-eq10-clause-follows g c =
 pub returns-clause-follows : goal.returns-clause-follows
 returns-clause-follows g c = λ old strip h.
     let laid = c.lay_run.ensures.follows old (fed strip) (c.next_row-start.ensures.follows old strip h) in
-    grind (arith, wrapped c.args.manner.columns c.args.byte strip, row_full, h.column, laid)
+    grind (arith, wrapped c.args.style.columns c.args.byte strip, row_full, h.column, laid)

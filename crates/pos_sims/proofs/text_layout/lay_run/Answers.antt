@@ -6,6 +6,6 @@ pub returns-clause-follows : goal.returns-clause-follows
 returns-clause-follows g c = λ old strip h.
     grind (
       arith,
-      run_here c.args.manner old c.args.characters.now
+      run_here c.args.style old c.args.characters.now
           (g.W.Grid.shown c.args.window.now).cells strip c.args.place,
     )

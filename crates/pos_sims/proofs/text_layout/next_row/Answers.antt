@@ -6,6 +6,6 @@ pub returns-clause-follows : goal.returns-clause-follows
 returns-clause-follows g c = λ old strip h.
     grind (
       arith,
-      scrolled c.args.manner old (g.W.Grid.shown c.args.window.now).cells
+      scrolled c.args.style old (g.W.Grid.shown c.args.window.now).cells
           (g.W.Grid.shown c.feed_row.new.self).cells strip c.args.place,
     )

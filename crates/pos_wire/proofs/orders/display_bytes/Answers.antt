@@ -2,7 +2,7 @@ use Rattle.std.proofs.Common.{◌≡◌, true, rules}
 use Rattle.std.proofs.lemmas.Result.{IfOk-weaker}
 use Rattle.pos_service.specs.declared.order.Reply.TheVariants as reply
 use Rattle.pos_service.specs.declared.plant.Mechanism.TheVariants as mechanism
-use Rattle.pos_service.specs.Peripherals.{Performs}
+use Rattle.pos_service.specs.Peripherals.{IsOn, Performs}
 use Rattle.pos_wire.specs.Orders.{lit}
 use Rattle.pos_wire.proofs.OrderLemmas.{display_misfit, display_sends}
 use Rattle.pos_wire.proofs.orders.display_bytes.Goals as goal
@@ -11,13 +11,13 @@ pub returns-clause-sends : goal.returns-clause-sends
 returns-clause-sends g c =
     let state = g.P.Peripheral.state c.args.twin.now in
     let is = c.in-Display.before-is in
-    let powered : state.plant.powered ≡ true = search rules in
+    let is_on : IsOn state.plant = search rules in
     let shown : state.plant.mechanism ≡ mechanism.Display c.in-Display.before = search rules in
     let done : Performs c.args.order.now (lit c.in-Display.before) reply.Done (lit c.in_ok-after.after) =
     rw (← is) c.in_ok-after.ensures.done in
     IfOk-weaker c.row_bytes.result _ _ (λ bytes shows end.
     display_sends c.args.settings.now c.args.is_new end state c.args.order.now c.in-Display.before c.in_ok-after.after _
-    powered shown
+    is_on shown
     done (rw (← is) shows))
     c.row_bytes.ensures.shows
 
@@ -25,9 +25,9 @@ pub returns-clause-no_bytes : goal.returns-clause-no_bytes
 returns-clause-no_bytes g c = λ none.
     let state = g.P.Peripheral.state c.args.twin.now in
     let is = c.in-Display.before-is in
-    let powered : state.plant.powered ≡ true = search rules in
+    let is_on : IsOn state.plant = search rules in
     let shown : state.plant.mechanism ≡ mechanism.Display c.in-Display.before = search rules in
     let done : Performs c.args.order.now (lit c.in-Display.before) reply.Done (lit c.in_ok-after.after) =
     rw (← is) c.in_ok-after.ensures.done in
-    display_misfit c.args.is_new state c.args.order.now c.in-Display.before c.in_ok-after.after powered shown done
+    display_misfit c.args.is_new state c.args.order.now c.in-Display.before c.in_ok-after.after is_on shown done
     (rw (← is) (c.row_bytes.ensures.no_bytes none))

@@ -1,6 +1,7 @@
 use Rattle.std.proofs.Common.{◌≡◌, ◌∷◌, ℕ, [], false, true, rules, subst}
 use Rattle.pos_escpos.specs.declared.settings.DrawerKick.{DrawerKick}
 use Rattle.pos_escpos.specs.PrinterCommands.{kick_pulse}
+use Rattle.pos_service.specs.Peripherals.{IsOn}
 use Rattle.pos_wire.specs.Frames.{AllDo}
 use Rattle.pos_wire.specs.Settings.{kick_of}
 use Rattle.pos_wire.proofs.OrderLemmas.{drawer_sends, kicks_alone}
@@ -9,11 +10,11 @@ use Rattle.pos_wire.proofs.orders.drawer_bytes.Goals as goal
 pub returns-clause-sends : goal.returns-clause-sends
 returns-clause-sends g c =
     let state = g.P.Peripheral.state c.args.twin.now in
-    let powered : state.plant.powered ≡ true = search rules in
+    let is_on : IsOn state.plant = search rules in
     let alone : (width : ℕ) → AllDo false width []
     (kick_pulse (kick_of c.args.settings.now) ∷ []) [] c.bytes-pulse.result = λ width.
     subst (λ (kick : DrawerKick). AllDo false width [] (kick_pulse kick ∷ []) [] c.bytes-pulse.result) c.kick.ensures
     (kicks_alone width c.kick.result c.bytes-pulse.result (c.bytes-pulse.ensures width)) in
-    drawer_sends c.args.settings.now c.args.is_new c.args.end state c.args.order.now _ powered c.requires.plant
+    drawer_sends c.args.settings.now c.args.is_new c.args.end state c.args.order.now _ is_on c.requires.plant
     c.requires.fits
     (λ width. c.in_ok-framed.ensures width [] _ (alone width))

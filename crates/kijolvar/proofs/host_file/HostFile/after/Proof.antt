@@ -1,84 +1,38 @@
 -- The empty body makes a value of no bytes, with the bytes that its clause names.
-use Rattle.pos_disk.proofs.Common.{ !, Args, Calls, Fun, Goes-none_ref, Logic, Loops, Meets, Routine, SProp, Stays}
-use Rattle.pos_disk.proofs.Common.{Tables, Ura, Val, Walks, WpFn, WpFn-mono, [], agg, alive, alloc_all, done, emp}
-use Rattle.pos_disk.proofs.Common.{ends_at, ent, enter, entered, free_all, fst∗, look_at, move, no_more, on_entry, owns}
-use Rattle.pos_disk.proofs.Common.{pass_all, pure_i, qed, raw, refl, returns, says, sets, stay_none_ref, suffices}
-use Rattle.pos_disk.proofs.Common.{tables, tables_of, triple_of, via, vnil, vptr, vstruct, walk_Meets, walk_of, walked}
-use Rattle.pos_disk.proofs.Common.{‵, ◌$◌, ◌∵◌, ◌∷◌}
-use Rattle.kijolvar.specs.contracts.host_file.HostFile.after.Key.{name as key}
-use base.Fml.{Fml}
-use contract.Lifetimes.{Lfts, Shares}
-use denote.Exit.{yes}
-use denote.Ref.{shr_Tells, shr_vals}
-use denote.Signature.{plain, types_at}
-use mir.Syntax.{named}
-use prog.Memory.{Memory}
+use Rattle.pos_disk.proofs.Common.{ !, Args, List, [], agg, alive, alloc_all, done, enter, free_all, look_at, move}
+use Rattle.pos_disk.proofs.Common.{no_more, owns, pass_all, pure_i, qed, raw, refl, returns, says, sets, suffices}
+use Rattle.pos_disk.proofs.Common.{vnil, vstruct, ‵, ◌$◌, ◌∵◌, ◌∷◌}
+use Rattle.pos_disk.proofs.EmptyBodyLemmas.{Passed, ref}
+use Rattle.pos_disk.proofs.EmptyBodyLemmas as empty
 use Rattle.kijolvar.specs.Errands.{file_after}
-use Rattle.kijolvar.specs.contracts.errands.Errand.{the_row as errand_row}
-use Rattle.kijolvar.specs.contracts.host_file.HostFile as made_of
+use Rattle.kijolvar.specs.contracts.host_file.HostFile.after.Key.{name as key}
+use contract.Lifetimes.{Lfts}
+use denote.RattleType.{flat}
+use denote.Signature.{types_at}
+use Rattle.kijolvar.specs.contracts.errands.Errand as errand
+use Rattle.kijolvar.specs.contracts.host_file.HostFile as file
 use Rattle.kijolvar.specs.contracts.host_file.HostFile.after as f
 use Rattle.kijolvar.proofs.host_file.HostFile.after.Statement as stated
 use Rattle.kijolvar.proofs.host_file.HostFile.after.Code as code
 
-abbrev stayed : Stays (f.ended).signature.params (f.ended).kept
-stayed = (
-  stay_none_ref (0 ∷ []) tt (plain (λ _. made_of.the_row)) yes,
-  (stay_none_ref (1 ∷ []) tt (plain (λ _. errand_row)) yes, tt),
-)
+abbrev passed : List (Passed 2)
+passed = ref 0 tt file.the_row ∷ ref 1 tt errand.the_row ∷ []
 
-module _ {M : Type 1} {𝓤 : Ura M} (𝓛 : Logic 𝓤) (mem : Memory → SProp 𝓤) (run : Routine → Fun 𝓤) (C : Calls 𝓤 𝓛.H)
-    (Λ : Loops 𝓤 𝓛.H) where
-  open 𝓛 use {H}
-
-  module _ (κs : Lfts 2) (qs : Shares 2) (a : Args f.signature κs) where
-    abbrev before : Val
-    before = vptr a.0.ref_ptr.0 a.0.ref_ptr.1
-
-    abbrev errand : Val
-    errand = vptr a.1.0.ref_ptr.0 a.1.0.ref_ptr.1
-
-    abbrev bound : (walk_of 𝓛 f.ended stayed (f.clauses 𝓛 mem run)).Ghost
-    bound = ((κs, qs, tt, a, (before ∷ [], (errand ∷ [], tt))), tt)
-
-    abbrev passed : Fml
-    passed = owns (types_at f.signature.params κs) a (before ∷ [], (errand ∷ [], tt))
-
-    abbrev made : made_of.the_row.Denot
-    made = record { bytes = file_after a.1.0.now a.0.now.bytes }
-
-    walk : ent 𝓤 (on_entry 𝓛 f.signature κs qs a (before ∷ [], (errand ∷ [], tt)))
-        (WpFn 𝓤 H C Λ code.function (before ∷ errand ∷ [])
-        ((walk_of 𝓛 f.ended stayed (f.clauses 𝓛 mem run)).post bound))
-    walk =
-        qed 𝓛 (raw (alive 𝓛 f.signature κs qs) ∷ ‵ passed ∷ []) ∵ enter ! C Λ code.function (before ∷ errand ∷ []) _ $
-        alloc_all ! (λ l. pass_all ! refl
-        ((tt, tt), ((tt, tt), tt)) $
-        sets ! (agg ! (no_more !)) refl (tt, tt) $
-        returns ! (look_at ! 0 refl) $ free_all ! refl $
-        suffices ! _ (ends_at 𝓛 f.ended stayed (f.clauses 𝓛 mem run) bound (vstruct vnil) made (tt, (tt, tt))
-        (tt, (tt, tt))) $
-        says ! refl $ pure_i ! (made_of.the_row.own_val made (vstruct vnil ∷ [])) ((λ vss. (tt, tt)), tt)
-        ((tt, (refl, tt)), tt) $
-        move ! (1 ∷ 2 ∷ 0 ∷ []) $ done !)
-
-  walks : Walks 𝓛 f.ended stayed (WpFn 𝓤 H C Λ code.function) (f.clauses 𝓛 mem run)
-  walks =
-      walked 𝓛 f.ended stayed (f.clauses 𝓛 mem run) (WpFn 𝓤 H C Λ code.function) (λ κs. (shr_vals, (shr_vals, tt)))
-      (λ κs. (shr_Tells (named 0) κs.0 made_of.the_row, (shr_Tells (named 1) κs.1.0 errand_row, tt)))
-      (λ κs qs bounds a g are. via 𝓤 _ (fst∗ 𝓤 _ (emp 𝓤)) (walk κs qs a))
-
-meets : {M : Type 1} {𝓤 : Ura M} (𝓛 : Logic 𝓤) (mem : Memory → SProp 𝓤) (run : Routine → Fun 𝓤) (𝓣 : Tables 𝓤 𝓛.H)
-    → Meets 𝓛 f.signature (WpFn 𝓤 𝓛.H 𝓣.C 𝓣.Λ code.function) (f.spec 𝓛 mem run)
-meets {𝓤 = 𝓤} 𝓛 mem run 𝓣 =
-    walk_Meets 𝓛 f.ended stayed (
-      Goes-none_ref 𝓛 2 (0 ∷ []) tt (plain (λ _. made_of.the_row)) yes,
-      (Goes-none_ref 𝓛 2 (1 ∷ []) tt (plain (λ _. errand_row)) yes, tt),
-    ) (f.clauses 𝓛 mem run) (WpFn 𝓤 𝓛.H 𝓣.C 𝓣.Λ code.function)
-    (WpFn-mono 𝓤 𝓛.H 𝓛.laws 𝓣 code.function) (walks 𝓛 mem run 𝓣.C 𝓣.Λ)
+-- the file after the errand
+abbrev made : (κs : Lfts 2) → Args f.signature κs → file.the_row.Denot
+made κs (self, (errand, _)) = record { bytes = file_after errand.now self.now.bytes }
 
 pub after_spec : {M : Type 1} → stated.statement M
-unfolding tables_of
 after_spec 𝓤 𝓛 𝓜 𝓡 wired =
-    entered 𝓤 𝓛.H (triple_of 𝓛 f.signature (f.spec 𝓛 𝓜.mem 𝓡.returns))
-    (tables 𝓤 𝓛.H 𝓜 𝓡 𝓡.env).C (tables 𝓤 𝓛.H 𝓜 𝓡 𝓡.env).Λ key code.function (code.unfolded 𝓤 𝓛.H 𝓜 𝓡 wired)
-    (meets 𝓛 𝓜.mem 𝓡.returns (tables_of 𝓤 𝓛.H 𝓜 (tables 𝓤 𝓛.H 𝓜 𝓡 𝓡.env)))
+    let clauses = f.clauses 𝓛 𝓜.mem 𝓡.returns in
+    empty.stated 𝓛 passed file.the_row clauses 𝓜 𝓡 key code.function (code.unfolded 𝓤 𝓛.H 𝓜 𝓡 wired)
+    (λ κs qs bounds a g are.
+    let types = types_at f.signature.params κs in let values = empty.values passed κs a in
+    qed 𝓛 (raw (alive 𝓛 f.signature κs qs) ∷ ‵ (owns types a values) ∷ []) ∵ enter ! _ _ code.function
+    (flat types values) _ $
+    alloc_all ! (λ l. pass_all ! refl are $ sets ! (agg ! (no_more !)) refl (tt, tt) $ returns !
+    (look_at ! 0 refl) $ free_all ! refl $
+    suffices ! _ (empty.ends 𝓛 passed file.the_row clauses κs qs bounds a g (made κs a)) $
+    says ! refl $ pure_i ! (file.the_row.own_val (made κs a) (vstruct vnil ∷ [])) ((λ vss. (tt, tt)), tt)
+    ((tt, (refl, tt)), tt) $
+    move ! (1 ∷ 2 ∷ 0 ∷ []) $ done !))

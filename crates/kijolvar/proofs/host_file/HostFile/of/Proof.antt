@@ -1,73 +1,37 @@
 -- The empty body makes a value of no bytes, with the bytes that its clause names.
-use Rattle.pos_disk.proofs.Common.{ !, Args, Calls, Fun, Goes-none_slice, Logic, Loops, Meets, Routine, SProp, Stays}
-use Rattle.pos_disk.proofs.Common.{Tables, Ura, Val, Walks, WpFn, WpFn-mono, [], agg, alive, alloc_all, done, emp}
-use Rattle.pos_disk.proofs.Common.{ends_at, ent, enter, entered, free_all, fst∗, look_at, move, no_more, on_entry, owns}
-use Rattle.pos_disk.proofs.Common.{pass_all, pure_i, qed, raw, refl, returns, says, sets, stay_none_slice, suffices}
-use Rattle.pos_disk.proofs.Common.{tables, tables_of, triple_of, via, vnil, vstruct, walk_Meets, walk_of, walked, ‵}
-use Rattle.pos_disk.proofs.Common.{◌$◌, length, ◌<◌, ◌^◌, ◌∵◌, ◌∷◌}
+use Rattle.pos_disk.proofs.Common.{ !, Args, List, [], agg, alive, alloc_all, done, enter, free_all, look_at, move}
+use Rattle.pos_disk.proofs.Common.{no_more, owns, pass_all, pure_i, qed, raw, refl, returns, says, sets, suffices}
+use Rattle.pos_disk.proofs.Common.{vnil, vstruct, ‵, ◌$◌, ◌∵◌, ◌∷◌}
+use Rattle.pos_disk.proofs.EmptyBodyLemmas.{Passed, slice}
+use Rattle.pos_disk.proofs.EmptyBodyLemmas as empty
 use Rattle.kijolvar.specs.contracts.host_file.HostFile.of.Key.{name as key}
-use base.Fml.{Fml}
-use contract.Lifetimes.{Lfts, Shares}
+use contract.Lifetimes.{Lfts}
 use denote.Builtin.{u8}
-use denote.Exit.{yes}
-use denote.Signature.{plain, types_at}
-use denote.Slice.{shr_slice_Tells, shr_slice_vals, slice_val}
-use mir.Syntax.{named}
-use prog.Memory.{Memory}
-use Rattle.kijolvar.specs.contracts.host_file.HostFile as made_of
+use denote.RattleType.{flat}
+use denote.Signature.{types_at}
+use Rattle.kijolvar.specs.contracts.host_file.HostFile as file
 use Rattle.kijolvar.specs.contracts.host_file.HostFile.of as f
 use Rattle.kijolvar.proofs.host_file.HostFile.of.Statement as stated
 use Rattle.kijolvar.proofs.host_file.HostFile.of.Code as code
 
-abbrev stayed : Stays (f.ended).signature.params (f.ended).kept
-stayed = (stay_none_slice (0 ∷ []) tt (plain (λ _. u8)) yes, tt)
+abbrev passed : List (Passed 1)
+passed = slice 0 tt u8 ∷ []
 
-module _ {M : Type 1} {𝓤 : Ura M} (𝓛 : Logic 𝓤) (mem : Memory → SProp 𝓤) (run : Routine → Fun 𝓤) (C : Calls 𝓤 𝓛.H)
-    (Λ : Loops 𝓤 𝓛.H) where
-  open 𝓛 use {H}
-
-  module _ (κs : Lfts 1) (qs : Shares 1) (a : Args f.signature κs) where
-    abbrev bytes : Val
-    bytes = slice_val a.0.ref_ptr (length a.0.now)
-
-    abbrev bound : (walk_of 𝓛 f.ended stayed (f.clauses 𝓛 mem run)).Ghost
-    bound = ((κs, qs, tt, a, (bytes ∷ [], tt)), tt)
-
-    abbrev passed : Fml
-    passed = owns (types_at f.signature.params κs) a (bytes ∷ [], tt)
-
-    abbrev made : made_of.the_row.Denot
-    made = record { bytes = a.0.now }
-
-    walk : length a.0.now < 2 ^ 64 → ent 𝓤 (on_entry 𝓛 f.signature κs qs a (bytes ∷ [], tt))
-        (WpFn 𝓤 H C Λ code.function (bytes ∷ []) ((walk_of 𝓛 f.ended stayed (f.clauses 𝓛 mem run)).post bound))
-    walk fits =
-        qed 𝓛 (raw (alive 𝓛 f.signature κs qs) ∷ ‵ passed ∷ []) ∵ enter ! C Λ code.function (bytes ∷ []) _ $
-        alloc_all ! (λ l. pass_all ! refl
-        ((tt, (tt, (record { fits = fits }, tt))), tt) $
-        sets ! (agg ! (no_more !)) refl (tt, tt) $
-        returns ! (look_at ! 0 refl) $ free_all ! refl $
-        suffices ! _ (ends_at 𝓛 f.ended stayed (f.clauses 𝓛 mem run) bound (vstruct vnil) made (tt, tt) (tt, tt)) $
-        says ! refl $ pure_i ! (made_of.the_row.own_val made (vstruct vnil ∷ [])) ((λ vss. (tt, tt)), tt)
-        ((tt, (refl, tt)), tt) $
-        move ! (1 ∷ 2 ∷ 0 ∷ []) $ done !)
-
-  walks : Walks 𝓛 f.ended stayed (WpFn 𝓤 H C Λ code.function) (f.clauses 𝓛 mem run)
-  walks =
-      walked 𝓛 f.ended stayed (f.clauses 𝓛 mem run) (WpFn 𝓤 H C Λ code.function) (λ κs. (shr_slice_vals, tt))
-      (λ κs. (shr_slice_Tells (named 0) κs.0 u8, tt))
-      (λ κs qs bounds a g are. via 𝓤 _ (fst∗ 𝓤 _ (emp 𝓤)) (walk κs qs a are.0.0.1.0))
-
-meets : {M : Type 1} {𝓤 : Ura M} (𝓛 : Logic 𝓤) (mem : Memory → SProp 𝓤) (run : Routine → Fun 𝓤) (𝓣 : Tables 𝓤 𝓛.H)
-    → Meets 𝓛 f.signature (WpFn 𝓤 𝓛.H 𝓣.C 𝓣.Λ code.function) (f.spec 𝓛 mem run)
-meets {𝓤 = 𝓤} 𝓛 mem run 𝓣 =
-    walk_Meets 𝓛 f.ended stayed (Goes-none_slice 𝓛 1 (0 ∷ []) tt (plain (λ _. u8)) yes, tt) (f.clauses 𝓛 mem run)
-    (WpFn 𝓤 𝓛.H 𝓣.C 𝓣.Λ code.function)
-    (WpFn-mono 𝓤 𝓛.H 𝓛.laws 𝓣 code.function) (walks 𝓛 mem run 𝓣.C 𝓣.Λ)
+-- the file with these bytes
+abbrev made : (κs : Lfts 1) → Args f.signature κs → file.the_row.Denot
+made κs (bytes, _) = record { bytes = bytes.now }
 
 pub of_spec : {M : Type 1} → stated.statement M
-unfolding tables_of
 of_spec 𝓤 𝓛 𝓜 𝓡 wired =
-    entered 𝓤 𝓛.H (triple_of 𝓛 f.signature (f.spec 𝓛 𝓜.mem 𝓡.returns))
-    (tables 𝓤 𝓛.H 𝓜 𝓡 𝓡.env).C (tables 𝓤 𝓛.H 𝓜 𝓡 𝓡.env).Λ key code.function (code.unfolded 𝓤 𝓛.H 𝓜 𝓡 wired)
-    (meets 𝓛 𝓜.mem 𝓡.returns (tables_of 𝓤 𝓛.H 𝓜 (tables 𝓤 𝓛.H 𝓜 𝓡 𝓡.env)))
+    let clauses = f.clauses 𝓛 𝓜.mem 𝓡.returns in
+    empty.stated 𝓛 passed file.the_row clauses 𝓜 𝓡 key code.function (code.unfolded 𝓤 𝓛.H 𝓜 𝓡 wired)
+    (λ κs qs bounds a g are.
+    let types = types_at f.signature.params κs in let values = empty.values passed κs a in
+    qed 𝓛 (raw (alive 𝓛 f.signature κs qs) ∷ ‵ (owns types a values) ∷ []) ∵ enter ! _ _ code.function
+    (flat types values) _ $
+    alloc_all ! (λ l. pass_all ! refl are $ sets ! (agg ! (no_more !)) refl (tt, tt) $ returns !
+    (look_at ! 0 refl) $ free_all ! refl $
+    suffices ! _ (empty.ends 𝓛 passed file.the_row clauses κs qs bounds a g (made κs a)) $
+    says ! refl $ pure_i ! (file.the_row.own_val (made κs a) (vstruct vnil ∷ [])) ((λ vss. (tt, tt)), tt)
+    ((tt, (refl, tt)), tt) $
+    move ! (1 ∷ 2 ∷ 0 ∷ []) $ done !))

@@ -15,6 +15,7 @@ use Rattle.std_alloc.proofs.boxed.Box.from_raw.Met.{met}
 use contract.BorrowLft.{◌⊑◌}
 use denote.Triple.Call.{calls_at_last}
 use denote.Triple.Clauses.{Lasts, lasts}
+use denote.Triple.Entry.{Args}
 use Rattle.std_alloc.proofs.BoxSteps.Form as box
 use Rattle.kijolvar.proofs.ValueLemmas.{both, RawBox, loose_good, loose_out}
 use Rattle.std_alloc.specs.contracts.boxed.Box.from_raw as callee
@@ -32,18 +33,22 @@ into_box_spec 𝓤 𝓛 𝓜 𝓡 wired T A L LA g d dx dd allocator glue glued 
     proved_at 𝓛 En hs c 𝓜 𝓡 (Goes-blank 𝓛 2 (plain (λ _. RawBox R Z LZ g)) no (λ κs x f. tt), tt)
     (#self (bounded (a_type ∷ a_type ∷ []) (T, (A, tt)) (dcons d
     (dcons dx (dcons dd dnil))))) fn (code.unfolded 𝓤 H 𝓜 𝓡 wired (T, (A, tt)) d dx dd) (λ z are.
-    let κs = z.0.0 in let qs = z.0.1 in let v = z.0.3.0 in let a = v.alloc in let Post : Val → SProp 𝓤 =
-    (walk_of 𝓛 En hs c).post z in
+    let (entry, ghost) = z in let (lifetimes, shares, _, arguments, values) = entry in
+    let (value_life, (handle_life, _)) = lifetimes in let (value_share, (handle_share, _)) = shares in
+    let (loose, _) = arguments in let (words, _) = values in let a = loose.alloc in
+    let Post : Val → SProp 𝓤 = (walk_of 𝓛 En hs c).post z in
     let Run : List Val → SProp 𝓤 = λ ws. WpFn 𝓤 H 𝓣.C 𝓣.Λ fn ws Post in
-    let toks = ‵ (flft κs.0 qs.0) ⊛ ‵ (flft κs.1.0 qs.1.0) ⊛ ‵ ftrue in let asked = raw ((c κs z.0.3).requires z.1) in
-    qed 𝓛 ((toks ⊛ ‵ (owns (types_at En.signature.params κs) z.0.3 z.0.4)) ∷ asked ∷ []) ∵ split ! $ move !
-    (1 ∷ []) $ fsplit ! $
-    loose_out R Z LZ g ! v z.0.4.0 (λ b o h e ws fits.
+    let tokens = ‵ (flft value_life value_share) ⊛ ‵ (flft handle_life handle_share) ⊛ ‵ ftrue in
+    let owned = ‵ (owns (types_at En.signature.params lifetimes) arguments values) in
+    let asked = raw ((c lifetimes arguments).requires ghost) in
+    qed 𝓛 ((tokens ⊛ owned) ∷ asked ∷ []) ∵ split ! $ move ! (1 ∷ []) $ fsplit ! $
+    loose_out R Z LZ g ! loose words (λ b o h e ws fits.
     let w : Val = both (vptr b o) h in let typed = loose_good R Z LZ g b o h fits in
     let k = triple_of 𝓛 (callee.signature T A g d dd) (callee.spec T A g d dd 𝓛 𝓜.mem 𝓡.returns) in
-    let y : k.Ghost = ((κs, qs, tt, (a, (block_ptr b o, tt)), (h ∷ [], (vptr b o ∷ [], tt))), v.value) in
+    let passed : Args (callee.signature T A g d dd) lifetimes = (a, (block_ptr b o, tt)) in
+    let y : k.Ghost = ((lifetimes, shares, tt, passed, (h ∷ [], (vptr b o ∷ [], tt))), loose.value) in
     let B : RattleType = box.B E in
-    move ! (4 ∷ []) $ use1 𝓛 (raw (fact 𝓤 (κs.0 ⊑ T.lives)) ⊛ raw (fact 𝓤 (κs.1.0 ⊑ A.lives)) ⊛ ‵ ftrue)
+    move ! (4 ∷ []) $ use1 𝓛 (raw (fact 𝓤 (value_life ⊑ T.lives)) ⊛ raw (fact 𝓤 (handle_life ⊑ A.lives)) ⊛ ‵ ftrue)
     (id⊢ 𝓤 _) $ split3 ! $ move ! (2 ∷ []) $ drop ! $
     move ! (1 ∷ 2 ∷ []) $ join ! $ move ! (1 ∷ 0 ∷ []) $ join ! $
     move ! (2 ∷ []) $ feq_i ! (List Val) (vptr b o ∷ []) (vptr b o ∷ []) refl $ fjoin ! $ move !
@@ -59,9 +64,10 @@ into_box_spec 𝓤 𝓛 𝓜 𝓡 wired T A L LA g d dx dd allocator glue glued 
     (code.calls-std_alloc::boxed::Box::from_raw 𝓡.env wired) T A L LA g d dd allocator glued) y (and_then ! (get !
     refl) (and_then ! (get ! refl) (no_more !))) (λ u.
     use1 𝓛 (later
-    (some (λ (r : B.Denot). (toks ⊛ ‵ (B.own_val r (u ∷ []))) ⊛ some
-    (λ (ls : Lasts (callee.ended T A g d dd) κs y.0.3). ‵ (lasts (callee.ended T
-    A g d dd) κs y.0.3 ls) ⊛ (raw (fact 𝓤 (r.value ≡ v.value)) ⊛ raw (fact 𝓤 (r.alloc ≡ a))))))) (id⊢ 𝓤 (k.post y u)) $
+    (some (λ (r : B.Denot). (tokens ⊛ ‵ (B.own_val r (u ∷ []))) ⊛ some
+    (λ (ls : Lasts (callee.ended T A g d dd) lifetimes passed).
+    ‵ (lasts (callee.ended T A g d dd) lifetimes passed ls) ⊛ (raw (fact 𝓤 (r.value ≡ loose.value)) ⊛
+    raw (fact 𝓤 (r.alloc ≡ a))))))) (id⊢ 𝓤 (k.post y u)) $
     await ! tt $ pick ! (λ r. split ! $ move ! (1 ∷ []) $ pick !
     (λ _. split3 ! $ drop ! $ move ! (2 ∷ []) $ split ! $ move ! (1 ∷ []) $
     box_out E ! r (u ∷ []) (λ b' o' h' e' us fits'. box_in E ! r b' o' r.value e' refl $ rewrite ! 0

@@ -2,7 +2,7 @@
 use Rattle.pos_streams.proofs.Common.{ !, Args, Calls, Fun, Goes-none_ref, Goes-none_slice, Logic, Loops, Meets}
 use Rattle.pos_streams.proofs.Common.{Routine, SProp, Stays, Tables, Ura, Val, Walks, WpFn, WpFn-mono, [], agg, alive}
 use Rattle.pos_streams.proofs.Common.{alloc_all, done, emp, ends_at, ent, enter, entered, free_all, fst∗, length}
-use Rattle.pos_streams.proofs.Common.{look_at, move, no_more, on_entry, owns, pass_all, pure_i, qed, raw, refl, returns}
+use Rattle.pos_streams.proofs.Common.{List, ℕ, look_at, move, no_more, on_entry, owns, pass_all, pure_i, qed, raw, refl, returns}
 use Rattle.pos_streams.proofs.Common.{says, sets, stay_none_ref, stay_none_slice, suffices, tables, tables_of}
 use Rattle.pos_streams.proofs.Common.{triple_of, via, vnil, vptr, vstruct, walk_Meets, walk_of, walked, ‵, ◌$◌, ◌++◌}
 use Rattle.pos_streams.proofs.Common.{◌<◌, ◌^◌, ◌∵◌, ◌∷◌}
@@ -38,8 +38,12 @@ module _ {M : Type 1} {𝓤 : Ura M} (𝓛 : Logic 𝓤) (mem : Memory → SProp
     abbrev before : Val
     before = vptr a.0.ref_ptr.0 a.0.ref_ptr.1
 
+    -- the bytes that are added
+    abbrev added : List ℕ
+    added = let (_, (bytes, _)) = a in bytes.now
+
     abbrev bytes : Val
-    bytes = slice_val a.1.0.ref_ptr (length a.1.0.now)
+    bytes = let (_, (bytes, _)) = a in slice_val bytes.ref_ptr (length added)
 
     abbrev bound : (walk_of 𝓛 f.ended stayed (f.clauses 𝓛 mem run)).Ghost
     bound = ((κs, qs, tt, a, (before ∷ [], (bytes ∷ [], tt))), tt)
@@ -48,9 +52,9 @@ module _ {M : Type 1} {𝓤 : Ura M} (𝓛 : Logic 𝓤) (mem : Memory → SProp
     passed = owns (types_at f.signature.params κs) a (before ∷ [], (bytes ∷ [], tt))
 
     abbrev made : kept.the_row.Denot
-    made = record { bytes = a.0.now.bytes ++ a.1.0.now }
+    made = record { bytes = a.0.now.bytes ++ added }
 
-    walk : length a.1.0.now < 2 ^ 64 → ent 𝓤 (on_entry 𝓛 f.signature κs qs a (before ∷ [], (bytes ∷ [], tt)))
+    walk : length added < 2 ^ 64 → ent 𝓤 (on_entry 𝓛 f.signature κs qs a (before ∷ [], (bytes ∷ [], tt)))
         (WpFn 𝓤 H C Λ code.function (before ∷ bytes ∷ []) ((walk_of 𝓛 f.ended stayed (f.clauses 𝓛 mem run)).post bound))
     walk fits_bytes =
         qed 𝓛 (raw (alive 𝓛 f.signature κs qs) ∷ ‵ passed ∷ []) ∵ enter ! C Λ code.function (before ∷ bytes ∷ []) _ $
@@ -68,11 +72,13 @@ module _ {M : Type 1} {𝓤 : Ura M} (𝓛 : Logic 𝓤) (mem : Memory → SProp
   walks =
       walked 𝓛 f.ended stayed (f.clauses 𝓛 mem run) (WpFn 𝓤 H C Λ code.function)
       (λ κs. (shr_vals, (shr_slice_vals, tt)))
-      (λ κs. (
-        shr_Tells (named 0) κs.0 kept.the_row,
-        (shr_slice_Tells (named 1) κs.1.0 u8, tt),
+      (λ κs. let (self_life, (bytes_life, _)) = κs in (
+        shr_Tells (named 0) self_life kept.the_row,
+        (shr_slice_Tells (named 1) bytes_life u8, tt),
       ))
-      (λ κs qs bounds a g are. via 𝓤 _ (fst∗ 𝓤 _ (emp 𝓤)) (walk κs qs a are.1.0.0.1.0))
+      (λ κs qs bounds a g are.
+      let (_, (bytes_are, _)) = are in let (known, _) = bytes_are in let (_, room) = known in let (fits, _) = room in
+      via 𝓤 _ (fst∗ 𝓤 _ (emp 𝓤)) (walk κs qs a fits))
 
 meets : {M : Type 1} {𝓤 : Ura M} (𝓛 : Logic 𝓤) (mem : Memory → SProp 𝓤) (run : Routine → Fun 𝓤) (𝓣 : Tables 𝓤 𝓛.H)
     → Meets 𝓛 f.signature (WpFn 𝓤 𝓛.H 𝓣.C 𝓣.Λ code.function) (f.spec 𝓛 mem run)
