@@ -73,8 +73,8 @@ def call_row(row):
 def own_methods():
     """The methods of `call` lines: the word, the shapes of the arguments, and the variant of the call."""
     text = (SCRIPT / "Methods.antt").read_text()
-    found = re.findall(r'method \(codes "(\w+)"\)\s+\(from_\w+((?:\s+\w+_shape)*)\s+call\.(\w+)\)', text)
-    if len(found) != text.count('method (codes "'):
+    found = re.findall(r'\(codes "(\w+)", from_\w+((?: \w+_shape)*) call\.(\w+)\)', text)
+    if len(found) != text.count('codes "'):
         raise Fault("a row of the methods has another form")
     return [(word, "call", shapes.split(), variant) for word, shapes, variant in found]
 

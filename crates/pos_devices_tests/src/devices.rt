@@ -1,8 +1,10 @@
-use crate::steps::{Step, played};
+use crate::steps::{NEW_SIGNS, Step, control, played, tells};
+use pos_common::Control;
 use pos_service::display_text::DisplayCell;
 use pos_service::receipt_text::{Alignment, Mark, PrintedCharacter};
 use pos_service::{
-    Bytes, Call, Code, Event, Input, Locus, Mechanism, NoMemory, Property, Snapshot, Value,
+    Answer, Bytes, Call, Category, Code, Event, Input, Locus, Mechanism, NoMemory, OpenTarget,
+    PaperLevel, Property, Signs, Snapshot, Value,
 };
 use pos_sims::{PlainDisplay, PlainDrawer, PlainScanner, RollPrinter};
 use std::alloc::Global;
@@ -51,6 +53,54 @@ fn a_control_is_told_of_its_devices_power(rt: HostRuntime) -> Result<(), Fail> {
     let shown = played(rt.alloc(), &mut drawer, &steps, &events)?;
     assert!(rt; matches!(mechanism_of(&shown), Some(Mechanism::Drawer(true))));
     Ok(())
+}
+
+/// Sets these properties of a control that holds nothing. Whether all are done.
+fn sets(control: &mut Control, properties: [(Property, Value); 3]) -> bool {
+    let mut all = true;
+    for (property, value) in &properties {
+        let set = control.set(0, Some(0), None, NEW_SIGNS, *property, value);
+        all = all && matches!(set, Ok(Answer::Done(_)));
+    }
+    all
+}
+
+/// All signs of a device that differ from those of a new one.
+const OTHER_SIGNS: Signs = Signs {
+    powered: false,
+    drawer_open: true,
+    cover_open: true,
+    paper: PaperLevel::Empty,
+};
+
+#[test]
+fn signs_that_change_at_once_are_told_in_order(rt: HostRuntime) {
+    let mut drawer = control(rt.alloc(), Category::CashDrawer);
+    let properties = [
+        (Property::DeviceEnabled, Value::Truth(false)),
+        (Property::PowerNotify, Value::Number(1)),
+        (Property::DeviceEnabled, Value::Truth(true)),
+    ];
+    assert!(rt; sets(&mut drawer, properties));
+    assert!(rt; tells(&mut drawer, &[Event::StatusUpdate(2001)]));
+    assert!(rt; drawer.room_for(0, 4).is_ok());
+    drawer.hear(0, NEW_SIGNS, OTHER_SIGNS);
+    let changes = [1, 11, 24, 2004].map(Event::StatusUpdate);
+    assert!(rt; tells(&mut drawer, &changes));
+}
+
+#[test]
+fn a_closed_control_hears_nothing(rt: HostRuntime) {
+    let mut drawer = control(rt.alloc(), Category::CashDrawer);
+    assert!(rt; drawer.room_for(0, 8).is_ok());
+    drawer.hear(0, NEW_SIGNS, OTHER_SIGNS);
+    assert!(rt; drawer.has_deliverable());
+    assert!(rt; matches!(drawer.close(), Answer::Done(_)));
+    assert!(rt; !drawer.has_deliverable());
+    drawer.hear(0, OTHER_SIGNS, NEW_SIGNS);
+    assert!(rt; tells(&mut drawer, &[]));
+    drawer.open(OpenTarget::At(0));
+    assert!(rt; tells(&mut drawer, &[]));
 }
 
 /// A scan and a fault, behind which the last scan is cleared.

@@ -28,7 +28,7 @@ pub enum Step {
 }
 
 /// What a new device shows.
-const NEW_SIGNS: Signs = Signs {
+pub const NEW_SIGNS: Signs = Signs {
     powered: true,
     drawer_open: false,
     cover_open: false,
@@ -204,7 +204,7 @@ fn is_cursor_place(kind: Kind, place: Place) -> bool
 }
 
 /// Whether the control delivers these events, and then none.
-fn tells(control: &mut Control, events: &[Event]) -> bool {
+pub fn tells(control: &mut Control, events: &[Event]) -> bool {
     for event in events {
         if control.deliver(ErrorReply::Default) != Some(*event) {
             return false;

@@ -25,17 +25,17 @@ use Rattle.pos_wire.specs.Orders.{AllShow, HasNoBytes, Sends, SendsOrder, has_by
 use Rattle.pos_wire.specs.Settings.{cut_of, kick_of}
 
 -- a drawer that takes an order opens by it
+drawer_opens : (asked : Order) (was : Bool) → order_fits kind.Drawer asked ≡ true
+    → Obeys asked (mechanism.Drawer was) reply.Done (mechanism.Drawer true)
+drawer_opens order.ClearText was fits = grind arith
+drawer_opens asked was fits = grind arith
+
 opens : (asked : Order) (old : Mechanism) → IsMechanismOf kind.Drawer old → order_fits kind.Drawer asked ≡ true
     → Obeys asked old reply.Done (mechanism.Drawer true)
-opens order.OpenDrawer (mechanism.Drawer was) is fits = refl
-opens order.OpenDrawer mechanism.Scanner is fits = grind arith
-opens order.OpenDrawer (mechanism.Display shown) is fits = grind arith
-opens order.OpenDrawer (mechanism.Printer printed) is fits = grind arith
-opens (order.ShowText row column style bytes) old is fits = grind arith
-opens order.ClearText old is fits = grind arith
-opens (order.Scroll direction units) old is fits = grind arith
-opens (order.Print bytes) old is fits = grind arith
-opens (order.Cut percentage) old is fits = grind arith
+opens asked (mechanism.Drawer was) is fits = drawer_opens asked was fits
+opens asked mechanism.Scanner is fits = absurd is
+opens asked (mechanism.Display shown) is fits = absurd is
+opens asked (mechanism.Printer printed) is fits = absurd is
 
 -- a pulse for it
 pulses : (settings : WireSettings) (is_new : Bool) (end : JobEnd) (asked : Order) (old : Mechanism) (bytes : List ℕ)
