@@ -52,3 +52,14 @@ fn a_failed_write_puts_down_half(rt: HostRuntime) -> Result<(), Fail> {
     assert!(rt; leave(rt.alloc(), &disk, [old, new, [1, 20, 9, 9, 9, 1]])?);
     Ok(())
 }
+
+#[test]
+fn a_read_changes_nothing(rt: HostRuntime) -> Result<(), Fail> {
+    let mut disk = written(rt.alloc(), 3)?;
+    let mut bytes = [0; 3];
+    assert!(rt; disk.len() >= 8);
+    assert!(rt; disk.read(2, &mut bytes).is_ok() && bytes == [31, 41, 51]);
+    let (old, new) = ([1, 20, 30, 1, 1, 1], [1, 20, 31, 41, 51, 1]);
+    assert!(rt; leave(rt.alloc(), &disk, [old, new, [1, 20, 9, 9, 9, 1]])?);
+    Ok(())
+}

@@ -4,7 +4,7 @@ ghost use Rattle.pos_image.specs.Images.{IsReady};
 ghost use Rattle.pos_image.specs.Layout.{layout_of};
 ghost use Rattle.pos_image.specs.declared.layout.Layout.TheVariants.{Layout1};
 
-use crate::shared_disks::{FORMATTED, FOURTH, SECOND, THIRD, bytes_of, disk_of, has};
+use crate::shared_disks::{FORMATTED, FOURTH, SECOND, SIZE, THIRD, bytes_of, disk_of, has};
 use pos_disk::{Disk, Fill, FuseDisk, MemDisk};
 use pos_image::{ImageFault, Images, Layout};
 use std::alloc::Global;
@@ -46,6 +46,8 @@ fn bytes_of_the_layout(rt: HostRuntime) -> Result<(), Fail> {
     for gate in [16_384, SECOND, 49_152, THIRD, FOURTH] {
         assert!(rt; has(&bytes, gate - 1, &[0x5A, 0, 0x5A]), "{gate}");
     }
+    let kept = bytes.iter().filter(|byte| **byte == 0x5A).count();
+    assert_eq!(rt; kept, SIZE - 20);
     let mut disk = replace_body(alloc, disk, &[1, 2, 3])?;
     let bytes = bytes_of(alloc, &mut disk)?;
     assert!(rt; has(&bytes, 0, &FORMATTED) && has(&bytes, SECOND, &OTHER));
@@ -54,6 +56,27 @@ fn bytes_of_the_layout(rt: HostRuntime) -> Result<(), Fail> {
     let third = [0xA5, 0, 0, 0, 0, 0, 0, 0, 3, 0, 0, 0x3F, 0xF3, 7];
     assert!(rt; has(&bytes, 0, &third) && has(&bytes, 16_383, &[7, 0, 0x5A]));
     assert!(rt; has(&bytes, SECOND, &OTHER));
+    Ok(())
+}
+
+// The bytes of a disk before and after the second image is published.
+fn published(alloc: Global, disk: MemDisk) -> Result<(Vec<u8>, Vec<u8>), Fail> {
+    let mut images = open(alloc, disk)?;
+    images.prepare(&[1, 2, 3])?;
+    let before = bytes_of(alloc, &mut images.disk().crash(Fill::New)?)?;
+    images.publish()?;
+    let after = bytes_of(alloc, &mut images.into_disk())?;
+    Ok((before, after))
+}
+
+#[test]
+fn publishing_writes_one_byte(rt: HostRuntime) -> Result<(), Fail> {
+    let alloc = rt.alloc();
+    let (before, after) = published(alloc, format(disk_of(alloc, 0x5A, &[])?)?)?;
+    let pairs = before.iter().zip(after.iter());
+    assert!(rt; before.len() == SIZE && after.len() == SIZE);
+    assert_eq!(rt; pairs.filter(|(one, other)| one != other).count(), 1);
+    assert!(rt; has(&before, SECOND, &[0]) && has(&after, SECOND, &[0xA5]));
     Ok(())
 }
 
