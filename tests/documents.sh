@@ -503,7 +503,9 @@ def commits(documents):
     shallow = git(["git", "rev-parse", "--is-shallow-repository"]).stdout.strip()
     for document, text in of_documents(documents):
         looked += 1
-        for word in re.findall(r"(?<![\w.])(?<!`ok )(?:[0-9a-f]{7,12}|[0-9a-f]{40})(?!\w|\.\w)", without_blocks(text)):
+        # the bytes in a line of a script, quoted with its answer, are no commit's id
+        text = re.sub(r'"[^"\n]*" => ', "", without_blocks(text))
+        for word in re.findall(r"(?<![\w.])(?<!`ok )(?:[0-9a-f]{7,12}|[0-9a-f]{40})(?!\w|\.\w)", text):
             if not re.search(r"[a-f]", word) or not re.search(r"\d", word):
                 continue
             if git(["git", "cat-file", "-e", word + "^{commit}"]).returncode != 0:

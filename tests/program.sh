@@ -357,6 +357,7 @@ printf 'new a HardTotals\nopen a t1\nset a DeviceEnabled true\ncall a create 41 
 told 'the calls of two changes' sswswswswst "$(calls run --profile sound.toml --disk traced.disk)"
 printf 'new a HardTotals\nopen a t1\nset a DeviceEnabled true\ncall a create 41 4 false\ncall a read 1 0 4\n' > script
 told 'the calls of a refused change and a read' sst "$(calls run --profile sound.toml --disk traced.disk)"
+told 'a refused change and a read: output' "$(printf 'ok\nok\nok\nerr 110\nok 07070707')" "$(cat out)"
 printf 'new a HardTotals\nopen a t1\nset a DeviceEnabled true\ncall a beginTrans\ncall a write 1 0 0102\n' > script
 told 'the calls of a write in a transaction' sst "$(calls run --profile sound.toml --disk traced.disk)"
 told 'a write in a transaction: output' "$(printf 'ok\nok\nok\nok\nok')" "$(cat out)"
