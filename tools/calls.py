@@ -26,6 +26,7 @@ this page from [abi/description.json](../../abi/description.json). [model.md](mo
   E_CLAIMED, E_NOTCLAIMED and E_DISABLED come before them, as claim and enabled say. A failed disk shows last.
 - **Memory**: the call may be answered that there was none, and then changes nothing.
 - **Set**: the property is writable, in this range. A value of another type is E_ILLEGAL.
+- **Meaning**: what reading the property answers, if it isn't refused.
 """
 CLAIMS = {"any": "", "own": "own", "no_other": "no other's"}
 COMMON = {"E_CLOSED", "E_CLAIMED", "E_NOTCLAIMED", "E_DISABLED"}

@@ -1,4 +1,4 @@
-use Rattle.std.proofs.Common.{◌≡◌, true, rules}
+use Rattle.std.proofs.Common.{◌≡◌, rules}
 use Rattle.std.proofs.lemmas.Result.{IfOk-weaker}
 use Rattle.pos_service.specs.declared.order.Reply.TheVariants as reply
 use Rattle.pos_service.specs.declared.plant.Mechanism.TheVariants as mechanism

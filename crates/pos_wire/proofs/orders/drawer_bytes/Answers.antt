@@ -1,4 +1,4 @@
-use Rattle.std.proofs.Common.{◌≡◌, ◌∷◌, ℕ, [], false, true, rules, subst}
+use Rattle.std.proofs.Common.{◌∷◌, ℕ, [], false, rules, subst}
 use Rattle.pos_escpos.specs.declared.settings.DrawerKick.{DrawerKick}
 use Rattle.pos_escpos.specs.PrinterCommands.{kick_pulse}
 use Rattle.pos_service.specs.Peripherals.{IsOn}
