@@ -59,22 +59,22 @@ fn bytes_of_the_layout(rt: HostRuntime) -> Result<(), Fail> {
     Ok(())
 }
 
-// The bytes of a disk before and after the second image is published.
-fn published(alloc: Global, disk: MemDisk) -> Result<(Vec<u8>, Vec<u8>), Fail> {
+// Opens a disk, prepares an image with this body, and gives the disk back.
+fn prepare_body(alloc: Global, disk: MemDisk, body: &[u8]) -> Result<MemDisk, ImageFault> {
     let mut images = open(alloc, disk)?;
-    images.prepare(&[1, 2, 3])?;
-    let before = bytes_of(alloc, &mut images.disk().crash(Fill::New)?)?;
-    images.publish()?;
-    let after = bytes_of(alloc, &mut images.into_disk())?;
-    Ok((before, after))
+    images.prepare(body)?;
+    Ok(images.into_disk())
 }
 
 #[test]
 fn publishing_writes_one_byte(rt: HostRuntime) -> Result<(), Fail> {
     let alloc = rt.alloc();
-    let (before, after) = published(alloc, format(disk_of(alloc, 0x5A, &[])?)?)?;
-    let pairs = before.iter().zip(after.iter());
+    let mut disk = prepare_body(alloc, format(disk_of(alloc, 0x5A, &[])?)?, &[1, 2, 3])?;
+    let before = bytes_of(alloc, &mut disk)?;
+    let mut disk = replace_body(alloc, format(disk_of(alloc, 0x5A, &[])?)?, &[1, 2, 3])?;
+    let after = bytes_of(alloc, &mut disk)?;
     assert!(rt; before.len() == SIZE && after.len() == SIZE);
+    let pairs = before.iter().zip(after.iter());
     assert_eq!(rt; pairs.filter(|(one, other)| one != other).count(), 1);
     assert!(rt; has(&before, SECOND, &[0]) && has(&after, SECOND, &[0xA5]));
     Ok(())
