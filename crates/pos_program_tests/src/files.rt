@@ -95,18 +95,23 @@ fn bytes_of_totals(rt: HostRuntime) -> Result<(), Fail> {
 }
 
 #[test]
-fn files_that_cannot_be_read(rt: HostRuntime) {
+fn files_that_cannot_be_read(rt: HostRuntime) -> Result<(), Fail> {
+    let folder = "files_that_cannot_be_read";
+    let _ = fs::remove_dir_all(&rt, folder);
+    fs::create_dir(&rt, folder)?;
     assert!(rt;
         matches!(
-            format_file(&SystemFiles::of(&rt), "."),
+            format_file(&SystemFiles::of(&rt), folder),
             Err(FileFault::Open(_))
         )
     );
-    assert!(rt; matches!(read_totals(&rt, "."), Err(FileFault::NotRead)));
-    let outcome = read_profile(&rt, ".");
+    assert!(rt; matches!(read_totals(&rt, folder), Err(FileFault::NotRead)));
+    let outcome = read_profile(&rt, folder);
     assert!(rt; matches!(outcome, Err(ProfileFileFault::Unreadable(_))));
     let outcome = open_run(&SystemFiles::of(&rt), "", "");
     assert!(rt; matches!(outcome, Err(Fault::Profile { path: "", .. })));
+    fs::remove_dir_all(&rt, folder)?;
+    Ok(())
 }
 
 #[test]
