@@ -3,8 +3,8 @@ use pos_common::Control;
 use pos_service::display_text::DisplayCell;
 use pos_service::receipt_text::{Alignment, Mark, PrintedCharacter};
 use pos_service::{
-    Answer, Bytes, Call, Category, Code, Event, Input, Locus, Mechanism, NoMemory, OpenTarget,
-    PaperLevel, Property, Signs, Snapshot, Value,
+    Answer, Bytes, Call, Category, Code, Event, Input, Locus, Mechanism, NoMemory, PaperLevel,
+    Property, Signs, Snapshot, Value,
 };
 use pos_sims::{PlainDisplay, PlainDrawer, PlainScanner, RollPrinter};
 use std::alloc::Global;
@@ -55,7 +55,7 @@ fn a_control_is_told_of_its_devices_power(rt: HostRuntime) -> Result<(), Fail> {
     Ok(())
 }
 
-/// Sets these properties of a control that holds nothing. Whether all are done.
+/// Sets these properties of the control with the number 0, which holds its device. Whether all are done.
 fn sets(control: &mut Control, properties: [(Property, Value); 3]) -> bool {
     let mut all = true;
     for (property, value) in &properties {
@@ -90,16 +90,13 @@ fn signs_that_change_at_once_are_told_in_order(rt: HostRuntime) {
 }
 
 #[test]
-fn a_closed_control_hears_nothing(rt: HostRuntime) {
+fn a_closed_control_is_delivered_nothing(rt: HostRuntime) {
     let mut drawer = control(rt.alloc(), Category::CashDrawer);
-    assert!(rt; drawer.room_for(0, 8).is_ok());
+    assert!(rt; drawer.room_for(0, 4).is_ok());
     drawer.hear(0, NEW_SIGNS, OTHER_SIGNS);
     assert!(rt; drawer.has_deliverable());
     assert!(rt; matches!(drawer.close(), Answer::Done(_)));
     assert!(rt; !drawer.has_deliverable());
-    drawer.hear(0, OTHER_SIGNS, NEW_SIGNS);
-    assert!(rt; tells(&mut drawer, &[]));
-    drawer.open(OpenTarget::At(0));
     assert!(rt; tells(&mut drawer, &[]));
 }
 

@@ -24,7 +24,7 @@ use Rattle.pos_wire.specs.Frames.{AllDo, Does, asked_first, asked_last}
 use Rattle.pos_wire.specs.Orders.{AllShow, HasNoBytes, Sends, SendsOrder, has_bytes, known_before, lit}
 use Rattle.pos_wire.specs.Settings.{cut_of, kick_of}
 
--- a drawer that takes an order opens by it
+-- A drawer that takes an order opens by it. That one order is named makes the last line one for each of the others.
 drawer_opens : (asked : Order) (was : Bool) → order_fits kind.Drawer asked ≡ true
     → Obeys asked (mechanism.Drawer was) reply.Done (mechanism.Drawer true)
 drawer_opens order.ClearText was fits = grind arith
