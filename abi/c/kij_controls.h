@@ -392,7 +392,7 @@ typedef enum kij_property {
      */
     KIJ_PROP_TOTALS_SIZE = 28,
     /**
-     * FreeData (Hard Totals): how many bytes are left for new files.
+     * FreeData (Hard Totals): how many bytes are left for new files, which is TotalsSize less the sizes of all files.
      * Of HardTotals: a number, read only. In bytes.
      * Reading: KIJ_E_CLOSED: the control is closed.
      * Reading: KIJ_E_DISABLED: the control is disabled.

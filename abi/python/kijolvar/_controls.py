@@ -978,7 +978,7 @@ class HardTotals(StandardControl):
 
     @property
     def free_data(self) -> int:
-        """How many bytes are left for new files.
+        """How many bytes are left for new files, which is TotalsSize less the sizes of all files.
 
         It counts bytes.
 

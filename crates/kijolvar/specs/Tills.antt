@@ -10,8 +10,8 @@ use Rattle.pos_script.specs.Lines.{lines_of}
 use Rattle.pos_streams.specs.Streams.{given_with}
 use Rattle.pos_streams.specs.Transfers.{given_to}
 use Rattle.pos_run.specs.LineRuns.{RunsGivenLines, session_of}
-use Rattle.pos_run.specs.Runs.{begun_with, off_over}
-use Rattle.pos_run.specs.Simulations.{simulated_all, simulated_devices}
+use Rattle.pos_run.specs.Runs.{off_over}
+use Rattle.pos_run.specs.Simulations.{simulated_all, simulated_machine}
 use Rattle.pos_run.specs.declared.waiting_lines.LineProgress.TheVariants.{Printed}
 use Rattle.pos_run.specs.Transcript.{Session, begun_session}
 use Rattle.kijolvar.specs.declared.device.Device.{Device}
@@ -44,7 +44,7 @@ pub record Begins (peripherals : Ghosts Device) (contents : Contents) (disk : Ho
     (till : TillState) : Type 0 where
   pub profile : till.profile ≡ contents
   pub served : (part : TotalsPart)
-      → machine peripherals till.counter part ≡ begun_with (simulated_devices contents.devices) part
+      → machine peripherals till.counter part ≡ simulated_machine contents.devices part
   pub totals : till.counter.totals ≡ off_over disk
   pub session : session_in peripherals till ≡ begun_session (simulated_all contents.spares)
   pub answer : given_to till.answer ≡ given_with [] 0

@@ -4,6 +4,7 @@ use Rattle.pos_common.proofs.Common.{None, Ok, Option, Result, Row, SameHardware
 use Rattle.pos_common.proofs.Common.{ℕ, ◌≡◌}
 use Rattle.pos_common.specs.OwnCalls.{OwnCall, OwnOrders, own_refusals}
 use Rattle.pos_service.specs.Calls.{takes_memory}
+use Rattle.pos_service.specs.Controls.{open_place}
 use Rattle.pos_service.specs.Actions.{Does, MayWantFor, OrdersBy, may_want}
 use Rattle.pos_service.specs.Peripherals.{counted}
 use Rattle.pos_service.specs.declared.answer.Answer.TheVariants as answer
@@ -54,7 +55,7 @@ module _ (k : Category) (n : ℕ) (claims : List (Option ℕ)) (asked : Call) (o
   -- it comes to an action
   pub done_call : (d : Action) (place : ℕ) (outcome : Result Answer NoMemory) (new : List Control)
       (before after : Hardware)
-      → one.device ≡ Some place → first_refusal refusals ≡ None → comes_to one ≡ Some d → MayWantFor asked d
+      → open_place one.device ≡ Some place → first_refusal refusals ≡ None → comes_to one ≡ Some d → MayWantFor asked d
       → MatchResult outcome (λ result. Does d n place result olds before new after)
       (λ want. IsTrue (may_want d) × SameHardware olds before new after)
       → Called outcome before new after

@@ -1,39 +1,42 @@
 -- The calls of a category's own, at the device of the control that makes them (common chapter).
-use Rattle.std.specs.Prelude.{◌≡◌, ◌⊎◌, ℕ, true, List, Option, Some, None, Result, IsTrue, MatchOption, MatchResult}
+use Rattle.std.specs.Prelude.{◌≡◌, ◌⊎◌, ℕ, true, List, ◌∷◌, Option, Some, None, Result, IsTrue, MatchOption}
+use Rattle.std.specs.Prelude.{MatchResult, is_none}
 use Rattle.pos_service.specs.declared.answer.Answer.{Answer}
 use Rattle.pos_service.specs.declared.answer.Answer.TheVariants as answer
 use Rattle.pos_service.specs.declared.call.Call.{Call}
 use Rattle.pos_service.specs.declared.category.Category.{Category}
 use Rattle.pos_service.specs.declared.code.Code.{Code}
+use Rattle.pos_service.specs.declared.code.Code.TheVariants as code
 use Rattle.pos_service.specs.declared.action.Action.{Action}
 use Rattle.pos_service.specs.declared.faults.NoMemory.{NoMemory}
 use Rattle.pos_service.specs.Calls.{has_call, needs_of, takes_memory}
 use Rattle.pos_service.specs.Claims.{holder_at}
-use Rattle.pos_service.specs.Controls.{Control}
+use Rattle.pos_service.specs.Controls.{Control, open_place}
 use Rattle.pos_service.specs.Actions.{Does, OrdersBy}
 use Rattle.pos_service.specs.Hardware.{Effect, SameHardware}
 use Rattle.pos_service.specs.Needs.{table}
 use Rattle.pos_service.specs.Peripherals.{counted}
-use Rattle.pos_service.specs.Refusals.{Row, Decided, first_refusal}
+use Rattle.pos_service.specs.Refusals.{Row, Decided, first_refusal, when}
 
--- the refusals of a call of a category's own on the control with a number: what it asks of the control, by the claims
--- of all devices, and then the category's rows
+-- the refusals of a call of a category's own on the control with a number: that it has no device with a place open,
+-- what it asks of the control, by the claims of all devices, and then the category's rows
 abbrev pub own_refusals : Category → List Row → ℕ → List (Option ℕ) → Call → Control → List Row
 own_refusals c rows number claims asked control =
-    table number (holder_at claims control.device) control (needs_of c asked) rows
+    let place = open_place control.device in
+    when (is_none place) code.Closed ∷ table number (holder_at claims place) control (needs_of c asked) rows
 
 -- What the check of the control decides of such a call. The device is at this place, the category has the call, and its
 -- rows decide. Otherwise the call is refused with a code, whatever the rows.
 abbrev pub ChecksCall : Category → ℕ → List (Option ℕ) → Call → Control → Result ℕ Code → Type 0
 ChecksCall c number claims asked control outcome = MatchResult outcome
-    (λ place. (control.device ≡ Some place) × (has_call c asked ≡ true)
+    (λ place. (open_place control.device ≡ Some place) × (has_call c asked ≡ true)
     × ((rows : List Row) → first_refusal (own_refusals c rows number claims asked control) ≡ first_refusal rows))
     (λ code. (rows : List Row) →
     first_refusal (own_refusals c rows number claims asked control) ≡ Some (answer.Refused code 0))
 
 -- what it does at the control's device: what it comes to
 abbrev pub OwnDoes : Option Action → ℕ → Answer → Control → Effect
-OwnDoes comes_to number result control old before new after = MatchOption control.device ⊥ (λ place.
+OwnDoes comes_to number result control old before new after = MatchOption (open_place control.device) ⊥ (λ place.
     MatchOption comes_to ⊥ (λ action. Does action number place result old before new after))
 
 -- Such a call, by the category's rows and what it comes to: it is refused by its table, which changes nothing, or it

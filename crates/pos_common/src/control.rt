@@ -1,6 +1,6 @@
 //! A control: an application's hold of a device.
 ghost use Rattle.std.specs.Prelude.{◌≡◌};
-ghost use Rattle.pos_service.specs.Controls.{is_notified, new_control};
+ghost use Rattle.pos_service.specs.Controls.{is_notified, new_control, open_place};
 ghost use Rattle.pos_service.specs.Actions.{changed};
 
 mod calls;
@@ -14,7 +14,7 @@ pub use events::WORK_EVENTS;
 pub(crate) use events::{INPUT_EVENTS, SIGN_EVENTS};
 use pos_events::EventQueue;
 use pos_service::display_text::Cursor;
-use pos_service::{Category, ControlUpdate, Settings};
+use pos_service::{Category, ControlUpdate, OpenDevice, Settings};
 use std::alloc::Global;
 use std::marker::Model;
 
@@ -23,7 +23,7 @@ use std::marker::Model;
 #[derive(Drop)]
 pub struct Control {
     category: Category,
-    device: Option<usize>,
+    device: Option<OpenDevice>,
     is_enabled: bool,
     settings: Settings,
     shown: ShownScan,
@@ -91,11 +91,21 @@ impl Control {
         self.category.reports_power() && self.settings.power_notify
     }
 
-    /// Returns the place in the profile of the device that it has open, if any.
-    pub fn device(&self) -> Option<usize>
+    /// Returns the device that it has open, if any.
+    pub fn device(&self) -> Option<OpenDevice>
         ensures { result ≡ self.now.control.device }
     {
         self.device
+    }
+
+    /// Returns the place of the device that it has open. It is `None` if the control is closed or on the Hard Totals.
+    pub fn place(&self) -> Option<usize>
+        ensures { result ≡ open_place self.now.control.device }
+    {
+        match self.device {
+            Some(OpenDevice::At(place)) => Some(place),
+            _ => None,
+        }
     }
 
     /// Returns CursorRow, CursorColumn and CursorUpdate (chapter Line Display).

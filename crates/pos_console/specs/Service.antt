@@ -1,5 +1,5 @@
 -- What the program does with a script (docs/reference/console.md, "The program").
-use Rattle.std.specs.Prelude.{◌∷◌, [], false, List, Some, None, Result, codes}
+use Rattle.std.specs.Prelude.{◌∷◌, [], false, List, Some, Result, codes}
 use Rattle.pos_counter.specs.Machine.{Device, Machine}
 use Rattle.pos_sims.specs.Drawers.{drawer_state}
 use Rattle.pos_sims.specs.LineDisplays.{display_state}
@@ -17,10 +17,6 @@ use Rattle.pos_run.specs.Streams.{Streams}
 use Rattle.pos_run.specs.Transcript.{Session, begun_session}
 use Rattle.pos_run.specs.Runs.{RunsScript, begun_with, device_with, new_totals}
 
--- the device of Hard Totals, which has no peripheral
-abbrev pub totals_device : Device
-totals_device = record { name = codes "t1"; kind = None; hardware = None }
-
 -- the devices of the built profile, served by the program's peripherals: a closed drawer, a scanner, a blank display
 -- of 2 rows of 4 columns, and a printer of 8 characters a line with 5 lines of paper, which are near their end at 2
 abbrev pub start_devices : List Device
@@ -28,17 +24,16 @@ start_devices =
     device_with (codes "d1") kind.Drawer (Some (drawer_state false false))
     ∷ device_with (codes "s1") kind.Scanner (Some (scanner_state false 0))
     ∷ device_with (codes "p1") (kind.Display 2 4) (Some (display_state (blank_display 2 4) false))
-    ∷ device_with (codes "r1") (kind.Printer 8 2) (Some (printer_state (empty_roll 8 5) 2 false))
-    ∷ totals_device ∷ []
+    ∷ device_with (codes "r1") (kind.Printer 8 2) (Some (printer_state (empty_roll 8 5) 2 false)) ∷ []
 
 -- the program's spares in service: a closed drawer
 abbrev pub start_spares : SpareStates
 start_spares = Some (drawer_state false false) ∷ []
 
--- the machine as the program begins: no control, no claim, its devices, and the totals off over a disk that was
--- formatted
+-- the machine as the program begins: no control, no claim, its devices, and the totals t1, which are off over a disk
+-- that was formatted
 abbrev pub start : Machine
-start = begun_with start_devices (new_totals (Stands Layout1 [] 1 ∷ []) 0)
+start = begun_with start_devices (Some (codes "t1")) (new_totals (Stands Layout1 [] 1 ∷ []) 0)
 
 -- What the program without words does with a script: a run from where it begins.
 pub record Serves (streams : Streams) (result : Result (Unit {0}) RunFault) : Type 0 where

@@ -31,11 +31,11 @@ pub use Rattle.pos_profile.specs.Registries.{Attaches, Detaches, Device as Regis
 pub use Rattle.pos_profile.specs.Registries.{IsServed, devices as registered, names_of, parked, parked_state}
 pub use Rattle.pos_profile.specs.Registries.{planned_of, standing_at, vacant, vacant_devices, with_peripheral}
 pub use Rattle.pos_profile.specs.declared.entry.Entry.{Entry}
-pub use Rattle.pos_service.specs.Calls.{has_call, is_common, needs_of, place_found, takes_memory as own_takes_memory}
+pub use Rattle.pos_service.specs.Calls.{device_found, has_call, is_common, needs_of, takes_memory as own_takes_memory}
 pub use Rattle.pos_service.specs.Categories.{is_exclusive, serves}
 pub use Rattle.pos_service.specs.Claims.{after_release, claimed_by, holder_at, is_foreign, released_by}
 pub use Rattle.pos_service.specs.Controls.{Control, all_listening, closed, delivered, if_listening, listens}
-pub use Rattle.pos_service.specs.Controls.{new_control, opened, stopped}
+pub use Rattle.pos_service.specs.Controls.{is_at, new_control, open_place, opened, stopped}
 pub use Rattle.pos_service.specs.Actions.{ChangesOne, Does as CarriesOut, Follows, MayWantFor, Ordered, changed}
 pub use Rattle.pos_service.specs.Actions.{may_want}
 pub use Rattle.pos_service.specs.Displays.{Strip, attribute_of, direction_of, fed, is_cursor_place, origin, place_left}
@@ -53,6 +53,9 @@ pub use Rattle.pos_service.specs.declared.answer.Answer.{Answer}
 pub use Rattle.pos_service.specs.declared.answer.Value.{Value}
 pub use Rattle.pos_service.specs.declared.call.Call.{Call}
 pub use Rattle.pos_service.specs.declared.category.Category.{Category}
+pub use Rattle.pos_service.specs.declared.context.OpenDevice.TheVariants.{At, Totals as TheTotals}
+pub use Rattle.pos_service.specs.declared.context.OpenDevice.{OpenDevice}
+pub use Rattle.pos_service.specs.declared.context.OpenTarget.{OpenTarget}
 pub use Rattle.pos_service.specs.declared.code.Code.{Code}
 pub use Rattle.pos_service.specs.declared.action.ControlUpdate.{ControlUpdate}
 pub use Rattle.pos_service.specs.declared.action.Action.{Action}
@@ -96,26 +99,27 @@ pub use Rattle.pos_counter.specs.History.{FilesEvent, FilesFound, Group, GroupAc
 pub use Rattle.pos_counter.specs.History.{NothingDone, after_groups, begun, changes_asked, changes_of, decided}
 pub use Rattle.pos_counter.specs.History.{event_between, event_of, files_after, has_made, history_along, history_of}
 pub use Rattle.pos_counter.specs.History.{history_with, is_same, listed, told, with_settled, without_doubt}
-pub use Rattle.pos_counter.specs.KeptDevices.{AreDevicesSound, device_of, devices_in, devices_of, has_kind}
-pub use Rattle.pos_counter.specs.KeptDevices.{profile_devices, totals_devices, totals_place}
+pub use Rattle.pos_counter.specs.KeptDevices.{AreDevicesSound, device_of, devices_in, devices_of, profile_devices}
+pub use Rattle.pos_counter.specs.KeptDevices.{totals_name}
 pub use Rattle.pos_counter.specs.Leaving.{IsSettled, Leaves, Spared, part_of, part_with}
-pub use Rattle.pos_counter.specs.Machine.{Device, Machine, device_at, found_at, hardware_in, holder_in, holder_of}
-pub use Rattle.pos_counter.specs.Machine.{kind_in, kind_of, machine_with, place_from, place_of, signs_at, with_control}
-pub use Rattle.pos_counter.specs.Machine.{with_totals}
+pub use Rattle.pos_counter.specs.Machine.{Device, Machine, device_at, found_among, found_at, found_under, hardware_in}
+pub use Rattle.pos_counter.specs.Machine.{holder_in, holder_of, kind_in, kind_of, machine_with, place_of, signs_at}
+pub use Rattle.pos_counter.specs.Machine.{totals_under, with_control, with_totals}
 pub use Rattle.pos_counter.specs.Prefixes.{BeginsWith, IsPrefix, IsPrefixAlong, IsPrefixInside, IsPrefixOf}
 pub use Rattle.pos_counter.specs.Prefixes.{LeavesPrefix, LeavesPrefixInside, StandsForSome, StartsWith, moved_with}
 pub use Rattle.pos_counter.specs.Reopening.{FindsThem, enabling}
 pub use Rattle.pos_counter.specs.Responses.{HandsOut, OffersInService, answered, attached, detached, request_of}
 pub use Rattle.pos_counter.specs.Responses.{response_of, steps_of}
 pub use Rattle.pos_counter.specs.Sparing.{StepSparing}
-pub use Rattle.pos_counter.specs.Steps.{Answered, Attach, CallOf, CategoryDoes, Delivered, Detach, DeviceDoes, Does}
-pub use Rattle.pos_counter.specs.Steps.{FindsWork, HasItsDevice, HasItsKind, IsAttached, IsDetached, IsPlaceOn, IsSound}
+pub use Rattle.pos_counter.specs.Steps.{Answered, Attach, CallOf, Delivered, Detach, DeviceDoes, Does, DoesOwn}
+pub use Rattle.pos_counter.specs.Steps.{FindsWork, HasItsDevice, HasItsKind, IsAttached, IsDetached, IsOpenFor}
+pub use Rattle.pos_counter.specs.Steps.{IsPlaceOn, IsServed as IsServedFor, IsSound}
 pub use Rattle.pos_counter.specs.Steps.{OnHardware, OutOfMemory, Request, Response, Run, Sets, SetsByRecovery, Step}
-pub use Rattle.pos_counter.specs.Steps.{WorkOn, Worked, category_rows, claimed, device_action, device_rows, dropped}
-pub use Rattle.pos_counter.specs.Steps.{context_of, has_open, is_open_at, is_place, is_taken, most_controls, refusals}
-pub use Rattle.pos_counter.specs.Steps.{released, takes_memory}
+pub use Rattle.pos_counter.specs.Steps.{WorkOn, Worked, claimed, context_of, device_action, device_rows, dropped}
+pub use Rattle.pos_counter.specs.Steps.{has_open, is_open_at, is_taken, most_controls, own_rows, refusals, released}
+pub use Rattle.pos_counter.specs.Steps.{takes_memory}
 pub use Rattle.pos_counter.specs.Totals.{FilesCalled, PutsChanges, Recovered, Recovers, TotalsDo, TotalsPart}
-pub use Rattle.pos_counter.specs.Totals.{asks_recovery, is_totals, left_after, put_at_once, recovers, settled}
+pub use Rattle.pos_counter.specs.Totals.{asks_recovery, is_totals_open, left_after, put_at_once, recovers, settled}
 pub use Rattle.pos_counter.specs.declared.counter.Counter.{Counter}
 pub use Rattle.pos_service.specs.declared.answer.Answer.TheVariants.{Done, Refused}
 pub use Rattle.pos_service.specs.declared.answer.Value.TheVariants.{Empty, Truth}

@@ -140,7 +140,7 @@ module _ (rows columns : ℕ) (cursor : Cursor) (tall : 1 ≤ rows) (wide : 1 �
 
 -- a call whose arguments are allowed comes to what leaves the cursor at a place of the device, which serves the
 -- category
-pub deed_called : (k : Category) (is : Kind) (c : Control) (asked : Call) (d : Action) → serves k (Some is) ≡ true
+pub deed_called : (k : Category) (is : Kind) (c : Control) (asked : Call) (d : Action) → serves k is ≡ true
     → IsInRange is
     → NoneApplies (device_rows k (Some is) c asked) → device_action k (Some is) c asked ≡ Some d
     → DeedStaysOn (Some is) c.cursor.place d

@@ -1,16 +1,16 @@
 -- What is done at a device and by whom it is held, and the steps that it makes.
-use Rattle.pos_counter.proofs.Common.{◌<◌, Answer, Call, CallOf, CallsAt, Category, CategoryDoes, Control, Device}
+use Rattle.pos_counter.proofs.Common.{◌<◌, Answer, At, Call, CallOf, CallsAt, Control, Device, DoesOwn}
 use Rattle.pos_counter.proofs.Common.{DeviceDoes, Does, Effect, Err, FindsWork, HardTotals, Hardware, IfSome}
-use Rattle.pos_counter.proofs.Common.{IfSome_then, IsDoneAt, IsSome, IsSound, IsTrue, KeptControl, Kind, List, Machine}
+use Rattle.pos_counter.proofs.Common.{IsDoneAt, IsOpenFor, IsServedFor, OpenDevice, TheTotals, IsSound, IsTrue, KeptControl, List, Machine}
 use Rattle.pos_counter.proofs.Common.{MatchOption-at_some, MayBeCalled, NoMemory, None, Ok, OnHardware, Option, Result}
 use Rattle.pos_counter.proofs.Common.{Row, SameHardware, Some, Step, TotalsPart, WorksAt, answered, ap, arith}
-use Rattle.pos_counter.proofs.Common.{category_rows, claimed, claimed_by, controls_of, device_rows, dropped}
+use Rattle.pos_counter.proofs.Common.{controls_of, device_rows, open_place, own_rows}
 use Rattle.pos_counter.proofs.Common.{due_request_at, false, first_refusal, get_or_from_slice_get, holder_at, holder_in}
-use Rattle.pos_counter.proofs.Common.{holder_of, inl, inr, is_common, is_foreign, is_none, is_some, is_taken, is_totals}
+use Rattle.pos_counter.proofs.Common.{holder_of, inl, inr, is_common}
 use Rattle.pos_counter.proofs.Common.{kind_of, length, machine_with, needs_of, own_takes_memory, place_of, refl}
-use Rattle.pos_counter.proofs.Common.{refusals, released, released_by, rules, serves, set, set-get_or, slice_get}
-use Rattle.pos_counter.proofs.Common.{slice_get_within, sym, table, takes_memory, true, with_items_is, ◌||◌, ℕ, ◌∙◌}
-use Rattle.pos_counter.proofs.Common.{◌≡◌, ap₂, device_action, subst, MatchOption, Refused}
+use Rattle.pos_counter.proofs.Common.{refusals, rules, set, set-get_or, slice_get}
+use Rattle.pos_counter.proofs.Common.{slice_get_within, sym, table, takes_memory, with_items_is, ℕ, ◌∙◌}
+use Rattle.pos_counter.proofs.Common.{◌≡◌, ap₂, device_action, MatchOption, Refused}
 use Rattle.pos_common.specs.OwnCalls.{OwnCall as OwnCalled, OwnDoes, own_refusals}
 use Rattle.pos_service.specs.declared.code.Code.TheVariants.{Closed}
 use Rattle.std.specs.Prelude.{Vec}
@@ -18,7 +18,6 @@ use Rattle.std.specs.Vec.{with_items}
 use Rattle.pos_service.specs.declared.answer.WorkResult.TheVariants as worked
 use Rattle.pos_counter.proofs.LiftLemmas.{decided_step, match_cases, matched}
 use Rattle.pos_counter.proofs.SoundnessLemmas.{seated}
-use Rattle.pos_counter.specs.Steps.{IsServed}
 
 -- a device whose hardware is as it was
 same_device : (ds : List Device) (place : ℕ) (d : Device) (before after : Hardware) → slice_get ds place ≡ Some d
@@ -29,30 +28,23 @@ same_device ds place d before after at is same =
     (ap Some same ∙ sym is)
     ∙ sym (get_or_from_slice_get ds place d d at)) ∙ set-get_or ds place d
 
--- an open control's device has a peripheral, where its category serves no device without one, and may be called
+-- the device at the place that a control has open has a peripheral, and may be called
 pub served_there : (m : Machine) (n : ℕ) (c : Control) (place : ℕ) → IsSound m → slice_get m.controls n ≡ Some c
-    → c.device ≡ Some place
-    → serves c.category None ≡ false → MayBeCalled m.devices place m.controls n
-served_there m n c place sound found is peripheral =
-    let (device, there, served) = matched (slice_get m.devices place) (IsServed c)
+    → c.device ≡ Some (At place) → MayBeCalled m.devices place m.controls n
+served_there m n c place sound found is =
+    let (device, there, served) = matched (slice_get m.devices place) (IsServedFor c.category c.cursor.place)
     (rw is at (seated m n c sound found)) in
-    let (fits, stands_there, on_it) = served in
+    let (fits, attached, on_it) = served in
     record {
-      attached = rw there (stands device.kind device.hardware fits stands_there);
-      may = rw found (record { served = rw there fits; cursor = rw there on_it });
+      attached = rw there attached;
+      may = rw (found, there) (record { served = fits; cursor = on_it });
     }
-  where
-    stands : (o : Option Kind) (s : Option Hardware) → serves c.category o ≡ true → IsTrue (is_none o || is_some s)
-        → IsSome s
-    stands None s served attached = let bad = sym peripheral ∙ served in cc
-    stands (Some k) None served attached = cc
-    stands (Some k) (Some s) served attached = refl
 
 -- A call of a category's own: what it is answered first, what it does, and that it may want memory.
 pub record OwnCall (m : Machine) (n : ℕ) (c : Control) (asked : Call) : Type 0 where
   pub rows : refusals m n c asked ≡ table n (holder_of m c) c (needs_of c.category asked)
-      (category_rows c.category m n c asked)
-  pub does : (r : Answer) (m' : Machine) → CategoryDoes c.category m n c asked r m' → Does m n c asked r m'
+      (own_rows c.device m n c asked)
+  pub does : (r : Answer) (m' : Machine) → DoesOwn c.device m n c asked r m' → Does m n c asked r m'
   pub takes : IsTrue (own_takes_memory asked) → IsTrue (takes_memory m c asked)
 
 pub own_call : (m : Machine) (n : ℕ) (c : Control) (asked : Call) → is_common asked ≡ false → OwnCall m n c asked
@@ -65,32 +57,9 @@ IsLet m n c asked = (rest : List Row)
 
 -- behind the check the rest of the table decides
 pub let_refusals : (m : Machine) (n : ℕ) (c : Control) (asked : Call) → is_common asked ≡ false → IsLet m n c asked
-    → first_refusal (refusals m n c asked) ≡ first_refusal (category_rows c.category m n c asked)
+    → first_refusal (refusals m n c asked) ≡ first_refusal (own_rows c.device m n c asked)
 let_refusals m n c asked own lets =
-    ap first_refusal (own_call m n c asked own).rows ∙ lets (category_rows c.category m n c asked)
-
--- The devices of a category have peripherals, and are held by the table of claims.
-pub record IsOfDevices (k : Category) : Type 0 where
-  pub peripheral : serves k None ≡ false
-  pub rows : (m : Machine) (n : ℕ) (c : Control) (asked : Call)
-      → category_rows k m n c asked ≡ device_rows k (kind_of m c) c asked
-  pub does : (m m' : Machine) (n : ℕ) (c : Control) (asked : Call) (r : Answer)
-      → OnHardware m c.device (DeviceDoes k (kind_of m c) n c asked r) m'
-      → CategoryDoes k m n c asked r m'
-  pub drops : (m : Machine) (n : ℕ) (c : Control)
-      → dropped k m n c ≡ record m { claims = released_by m.claims c.device n }
-  pub releases : (m : Machine) (n : ℕ) (c : Control)
-      → released k m n c ≡ record m { claims = released_by m.claims c.device n }
-  pub claims : (m : Machine) (n : ℕ) (c : Control)
-      → claimed k m n c ≡ record m { claims = claimed_by m.claims c.device n }
-  pub takes : (m : Machine) (n : ℕ) (device : Option ℕ)
-      → is_taken k m n device ≡ is_foreign n (holder_at m.claims device)
-  pub holds : (claims : List (Option ℕ)) (area device : Option ℕ)
-      → holder_in k claims area device ≡ holder_at claims device
-
--- those of each category but Hard Totals do
-pub of_devices : (k : Category) → is_totals k ≡ false → IsOfDevices k
-of_devices k is = grind arith
+    ap first_refusal (own_call m n c asked own).rows ∙ lets (own_rows c.device m n c asked)
 
 -- ---- what is done with what stands at a place
 
@@ -99,12 +68,13 @@ pub kept_in_place : {X Z : Type 0} (v : Vec X Z) (lent now : List X) → lent �
     → (with_items v now).items ≡ now
 kept_in_place v lent now is count = with_items_is v now (omega (arith, count, ap length is, v.ok.0))
 
-module _ (hs gs : List KeptControl) (ds es : List Device) (cl : List (Option ℕ)) (part : TotalsPart) (place : ℕ) where
+module _ (hs gs : List KeptControl) (ds es : List Device) (cl : List (Option ℕ)) (tn : Option (List ℕ))
+    (part : TotalsPart) (place : ℕ) where
   abbrev old : Machine
-  old = machine_with hs cl ds part
+  old = machine_with hs cl ds tn part
 
   abbrev new : Machine
-  new = machine_with gs cl es part
+  new = machine_with gs cl es tn part
 
   -- it is done at the device's hardware
   pub on_hardware : (o : Option ℕ) (Does : ℕ → Effect) → o ≡ Some place → IsDoneAt ds place (Does place) hs gs es
@@ -139,44 +109,40 @@ module _ (hs gs : List KeptControl) (ds es : List Device) (cl : List (Option ℕ
   -- a call of a category's own is a step
   pub device_step : (n : ℕ) (c : Control) (asked : Call) (r : Result Answer NoMemory) → is_common asked ≡ false
       → slice_get (controls_of hs) n ≡ Some c
-      → is_totals c.category ≡ false → c.device ≡ Some place → IsDoneAt ds place (CallsAt n cl asked r) hs gs es
+      → c.device ≡ Some (At place) → IsDoneAt ds place (CallsAt n cl asked r) hs gs es
       → Step old (CallOf n asked) (answered r) new
-  device_step n c asked r own found is device done =
+  device_step n c asked r own found device done =
       by_outcome r (MatchOption-at_some ⊥
       (λ control. OwnCalled control.category (device_rows control.category (Some done.before.kind) control asked)
       (device_action control.category (Some done.before.kind) control asked) n cl asked r control
       (controls_of hs) done.before (controls_of gs) done.after)
       c found done.does)
     where
-      rows : List Row
-      rows = own_refusals c.category (device_rows c.category (Some done.before.kind) c asked) n cl asked c
-
       kind : kind_of old c ≡ Some done.before.kind
       kind = rw (device, done.is_device, done.kind)
 
-      unrefused : first_refusal (refusals old n c asked) ≡ first_refusal rows
-      unrefused = ap first_refusal ((own_call old n c asked own).rows
-          ∙ same_table (holder_of old c) (holder_at cl c.device)
-          (category_rows c.category old n c asked) (device_rows c.category (Some done.before.kind) c asked)
-          ((of_devices c.category is).holds cl part.totals.area c.device)
-          ((of_devices c.category is).rows old n c asked
-          ∙ ap (λ (at : Option Kind). device_rows c.category at c asked) kind))
-        where
-          same_table : (a b : Option ℕ) (u v : List Row) → a ≡ b → u ≡ v
-              → table n a c (needs_of c.category asked) u ≡ table n b c (needs_of c.category asked) v
-          same_table a b u v holder rest =
-              ap₂ (λ (h : Option ℕ) (x : List Row). table n h c (needs_of c.category asked) x) holder rest
+      unrefused : first_refusal (refusals old n c asked) ≡ first_refusal
+          (own_refusals c.category (device_rows c.category (Some done.before.kind) c asked) n cl asked c)
+      unrefused = ap first_refusal (own_call old n c asked own).rows ∙ rw (device, done.is_device, done.kind) refl
+
+      does_own : (o : Option OpenDevice) (result : Answer) → o ≡ Some (At place)
+          → OnHardware old (open_place o) (DeviceDoes c.category (kind_of old c) n c asked result) new
+          → DoesOwn o old n c asked result new
+      does_own None result is h = absurd cc
+      does_own (Some (At at)) result is h = h
+      does_own (Some TheTotals) result is h = absurd cc
 
       at_hardware : (result : Answer)
           → OwnDoes (device_action c.category (Some done.before.kind) c asked) n result c (controls_of hs) done.before
           (controls_of gs) done.after
-          → OnHardware old c.device (DeviceDoes c.category (kind_of old c) n c asked result) new
+          → OnHardware old (open_place c.device) (DeviceDoes c.category (kind_of old c) n c asked result) new
       at_hardware result does =
+          let there = ap open_place device in
           let here = MatchOption-at_some ⊥
           (λ place'. DeviceDoes c.category (Some done.before.kind) n c asked result place'
           (controls_of hs) done.before
-          (controls_of gs) done.after) place device does in
-          on_hardware c.device (DeviceDoes c.category (kind_of old c) n c asked result) device
+          (controls_of gs) done.after) place there does in
+          on_hardware (open_place c.device) (DeviceDoes c.category (kind_of old c) n c asked result) there
           (let there = rw (← kind) at here in search (done.is_device, done.is_attached, done.kind, there, done.changed))
 
       by_outcome : (o : Result Answer NoMemory)
@@ -185,16 +151,16 @@ module _ (hs gs : List KeptControl) (ds es : List Device) (cl : List (Option ℕ
           (controls_of gs) done.after
           → Step old (CallOf n asked) (answered o) new
       by_outcome (Ok result) h =
-          decided_step old new n c asked result rows _ _ found unrefused (unchanged done)
+          decided_step old new n c asked result _ _ _ found unrefused (unchanged done)
           (λ does. (own_call old n c asked own).does result new
-          ((of_devices c.category is).does old new n c asked result (at_hardware result does))) h
+          (does_own c.device result device (at_hardware result does))) h
       by_outcome (Err want) h = rw found ((own_call old n c asked own).takes h.0, unrefused ∙ h.1, unchanged done h.2)
 
 -- a call of a category's own on a closed control is refused
 pub closed_refuses : (m : Machine) (n : ℕ) (c : Control) (asked : Call) → is_common asked ≡ false → c.device ≡ None
     → first_refusal (refusals m n c asked) ≡ Some (Refused Closed 0)
 closed_refuses m n c asked own closed = ap first_refusal (own_call m n c asked own).rows
-    ∙ closed_table (holder_of m c) (category_rows c.category m n c asked)
+    ∙ closed_table (holder_of m c) (own_rows c.device m n c asked)
   where
     closed_table : (holder : Option ℕ) (rest : List Row)
         → first_refusal (table n holder c (needs_of c.category asked) rest) ≡ Some (Refused Closed 0)
@@ -202,23 +168,24 @@ closed_refuses m n c asked own closed = ap first_refusal (own_call m n c asked o
 
 -- what the check of a control of Hard Totals refuses, the table of its call refuses
 pub totals_refuse : (m : Machine) (n : ℕ) (c : Control) (asked : Call) (refusal : Answer) → c.category ≡ HardTotals
+    → c.device ≡ Some TheTotals
     → ((rest : List Row) → first_refusal (table n m.totals.totals.area c (needs_of HardTotals asked) rest)
     ≡ Some refusal)
-    → first_refusal (table n (holder_of m c) c (needs_of c.category asked) (category_rows c.category m n c asked))
+    → first_refusal (table n (holder_of m c) c (needs_of c.category asked) (own_rows c.device m n c asked))
     ≡ Some refusal
-totals_refuse m n c asked refusal is refuses =
-    subst (λ k. first_refusal (table n (holder_in k m.claims m.totals.totals.area c.device) c (needs_of k asked)
-    (category_rows k m n c asked)) ≡ Some refusal)
-    (sym is) (refuses (category_rows HardTotals m n c asked))
+totals_refuse m n c asked refusal is opens refuses =
+    ap₂ (λ k d. first_refusal (table n (holder_in m.claims m.totals.totals.area d) c (needs_of k asked)
+    (own_rows c.device m n c asked))) is opens
+    ∙ refuses (own_rows c.device m n c asked)
 
 -- what its check lets through, the rest of the table decides
 pub totals_let : (m : Machine) (n : ℕ) (c : Control) (asked : Call) → c.category ≡ HardTotals
+    → c.device ≡ Some TheTotals
     → ((rest : List Row) → first_refusal (table n m.totals.totals.area c (needs_of HardTotals asked) rest)
     ≡ first_refusal rest) → IsLet m n c asked
-totals_let m n c asked is lets =
-    subst (λ k. (rest : List Row) → first_refusal
-    (table n (holder_in k m.claims m.totals.totals.area c.device) c (needs_of k asked) rest) ≡ first_refusal rest)
-    (sym is) lets
+totals_let m n c asked is opens lets rest =
+    ap₂ (λ k d. first_refusal (table n (holder_in m.claims m.totals.totals.area d) c (needs_of k asked) rest)) is opens
+    ∙ lets rest
 
 -- what is true of the control with a number
 pub at_number : (controls : List Control) (n : ℕ) (c : Control) (Is : Control → Type 0) → slice_get controls n ≡ Some c
@@ -227,13 +194,15 @@ at_number controls n c Is found is = MatchOption-at_some ⊥ Is c found is
 
 -- ---- what holds a device
 
--- the device of an open control has a claim
+-- the device at whose place an open control is has a claim
 pub covered : (m : Machine) (n : ℕ) (c : Control) → IsSound m → slice_get m.controls n ≡ Some c
-    → IfSome c.device (λ place. place < length m.claims)
-covered m n c sound at = IfSome_then c.device (seated m n c sound at) (λ place seat.
-    let x = matched (slice_get m.devices place) _ seat in
-    let there = slice_get_within m.devices place x.0 x.1 in omega (arith, there, sound.covers))
-
--- what is no device with a peripheral is Hard Totals
-pub are_totals : (k : Category) → is_totals k ≡ true → k ≡ HardTotals
-are_totals k is = grind arith
+    → IfSome (open_place c.device) (λ place. place < length m.claims)
+covered m n c sound found = by c.device (seated m n c sound found)
+  where
+    by : (device : Option OpenDevice) → IsOpenFor m.devices c.category c.cursor.place device
+        → IfSome (open_place device) (λ place. place < length m.claims)
+    by None seat = tt
+    by (Some (At place)) seat =
+        let x = matched (slice_get m.devices place) _ seat in
+        let there = slice_get_within m.devices place x.0 x.1 in omega (arith, there, sound.covers)
+    by (Some TheTotals) seat = tt

@@ -38,7 +38,8 @@ pub same_sound : {D P : Type 0} (peripherals : Ghosts P) (old : Counter D P) (de
     → AreDevicesSound peripherals devices
     → IsCounterSound peripherals (record old { devices = devices })
 same_sound peripherals old devices same sound are = record {
-  machine = λ part. subst (λ ds. IsSound (machine_with old.controls.items old.claims ds part)) (sym same)
+  machine = λ part. subst (λ ds. IsSound (machine_with old.controls.items old.claims ds old.totals_name part))
+      (sym same)
       (sound.machine part);
   devices = are;
 }

@@ -71,17 +71,19 @@ pub kept_same : (hs : List KeptControl) (n : ℕ) (h k : KeptControl) → n < le
 kept_same hs n h k lt is also = is ∙ get_or_default hs n h k lt ∙ sym also
 
 -- the machine with one control in the place of another
-pub set_machine : (hs : List KeptControl) (cl : List (Option ℕ)) (ds : List Device) (part : TotalsPart) (n : ℕ)
+pub set_machine : (hs : List KeptControl) (cl : List (Option ℕ)) (ds : List Device) (tn : Option (List ℕ))
+    (part : TotalsPart) (n : ℕ)
     (g : KeptControl) (c : Control) → g.control ≡ c
-    → machine_with (set hs n g) cl ds part ≡ with_control (machine_with hs cl ds part) n c
-set_machine hs cl ds part n g c e = search (rules, map-set)
+    → machine_with (set hs n g) cl ds tn part ≡ with_control (machine_with hs cl ds tn part) n c
+set_machine hs cl ds tn part n g c e = search (rules, map-set)
 
 -- the machine whose control is as it was
-pub kept_machine : (hs : List KeptControl) (cl : List (Option ℕ)) (ds : List Device) (part : TotalsPart) (n : ℕ)
+pub kept_machine : (hs : List KeptControl) (cl : List (Option ℕ)) (ds : List Device) (tn : Option (List ℕ))
+    (part : TotalsPart) (n : ℕ)
     (g h : KeptControl) → g ≡ h → h ≡ get_or hs n h
-    → machine_with (set hs n g) cl ds part ≡ machine_with hs cl ds part
-kept_machine hs cl ds part n g h same is =
-    ap (λ (ks : List KeptControl). machine_with ks cl ds part) (ap (set hs n) (same ∙ is) ∙ set-get_or hs n h)
+    → machine_with (set hs n g) cl ds tn part ≡ machine_with hs cl ds tn part
+kept_machine hs cl ds tn part n g h same is =
+    ap (λ (ks : List KeptControl). machine_with ks cl ds tn part) (ap (set hs n) (same ∙ is) ∙ set-get_or hs n h)
 
 -- a call that other rows decide, with the same refusal, is a step
 pub decided_step : (m m' : Machine) (n : ℕ) (c : Control) (asked : Call) (r : Answer) (rows : List Row)

@@ -28,23 +28,28 @@ past_none : (machine : Machine) (number : ℕ) → slice_get machine.controls nu
 past_none machine number is reply event after step = let given = rw is at step in given.0
 
 -- the same of the controls that a counter keeps
-pub kept_gives : (hs : List KeptControl) (cl : List (Option ℕ)) (ds : List Device) (part : TotalsPart) (number : ℕ)
+pub kept_gives : (hs : List KeptControl) (cl : List (Option ℕ)) (ds : List Device) (tn : Option (List ℕ))
+    (part : TotalsPart) (number : ℕ)
     (h : KeptControl) → number < length hs
-    → h ≡ get_or hs number h → is_some (deliverable h.control) ≡ true → GivesEvent (machine_with hs cl ds part) number
-kept_gives hs cl ds part number h within is some =
-    gives (machine_with hs cl ds part) number h.control (kept_at hs number h within is) some
+    → h ≡ get_or hs number h → is_some (deliverable h.control) ≡ true
+    → GivesEvent (machine_with hs cl ds tn part) number
+kept_gives hs cl ds tn part number h within is some =
+    gives (machine_with hs cl ds tn part) number h.control (kept_at hs number h within is) some
 
-pub kept_none : (hs : List KeptControl) (cl : List (Option ℕ)) (ds : List Device) (part : TotalsPart) (number : ℕ)
+pub kept_none : (hs : List KeptControl) (cl : List (Option ℕ)) (ds : List Device) (tn : Option (List ℕ))
+    (part : TotalsPart) (number : ℕ)
     (h : KeptControl) → number < length hs
-    → h ≡ get_or hs number h → is_some (deliverable h.control) ≡ false → GivesNone (machine_with hs cl ds part) number
-kept_none hs cl ds part number h within is none =
-    gives_none (machine_with hs cl ds part) number h.control (kept_at hs number h within is) none
+    → h ≡ get_or hs number h → is_some (deliverable h.control) ≡ false
+    → GivesNone (machine_with hs cl ds tn part) number
+kept_none hs cl ds tn part number h within is none =
+    gives_none (machine_with hs cl ds tn part) number h.control (kept_at hs number h within is) none
 
-pub none_past : (hs : List KeptControl) (cl : List (Option ℕ)) (ds : List Device) (part : TotalsPart) (number : ℕ)
+pub none_past : (hs : List KeptControl) (cl : List (Option ℕ)) (ds : List Device) (tn : Option (List ℕ))
+    (part : TotalsPart) (number : ℕ)
     → length hs ≤ number
-    → GivesNone (machine_with hs cl ds part) number
-none_past hs cl ds part number past =
-    past_none (machine_with hs cl ds part) number
+    → GivesNone (machine_with hs cl ds tn part) number
+none_past hs cl ds tn part number past =
+    past_none (machine_with hs cl ds tn part) number
     (slice_get_past (controls_of hs) number (rw (length-map hs (λ (held : KeptControl). held.control)) past))
 
 -- what is so of each number before one, and of that one, is so of each before the next

@@ -24,16 +24,16 @@ stays_in_service was now (Ok done) unparked torn = rw torn (record { unparked = 
 stays_in_service was now (Err want) unparked same = rw same (record { unparked = unparked; kind = refl })
 
 -- what becomes of the devices
-pub torn_there : (list new : List Registered) (totals : Option (List ℕ)) (place : ℕ) (was now : PeripheralState)
+pub torn_there : (list new : List Registered) (place : ℕ) (was now : PeripheralState)
     (outcome : Result (Unit {0}) NoMemory)
     → AllByRecursion IsServed list → standing_at list place ≡ Some was → new ≡ with_peripheral list place (Some now)
     → TearsOff was outcome now
     → (helds : List KeptControl) → MatchResult outcome
-    (λ done. IsDoneAt (devices_of list totals) place IsTorn helds helds (devices_of new totals))
-    (λ want. devices_of new totals ≡ devices_of list totals)
-torn_there list new totals place was now (Ok done) served stands is torn helds =
-    done_there list new totals place was now IsTorn served stands is (refl, ap hardware_of torn)
-torn_there list new totals place was now (Err want) served stands is same helds = ap (λ ds. devices_of ds totals)
+    (λ done. IsDoneAt (devices_of list) place IsTorn helds helds (devices_of new))
+    (λ want. devices_of new ≡ devices_of list)
+torn_there list new place was now (Ok done) served stands is torn helds =
+    done_there list new place was now IsTorn served stands is (refl, ap hardware_of torn)
+torn_there list new place was now (Err want) served stands is same helds = ap devices_of
     (is ∙ ap (λ s. with_peripheral list place (Some s)) same ∙ same_peripheral list place was stands)
 
 -- a device that stands to its host as it did

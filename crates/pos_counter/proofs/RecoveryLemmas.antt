@@ -1,4 +1,5 @@
 -- Setting a property as a step of the machine, where it recovers the totals and where it doesn't.
+use Rattle.pos_counter.proofs.Common.{TheTotals, open_place}
 use Rattle.pos_counter.proofs.Common.{◌&&◌, ◌<◌, Answer, Answered, AreDevicesSound, CallOf, Code, Control, Counter}
 use Rattle.pos_counter.proofs.Common.{Device, DeviceEnabled, DiskGhosts, DiskRecovers, Done, Empty, Err, FindsFiles}
 use Rattle.pos_counter.proofs.Common.{Ghosts, HardTotals, IsCounterSound, IsErrOf, IsOneOf, IsRecovering, KeptControl}
@@ -17,24 +18,25 @@ use Rattle.pos_totals.specs.declared.fault.RecoveryFault.{RecoveryFault}
 use Rattle.pos_counter.proofs.CrashLemmas.{settled_twice}
 use Rattle.pos_counter.proofs.LiftLemmas.{decided_none, decided_weaker, kept_at, kept_machine, matched, set_machine}
 use Rattle.pos_counter.proofs.ServiceLemmas.{same_sound}
-use Rattle.pos_counter.proofs.SoundnessLemmas.{seated, set_seat, with_control_sound}
+use Rattle.pos_counter.proofs.SoundnessLemmas.{seated, set_seat, totals_category, with_control_sound}
 
 -- a property is set, or finds no memory, and nothing is recovered
-pub plain_set : (hs : List KeptControl) (cl : List (Option ℕ)) (ds : List Device) (part : TotalsPart) (n : ℕ)
+pub plain_set : (hs : List KeptControl) (cl : List (Option ℕ)) (ds : List Device) (tn : Option (List ℕ))
+    (part : TotalsPart) (n : ℕ)
     (g h : KeptControl) (p : Property) (v : Value)
     (r : Result Answer NoMemory) → n < length hs → h ≡ get_or hs n h → recovers part h.control p v ≡ false
-    → SetsTo (set_rows n (holder_in h.control.category cl part.totals.area h.control.device)
-    (kind_in (device_at ds h.control.device)) h.control p v) (tells_power h.control p v) r h g
-    (after_set (signs_in (hardware_in (device_at ds h.control.device))) h.control p v)
-    → Step (machine_with hs cl ds part) (CallOf n (Set p v)) (answered r) (machine_with (set hs n g) cl ds part)
-plain_set hs cl ds part n g h p v (Ok r) lt is plain turns = rw (kept_at hs n h lt is) (decided_weaker
-    (λ done. rw plain (done.0, set_machine hs cl ds part n g _ done.1))
-    (λ same. kept_machine hs cl ds part n g h same is) turns)
-plain_set hs cl ds part n g h p v (Err want) lt is plain wants = rw (kept_at hs n h lt is) (
+    → SetsTo (set_rows n (holder_in cl part.totals.area h.control.device)
+    (kind_in (device_at ds (open_place h.control.device))) h.control p v) (tells_power h.control p v) r h g
+    (after_set (signs_in (hardware_in (device_at ds (open_place h.control.device)))) h.control p v)
+    → Step (machine_with hs cl ds tn part) (CallOf n (Set p v)) (answered r) (machine_with (set hs n g) cl ds tn part)
+plain_set hs cl ds tn part n g h p v (Ok r) lt is plain turns = rw (kept_at hs n h lt is) (decided_weaker
+    (λ done. rw plain (done.0, set_machine hs cl ds tn part n g _ done.1))
+    (λ same. kept_machine hs cl ds tn part n g h same is) turns)
+plain_set hs cl ds tn part n g h p v (Err want) lt is plain wants = rw (kept_at hs n h lt is) (
   or_right _ _ wants.0,
   wants.1,
-  set_machine hs cl ds part n g h.control wants.2 ∙ sym (set_machine hs cl ds part n h h.control refl)
-      ∙ kept_machine hs cl ds part n h h refl is,
+  set_machine hs cl ds tn part n g h.control wants.2 ∙ sym (set_machine hs cl ds tn part n h h.control refl)
+      ∙ kept_machine hs cl ds tn part n h h refl is,
 )
 
 -- ---- what asks for a recovery
@@ -48,7 +50,7 @@ pub record Asking (hs : List KeptControl) (n : ℕ) (p : Property) (v : Value) (
   pub gives : v ≡ Truth true
   pub asks : asks_recovery control DeviceEnabled (Truth true) ≡ true
   pub opened : is_none control.device ≡ false
-  pub totals : control.category ≡ HardTotals
+  pub totals : control.device ≡ Some TheTotals
 
 pub asks_there : (hs : List KeptControl) (n : ℕ) (p : Property) (v : Value) (mode : Mode) → IsRecovering hs n p v mode
     → Asking hs n p v mode
@@ -110,8 +112,11 @@ module _ {D P : Type 0} (bound : DiskGhosts D) (peripherals : Ghosts P) (old new
   abbrev enabled : Control
   enabled = after_enabling (before []) c
 
+  category : c.category ≡ HardTotals
+  category = totals_category (before []) n c (sound.machine (part_of bound old.totals [])) there.at there.totals
+
   allowed : (left : List Standing) → first_refusal (refusals (before left) n c enabling) ≡ None
-  allowed left = unrefused c there.totals n (holder_of (before left) c) (kind_of (before left) c) there.opened
+  allowed left = unrefused c category n (holder_of (before left) c) (kind_of (before left) c) there.opened
 
   recovering : (asks_recovery c DeviceEnabled (Truth true) && not (is_ready old.totals.totals.mode)) ≡ true
   recovering = and_from _ _ there.asks (ap (λ mode. not (is_ready mode)) there.off)
@@ -119,7 +124,7 @@ module _ {D P : Type 0} (bound : DiskGhosts D) (peripherals : Ghosts P) (old new
   -- it uses the disk
   uses : (left : List Standing) (failures : ℕ)
       → SparesDisk (machine peripherals old (part_with old.totals.totals left failures)) (CallOf n enabling) → ⊥
-  uses left failures spares = search (rules, unrefused, recovering)
+  uses left failures spares = search (rules, unrefused, recovering, category)
 
   -- what it does where nothing refuses it
   does : (result : Answer) (left after : List Standing)

@@ -1,5 +1,5 @@
 -- The peripheral of a device that is found by its order or by its name.
-use Rattle.pos_counter.proofs.Common.{Bool, List, None, Option, Some, [], ap, arith, bytes_eq, false, names_of}
+use Rattle.pos_counter.proofs.Common.{Bool, List, None, Some, [], ap, arith, bytes_eq, false, names_of}
 use Rattle.pos_counter.proofs.Common.{option_map, refl, registered_from, same_Some, slice_get, subst, suc, sym, true}
 use Rattle.pos_counter.proofs.Common.{zero, ℕ, ◌+◌, ◌∷◌, ◌≡◌}
 use Rattle.pos_counter.proofs.HostsLemmas.{tail_first, tail_none}
@@ -8,7 +8,7 @@ use Rattle.pos_drive.specs.declared.courses.Course.{Course}
 use Rattle.pos_profile.specs.Registries.{devices_of as registered_of, peripheral_at}
 use Rattle.pos_profile.specs.declared.slot.Slot.{Slot}
 use Rattle.pos_service.specs.declared.peripheral.Peripheral.{Ghosts}
-use Rattle.pos_counter.specs.Hosts.{IsFirstPending, NonePending, has_pending, host_of, hosts_of, pending_peripheral}
+use Rattle.pos_counter.specs.Hosts.{IsFirstPending, NonePending, host_of, hosts_of, pending_peripheral}
 use Rattle.pos_counter.specs.Hosts.{served_named}
 
 module _ {P : Type 0} (course_of : P → Course) where

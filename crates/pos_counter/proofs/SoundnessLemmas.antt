@@ -1,45 +1,47 @@
 -- What keeps a machine sound: each control stays at its device, and each device of its kind.
+use Rattle.pos_counter.proofs.Common.{At, HardTotals, IsOpenFor, IsServedFor as IsServed, OpenDevice, OpenTarget, TheTotals}
+use Rattle.pos_counter.proofs.Common.{bytes_eq, device_found, found_under, is_at, open_place, place_of, same_Some, totals_under}
 use Rattle.pos_counter.proofs.Common.{All, All-get_or, All-map, All-set, Answer, Call, CarriesOut, Category}
 use Rattle.pos_counter.proofs.Common.{ControlUpdate, Changes, ChangesOne, Control, Action, Device, DeviceDoes, Does}
 use Rattle.pos_counter.proofs.Common.{DueRequest, Effect, Err, Follows, Gives, Hardware, HasItsDevice, HasItsKind}
-use Rattle.pos_counter.proofs.Common.{IfSome, Input, IsAttached, IsDetached, IsInRange, IsPlaceOn, IsSound, IsTrue}
+use Rattle.pos_counter.proofs.Common.{IfSome, Input, IsAttached, IsDetached, IsInRange, IsPlaceOn, IsSound}
 use Rattle.pos_counter.proofs.Common.{List, Machine, MatchOption, MatchOption-at_some, MatchResult, NoMemory, None, Ok}
 use Rattle.pos_counter.proofs.Common.{OnHardware, Option, Ordered, Place, Property, Queues, Result, SameHardware, Signs}
 use Rattle.pos_counter.proofs.Common.{Some, TakesIn, Value, WorksAt, WorksOn, [], after_release, after_set, after_work}
 use Rattle.pos_counter.proofs.Common.{all_listening, ap, arith, changed, cond_both, device_at, device_action}
 use Rattle.pos_counter.proofs.Common.{device_rows, due_request_at, eq-eqb, false≢true, found_at, get_or}
-use Rattle.pos_counter.proofs.Common.{get_or_from_slice_get, has_open, if_listening, inl, inr, is_exclusive, is_none}
-use Rattle.pos_counter.proofs.Common.{is_place, is_some, kind_in, kind_of, length-set, listens, option_map, or_right}
-use Rattle.pos_counter.proofs.Common.{origin, place_found, reaction, refl, rules, serves, set, signs_of, slice_get}
+use Rattle.pos_counter.proofs.Common.{get_or_from_slice_get, has_open, if_listening, inl, inr, is_exclusive}
+use Rattle.pos_counter.proofs.Common.{is_some, kind_in, kind_of, length-set, listens, option_map}
+use Rattle.pos_counter.proofs.Common.{origin, reaction, refl, rules, serves, set, signs_of, slice_get}
 use Rattle.pos_counter.proofs.Common.{slice_get-map, slice_get_within, slice_set, stopped, subst, suc, sym, takes, true}
-use Rattle.pos_counter.proofs.Common.{with_control, zero, ◌||◌, ℕ, ◌∙◌, ◌∷◌, ◌≡◌}
+use Rattle.pos_counter.proofs.Common.{with_control, zero, ℕ, ◌∙◌, ◌∷◌, ◌≡◌}
 use Rattle.std.proofs.lemmas.List.Folds.{list_any_at}
+use Rattle.pos_service.specs.Controls.{queued}
 use Rattle.pos_service.specs.Statuses.{heard_signs}
-use Rattle.pos_service.specs.declared.context.OpenTarget.{OpenTarget}
 use Rattle.pos_service.specs.declared.input.Taken.{Taken}
 use Rattle.pos_service.specs.declared.order.Order.{Order}
 use Rattle.pos_service.specs.declared.order.Reply.TheVariants as reply
 use Rattle.pos_service.specs.declared.order.Reply.{Reply}
 use Rattle.pos_service.specs.declared.answer.WorkResult.{WorkResult}
 use Rattle.pos_counter.proofs.CursorLemmas.{DeedStaysOn, NoneApplies, StaysOn, deed_called, place_opened, place_set}
-use Rattle.pos_counter.proofs.LiftLemmas.{match_cases, matched}
+use Rattle.pos_counter.proofs.LiftLemmas.{decided_cases, match_cases, matched}
 
--- the device is there, and serves a control of the category whose cursor is at a place
-abbrev pub Served : Category → Place → Option Device → Type 0
-Served category cursor o =
-    MatchOption o ⊥ (λ device. (serves category device.kind ≡ true)
-    × IsTrue (is_none device.kind || is_some device.hardware) × IsPlaceOn device.kind cursor)
+-- the cursor has moved to another place of the device at a place
+moved_at : (category : Category) (was now : Place) (o : Option Device)
+    → (IsPlaceOn (kind_in o) was → IsPlaceOn (kind_in o) now) → MatchOption o ⊥ (IsServed category was)
+    → MatchOption o ⊥ (IsServed category now)
+moved_at category was now None moves h = h
+moved_at category was now (Some device) moves h = (h.0, h.1, moves h.2)
 
--- a category's control whose cursor is at a place may have the device at this one open
-abbrev Seat : List Device → Category → Place → Option ℕ → Type 0
-Seat devices category cursor place = IfSome place (λ at. Served category cursor (slice_get devices at))
-
--- the cursor has moved to another place of the device
-moved_seat : (ds : List Device) (category : Category) (was now : Place) (device : Option ℕ)
-    → (IsPlaceOn (kind_in (device_at ds device)) was → IsPlaceOn (kind_in (device_at ds device)) now)
-    → Seat ds category was device
-    → Seat ds category now device
-moved_seat ds category was now device moves h = grind (arith, matched)
+-- the cursor has moved to another place of the device that is open
+moved_seat : (ds : List Device) (category : Category) (was now : Place) (device : Option OpenDevice)
+    → (IsPlaceOn (kind_in (device_at ds (open_place device))) was
+    → IsPlaceOn (kind_in (device_at ds (open_place device))) now)
+    → IsOpenFor ds category was device
+    → IsOpenFor ds category now device
+moved_seat ds category was now None moves h = h
+moved_seat ds category was now (Some (At place)) moves h = moved_at category was now (slice_get ds place) moves h
+moved_seat ds category was now (Some TheTotals) moves h = h
 
 -- what all have, the one at a place has
 all_at : {A : Type 0} (P : A → Type 0) (xs : List A) (n : ℕ) (x : A) → slice_get xs n ≡ Some x → All P xs → P x
@@ -50,6 +52,11 @@ pub seated : (m : Machine) (n : ℕ) (c : Control) → IsSound m → slice_get m
     → HasItsDevice m.devices c
 seated m n c s e = all_at (HasItsDevice m.devices) m.controls n c e s.places
 
+-- a control that has the Hard Totals open is one of theirs
+pub totals_category : (m : Machine) (n : ℕ) (c : Control) → IsSound m → slice_get m.controls n ≡ Some c
+    → c.device ≡ Some TheTotals → c.category ≡ HardTotals
+totals_category m n c s found is = rw is at (seated m n c s found)
+
 -- a control with its device in the place of another
 pub with_control_sound : (m : Machine) (n : ℕ) (c : Control) → HasItsDevice m.devices c → IsSound m
     → IsSound (with_control m n c)
@@ -59,22 +66,37 @@ with_control_sound m n c h s = record {
   covers = s.covers;
 }
 
--- what a control finds to open is there, and serves it at the first place
-pub found_seat : (ds : List Device) (category : Category) (place : Option ℕ) → All HasItsKind ds
-    → Seat ds category origin (place_found (found_at category place (device_at ds place)))
+-- what a control finds to open among devices is there, and serves it at the first place
+found_seat : (ds : List Device) (category : Category) (place : Option ℕ) → All HasItsKind ds
+    → IsOpenFor ds category origin (device_found (found_at category place (device_at ds place)))
 found_seat ds category None kinds = tt
 found_seat ds category (Some i) kinds = there (slice_get ds i) refl
   where
     seat : OpenTarget → Type 0
-    seat found = Seat ds category origin (place_found found)
+    seat found = IsOpenFor ds category origin (device_found found)
 
     there : (o : Option Device) → slice_get ds i ≡ o → seat (found_at category (Some i) o)
     there None e = tt
     there (Some d) e =
         cond_both (serves category d.kind) _ _ seat
-        (λ serves. cond_both (is_none d.kind || is_some d.hardware) _ _ seat
-        (λ attached. rw e (serves, attached, place_opened d.kind (all_at HasItsKind ds i d e kinds).0)) (λ vacant. tt))
+        (λ serves. cond_both (is_some d.hardware) _ _ seat
+        (λ attached. rw e (serves, attached, place_opened (Some d.kind) (all_at HasItsKind ds i d e kinds).0))
+        (λ vacant. tt))
         (λ other. tt)
+
+-- so is what a control of Hard Totals finds
+found_totals : (ds : List Device) (totals : Option (List ℕ)) (name : List ℕ)
+    → IsOpenFor ds HardTotals origin (device_found (totals_under totals name))
+found_totals ds None name = tt
+found_totals ds (Some totals) name =
+    cond_both (bytes_eq name totals) _ _ (λ found. IsOpenFor ds HardTotals origin (device_found found))
+    (λ yes. refl) (λ no. tt)
+
+-- what a control finds to open serves it
+pub found_open : (m : Machine) (category : Category) (name : List ℕ) → All HasItsKind m.devices
+    → IsOpenFor m.devices category origin (device_found (found_under m category name))
+found_open m HardTotals name kinds = found_totals m.devices m.totals_name name
+found_open m category name kinds = found_seat m.devices category (place_of m.devices name) kinds
 
 -- a change of controls that keeps each at its device
 abbrev KeepsSeats : List Device → (Control → Control) → Type 0
@@ -95,10 +117,10 @@ reaction_keeps ds i t was is c h = grind (arith, cond_both)
 -- a device that has other hardware, or none, serves whom it served, unless it has lost its own
 served_with : (ds : List Device) (i k : ℕ) (d : Device) (now : Option Hardware) (category : Category) (cursor : Place)
     → slice_get ds i ≡ Some d
-    → (k ≡ i → is_some now ≡ true) → Served category cursor (slice_get ds k)
-    → Served category cursor (slice_get (set ds i (record d { hardware = now })) k)
+    → (k ≡ i → is_some now ≡ true) → MatchOption (slice_get ds k) ⊥ (IsServed category cursor)
+    → MatchOption (slice_get (set ds i (record d { hardware = now })) k) ⊥ (IsServed category cursor)
 served_with [] i k d now category cursor is stands h = absurd h
-served_with (x ∷ ds) zero zero d now category cursor is stands h = search (rules, or_right)
+served_with (x ∷ ds) zero zero d now category cursor is stands h = search rules
 served_with (x ∷ ds) zero (suc k) d now category cursor is stands h = h
 served_with (x ∷ ds) (suc i) zero d now category cursor is stands h = h
 served_with (x ∷ ds) (suc i) (suc k) d now category cursor is stands h =
@@ -106,15 +128,20 @@ served_with (x ∷ ds) (suc i) (suc k) d now category cursor is stands h =
 
 seat_with : (ds : List Device) (i : ℕ) (d : Device) (now : Option Hardware) → slice_get ds i ≡ Some d
     → (category : Category) (cursor : Place)
-    (device : Option ℕ) → (device ≡ Some i → is_some now ≡ true) → Seat ds category cursor device
-    → Seat (set ds i (record d { hardware = now })) category cursor device
-seat_with ds i d now is category cursor h stands k = grind (arith, served_with)
+    (device : Option OpenDevice) → (open_place device ≡ Some i → is_some now ≡ true)
+    → IsOpenFor ds category cursor device
+    → IsOpenFor (set ds i (record d { hardware = now })) category cursor device
+seat_with ds i d now is category cursor None stands h = h
+seat_with ds i d now is category cursor (Some (At k)) stands h =
+    served_with ds i k d now category cursor is (λ e. stands (ap (λ n. Some n) e)) h
+seat_with ds i d now is category cursor (Some TheTotals) stands h = h
 
 -- other hardware at a device, or none, keeps the machine sound, where it is of the device's kind, and is there where a
 -- control has the device open
 hardware_sound : (m : Machine) (cs : List Control) (i : ℕ) (d : Device) (now : Option Hardware)
     → slice_get m.devices i ≡ Some d
-    → IfSome now (λ hardware. d.kind ≡ Some hardware.kind) → All (λ c. c.device ≡ Some i → is_some now ≡ true) cs
+    → IfSome now (λ hardware. d.kind ≡ hardware.kind)
+    → All (λ c. open_place c.device ≡ Some i → is_some now ≡ true) cs
     → All (HasItsDevice m.devices) cs
     → IsSound m → IsSound (record m { controls = cs; devices = slice_set m.devices i (record d { hardware = now }) })
 hardware_sound m cs i d now is kind stands seats s = record {
@@ -141,12 +168,12 @@ pub on_hardware_sound : (m m' : Machine) (at : Option ℕ) (Does : ℕ → Effec
     → Keeps m.devices before m.controls after new) → OnHardware m at Does m' → IsSound m → IsSound m'
 on_hardware_sound m m' at Does keeps o s =
     let here : HasItsKind o.device = all_at HasItsKind m.devices o.place o.device o.is_device s.kinds in
-    let kind : o.device.kind ≡ Some o.before.kind = rw o.is_attached at here.1 in
+    let kind : o.device.kind ≡ o.before.kind = rw o.is_attached at here.1 in
     let stands : StandsAt m.devices at o.before =
     record { kind = rw (o.is_at, o.is_device, kind); range = rw kind at here.0 } in
     let kept = keeps o.place o.before o.controls o.after stands o.does in
     rw o.machine (hardware_sound m o.controls o.place o.device (Some o.after) o.is_device
-    (kind ∙ ap Some (sym kept.kind)) (λ k e lt opens. refl)
+    (kind ∙ sym kept.kind) (λ k e lt opens. refl)
     (kept.seats s.places) s)
 
 -- whatever has this effect does so
@@ -164,7 +191,10 @@ module _ (ds : List Device) (old : List Control) (before : Hardware) (new : List
   -- those that listen change
   listening : (place : ℕ) (change : Control → Control) → KeepsSeats ds change → new ≡ all_listening place change old
       → Keeps ds before old after new
-  listening place change keeps same = search (rules, all_listening_keep)
+  listening place change keeps same = record {
+    kind = ap (λ (s : Hardware). s.kind) is ∙ kind;
+    seats = λ all. rw same (all_listening_keep ds place change old keeps all);
+  }
 
 pub takes_keeps : (ds : List Device) (i : Input) (place : ℕ) → AllKeep ds (TakesIn i place)
 takes_keeps ds i place old before new after h = search (rules, listening, reaction_keeps)
@@ -190,14 +220,15 @@ ordered_keeps ds given place said old before new after h = same_keeps ds old bef
 
 -- a control that a call changes so has its device
 change_seat : (ds : List Device) (what : ControlUpdate) (c : Control)
-    → StaysOn (kind_in (device_at ds c.device)) c.cursor.place what → HasItsDevice ds c
+    → StaysOn (kind_in (device_at ds (open_place c.device))) c.cursor.place what → HasItsDevice ds c
     → HasItsDevice ds (changed what c)
 change_seat ds what c stays h = grind (arith, moved_seat)
 
 -- the control with a number, whose cursor a call leaves at a place of its device, keeps that
 changes_keep : (ds : List Device) (what : ControlUpdate) (number : ℕ) (c : Control) (old new : List Control)
     → slice_get old number ≡ Some c
-    → StaysOn (kind_in (device_at ds c.device)) c.cursor.place what → ChangesOne (changed what) number old new
+    → StaysOn (kind_in (device_at ds (open_place c.device))) c.cursor.place what
+    → ChangesOne (changed what) number old new
     → All (HasItsDevice ds) old
     → All (HasItsDevice ds) new
 changes_keep ds what number c old new at stays h all =
@@ -210,7 +241,8 @@ changes_keep ds what number c old new at stays h all =
 -- what a call comes to keeps each control's device
 deed_keeps : (ds : List Device) (d : Action) (r : Answer) (number place : ℕ) (c : Control) (old : List Control)
     (before : Hardware) (new : List Control)
-    (after : Hardware) → slice_get old number ≡ Some c → DeedStaysOn (kind_in (device_at ds c.device)) c.cursor.place d
+    (after : Hardware) → slice_get old number ≡ Some c
+    → DeedStaysOn (kind_in (device_at ds (open_place c.device))) c.cursor.place d
     → CarriesOut d number place r old before new after → Keeps ds before old after new
 deed_keeps ds (Gives given what) r number place c old before new after at stays h =
     let told = ordered_keeps ds given place h.said old before h.heard after h.ordered in
@@ -225,13 +257,24 @@ deed_keeps ds (Gives given what) r number place c old before new after at stays 
         let now = ap (λ (cs : List Control). slice_get cs number) ordered.controls ∙ slice_get-map hears old number
         ∙ ap (option_map hears) at in
         changes_keep ds what number (hears c) h.heard new now
-        (cond_both (listens place c) (signs c) c (λ g. StaysOn (kind_in (device_at ds g.device)) g.cursor.place what)
+        (cond_both (listens place c) (signs c) c
+        (λ g. StaysOn (kind_in (device_at ds (open_place g.device))) g.cursor.place what)
         (λ on. stays) (λ off. stays))
         follows all
     by said ordered same all = rw same all
-deed_keeps ds (Changes what) r number place c old before new after at stays h = search (rules, changes_keep)
+deed_keeps ds (Changes what) r number place c old before new after at stays h = record {
+  kind = ap (λ (s : Hardware). s.kind) h.hardware;
+  seats = λ all. changes_keep ds what number c old new at stays h.controls all;
+}
 deed_keeps ds (Queues given) r number place c old before new after at stays h =
-    search (rules, match_cases, one_keeps, same_keeps)
+    let (control, found, decided) = matched (slice_get old number) _ h in
+    elim (decided_cases decided) [
+      | inl x ↦ record {
+        kind = ap (λ (s : Hardware). s.kind) x.1.hardware;
+        seats = λ all. one_keeps ds (queued given) number old new (λ one seat. seat) x.1.controls all;
+      }
+      | inr x ↦ same_keeps ds old before new after x.1
+    ]
 
 -- the control that is told what has come of its request
 work_keeps : (ds : List Device) (id : ℕ) (told : Reply) → KeepsSeats ds (after_work id told)
@@ -262,27 +305,32 @@ works_keep ds holder place outcome old before new after h =
 
 pub device_keeps : (k : Category) (m : Machine) (asked : Call) (r : Answer) (n place : ℕ) (c : Control)
     (before : Hardware) (new : List Control)
-    (after : Hardware) → slice_get m.controls n ≡ Some c → serves k (kind_of m c) ≡ true
+    (after : Hardware) → slice_get m.controls n ≡ Some c → serves k before.kind ≡ true
     → NoneApplies (device_rows k (kind_of m c) c asked)
-    → StandsAt m.devices c.device before → DeviceDoes k (kind_of m c) n c asked r place m.controls before new after
+    → StandsAt m.devices (open_place c.device) before
+    → DeviceDoes k (kind_of m c) n c asked r place m.controls before new after
     → Keeps m.devices before m.controls after new
 device_keeps k m asked r n place c before new after at served allowed stands h =
     let x = matched (device_action k (kind_of m c) c asked) _ h in
     let stays : (d : Action) → device_action k (kind_of m c) c asked ≡ Some d
     → DeedStaysOn (kind_of m c) c.cursor.place d =
-    rw stands.kind (λ d. deed_called k before.kind c asked d (rw stands.kind at served) stands.range
-    (rw stands.kind at allowed)) in
+    rw stands.kind (λ d. deed_called k before.kind c asked d served stands.range (rw stands.kind at allowed)) in
     deed_keeps m.devices x.0 r n place c m.controls before new after at (stays x.0 x.1) x.2
 
 -- an open control's category serves its device
-pub served_by : (ds : List Device) (category : Category) (cursor : Place) (device : Option ℕ) (before : Hardware)
-    → kind_in (device_at ds device) ≡ Some before.kind → Seat ds category cursor device
-    → serves category (kind_in (device_at ds device)) ≡ true
-served_by ds category cursor device before kind h = grind (arith, matched)
+pub served_by : (ds : List Device) (category : Category) (cursor : Place) (device : Option OpenDevice)
+    (before : Hardware)
+    → kind_in (device_at ds (open_place device)) ≡ Some before.kind → IsOpenFor ds category cursor device
+    → serves category before.kind ≡ true
+served_by ds category cursor None before kind h = absurd cc
+served_by ds category cursor (Some TheTotals) before kind h = absurd cc
+served_by ds category cursor (Some (At place)) before kind h =
+    let (device, there, served) = matched (slice_get ds place) _ h in
+    let same = same_Some device.kind before.kind (rw there at kind) in rw (← same) served.0
 
 -- a control with a property set to what it takes has its device
 pub set_seat : (ds : List Device) (s : Signs) (c : Control) (p : Property) (v : Value)
-    → takes (kind_in (device_at ds c.device)) p v ≡ true
+    → takes (kind_in (device_at ds (open_place c.device))) p v ≡ true
     → HasItsDevice ds c → HasItsDevice ds (after_set s c p v)
 set_seat ds s c p v may h = search (rules, moved_seat, place_set)
 
@@ -298,10 +346,16 @@ attached_sound m m' name hardware o s =
     rw o.machine (hardware_sound m m.controls o.place o.device (Some hardware) o.is_device o.kind
     (λ k e lt opens. refl) s.places s)
 
+-- a control has the device open whose place it has
+opens_at : (device : Option OpenDevice) (place : ℕ) → open_place device ≡ Some place → is_at device place ≡ true
+opens_at None place opens = absurd cc
+opens_at (Some (At at)) place opens = eq-eqb at place (same_Some at place opens)
+opens_at (Some TheTotals) place opens = absurd cc
+
 -- a device that no control has open may lose its peripheral
 pub detached_sound : (m m' : Machine) (name : List ℕ) (hardware : Hardware) → IsDetached m name hardware m' → IsSound m
     → IsSound m'
 detached_sound m m' name hardware o s =
     rw o.machine (hardware_sound m m.controls o.place o.device None o.is_device tt
     (λ k e lt opens. absurd (false≢true (sym o.is_closed ∙ list_any_at (has_open o.place) m.controls k e lt
-    (ap (is_place o.place) opens ∙ eq-eqb o.place o.place refl)))) s.places s)
+    (opens_at (get_or m.controls k e).device o.place opens)))) s.places s)

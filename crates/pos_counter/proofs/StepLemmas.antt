@@ -1,6 +1,8 @@
 -- What each step of the machine leaves: a sound machine, and the files of the totals as its event says.
+use Rattle.pos_counter.proofs.Common.{Action, Kind, MatchOption, OpenDevice, TheTotals, claimed, device_action}
+use Rattle.pos_counter.proofs.Common.{open_place}
 use Rattle.pos_counter.proofs.Common.{◌+◌, ◌++◌, All-push, Answer, Answered, Arranges, Asks, Bool, Call, CallOf}
-use Rattle.pos_counter.proofs.Common.{Category, CategoryDoes, Claim, Close, Control, Delivered, Does, DoesTogether}
+use Rattle.pos_counter.proofs.Common.{Category, DoesOwn, Claim, Close, Control, Delivered, Does, DoesTogether}
 use Rattle.pos_counter.proofs.Common.{Done, Effect, Failure, File, FileCall, Get, HardTotals, Hardware, HasItsDevice}
 use Rattle.pos_counter.proofs.Common.{History, IsAttached, IsDetached, IsOneGroup, IsOneOf, IsSettled, IsSound}
 use Rattle.pos_counter.proofs.Common.{IsUndone, Layout, List, Machine, MatchBool, Mode, None, Nothing, Off, Ok}
@@ -8,12 +10,12 @@ use Rattle.pos_counter.proofs.Common.{OnHardware, Open, Option, OutOfMemory, Pla
 use Rattle.pos_counter.proofs.Common.{Recovers, Refused, Release, Request, Response, Set, Sets, SetsByRecovery, Some}
 use Rattle.pos_counter.proofs.Common.{Standing, Stands, Step, Totals, TotalsChange, TotalsDo, TotalsPart, Value, WorkOn}
 use Rattle.pos_counter.proofs.Common.{Worked, [], after_disk_fault, after_release, after_set, and_parts, ap, arith}
-use Rattle.pos_counter.proofs.Common.{asks_recovery, category_rows, changes_asked, changes_of, closed, delivered}
+use Rattle.pos_counter.proofs.Common.{asks_recovery, own_rows, changes_asked, changes_of, closed, delivered}
 use Rattle.pos_counter.proofs.Common.{dropped, event_between, false, file_call, files_after_all, first_refusal}
-use Rattle.pos_counter.proofs.Common.{has_call, history_with, inl, inr, is_common, is_ready, is_totals, kind_of}
+use Rattle.pos_counter.proofs.Common.{has_call, history_with, inl, inr, is_common, is_ready, kind_of}
 use Rattle.pos_counter.proofs.Common.{left_after, length, length-set, limits_of, map, new_control, next_sequences, not}
-use Rattle.pos_counter.proofs.Common.{numbered, outcome_of_all, place_of, plain, recovers, refl, refusals, released}
-use Rattle.pos_counter.proofs.Common.{rules, serves, signs_at, slice_get, subst, sym, takes, true, with_control}
+use Rattle.pos_counter.proofs.Common.{numbered, outcome_of_all, plain, recovers, refl, refusals, released}
+use Rattle.pos_counter.proofs.Common.{rules, signs_at, slice_get, subst, sym, takes, true, with_control}
 use Rattle.pos_counter.proofs.Common.{with_place, with_totals, ℕ, ◌∷◌, ◌≡◌}
 use Rattle.pos_totals.specs.Groups.{group_of}
 use Rattle.pos_counter.proofs.CursorLemmas.{NoneApplies, none_applies, none_dropped, unless_not}
@@ -24,7 +26,7 @@ use Rattle.pos_counter.proofs.CrashLemmas.{without_rest}
 use Rattle.pos_counter.proofs.LiftLemmas.{decided_cases, match_cases, matched}
 use Rattle.pos_counter.proofs.PrefixLemmas.{AreAround, Fits, Happens, fits_next}
 use Rattle.pos_counter.proofs.SoundnessLemmas.{Keeps, StandsAt, attached_sound, detached_sound, device_keeps}
-use Rattle.pos_counter.proofs.SoundnessLemmas.{found_seat, on_hardware_sound, released_seat, seated, served_by}
+use Rattle.pos_counter.proofs.SoundnessLemmas.{found_open, on_hardware_sound, released_seat, seated, served_by}
 use Rattle.pos_counter.proofs.SoundnessLemmas.{set_seat, takes_keeps, with_control_sound, works_keep}
 use Rattle.pos_counter.specs.Steps.{Deliver}
 
@@ -217,16 +219,26 @@ detached_beside old new name hardware h =
 
 -- ---- calls
 
-released_beside : (k : Category) (m : Machine) (n : ℕ) (c : Control) → Beside m (released k m n c)
-released_beside k m n c = grind (arith, totals_beside, claims_beside, length-set)
+claimed_beside : (device : Option OpenDevice) (m : Machine) (n : ℕ) → Beside m (claimed device m n)
+claimed_beside device m n = grind (arith, totals_beside, claims_beside, length-set)
 
-dropped_beside : (k : Category) (m : Machine) (n : ℕ) (c : Control) → Beside m (dropped k m n c)
-dropped_beside k m n c = grind (arith, totals_beside, without_rest, claims_beside, length-set)
+released_beside : (device : Option OpenDevice) (m : Machine) (n : ℕ) → Beside m (released device m n)
+released_beside device m n = grind (arith, totals_beside, claims_beside, length-set)
+
+dropped_beside : (device : Option OpenDevice) (m : Machine) (n : ℕ) → Beside m (dropped device m n)
+dropped_beside device m n = grind (arith, totals_beside, without_rest, claims_beside, length-set)
 
 -- nor does a call of another category, or one that all have
-pub none_of_totals : (k : Category) (asked : Call) → is_totals k ≡ false
+pub none_of_totals : (k : Category) (asked : Call) → (k ≡ HardTotals → ⊥)
     → (is_common asked ≡ false → has_call k asked ≡ true) → file_call asked ≡ Nothing
+none_of_totals HardTotals asked other has = absurd (other refl)
 none_of_totals k asked other has = grind arith
+
+-- nor does one that comes to something at a device
+none_at_devices : (k : Category) (at : Option Kind) (c : Control) (asked : Call) (R : Action → Type 0)
+    → has_call k asked ≡ true → MatchOption (device_action k at c asked) ⊥ R → file_call asked ≡ Nothing
+none_at_devices HardTotals at c asked R has does = absurd does
+none_at_devices k at c asked R has does = grind arith
 
 -- a call of a category's own that nothing refuses is one of its control's category
 pub own_of : (m : Machine) (n : ℕ) (c : Control) (asked : Call) → is_common asked ≡ false
@@ -261,21 +273,24 @@ module _ (m m' : Machine) (n : ℕ) (c : Control) (r : Answer) (at : slice_get m
       by true off (inr h) =
           unasked (subst (Beside m) (sym h.1) (totals_beside m m'.totals (unrecovered m.totals m'.totals r h.0)))
 
-  own_leaves : (k : Category) (own : Call)
-      → (IsSound m → (before : Hardware) → StandsAt m.devices c.device before → serves k (kind_of m c) ≡ true)
-      → NoneApplies (category_rows k m n c own) → has_call k own ≡ true → CategoryDoes k m n c own r m'
+  own_leaves : (device : Option OpenDevice) (own : Call) → device ≡ c.device
+      → NoneApplies (own_rows device m n c own) → has_call c.category own ≡ true → DoesOwn device m n c own r m'
       → StepLeaves (changes_asked m.totals.totals n (file_call own)) m (Answered r) m'
-  own_leaves HardTotals own served allowed has h = record {
+  own_leaves (Some TheTotals) own is allowed has h = record {
     sound = λ s. subst IsSound (sym h.1) (other_totals m m'.totals s);
     told = λ is. files_told (file_call own) m.totals m'.totals n r is h.0;
   }
-  own_leaves k own served allowed has h =
+  own_leaves device own is allowed has h =
       beside_leaves _ m m' (Answered r)
-      (λ some. absurd (some (ap (changes_asked m.totals.totals n) (none_of_totals k own refl (λ common. has)))))
+      (λ some. absurd (some (ap (changes_asked m.totals.totals n)
+      (none_at_devices c.category (kind_of m c) c own _ has h.does))))
       (record {
-        sound = λ s. on_hardware_sound m m' c.device _
+        sound = λ s. on_hardware_sound m m' (open_place device) _
             (λ place before new after stands.
-            device_keeps k m own r n place c before new after at (served s before stands) allowed stands) h s;
+            let here = subst (λ o. StandsAt m.devices (open_place o) before) is stands in
+            device_keeps c.category m own r n place c before new after at
+            (served_by m.devices c.category c.cursor.place c.device before here.kind (seated m n c s at)) allowed here)
+            h s;
         rest = rw h.machine (same_rest m.totals);
       })
 
@@ -284,22 +299,20 @@ module _ (m m' : Machine) (n : ℕ) (c : Control) (r : Answer) (at : slice_get m
       → Does m n c q r m'
       → StepLeaves (changes_asked m.totals.totals n (file_call q)) m (Answered r) m'
   does_leaves (Open name) none has h =
-      unasked (rw h.1 (control_beside m n _ (λ s. found_seat m.devices c.category (place_of m.devices name) s.kinds)))
+      unasked (rw h.1 (control_beside m n _ (λ s. found_open m c.category name s.kinds)))
   does_leaves Close none has h =
       unasked (rw h.1 (beside_then m _ _ (control_beside m n (closed c) (λ s. tt))
-      (dropped_beside c.category (with_control m n (closed c)) n c)))
-  does_leaves (Claim timeout) none has h = search (rules, unasked, totals_beside, claims_beside, length-set)
+      (dropped_beside c.device (with_control m n (closed c)) n)))
+  does_leaves (Claim timeout) none has h = unasked (rw h.1 (claimed_beside c.device m n))
   does_leaves Release none has h =
       let after = after_release c.category c in
       unasked (rw h.1 (beside_then m _ _
       (control_beside m n after (λ s. released_seat m.devices c.category c (seated m n c s at)))
-      (released_beside c.category (with_control m n after) n c)))
+      (released_beside c.device (with_control m n after) n)))
   does_leaves (Set p v) none has h = search (rules, set_leaves, unless_not)
   does_leaves (Get p) none has h = unasked (same_beside m m' h.1)
   does_leaves own none has h =
-      let served = λ (s : IsSound m) (before : Hardware) (stands : StandsAt m.devices c.device before).
-      served_by m.devices c.category c.cursor.place c.device before stands.kind (seated m n c s at) in
-      own_leaves c.category own served (none_dropped 5 (refusals m n c own) none) (has refl) h
+      own_leaves c.device own refl (none_dropped 5 (refusals m n c own) none) (has refl) h
 
 -- ---- steps
 

@@ -1,8 +1,8 @@
 -- A call of the totals' own as a step of the machine.
 use Rattle.pos_counter.proofs.Common.{Answer, Call, CallOf, CallsFiles, Control, Counter, DiskGhosts, FilesCalled}
-use Rattle.pos_counter.proofs.Common.{Ghosts, HardTotals, IsCounterSound, IsDone, IsReady, IsUndone, List, Machine}
+use Rattle.pos_counter.proofs.Common.{Ghosts, TheTotals, IsCounterSound, IsDone, IsReady, IsUndone, List, Machine}
 use Rattle.pos_counter.proofs.Common.{Mode, NoMemory, Result, Serves, Some, SparesDisk, SparesFiles, Standing, Step}
-use Rattle.pos_counter.proofs.Common.{TotalsPart, TotalsView, TurnsOff, answered, ap, arith, category_rows, controls_of}
+use Rattle.pos_counter.proofs.Common.{TotalsPart, TotalsView, TurnsOff, answered, ap, arith, own_rows, controls_of}
 use Rattle.pos_counter.proofs.Common.{false, file_call, file_rows, first_refusal, inl, inr, is_common, machine, part_of}
 use Rattle.pos_counter.proofs.Common.{part_with, refl, refusals, rules, slice_get, ℕ, ◌∙◌, ◌≡◌}
 use Rattle.pos_counter.proofs.HardwareLemmas.{IsLet, let_refusals, own_call}
@@ -11,10 +11,10 @@ use Rattle.pos_counter.proofs.ServiceLemmas.{OnlyNow, quiet_serves}
 
 module _ (m : Machine) (n : ℕ) (c : Control) (asked : Call) (own : is_common asked ≡ false)
     (found : slice_get m.controls n ≡ Some c)
-    (is : c.category ≡ HardTotals) (lets : IsLet m n c asked) where
+    (is : c.device ≡ Some TheTotals) (lets : IsLet m n c asked) where
   -- behind the check of an open control of Hard Totals, the totals' refusals decide
   totals_refusals : first_refusal (refusals m n c asked) ≡ first_refusal (file_rows m.totals.totals n (file_call asked))
-  totals_refusals = let_refusals m n c asked own lets ∙ ap (λ k. first_refusal (category_rows k m n c asked)) is
+  totals_refusals = let_refusals m n c asked own lets ∙ ap (λ d. first_refusal (own_rows d m n c asked)) is
 
   -- what the totals do with a call on an enabled control is a step
   called_step : (part : TotalsPart) (outcome : Result Answer NoMemory) → FilesCalled n asked m.totals outcome part
@@ -37,7 +37,7 @@ still_ready old new turns ready = grind arith
 pub files_serve : {D P : Type 0} (bound : DiskGhosts D) (peripherals : Ghosts P) (old : Counter D P)
     (now : TotalsView D) (n : ℕ) (c : Control)
     (asked : Call) (outcome : Result Answer NoMemory)
-    → is_common asked ≡ false → slice_get (controls_of old.controls.items) n ≡ Some c → c.category ≡ HardTotals
+    → is_common asked ≡ false → slice_get (controls_of old.controls.items) n ≡ Some c → c.device ≡ Some TheTotals
     → ((left : List Standing) (failures : ℕ)
     → IsLet (machine peripherals old (part_with old.totals.totals left failures)) n c asked)
     → OnlyNow bound old.totals.disk → CallsFiles bound old.totals n asked outcome now → IsCounterSound peripherals old

@@ -1,5 +1,6 @@
 -- What is done at one device of a counter.
-use Rattle.std.specs.Prelude.{◌≡◌, ℕ, true, List, Option, Some, Result, MatchOption, slice_get, slice_set, IsSome}
+use Rattle.std.specs.Prelude.{◌≡◌, ℕ, true, List, Option, Some, Result, IfSome, MatchOption, slice_get, slice_set}
+use Rattle.std.specs.Prelude.{IsSome}
 use Rattle.pos_service.specs.declared.answer.Answer.{Answer}
 use Rattle.pos_service.specs.declared.call.Call.{Call}
 use Rattle.pos_service.specs.declared.faults.NoMemory.{NoMemory}
@@ -23,14 +24,15 @@ FitsAt devices place given = FindsFit (hardware_in (device_at devices (Some plac
 
 -- A control may call the peripheral of its device, which is of this kind. Its category serves the kind, and its cursor
 -- is at one of its places.
-pub record MayCall (at : Option Kind) (control : Control) : Type 0 where
-  pub served : serves control.category at ≡ true
-  pub cursor : IsPlaceOn at control.cursor.place
+pub record MayCall (kind : Kind) (control : Control) : Type 0 where
+  pub served : serves control.category kind ≡ true
+  pub cursor : IsPlaceOn (Some kind) control.cursor.place
 
 -- The control with a number may call the peripheral of the device at a place.
 pub record MayBeCalled (devices : List Device) (place : ℕ) (controls : List Control) (number : ℕ) : Type 0 where
   pub attached : IsAttachedAt devices place
-  pub may : MatchOption (slice_get controls number) ⊥ (MayCall (kind_in (device_at devices (Some place))))
+  pub may : MatchOption (slice_get controls number) ⊥ (λ control.
+      IfSome (kind_in (device_at devices (Some place))) (λ kind. MayCall kind control))
 
 -- Something is done with the peripheral of the device at a place, and with the controls, and nothing else changes.
 pub record IsDoneAt (devices : List Device) (place : ℕ) (Does : Effect) (helds new_helds : List KeptControl)
@@ -40,7 +42,7 @@ pub record IsDoneAt (devices : List Device) (place : ℕ) (Does : Effect) (helds
   pub after : Hardware
   pub is_device : slice_get devices place ≡ Some device
   pub is_attached : device.hardware ≡ Some before
-  pub kind : device.kind ≡ Some before.kind
+  pub kind : device.kind ≡ before.kind
   pub does : Does (controls_of helds) before (controls_of new_helds) after
   pub changed : new_devices ≡ slice_set devices place (record device { hardware = Some after })
 

@@ -9,7 +9,7 @@ use Rattle.pos_totals.specs.Views.{IsReady}
 use Rattle.pos_disk.specs.Keeps.{KeepsDisk}
 use Rattle.pos_counter.specs.declared.counter.Counter.{Counter}
 use Rattle.pos_counter.specs.Machine.{Machine, machine_with}
-use Rattle.pos_counter.specs.KeptDevices.{devices_in, profile_devices, AreDevicesSound}
+use Rattle.pos_counter.specs.KeptDevices.{devices_in, profile_devices, totals_name, AreDevicesSound}
 use Rattle.pos_counter.specs.Leaving.{part_of, part_with, IsSettled, Leaves, Spared, Stepped}
 use Rattle.pos_counter.specs.DiskUse.{ChangesTotalsAlone, IsUndone, SparesDisk}
 use Rattle.pos_image.specs.declared.layout.Layout.TheVariants.{Layout1}
@@ -21,14 +21,15 @@ use Rattle.pos_counter.specs.Totals.{TotalsPart}
 -- the machine that a counter stands for, by what its totals are
 abbrev pub machine : {D P : Type 0} → Ghosts P → Counter D P → TotalsPart → Machine
 machine peripherals counter part =
-    machine_with counter.controls.items counter.claims (devices_in peripherals counter.devices) part
+    machine_with counter.controls.items counter.claims (devices_in peripherals counter.devices) counter.totals_name part
 
 -- A counter as it begins over the devices of a profile and a disk: no control, each device vacant and held by nobody,
 -- totals that are off and have the layout of a new disk.
 pub record Begins {D P : Type 0} (peripherals : Ghosts P)
     (entries : List Entry) (disk : D) (counter : Counter D P) : Type 0 where
   pub machine : (part : TotalsPart) → machine peripherals counter part
-      ≡ machine_with [] (replicate (length (profile_devices entries)) None) (profile_devices entries) part
+      ≡ machine_with [] (replicate (length (profile_devices entries)) None) (profile_devices entries)
+      (totals_name entries) part
   pub totals : counter.totals
       ≡ record {
         disk = disk;

@@ -1,10 +1,10 @@
 -- Which requests and calls leave the disk of the totals alone (chapter Hard Totals).
-use Rattle.std.specs.Prelude.{◌≡◌, ◌⊎◌, ℕ, false, true, [], MatchOption, IsSome, ⊤, slice_get}
+use Rattle.std.specs.Prelude.{◌≡◌, ◌⊎◌, ℕ, false, true, [], MatchOption, IsSome, Some, ⊤, slice_get}
 use Rattle.pos_service.specs.declared.answer.Answer.TheVariants as answer
 use Rattle.pos_service.specs.declared.call.Call.{Call}
 use Rattle.pos_service.specs.declared.call.Call.TheVariants as call
 use Rattle.pos_service.specs.declared.answer.Value.TheVariants as value
-use Rattle.pos_service.specs.declared.category.Category.TheVariants as category
+use Rattle.pos_service.specs.declared.context.OpenDevice.TheVariants as open_device
 use Rattle.pos_service.specs.declared.property.Property.TheVariants as property
 use Rattle.pos_service.specs.Controls.{Control}
 use Rattle.pos_service.specs.Properties.{after_set}
@@ -40,11 +40,11 @@ SparesDisk machine (CallOf number asked) = MatchOption (slice_get machine.contro
     ⊎ AsksNothing machine.totals number control asked)
 SparesDisk machine other = ⊤
 
--- The request is the call of a control of Hard Totals, and nothing changes but the totals, and that the control may be
--- enabled.
+-- The request is the call of a control that has the Hard Totals open, and nothing changes but the totals, and that the
+-- control may be enabled.
 abbrev pub ChangesTotalsAlone : Machine → Request → Machine → Type 0
 ChangesTotalsAlone old (CallOf number asked) new = MatchOption (slice_get old.controls number) ⊥ (λ control.
-    (control.category ≡ category.HardTotals)
+    (control.device ≡ Some open_device.Totals)
     × ((new ≡ record old { totals = new.totals })
     ⊎ (new ≡ record (with_control old number (after_enabling old control)) { totals = new.totals })))
 ChangesTotalsAlone old other new = ⊥

@@ -14,7 +14,6 @@ use Rattle.pos_totals.specs.HardTotals.{Off}
 use Rattle.pos_store.specs.Standing.{Stands}
 use Rattle.pos_counter.specs.History.{Group, History, history_of}
 use Rattle.pos_counter.specs.Machine.{Machine, machine_with}
-use Rattle.pos_counter.specs.KeptDevices.{totals_devices}
 use Rattle.pos_counter.specs.Steps.{Request, NewControl, CallOf, Response, Made, Answered, Run}
 
 -- From a machine whose disk stands for these files by a layout, these steps may be run through so that they have this
@@ -25,10 +24,9 @@ pub record MayHave (first : Machine) (layout : Layout) (start : List PlainFile)
   pub run : Run first steps last
   pub is : history_of layout start first steps last run ≡ history
 
--- a machine as it begins, with the Hard Totals device t1 alone, over a disk that stands for no
--- files by layout 1
+-- a machine as it begins, with the Hard Totals t1 alone, over a disk that stands for no files by layout 1
 abbrev pub new_machine : Machine
-new_machine = machine_with [] (None ∷ []) (totals_devices (Some (116 ∷ 49 ∷ []))) (record {
+new_machine = machine_with [] [] [] (Some (116 ∷ 49 ∷ [])) (record {
   totals = record { layout = Layout1; mode = Off; tail = 0; next = 1; area = None; transactions = [] };
   left = Stands Layout1 [] 1 ∷ [];
   failures = 0;

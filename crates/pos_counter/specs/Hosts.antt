@@ -26,7 +26,7 @@ host_of course_of slot = (slot.name, option_map course_of slot.peripheral)
 abbrev pub hosts_of : {P : Type 0} → (P → Course) → List (Slot P) → List Host
 hosts_of course_of slots = map (λ slot. host_of course_of slot) slots
 
--- the devices of a counter that may have a peripheral, in order
+-- the devices of a counter, in order
 abbrev pub hosts_in : {D P : Type 0} → (P → Course) → Counter D P → List Host
 hosts_in course_of counter = hosts_of course_of (slots_in counter.devices)
 

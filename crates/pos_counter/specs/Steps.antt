@@ -2,11 +2,13 @@
 use Rattle.std.specs.Bool.{MatchBool}
 use Rattle.std.specs.List.{list_any}
 use Rattle.std.specs.Prelude.{◌≡◌, ◌⊎◌, ℕ, ◌++◌, ◌∷◌, Bool, true, false, List, [], Option, Some, None, Ok, MatchOption}
-use Rattle.std.specs.Prelude.{IfSome, IsSome, All, IsTrue, length, ◌<◌, ◌≤◌, ◌||◌, slice_get, is_some, is_none, nat_eq}
+use Rattle.std.specs.Prelude.{IfSome, IsSome, All, IsTrue, ⊤, length, ◌<◌, ◌≤◌, ◌||◌, slice_get, is_some}
 use Rattle.pos_service.specs.declared.category.Category.{Category}
 use Rattle.pos_service.specs.declared.category.Category.TheVariants as category
 use Rattle.pos_service.specs.declared.call.Call.{Call}
 use Rattle.pos_service.specs.declared.call.Call.TheVariants as call
+use Rattle.pos_service.specs.declared.context.OpenDevice.{OpenDevice}
+use Rattle.pos_service.specs.declared.context.OpenDevice.TheVariants as open_device
 use Rattle.pos_service.specs.declared.display_text.Place.{Place}
 use Rattle.pos_service.specs.declared.input.Input.{Input}
 use Rattle.pos_service.specs.declared.kind.Kind.{Kind}
@@ -18,11 +20,11 @@ use Rattle.pos_service.specs.declared.action.Action.{Action}
 use Rattle.pos_service.specs.Displays.{is_cursor_place}
 use Rattle.pos_service.specs.Kinds.{is_display, rows_of, columns_of}
 use Rattle.pos_service.specs.Peripherals.{IsInRange, input_fits}
-use Rattle.pos_service.specs.Controls.{Control, new_control, opened, closed, deliverable, delivered}
+use Rattle.pos_service.specs.Controls.{Control, new_control, is_at, open_place, opened, closed, deliverable, delivered}
 use Rattle.pos_service.specs.Claims.{is_own, is_foreign, holder_at, claimed_by, released_by, claim_rows, release_rows}
 use Rattle.pos_service.specs.Claims.{after_release}
 use Rattle.pos_service.specs.Refusals.{Row, Decided, first_refusal}
-use Rattle.pos_service.specs.Calls.{takes_memory as own_takes_memory, needs_of, place_found, open_rows, close_rows}
+use Rattle.pos_service.specs.Calls.{takes_memory as own_takes_memory, needs_of, device_found, open_rows, close_rows}
 use Rattle.pos_service.specs.Categories.{serves}
 use Rattle.pos_service.specs.Properties.{set_rows, after_set, tells_power, get_rows, is_of_bytes, property_of}
 use Rattle.pos_service.specs.Hardware.{Hardware, Effect, TakesIn}
@@ -122,51 +124,52 @@ DeviceDoes c at number control own result place old before new after =
     MatchOption (device_action c at control own) ⊥
     (λ action. CarriesOut action number place result old before new after)
 
--- what each call of a category's own requires after the check of its control, in order
-abbrev pub category_rows : Category → Machine → ℕ → Control → Call → List Row
-category_rows category.HardTotals machine number control own =
+-- what each call of a category's own requires after the check of its control, in order: at the totals, or at its
+-- device
+abbrev pub own_rows : Option OpenDevice → Machine → ℕ → Control → Call → List Row
+own_rows (Some open_device.Totals) machine number control own =
     file_rows machine.totals.totals number (file_call own)
-category_rows c machine number control own = device_rows c (kind_of machine control) control own
+own_rows device machine number control own = device_rows control.category (kind_of machine control) control own
 
 -- what each call of a category's own does, if nothing refuses it: with the totals, or at its device's hardware
-abbrev pub CategoryDoes : Category → Machine → ℕ → Control → Call → Answer → Machine → Type 0
-CategoryDoes category.HardTotals old number control own result new =
+abbrev pub DoesOwn : Option OpenDevice → Machine → ℕ → Control → Call → Answer → Machine → Type 0
+DoesOwn (Some open_device.Totals) old number control own result new =
     TotalsDo (file_call own) old.totals number result new.totals × (new ≡ record old { totals = new.totals })
-CategoryDoes c old number control own result new =
-    OnHardware old control.device (DeviceDoes c (kind_of old control) number control own result) new
+DoesOwn device old number control own result new =
+    OnHardware old (open_place device) (DeviceDoes control.category (kind_of old control) number control own result) new
 
--- another control keeps a device of a category from the control with a number
-abbrev pub is_taken : Category → Machine → ℕ → Option ℕ → Bool
-is_taken category.HardTotals machine number device = is_area_taken machine.totals.totals number
-is_taken c machine number device = is_foreign number (holder_at machine.claims device)
+-- another control keeps a device from the control with a number
+abbrev pub is_taken : Option OpenDevice → Machine → ℕ → Bool
+is_taken (Some open_device.Totals) machine number = is_area_taken machine.totals.totals number
+is_taken device machine number = is_foreign number (holder_at machine.claims (open_place device))
 
--- the machine, once the control with a number holds its device
-abbrev pub claimed : Category → Machine → ℕ → Control → Machine
-claimed category.HardTotals machine number control =
+-- the machine, once the control with a number holds a device
+abbrev pub claimed : Option OpenDevice → Machine → ℕ → Machine
+claimed (Some open_device.Totals) machine number =
     with_totals machine (record machine.totals.totals { area = Some number })
-claimed c machine number control =
-    record machine { claims = claimed_by machine.claims control.device number }
+claimed device machine number =
+    record machine { claims = claimed_by machine.claims (open_place device) number }
 
--- the machine, once the control with a number has released its device
-abbrev pub released : Category → Machine → ℕ → Control → Machine
-released category.HardTotals machine number control =
+-- the machine, once the control with a number has released a device
+abbrev pub released : Option OpenDevice → Machine → ℕ → Machine
+released (Some open_device.Totals) machine number =
     with_totals machine (record machine.totals.totals { area = None })
-released c machine number control =
-    record machine { claims = released_by machine.claims control.device number }
+released device machine number =
+    record machine { claims = released_by machine.claims (open_place device) number }
 
--- the machine, once the control with a number holds nothing
-abbrev pub dropped : Category → Machine → ℕ → Control → Machine
-dropped category.HardTotals machine number control =
+-- the machine, once the control with a number has closed a device, and holds nothing
+abbrev pub dropped : Option OpenDevice → Machine → ℕ → Machine
+dropped (Some open_device.Totals) machine number =
     with_totals machine (without_control machine.totals.totals number)
-dropped c machine number control =
-    record machine { claims = released_by machine.claims control.device number }
+dropped device machine number =
+    record machine { claims = released_by machine.claims (open_place device) number }
 
 -- The refusals of the call of the control with a number, in their order.
 abbrev pub refusals : Machine → ℕ → Control → Call → List Row
 refusals machine number control (call.Open name) = open_rows control (found_under machine control.category name)
 refusals machine number control call.Close = close_rows control
 refusals machine number control (call.Claim timeout) =
-    claim_rows control (is_taken control.category machine number control.device) timeout
+    claim_rows control (is_taken control.device machine number) timeout
 refusals machine number control call.Release =
     release_rows control (is_own number (holder_of machine control))
 refusals machine number control (call.Set property v) =
@@ -175,7 +178,7 @@ refusals machine number control (call.Get property) =
     get_rows number (holder_of machine control) control (context_of machine number control) property
 refusals machine number control own =
     table number (holder_of machine control) control (needs_of control.category own)
-    (category_rows control.category machine number control own)
+    (own_rows control.device machine number control own)
 
 -- a property is set, and nothing else changes
 abbrev pub Sets : Machine → ℕ → Control → Property → Value → Answer → Machine → Type 0
@@ -196,22 +199,21 @@ SetsByRecovery old number control property v result new =
 abbrev pub Does : Machine → ℕ → Control → Call → Answer → Machine → Type 0
 Does old number control (call.Open name) result new =
     (result ≡ answer.Done value.Empty)
-    × (new ≡ with_control old number (opened control (place_found (found_under old control.category name))))
+    × (new ≡ with_control old number (opened control (device_found (found_under old control.category name))))
 Does old number control call.Close result new =
     (result ≡ answer.Done value.Empty)
-    × (new ≡ dropped control.category (with_control old number (closed control)) number control)
+    × (new ≡ dropped control.device (with_control old number (closed control)) number)
 Does old number control (call.Claim timeout) result new =
-    (result ≡ answer.Done value.Empty) × (new ≡ claimed control.category old number control)
+    (result ≡ answer.Done value.Empty) × (new ≡ claimed control.device old number)
 Does old number control call.Release result new =
     (result ≡ answer.Done value.Empty)
-    × (new ≡ released control.category
-    (with_control old number (after_release control.category control)) number control)
+    × (new ≡ released control.device (with_control old number (after_release control.category control)) number)
 Does old number control (call.Set property v) result new =
     MatchBool (recovers old.totals control property v) (SetsByRecovery old number control property v result new)
     (Sets old number control property v result new)
 Does old number control (call.Get property) result new =
     (result ≡ answer.Done (property_of control (context_of old number control) property)) × (new ≡ old)
-Does old number control own result new = CategoryDoes control.category old number control own result new
+Does old number control own result new = DoesOwn control.device old number control own result new
 
 -- A call on a control: by its table of refusals, and then by what it does.
 abbrev pub Called : Machine → ℕ → Control → Call → Answer → Machine → Type 0
@@ -244,7 +246,7 @@ pub record IsAttached (old : Machine) (name : List ℕ) (hardware : Hardware) (n
   pub is_at : place_of old.devices name ≡ Some place
   pub is_device : slice_get old.devices place ≡ Some device
   pub is_vacant : device.hardware ≡ None
-  pub kind : device.kind ≡ Some hardware.kind
+  pub kind : device.kind ≡ hardware.kind
   pub machine : new ≡ with_standing old place device (Some hardware)
 
 -- The device of this name is vacant, and of another kind than the peripheral.
@@ -254,21 +256,15 @@ pub record IsOfAnotherKind (machine : Machine) (name : List ℕ) (hardware : Har
   pub is_vacant : hardware_named machine name ≡ None
   pub differs : ¬ (hardware.kind ≡ kind)
 
--- why a peripheral is not attached: no device of the name has peripherals, the device has its peripheral, or it is of
--- another kind
+-- why a peripheral is not attached: no device has the name, the device has its peripheral, or it is of another kind
 abbrev pub IsNotAttachedFor : Machine → List ℕ → Hardware → AttachFault → Type 0
 IsNotAttachedFor machine name hardware attach.Unknown = kind_named machine name ≡ None
 IsNotAttachedFor machine name hardware attach.KindDiffers = IsOfAnotherKind machine name hardware
 IsNotAttachedFor machine name hardware attach.InUse = IsSome (hardware_named machine name)
 
--- a device's place is this one
-abbrev pub is_place : ℕ → Option ℕ → Bool
-is_place place None = false
-is_place place (Some other) = nat_eq other place
-
 -- the control has the device at a place open
 abbrev pub has_open : ℕ → Control → Bool
-has_open place control = is_place place control.device
+has_open place control = is_at control.device place
 
 -- one of the controls has
 abbrev pub is_open_at : ℕ → List Control → Bool
@@ -291,7 +287,7 @@ pub record IsOpenUnder (machine : Machine) (name : List ℕ) : Type 0 where
   pub is_attached : IsSome (hardware_named machine name)
   pub is_open : is_open_at place machine.controls ≡ true
 
--- why no peripheral is detached: no device of the name has peripherals, the device is vacant, or a control has it open
+-- why no peripheral is detached: no device has the name, the device is vacant, or a control has it open
 abbrev pub IsNotDetachedFor : Machine → List ℕ → DetachFault → Type 0
 IsNotDetachedFor machine name detach.Unknown = kind_named machine name ≡ None
 IsNotDetachedFor machine name detach.Vacant =
@@ -346,25 +342,28 @@ Run old (step ∷ steps) new = (mid : Machine) × Step old step.0 step.1 mid × 
 
 -- A device's kind is in range, and its peripheral, if it has one, is of this kind.
 abbrev pub HasItsKind : Device → Type 0
-HasItsKind device =
-    IfSome device.kind IsInRange × IfSome device.hardware (λ hardware. device.kind ≡ Some hardware.kind)
+HasItsKind device = IsInRange device.kind × IfSome device.hardware (λ hardware. device.kind ≡ hardware.kind)
 
 -- A place is on a device, if that is a display.
 abbrev pub IsPlaceOn : Option Kind → Place → Type 0
 IsPlaceOn at place =
     IfSome at (λ kind. is_display kind ≡ true → is_cursor_place (rows_of at) (columns_of at) place ≡ true)
 
--- The control's category serves the device, which has a peripheral if it may have one. If that is a display, the
--- control's cursor is at one of its places.
-abbrev pub IsServed : Control → Device → Type 0
-IsServed control device =
-    (serves control.category device.kind ≡ true) × IsTrue (is_none device.kind || is_some device.hardware)
-    × IsPlaceOn device.kind control.cursor.place
+-- Controls of a category may open the device, which has a peripheral. If that is a display, the cursor is at one of its
+-- places.
+abbrev pub IsServed : Category → Place → Device → Type 0
+IsServed category cursor device =
+    (serves category device.kind ≡ true) × (is_some device.hardware ≡ true) × IsPlaceOn (Some device.kind) cursor
+
+-- What a control of a category has open is there, and serves it: the device at a place, or the Hard Totals.
+abbrev pub IsOpenFor : List Device → Category → Place → Option OpenDevice → Type 0
+IsOpenFor devices c cursor None = ⊤
+IsOpenFor devices c cursor (Some (open_device.At place)) = MatchOption (slice_get devices place) ⊥ (IsServed c cursor)
+IsOpenFor devices c cursor (Some open_device.Totals) = c ≡ category.HardTotals
 
 -- The device of an open control is there, and serves it.
 abbrev pub HasItsDevice : List Device → Control → Type 0
-HasItsDevice devices control =
-    IfSome control.device (λ place. MatchOption (slice_get devices place) ⊥ (IsServed control))
+HasItsDevice devices control = IsOpenFor devices control.category control.cursor.place control.device
 
 -- What is true of every machine that a counter stands for.
 pub record IsSound (machine : Machine) : Type 0 where

@@ -1,6 +1,6 @@
 -- Hard Totals in the device machine (chapter Hard Totals).
 use Rattle.std.specs.Prelude.{◌≡◌, ◌≤◌, ◌⊎◌, ℕ, Bool, true, false, not, ◌&&◌, List, [], ◌∷◌, Option, Some, None, Result}
-use Rattle.std.specs.Prelude.{MatchResult, IsTrue, is_some, length, if◌then◌else◌}
+use Rattle.std.specs.Prelude.{MatchResult, IsTrue, length, if◌then◌else◌}
 use Rattle.pos_disk.specs.State.{Rises}
 use Rattle.pos_image.specs.declared.layout.Layout.{Layout}
 use Rattle.pos_service.specs.declared.answer.Answer.{Answer}
@@ -9,10 +9,10 @@ use Rattle.pos_service.specs.declared.answer.Value.{Value}
 use Rattle.pos_service.specs.declared.answer.Value.TheVariants as value
 use Rattle.pos_service.specs.declared.call.Call.{Call}
 use Rattle.pos_service.specs.declared.faults.NoMemory.{NoMemory}
-use Rattle.pos_service.specs.declared.category.Category.{Category}
-use Rattle.pos_service.specs.declared.category.Category.TheVariants as category
 use Rattle.pos_service.specs.declared.code.Code.TheVariants as code
 use Rattle.pos_service.specs.declared.context.FilesSummary.{FilesSummary}
+use Rattle.pos_service.specs.declared.context.OpenDevice.{OpenDevice}
+use Rattle.pos_service.specs.declared.context.OpenDevice.TheVariants as open_device
 use Rattle.pos_service.specs.declared.property.Property.{Property}
 use Rattle.pos_service.specs.declared.property.Property.TheVariants as property
 use Rattle.pos_service.specs.Controls.{Control}
@@ -133,14 +133,14 @@ abbrev pub is_enabling : Property → Value → Bool
 is_enabling property.DeviceEnabled (value.Truth is_enabled) = is_enabled
 is_enabling p v = false
 
-abbrev pub is_totals : Category → Bool
-is_totals category.HardTotals = true
-is_totals c = false
+-- the device that is open is the Hard Totals
+abbrev pub is_totals_open : Option OpenDevice → Bool
+is_totals_open (Some open_device.Totals) = true
+is_totals_open device = false
 
--- an open control of Hard Totals, which is disabled, is to be enabled
+-- a control that has the Hard Totals open, and is disabled, is to be enabled
 abbrev pub asks_recovery : Control → Property → Value → Bool
-asks_recovery control p v =
-    is_totals control.category && is_some control.device && not control.enabled && is_enabling p v
+asks_recovery control p v = is_totals_open control.device && not control.enabled && is_enabling p v
 
 -- setting the property starts a recovery: it enables a control of totals that are off
 abbrev pub recovers : TotalsPart → Control → Property → Value → Bool

@@ -1,5 +1,6 @@
 //! The calls of an application.
-ghost use Rattle.std.specs.Prelude.{◌≡◌, ◌<◌, false, true, MatchOption, Some, length, slice_get};
+ghost use Rattle.std.specs.Prelude.{◌≡◌, ◌<◌, false, MatchOption, Some, length, slice_get};
+ghost use Rattle.pos_service.specs.declared.context.OpenDevice.TheVariants as open_device;
 ghost use Rattle.pos_service.specs.Calls.{is_common};
 ghost use Rattle.pos_service.specs.Hardware.{hardware_of, StaysInService};
 ghost use Rattle.pos_common.specs.KeptControls.{controls_of};
@@ -8,14 +9,13 @@ ghost use Rattle.pos_counter.specs.AtDevices.{CallsAt, IsDoneAt, MayBeCalled, Ma
 ghost use Rattle.pos_counter.specs.Counters.{IsStep, IsCounterSound, Serves};
 ghost use Rattle.pos_counter.specs.Responses.{answered};
 ghost use Rattle.pos_counter.specs.Steps.{CallOf};
-ghost use Rattle.pos_counter.specs.Totals.{is_totals};
 
 use crate::counter::Counter;
 use crate::devices::Devices;
-use crate::totals_calls::{call_files, is_totals};
+use crate::totals_calls::call_files;
 use pos_common::{Claims, Control};
 use pos_disk::Disk;
-use pos_service::{Answer, Call, Category, Code, NoMemory, Peripheral};
+use pos_service::{Answer, Call, Category, Code, NoMemory, OpenDevice, Peripheral};
 use std::alloc::Global;
 
 impl<D: Disk, P: Peripheral> Counter<D, P> {
@@ -61,25 +61,22 @@ impl<D: Disk, P: Peripheral> Counter<D, P> {
         requires sound { IsCounterSound P.Peripheral self.old }
         ensures { Serves D.Disk P.Peripheral self.old (CallOf number call.now) (answered result) self.new }
     {
-        let control = &self.controls[number];
-        if is_totals(control) {
-            return self.call_totals(number, call);
+        match self.controls[number].device() {
+            None => Ok(Answer::Refused(Code::Closed, 0)),
+            Some(OpenDevice::Totals) => self.call_totals(number, call),
+            Some(OpenDevice::At(place)) => call_there(
+                self.alloc,
+                &mut self.controls,
+                number,
+                place,
+                &self.claims,
+                &mut self.devices,
+                call,
+            ),
         }
-        let Some(place) = control.device() else {
-            return Ok(Answer::Refused(Code::Closed, 0));
-        };
-        call_there(
-            self.alloc,
-            &mut self.controls,
-            number,
-            place,
-            &self.claims,
-            &mut self.devices,
-            call,
-        )
     }
 
-    /// Checks a call of a category's own on a control of Hard Totals, and passes it on to the totals.
+    /// Checks a call of a category's own on a control that has the Hard Totals open, and passes it on to them.
     ///
     /// # Errors
     ///
@@ -87,7 +84,7 @@ impl<D: Disk, P: Peripheral> Counter<D, P> {
     fn call_totals(&mut self, number: usize, call: &Call) -> Result<Answer, NoMemory>
         requires in_range { number < length self.old.controls.items }
         requires totals { MatchOption (slice_get (controls_of self.old.controls.items) number) ⊥ (λ control.
-            is_totals control.category ≡ true) }
+            control.device ≡ Some open_device.Totals) }
         requires own { is_common call.now ≡ false }
         requires sound { IsCounterSound P.Peripheral self.old }
         ensures { Serves D.Disk P.Peripheral self.old (CallOf number call.now) (answered result) self.new }
@@ -145,7 +142,7 @@ fn call_device<P: Peripheral>(
     requires in_range { number < length controls.old }
     requires unparked { (P.Peripheral.state peripheral.old).is_parked ≡ false }
     requires may { let kind = (P.Peripheral.state peripheral.old).kind in
-        MatchOption (slice_get (controls_of controls.old) number) ⊥ (MayCall (Some kind)) }
+        MatchOption (slice_get (controls_of controls.old) number) ⊥ (MayCall kind) }
     ensures called { let state = P.Peripheral.state in CallsAt number claims.now call.now result
         (controls_of controls.old) (hardware_of (state peripheral.old))
         (controls_of controls.new) (hardware_of (state peripheral.new)) }

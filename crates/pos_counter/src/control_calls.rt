@@ -4,14 +4,16 @@ ghost use Rattle.pos_service.specs.declared.call.Call.TheVariants as call;
 ghost use Rattle.pos_service.specs.Claims.{is_own, claim_rows, release_rows, after_release};
 ghost use Rattle.pos_totals.specs.TotalsClaims.{is_area_taken};
 ghost use Rattle.pos_service.specs.Refusals.{Decided};
-ghost use Rattle.pos_counter.specs.Counters.{IsCounterSound, Serves};
+ghost use Rattle.pos_counter.specs.Counters.{IsCounterSound, Serves, machine};
+ghost use Rattle.pos_counter.specs.KeptDevices.{AreDevicesSound};
+ghost use Rattle.pos_counter.specs.Machine.{found_under, totals_under};
 ghost use Rattle.pos_counter.specs.Steps.{CallOf, Answered};
+ghost use Rattle.pos_counter.specs.Totals.{TotalsPart};
 
 use crate::counter::Counter;
-use crate::totals_calls::is_totals;
 use pos_common::Control;
 use pos_disk::Disk;
-use pos_service::{Answer, Code, Peripheral, Value};
+use pos_service::{Answer, Bytes, Category, Code, OpenDevice, OpenTarget, Peripheral, Value};
 use pos_totals::Totals;
 
 impl<D: Disk, P: Peripheral> Counter<D, P> {
@@ -26,9 +28,20 @@ impl<D: Disk, P: Peripheral> Counter<D, P> {
         requires sound { IsCounterSound P.Peripheral self.old }
         ensures { Serves D.Disk P.Peripheral self.old (CallOf number (call.Open name.now)) (Answered result) self.new }
     {
-        let control = &mut self.controls[number];
-        let found = self.devices.find_for(control.category(), name);
-        control.open(found)
+        let found = self.find_target(self.controls[number].category(), name);
+        self.controls[number].open(found)
+    }
+
+    /// Returns what a control of a category finds under a name.
+    fn find_target(&self, category: Category, name: &[u8]) -> OpenTarget
+        requires sound { AreDevicesSound P.Peripheral self.now.devices }
+        ensures { (part : TotalsPart) →
+            result ≡ found_under (machine P.Peripheral self.now part) category name.now }
+    {
+        match category {
+            Category::HardTotals => find_totals(&self.totals_name, name),
+            _ => self.devices.find_for(category, name),
+        }
     }
 
     /// `close`: closes a control, and frees what it holds (common chapter).
@@ -42,15 +55,17 @@ impl<D: Disk, P: Peripheral> Counter<D, P> {
         ensures { Serves D.Disk P.Peripheral self.old (CallOf number call.Close) (Answered result) self.new }
     {
         let control = &mut self.controls[number];
-        let Some(place) = control.device() else {
-            return Answer::Refused(Code::Closed, 0);
-        };
-        if is_totals(control) {
-            self.totals.drop_control(number);
-            return control.close();
+        match control.device() {
+            None => Answer::Refused(Code::Closed, 0),
+            Some(OpenDevice::Totals) => {
+                self.totals.drop_control(number);
+                control.close()
+            }
+            Some(OpenDevice::At(place)) => {
+                self.claims.release(Some(place), number);
+                control.close()
+            }
         }
-        self.claims.release(Some(place), number);
-        control.close()
     }
 
     /// `claim`: makes a control the holder of its device (common chapter). The timeout is in milliseconds, -1 for no
@@ -66,10 +81,11 @@ impl<D: Disk, P: Peripheral> Counter<D, P> {
         ensures { Serves D.Disk P.Peripheral self.old (CallOf number (call.Claim timeout)) (Answered result) self.new }
     {
         let control = &self.controls[number];
-        if is_totals(control) {
-            return claim_area(control, &mut self.totals, number, timeout);
+        match control.device() {
+            None => Answer::Refused(Code::Closed, 0),
+            Some(OpenDevice::Totals) => claim_area(control, &mut self.totals, number, timeout),
+            Some(OpenDevice::At(_)) => control.claim(number, &mut self.claims, timeout),
         }
-        control.claim(number, &mut self.claims, timeout)
     }
 
     /// `release`: ends a control's claim of its device (common chapter).
@@ -83,10 +99,21 @@ impl<D: Disk, P: Peripheral> Counter<D, P> {
         ensures { Serves D.Disk P.Peripheral self.old (CallOf number call.Release) (Answered result) self.new }
     {
         let control = &mut self.controls[number];
-        if is_totals(control) {
-            return release_area(control, &mut self.totals, number);
+        match control.device() {
+            None => Answer::Refused(Code::Closed, 0),
+            Some(OpenDevice::Totals) => release_area(control, &mut self.totals, number),
+            Some(OpenDevice::At(_)) => control.release(number, &mut self.claims),
         }
-        control.release(number, &mut self.claims)
+    }
+}
+
+/// Returns what a control of Hard Totals finds under a name, by the name that they have, if they are there.
+fn find_totals(totals: &Option<Bytes>, name: &[u8]) -> OpenTarget
+    ensures { result ≡ totals_under totals.now name.now }
+{
+    match totals {
+        Some(totals) if name == totals.as_slice() => OpenTarget::There(OpenDevice::Totals),
+        _ => OpenTarget::NotThere,
     }
 }
 

@@ -1,10 +1,10 @@
 //! The counter, its requests, and its end.
-ghost use Rattle.std.specs.Prelude.{◌≡◌, [], length, All, IfOk, IfErr, OnErr};
+ghost use Rattle.std.specs.Prelude.{◌≡◌, [], length, All, IfOk, IfErr, None, OnErr, replicate};
 ghost use Rattle.pos_disk.specs.State.{IsAtRest};
-ghost use Rattle.pos_profile.specs.Registries.{AreParked, devices_of as registered_in};
+ghost use Rattle.pos_profile.specs.Registries.{AreParked, devices_of as registered_in, planned_of};
 ghost use Rattle.pos_totals.specs.Views.{WhenReady};
 ghost use Rattle.pos_counter.specs.Steps.{NewControl, Deliver, Delivered};
-ghost use Rattle.pos_counter.specs.KeptDevices.{HandsOver};
+ghost use Rattle.pos_counter.specs.KeptDevices.{HandsOver, totals_name};
 ghost use Rattle.pos_counter.specs.Responses.{HandsOut, OffersInService, made, request_of, response_of, steps_of};
 ghost use Rattle.pos_counter.specs.Totals.{TotalsPart};
 ghost use Rattle.pos_counter.specs.Counters.{machine, Begins, IsStep, IsStepBeside, IsRun, Stays, IsCounterSound};
@@ -15,9 +15,10 @@ use crate::faults::ControlFault;
 use crate::responses;
 use pos_common::{Claims, Control};
 use pos_disk::Disk;
-use pos_profile::laws::is_profile;
 use pos_profile::{Profile, Slot, end_all};
-use pos_service::{Category, Ends, ErrorReply, Event, NoMemory, Peripheral, Request, Response};
+use pos_service::{
+    Bytes, Category, Ends, ErrorReply, Event, NoMemory, Peripheral, Request, Response,
+};
 use pos_totals::Totals;
 use std::alloc::Global;
 
@@ -37,6 +38,8 @@ pub struct Counter<D: Disk, P> {
     pub(crate) controls: Vec<Control>,
     pub(crate) claims: Claims,
     pub(crate) devices: Devices<P>,
+    /// The name of the Hard Totals, if the profile has them.
+    pub(crate) totals_name: Option<Bytes>,
     pub(crate) totals: Totals<D>,
 }
 
@@ -44,8 +47,7 @@ pub struct Counter<D: Disk, P> {
 pub struct Ended<D: Disk, P> {
     /// The disk of the totals, at rest if they were ready.
     pub disk: D,
-    /// The devices that may have a peripheral, each once, in the profile's order. Each has the peripheral that served
-    /// it, out of service.
+    /// The devices, each once, in the profile's order. Each has the peripheral that served it, out of service.
     pub entries: Vec<Slot<P>>,
 }
 
@@ -59,6 +61,23 @@ impl<D: Disk, P: Ends> Ended<D, P> {
         end_all(entries);
         disk
     }
+}
+
+/// Returns the claims of a profile's devices, none of which is held, and the name of its Hard Totals, if it has them.
+///
+/// # Errors
+///
+/// [`NoMemory`] if memory ran out.
+fn prepare(alloc: Global, profile: &Profile) -> Result<(Claims, Option<Bytes>), NoMemory>
+    ensures claims { IfOk result (λ made. made.0 ≡ replicate (length (planned_of profile.now.devices)) None) }
+    ensures name { IfOk result (λ made. made.1 ≡ totals_name profile.now.devices) }
+{
+    let claims = Claims::new(alloc, profile.count_places())?;
+    let Some(entry) = profile.totals() else {
+        return Ok((claims, None));
+    };
+    let name = Bytes::from_slice(alloc, entry.name.as_bytes())?;
+    Ok((claims, Some(name)))
 }
 
 impl<D: Disk, P: Peripheral> Counter<D, P> {
@@ -79,8 +98,7 @@ impl<D: Disk, P: Peripheral> Counter<D, P> {
         ensures sound { IfOk result (λ counter. IsCounterSound P.Peripheral counter) }
         ensures handed_back { IfErr result (λ refusal. refusal.1 ≡ disk) }
     {
-        is_profile(profile);
-        let Ok(claims) = Claims::new(alloc, profile.devices().len()) else {
+        let Ok((claims, totals_name)) = prepare(alloc, profile) else {
             slots.destroy_empty();
             return Err((NoMemory, disk));
         };
@@ -90,6 +108,7 @@ impl<D: Disk, P: Peripheral> Counter<D, P> {
                 controls: Vec::new(alloc),
                 claims,
                 devices,
+                totals_name,
                 totals: Totals::new(alloc, disk, FIRST_HANDLE),
             }),
             Err(want) => Err((want, disk)),
@@ -197,8 +216,8 @@ impl<D: Disk, P: Peripheral> Counter<D, P> {
         }
     }
 
-    /// Ends the counter, and returns the disk and the devices that may have a peripheral, each once, in the profile's
-    /// order. Their peripherals are taken out of service, and are otherwise as they were. It takes no memory.
+    /// Ends the counter, and returns the disk and the devices, each once, in the profile's order. Their peripherals are
+    /// taken out of service, and are otherwise as they were. It takes no memory.
     pub fn shutdown(self) -> Ended<D, P>
         requires sound { IsCounterSound P.Peripheral self }
         ensures disk { result.disk ≡ self.totals.disk }
@@ -212,6 +231,7 @@ impl<D: Disk, P: Peripheral> Counter<D, P> {
             controls: _,
             claims: _,
             devices,
+            totals_name: _,
             totals,
         } = self;
         Ended {

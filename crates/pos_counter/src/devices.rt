@@ -1,33 +1,17 @@
 //! The devices of a counter, by their names and places.
-ghost use Rattle.std.specs.Prelude.{◌≡◌, [], None, Some, IfOk, IsSome, MatchOption, length, map, slice_get};
+ghost use Rattle.std.specs.Prelude.{◌≡◌, [], None, Some, IfOk, MatchOption, map, slice_get};
 ghost use Rattle.pos_profile.specs.Registries.{AreParked, devices as registered, devices_of as registered_in, parked};
 ghost use Rattle.pos_service.specs.Hardware.{hardware_of, signs_in};
-ghost use Rattle.pos_counter.specs.Machine.{device_at, found_at, kind_in, place_of, hardware_in};
-ghost use Rattle.pos_counter.specs.KeptDevices.{AreDevicesSound, devices_in, profile_devices, totals_name, totals_place};
+ghost use Rattle.pos_counter.specs.Machine.{device_at, found_among, found_at, kind_in, place_of, hardware_in};
+ghost use Rattle.pos_counter.specs.KeptDevices.{AreDevicesSound, devices_in, profile_devices};
 
 use pos_profile::{Profile, Registry, Slot};
-use pos_service::{Bytes, Category, Kind, NoMemory, OpenTarget, Peripheral, Signs};
+use pos_service::{Category, Kind, NoMemory, OpenDevice, OpenTarget, Peripheral, Signs};
 use std::alloc::Global;
 
-/// The devices of a profile. Those that may have a peripheral have the first places, in its order. The Hard Totals
-/// device, if there is one, has the last.
+/// The devices of a profile that have a peripheral, in its order.
 pub(crate) struct Devices<P> {
     pub(crate) registry: Registry<P>,
-    totals: Option<Bytes>,
-}
-
-/// Returns a copy of the name of a profile's Hard Totals device, if it has one.
-///
-/// # Errors
-///
-/// [`NoMemory`] if memory ran out.
-fn copy_totals(alloc: Global, profile: &Profile) -> Result<Option<Bytes>, NoMemory>
-    ensures { IfOk result (λ name. name ≡ totals_name profile.now.devices) }
-{
-    match profile.totals() {
-        Some(entry) => Ok(Some(Bytes::from_slice(alloc, entry.name.as_bytes())?)),
-        None => Ok(None),
-    }
 }
 
 impl<P: Peripheral> Devices<P> {
@@ -46,12 +30,8 @@ impl<P: Peripheral> Devices<P> {
             devices_in P.Peripheral devices ≡ profile_devices profile.now.devices) }
         ensures sound { IfOk result (λ devices. AreDevicesSound P.Peripheral devices) }
     {
-        let Ok(totals) = copy_totals(alloc, profile) else {
-            slots.destroy_empty();
-            return Err(NoMemory);
-        };
         let registry = Registry::new(alloc, profile, slots)?;
-        Ok(Devices { registry, totals })
+        Ok(Devices { registry })
     }
 
     /// Returns the place of the first device with a name.
@@ -59,10 +39,7 @@ impl<P: Peripheral> Devices<P> {
         requires { AreDevicesSound P.Peripheral self.now }
         ensures { result ≡ place_of (devices_in P.Peripheral self.now) name.now }
     {
-        match self.registry.find(name) {
-            Some(place) => Some(place),
-            None => self.find_totals(name),
-        }
+        self.registry.find(name)
     }
 
     /// Returns the place of the first device with a name, and its peripheral. It is `None` if there is no such device
@@ -79,22 +56,10 @@ impl<P: Peripheral> Devices<P> {
         Some((place, peripheral))
     }
 
-    /// Returns the place of the Hard Totals device, if it has the name.
-    fn find_totals(&self, name: &[u8]) -> Option<usize>
-        ensures { let list = registered P.Peripheral self.now.registry in
-            result ≡ totals_place (length list) name.now self.now.totals }
-    {
-        match &self.totals {
-            Some(totals) if name == totals.as_slice() => Some(self.registry.count()),
-            _ => None,
-        }
-    }
-
-    /// Returns what a control of a category finds under a name.
+    /// Returns what a control of a category finds under a name, which is no device of Hard Totals.
     pub(crate) fn find_for(&self, category: Category, name: &[u8]) -> OpenTarget
         requires { AreDevicesSound P.Peripheral self.now }
-        ensures { let devices = devices_in P.Peripheral self.now in
-            result ≡ found_at category (place_of devices name.now) (device_at devices (place_of devices name.now)) }
+        ensures { result ≡ found_among (devices_in P.Peripheral self.now) category name.now }
     {
         let Some(place) = self.find(name) else {
             return OpenTarget::NotThere;
@@ -104,21 +69,22 @@ impl<P: Peripheral> Devices<P> {
 
     /// Returns what a control of a category finds at the place of a device.
     fn find_at(&self, category: Category, place: usize) -> OpenTarget
-        requires { IsSome (device_at (devices_in P.Peripheral self.now) (Some place)) }
         ensures { let devices = devices_in P.Peripheral self.now in
             result ≡ found_at category (Some place) (device_at devices (Some place)) }
     {
-        let kind = self.kind_at(Some(place));
+        let Some(kind) = self.registry.kind(place) else {
+            return OpenTarget::NotThere;
+        };
         if !category.serves(kind) {
             return OpenTarget::NotThere;
         }
-        if kind.is_some() && self.registry.peripheral(place).is_none() {
+        if self.registry.peripheral(place).is_none() {
             return OpenTarget::Vacant;
         }
-        OpenTarget::At(place)
+        OpenTarget::There(OpenDevice::At(place))
     }
 
-    /// Returns the kind of the device at the place, if it may have a peripheral.
+    /// Returns the kind of the device at the place.
     pub(crate) fn kind_at(&self, place: Option<usize>) -> Option<Kind>
         ensures { result ≡ kind_in (device_at (devices_in P.Peripheral self.now) place) }
     {
@@ -128,17 +94,14 @@ impl<P: Peripheral> Devices<P> {
         }
     }
 
-    /// Ends the devices, and returns those that may have a peripheral, each once, in the profile's order. Their
-    /// peripherals are taken out of service, and are otherwise as they were.
+    /// Ends the devices, and returns them, each once, in the profile's order. Their peripherals are taken out of
+    /// service, and are otherwise as they were.
     pub(crate) fn into_entries(self) -> Vec<Slot<P>>
         requires { Unit {0} }
         ensures entries { registered_in P.Peripheral result.items ≡ map parked (registered P.Peripheral self.registry) }
         ensures parked { AreParked (registered_in P.Peripheral result.items) }
     {
-        let Devices {
-            registry,
-            totals: _,
-        } = self;
+        let Devices { registry } = self;
         registry.into_entries()
     }
 

@@ -22,7 +22,7 @@ impl<D: Disk, P: Peripheral> Counter<D, P> {
     ///
     /// With the peripheral as it was, and nothing changed:
     ///
-    /// - `Unknown`: no device of the name may have a peripheral.
+    /// - `Unknown`: no device has the name.
     /// - `InUse`: the device has its peripheral.
     /// - `KindDiffers`: the device is of another kind.
     pub fn attach(&mut self, name: &[u8], peripheral: P) -> Result<(), (AttachFault, P)>
@@ -45,8 +45,8 @@ impl<D: Disk, P: Peripheral> Counter<D, P> {
     ///
     /// In this order, and nothing has changed:
     ///
-    /// - `Unknown`: no device of the name may have a peripheral.
-    /// - `Vacant`: the device has none.
+    /// - `Unknown`: no device has the name.
+    /// - `Vacant`: the device has no peripheral.
     /// - `InUse`: a control has the device open.
     pub fn detach(&mut self, name: &[u8]) -> Result<P, DetachFault>
         requires sound { IsCounterSound P.Peripheral self.old }
@@ -60,7 +60,7 @@ impl<D: Disk, P: Peripheral> Counter<D, P> {
     }
 }
 
-/// Returns whether one of the controls has the first device with a name open, if that may have a peripheral.
+/// Returns whether one of the controls has the first device with a name open.
 fn is_open<P: Peripheral>(controls: &[Control], devices: &Devices<P>, name: &[u8]) -> bool
     requires { AreDevicesSound P.Peripheral devices.now }
     ensures { (place : ℕ) →
@@ -84,8 +84,5 @@ fn is_open_at(controls: &[Control], place: usize) -> bool
 fn has_open(control: &Control, place: usize) -> bool
     ensures { result ≡ has_open place control.now.control }
 {
-    match control.device() {
-        Some(other) => other == place,
-        None => false,
-    }
+    control.place() == Some(place)
 }

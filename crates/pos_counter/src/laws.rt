@@ -31,7 +31,7 @@ ghost use Rattle.pos_counter.specs.Prefixes.{BeginsWith, IsFiles, IsPrefixAlong,
 ghost use Rattle.pos_counter.specs.Prefixes.{IsPrefix, IsPrefixOf, LeavesPrefix, LeavesPrefixInside, moved_with};
 ghost use Rattle.pos_counter.specs.Reopening.{FindsThem, enabling};
 ghost use Rattle.pos_counter.specs.Sparing.{AllSpare, RunSparing};
-ghost use Rattle.pos_counter.specs.Steps.{Request, CallOf, Response, Step, Run};
+ghost use Rattle.pos_counter.specs.Steps.{Request, CallOf, IsSound, Response, Step, Run};
 ghost use Rattle.pos_counter.specs.Totals.{Recovers, TotalsPart, asks_recovery};
 
 use crate::counter::Counter;
@@ -229,7 +229,7 @@ pub fn runs_over_any_disk<D: Disk, P: Peripheral>(counter: &Counter<D, P>)
 /// machine.
 pub fn most_requests_spare_the_disk()
     ensures elsewhere { (machine : Machine) (number : ℕ) (control : Control) (asked : Call)
-        → slice_get machine.controls number ≡ Some control → ¬ (control.category ≡ HardTotals)
+        → IsSound machine → slice_get machine.controls number ≡ Some control → ¬ (control.category ≡ HardTotals)
         → SparesDisk machine (CallOf number asked) }
     ensures run { (old new : Machine) (steps : List (Request × Response)) (run : RunSparing old steps new)
         → AllSpare old steps new run → Run old steps new }

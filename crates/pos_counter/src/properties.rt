@@ -6,6 +6,7 @@ ghost use Rattle.pos_counter.specs.Counters.{IsCounterSound, Serves, machine};
 ghost use Rattle.pos_counter.specs.Leaving.{part_with};
 ghost use Rattle.pos_common.specs.KeptControls.{SetsTo};
 ghost use Rattle.pos_service.specs.Claims.{is_own};
+ghost use Rattle.pos_service.specs.Controls.{open_place};
 ghost use Rattle.pos_service.specs.Hardware.{signs_in};
 ghost use Rattle.pos_service.specs.Properties.{after_set, set_rows, tells_power};
 ghost use Rattle.pos_counter.specs.KeptDevices.{devices_in};
@@ -17,11 +18,12 @@ ghost use Rattle.pos_counter.specs.Totals.{asks_recovery, files_summary};
 
 use crate::counter::Counter;
 use crate::devices::Devices;
-use crate::totals_calls::is_totals;
 use pos_common::{Claims, Control};
 use pos_disk::Disk;
 use pos_service::claims::is_own;
-use pos_service::{Answer, FilesSummary, NoMemory, Peripheral, Property, PropertyContext, Value};
+use pos_service::{
+    Answer, FilesSummary, NoMemory, OpenDevice, Peripheral, Property, PropertyContext, Value,
+};
 use pos_totals::Totals;
 
 impl<D: Disk, P: Peripheral> Counter<D, P> {
@@ -50,12 +52,12 @@ impl<D: Disk, P: Peripheral> Counter<D, P> {
             let machine = machine P.Peripheral self.now (part_with self.now.totals.totals left failures) in
             is_claimed ≡ is_own number (holder_of machine control) → result ≡ context_of machine number control }
     {
-        let device = control.device();
+        let place = control.place();
         PropertyContext {
             is_claimed,
             in_transaction: self.totals.in_transaction(number),
-            kind: self.devices.kind_at(device),
-            signs: self.devices.signs_at(device),
+            kind: self.devices.kind_at(place),
+            signs: self.devices.signs_at(place),
             totals_size: self.totals.size(),
             files: find_files_summary(&self.totals),
         }
@@ -129,12 +131,13 @@ impl<D: Disk, P: Peripheral> Counter<D, P> {
 
 /// Returns the number of the control that holds a control's device, by who holds the area.
 pub(crate) fn find_holder(control: &Control, claims: &Claims, area: Option<usize>) -> Option<usize>
-    ensures { result ≡ holder_in control.now.control.category claims.now area control.now.control.device }
+    ensures { result ≡ holder_in claims.now area control.now.control.device }
 {
-    if is_totals(control) {
-        return area;
+    match control.device() {
+        None => None,
+        Some(OpenDevice::Totals) => area,
+        Some(OpenDevice::At(place)) => claims.holder(Some(place)),
     }
-    claims.holder(control.device())
 }
 
 /// Sets a property of a control, by who holds its device, and by what that is and shows.
@@ -151,13 +154,13 @@ fn set_control<P: Peripheral>(
     value: &Value,
 ) -> Result<Answer, NoMemory>
     ensures { let was = control.old.control in
-        let device = device_at (devices_in P.Peripheral devices.now) was.device in
+        let device = device_at (devices_in P.Peripheral devices.now) (open_place was.device) in
         SetsTo (set_rows number holder (kind_in device) was property value.now) (tells_power was property value.now)
         result control.old control.new (after_set (signs_in (hardware_in device)) was property value.now) }
 {
-    let device = control.device();
-    let kind = devices.kind_at(device);
-    let signs = devices.signs_at(device);
+    let place = control.place();
+    let kind = devices.kind_at(place);
+    let signs = devices.signs_at(place);
     control.set(number, holder, kind, signs, property, value)
 }
 
@@ -174,13 +177,12 @@ fn find_files_summary<D: Disk>(totals: &Totals<D>) -> Option<FilesSummary>
     })
 }
 
-/// Returns whether setting the property recovers the totals: it enables an open control of Hard Totals while they are
+/// Returns whether setting the property recovers the totals: it enables a control that has them open, while they are
 /// off.
 fn is_recovering(control: &Control, is_ready: bool, property: Property, value: &Value) -> bool
     ensures { result ≡ (asks_recovery control.now.control property value.now && not is_ready) }
 {
-    is_totals(control)
-        && control.device().is_some()
+    matches!(control.device(), Some(OpenDevice::Totals))
         && !control.is_enabled()
         && matches!(
             (property, value),

@@ -8,7 +8,8 @@ ghost use Rattle.pos_service.specs.Peripherals.{input_fits};
 use pos_common::{Claims, Control};
 use pos_service::display_text::Place;
 use pos_service::{
-    Answer, Call, Category, Code, ErrorReply, Event, Input, Kind, NoMemory, OpenTarget, PaperLevel,
+    Answer, Call, Category, Code, ErrorReply, Event, Input, Kind, NoMemory, OpenDevice,
+    OpenTarget, PaperLevel,
     Peripheral, Property, Signs, Snapshot, Value, WorkResult, columns_of, rows_of,
 };
 use std::alloc::Global;
@@ -38,7 +39,7 @@ pub const NEW_SIGNS: Signs = Signs {
 /// A control that has the device at place 0 open and enabled, delivers data, and queues output.
 pub fn control(alloc: Global, category: Category) -> Control {
     let mut control = Control::new(alloc, category);
-    control.open(OpenTarget::At(0));
+    control.open(OpenTarget::There(OpenDevice::At(0)));
     for property in [
         Property::DeviceEnabled,
         Property::DataEventEnabled,
@@ -97,7 +98,7 @@ fn first_wrong<P: Peripheral>(
     is_ample: bool,
 ) -> Result<Option<usize>, NoMemory> {
     let mut claims = Claims::new(alloc, 1)?;
-    claims.claim(0, 0);
+    claims.claim(Some(0), 0);
     for (number, step) in steps.iter().enumerate() {
         let is_taken = does(alloc, controls, &claims, device, step)
             || !is_ample && does(alloc, controls, &claims, device, step);

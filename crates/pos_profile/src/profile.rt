@@ -1,10 +1,11 @@
 //! The profile of a counter.
-ghost use Rattle.std.specs.Prelude.{◌≡◌, option_copied};
+ghost use Rattle.std.specs.Prelude.{◌≡◌, length, option_copied};
 ghost use Rattle.std.specs.List.{find};
 ghost use Rattle.toml.specs.Parse.{parse_document};
 ghost use Rattle.toml.specs.View.{table_view};
 ghost use Rattle.pos_profile.specs.Categories.{is_totals};
 ghost use Rattle.pos_profile.specs.Profiles.{FromDocument, Gives};
+ghost use Rattle.pos_profile.specs.Registries.{planned_of};
 
 use crate::category::is_totals;
 use crate::entry::Entry;
@@ -86,6 +87,19 @@ impl Profile {
         ensures { result.now ≡ self.now.devices }
     {
         self.devices.as_slice()
+    }
+
+    /// Returns how many devices have a peripheral, and so a place in a registry.
+    pub fn count_places(&self) -> usize
+        ensures { result ≡ length (planned_of self.now.devices) }
+    {
+        let mut count = 0;
+        for entry in &self.devices {
+            if entry.kind().is_some() {
+                count += 1;
+            }
+        }
+        count
     }
 
     /// Returns the device of Hard Totals, or `None` if there is none. It has no peripheral, and so no place in a

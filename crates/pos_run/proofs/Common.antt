@@ -2,7 +2,7 @@
 pub use Rattle.pos_counter.proofs.RunLemmas.{machine_runs, one_beside, one_step, runs_from, runs_join}
 pub use Rattle.pos_counter.specs.Counters.{IsCounterSound, IsRun, IsStep, IsStepBeside, machine}
 pub use Rattle.pos_counter.specs.Machine.{Device, Machine, device_at, hardware_in, hardware_named, kind_in, kind_named}
-pub use Rattle.pos_counter.specs.Machine.{machine_with, place_from, place_of, with_standing}
+pub use Rattle.pos_counter.specs.Machine.{machine_with, place_of, with_standing}
 pub use Rattle.pos_counter.specs.Steps.{Attach, Attached, NotAttached, Request, Response, Run, Step}
 pub use Rattle.pos_counter.specs.Totals.{TotalsPart}
 pub use Rattle.pos_counter.specs.declared.counter.Counter.{Counter}
@@ -11,10 +11,11 @@ pub use Rattle.pos_profile.specs.Kinds.{kind_of}
 pub use Rattle.pos_profile.specs.declared.entry.Entry.{Entry}
 pub use Rattle.pos_run.specs.LineRuns.{RunsThrough, session_of}
 pub use Rattle.pos_run.specs.Names.{names_of, number_named}
-pub use Rattle.pos_run.specs.Runs.{Finishes, FinishesUnflushed, RunsScript, ScriptLeaves, Stops, begun_with}
+pub use Rattle.pos_run.specs.Runs.{Finishes, FinishesUnflushed, RunsScript, ScriptLeaves, Stops}
 pub use Rattle.pos_run.specs.Runs.{carried_steps, device_with, lines_read, new_totals, off_over, script_steps}
 pub use Rattle.pos_run.specs.Simulations.{HoldsOnlyIf, IsDeviceFor, IsSimulable, RunsOverProfile, device_for}
-pub use Rattle.pos_run.specs.Simulations.{new_device, simulated_all, simulated_devices, simulated_for, state_of}
+pub use Rattle.pos_run.specs.Simulations.{new_device, simulated_all, simulated_devices, simulated_for}
+pub use Rattle.pos_run.specs.Simulations.{simulated_machine, state_of}
 pub use Rattle.pos_run.specs.Simulations.{wrapped_by, wrapped_state}
 pub use Rattle.pos_run.specs.Spares.{AreSparesSound, IsEmptyAt, IsInService, SpareStates, spare_at, spares_in}
 pub use Rattle.pos_run.specs.Spares.{states_in, with_spare}

@@ -1,13 +1,14 @@
 -- The devices of a profile, which are served one after another by what is simulated for them.
 use Rattle.pos_run.proofs.Common.{Attach, Attached, Device, Entry, Hardware, Kind, List, Machine, None, NotAttached}
 use Rattle.pos_run.proofs.Common.{Option, PeripheralState, Response, Some, Step, TotalsPart, [], ap, append-nil}
-use Rattle.pos_run.proofs.Common.{append_assoc, arith, begun_with, bytes_eq, bytes_eq-Decides, cond, device_at}
+use Rattle.pos_run.proofs.Common.{append_assoc, arith, bytes_eq, bytes_eq-Decides, cond, device_at}
 use Rattle.pos_run.proofs.Common.{device_for, device_with, drop, drop_all, drop_more, false, false≢true, get_or}
 use Rattle.pos_run.proofs.Common.{hardware_in, hardware_named, hardware_of, inl, inr, is_some, kind_in, kind_named}
-use Rattle.pos_run.proofs.Common.{kind_of, length, machine_with, map, new_device, or_parts, place_from, place_of, refl}
+use Rattle.pos_run.proofs.Common.{kind_of, length, machine_with, map, new_device, or_parts, place_of, refl, simulated_machine}
 use Rattle.pos_run.proofs.Common.{replicate, simulated_devices, simulated_for, slice_get, suc, sym, take, take-map}
 use Rattle.pos_run.proofs.Common.{take_all, true, with_standing, ℕ, ◌++◌, ◌+◌, ◌<◌, ◌∙◌, ◌∷◌, ◌≡◌, ◌≤◌, ◌⊎◌}
-use Rattle.pos_counter.specs.KeptDevices.{device_of, profile_devices, totals_devices, totals_name}
+use Rattle.pos_counter.specs.KeptDevices.{device_of, profile_devices, totals_name}
+use Rattle.pos_profile.specs.Places.{place_from}
 use Rattle.pos_profile.proofs.ListLemmas.{name_at}
 use Rattle.pos_profile.specs.Profiles.{is_repeated, names_of}
 use Rattle.pos_profile.specs.Registries.{vacant_devices}
@@ -42,7 +43,7 @@ no_refusal old new name hardware attach.InUse given is vacant (there, gave, same
 
 module _ (old new : Machine) (name : List ℕ) (hardware : Hardware) (place : ℕ) (device : Device)
     (found : place_of old.devices name ≡ Some place)
-    (there : slice_get old.devices place ≡ Some device) (is : device.kind ≡ Some hardware.kind)
+    (there : slice_get old.devices place ≡ Some device) (is : device.kind ≡ hardware.kind)
     (vacant : device.hardware ≡ None) where
   named : device_at old.devices (place_of old.devices name) ≡ Some device
   named = ap (device_at old.devices) found ∙ there
@@ -55,7 +56,8 @@ module _ (old new : Machine) (name : List ℕ) (hardware : Hardware) (place : �
       let of : done.device ≡ device = the_same (sym done.is_device ∙ ap (slice_get old.devices) at ∙ there) in
       done.machine ∙ rw (at, of)
   stands (NotAttached fault given) step =
-      absurd (no_refusal old new name hardware fault given (ap kind_in named ∙ is) (ap hardware_in named ∙ vacant) step)
+      absurd (no_refusal old new name hardware fault given (ap kind_in named ∙ ap (λ k. Some k) is)
+      (ap hardware_in named ∙ vacant) step)
   stands _ step = absurd step
 
 -- the device of an entry, served
@@ -67,56 +69,57 @@ abbrev unserved : Entry → Option Device
 unserved entry = device_for None entry
 
 -- the devices of some entries served, and those of the others vacant
-abbrev partly : List Entry → List Entry → Option (List ℕ) → List Device
-partly front back totals = filter_map served front ++ (filter_map unserved back ++ totals_devices totals)
+abbrev partly : List Entry → List Entry → List Device
+partly front back = filter_map served front ++ filter_map unserved back
 
 -- the machine where so many of the entries' devices are served
 abbrev pub begun_partly : List Entry → ℕ → TotalsPart → Machine
 begun_partly entries i part = machine_with [] (replicate (length (profile_devices entries)) None)
-    (partly (take i entries) (drop i entries) (totals_name entries)) part
+    (partly (take i entries) (drop i entries)) (totals_name entries) part
 
 -- at first all are vacant
-all_vacant : (entries : List Entry) → map device_of (vacant_devices entries) ≡ filter_map unserved entries
+pub all_vacant : (entries : List Entry) → map device_of (vacant_devices entries) ≡ filter_map unserved entries
 all_vacant [] = refl
 all_vacant (entry ∷ entries) = elim (some_or_none (kind_of entry)) [
   | inl none ↦ rw none (all_vacant entries)
   | inr some ↦ rw some.1 (ap (λ (ds : List Device). device_with entry.name some.0 None ∷ ds) (all_vacant entries))
 ]
 
-pub vacant_profile : (entries : List Entry) → profile_devices entries ≡ partly [] entries (totals_name entries)
-vacant_profile entries = ap (λ (ds : List Device). ds ++ totals_devices (totals_name entries)) (all_vacant entries)
-
 pub begins_partly : (entries : List Entry) (part : TotalsPart)
-    → machine_with [] (replicate (length (profile_devices entries)) None) (profile_devices entries) part
+    → machine_with [] (replicate (length (profile_devices entries)) None) (profile_devices entries)
+    (totals_name entries) part
     ≡ begun_partly entries 0 part
 begins_partly entries part =
-    ap (λ (ds : List Device). machine_with [] (replicate (length (profile_devices entries)) None) ds part)
-    (vacant_profile entries)
+    ap (λ (ds : List Device). machine_with [] (replicate (length (profile_devices entries)) None) ds
+    (totals_name entries) part)
+    (all_vacant entries)
 
 -- as many are served in the end as were vacant at first
-as_many : (entries : List Entry) (rest : List Device)
-    → length (filter_map unserved entries ++ rest) ≡ length (filter_map served entries ++ rest)
-as_many [] rest = refl
-as_many (entry ∷ entries) rest = elim (some_or_none (kind_of entry)) [
-  | inl none ↦ rw none (as_many entries rest)
-  | inr some ↦ rw some.1 (ap (λ (n : ℕ). suc n) (as_many entries rest))
+as_many : (entries : List Entry) → length (filter_map unserved entries) ≡ length (filter_map served entries)
+as_many [] = refl
+as_many (entry ∷ entries) = elim (some_or_none (kind_of entry)) [
+  | inl none ↦ rw none (as_many entries)
+  | inr some ↦ rw some.1 (ap (λ (n : ℕ). suc n) (as_many entries))
 ]
 
 -- in the end all are served
 pub ends_whole : (entries : List Entry) (i : ℕ) (part : TotalsPart) → length entries ≤ i
-    → begun_partly entries i part ≡ begun_with (simulated_devices entries) part
+    → begun_partly entries i part ≡ simulated_machine entries part
 ends_whole entries i part all =
-    let totals = totals_name entries in
     let count : length (profile_devices entries) ≡ length (simulated_devices entries) =
-    ap length (vacant_profile entries) ∙ as_many entries (totals_devices totals) in
-    rw (take_all i entries all, drop_all i entries all, count)
+    ap length (all_vacant entries) ∙ as_many entries in
+    rw (take_all i entries all, drop_all i entries all, append-nil, count)
+
+abbrev name_of : Device → List ℕ
+name_of device = device.name
 
 -- a device whose name no entry before it has is found behind them
 found_behind : (name : List ℕ) (front : List Entry) (at : ℕ) (device : Device) (back : List Device)
     → list_any (bytes_eq name) (names_of front) ≡ false → bytes_eq name device.name ≡ true
-    → place_from at name (filter_map served front ++ device ∷ back) ≡ Some (at + length (filter_map served front))
+    → place_from at name (map name_of (filter_map served front ++ device ∷ back))
+    ≡ Some (at + length (filter_map served front))
 found_behind name [] at device back none same =
-    ap (λ b. cond b (Some at) (place_from (at + 1) name back)) same ∙ ap (λ (n : ℕ). Some n) (omega arith)
+    ap (λ b. cond b (Some at) (place_from (at + 1) name (map name_of back))) same ∙ ap (λ (n : ℕ). Some n) (omega arith)
 found_behind name (entry ∷ front) at device back none same =
     let parts = or_parts (bytes_eq name entry.name) _ none in
     elim (some_or_none (kind_of entry)) [
@@ -147,14 +150,11 @@ unnamed_before entries i entry lt is single =
 
 module _ (entries : List Entry) (i : ℕ) (entry : Entry) (lt : i < length entries)
     (is : entry ≡ get_or entries i entry) where
-  abbrev totals : Option (List ℕ)
-  totals = totals_name entries
-
   abbrev front : List Device
   front = filter_map served (take i entries)
 
   abbrev back : List Device
-  back = filter_map unserved (drop (i + 1) entries) ++ totals_devices totals
+  back = filter_map unserved (drop (i + 1) entries)
 
   -- the entries from this one on
   one_less : drop i entries ≡ entry ∷ drop (i + 1) entries
@@ -181,7 +181,8 @@ module _ (entries : List Entry) (i : ℕ) (entry : Entry) (lt : i < length entri
       let kind : kind_of entry ≡ Some state.kind = kind_fits (kind_of entry) entry.lines state simulated in
       let vacant = device_with entry.name state.kind None in
       let full = device_with entry.name state.kind (Some state) in
-      let over = λ (ds : List Device). machine_with [] (replicate (length (profile_devices entries)) None) ds part in
+      let over = λ (ds : List Device). machine_with [] (replicate (length (profile_devices entries)) None) ds
+      (totals_name entries) part in
       let one : filter_map served (entry ∷ []) ≡ full ∷ [] = rw (simulated, kind) in
       let before : old ≡ over (front ++ vacant ∷ back) = begun ∙ rw (one_less, kind) in
       let found : place_of (front ++ vacant ∷ back) entry.name ≡ Some (length front) =
@@ -189,6 +190,6 @@ module _ (entries : List Entry) (i : ℕ) (entry : Entry) (lt : i < length entri
       ((bytes_eq-Decides entry.name entry.name).1 refl) ∙ ap (λ (n : ℕ). Some n) (omega arith) in
       let stood = stands (over (front ++ vacant ∷ back)) new entry.name (hardware_of state) (length front) vacant found
       (there_behind front vacant back) refl refl response (rw before at step) in
-      let after : front ++ full ∷ back ≡ partly (take (i + 1) entries) (drop (i + 1) entries) totals =
+      let after : front ++ full ∷ back ≡ partly (take (i + 1) entries) (drop (i + 1) entries) =
       rw (served_more, one, append_assoc) in
       stood ∙ ap over (set-append_seam front vacant back full ∙ after)

@@ -2,7 +2,7 @@
 use Rattle.pos_run.proofs.Common.{Counter, Device, Entry, Ghosts, IfSome, List, None, Option, Some, [], ap, device_for}
 use Rattle.pos_run.proofs.Common.{get_or, inl, inr, kind_of, length, map, new_totals, option_map, refl, set, subst, suc}
 use Rattle.pos_run.proofs.Common.{sym, zero, ℕ, ◌++◌, ◌<◌, ◌∙◌, ◌∷◌, ◌≡◌}
-use Rattle.pos_counter.specs.KeptDevices.{device_of, slots_in, totals_devices, totals_name}
+use Rattle.pos_counter.specs.KeptDevices.{device_of, slots_in}
 use Rattle.pos_counter.specs.Machine.{Machine}
 use Rattle.pos_counter.specs.Counters.{Begins}
 use Rattle.pos_profile.specs.Registries.{devices_of}
@@ -12,23 +12,19 @@ use Rattle.pos_service.specs.Hardware.{hardware_of}
 use Rattle.std.proofs.lemmas.Option.{slice_get-get_or}
 use Rattle.std.proofs.Common.{⊎_elim}
 use Rattle.std.specs.List.{AllByRecursion, filter_map}
-use Rattle.pos_run.proofs.DeviceLemmas.{some_or_none, vacant_profile}
+use Rattle.pos_run.proofs.DeviceLemmas.{all_vacant, some_or_none}
 
 -- ---- at first every device is vacant
 
 abbrev IsVacant : Device → Type 0
 IsVacant device = device.hardware ≡ None
 
-totals_vacant : (name : Option (List ℕ)) → AllByRecursion IsVacant (totals_devices name)
-totals_vacant None = tt
-totals_vacant (Some name) = (refl, tt)
-
-entries_vacant : (entries : List Entry) (totals : Option (List ℕ))
-    → AllByRecursion IsVacant (filter_map (λ entry. device_for None entry) entries ++ totals_devices totals)
-entries_vacant [] totals = totals_vacant totals
-entries_vacant (entry ∷ entries) totals = elim (some_or_none (kind_of entry)) [
-  | inl none ↦ rw none (entries_vacant entries totals)
-  | inr some ↦ rw some.1 (refl, entries_vacant entries totals)
+entries_vacant : (entries : List Entry)
+    → AllByRecursion IsVacant (filter_map (λ entry. device_for None entry) entries)
+entries_vacant [] = tt
+entries_vacant (entry ∷ entries) = elim (some_or_none (kind_of entry)) [
+  | inl none ↦ rw none (entries_vacant entries)
+  | inr some ↦ rw some.1 (refl, entries_vacant entries)
 ]
 
 module _ {P : Type 0} (mounts : Mounts P) (entries : List Entry) where
@@ -42,21 +38,20 @@ module _ {P : Type 0} (mounts : Mounts P) (entries : List Entry) where
       by None is = rw is tt
       by (Some peripheral) is = absurd (let bad = rw is at none in cc)
 
-  front_vacant : (peripherals : Ghosts P) (slots : List (Slot P)) (rest : List Device)
-      → AllByRecursion IsVacant (map device_of (devices_of peripherals slots) ++ rest)
+  all_vacant_slots : (peripherals : Ghosts P) (slots : List (Slot P))
+      → AllByRecursion IsVacant (map device_of (devices_of peripherals slots))
       → AllByRecursion (HasMounted mounts entries) slots
-  front_vacant peripherals [] rest all = tt
-  front_vacant peripherals (slot ∷ slots) rest all =
-      (has_none peripherals slot all.0, front_vacant peripherals slots rest all.1)
+  all_vacant_slots peripherals [] all = tt
+  all_vacant_slots peripherals (slot ∷ slots) all =
+      (has_none peripherals slot all.0, all_vacant_slots peripherals slots all.1)
 
   pub vacant_mounted : {D : Type 0} (peripherals : Ghosts P) (counter : Counter D P) (disk : D)
       → Begins peripherals entries disk counter
       → AllByRecursion (HasMounted mounts entries) (slots_in counter.devices)
   vacant_mounted peripherals counter disk begins =
       let same = ap (λ (m : Machine). m.devices) (begins.machine (new_totals [] 0)) in
-      front_vacant peripherals (slots_in counter.devices) (totals_devices counter.devices.totals)
-      (subst (AllByRecursion IsVacant) (sym (same ∙ vacant_profile entries))
-      (entries_vacant entries (totals_name entries)))
+      all_vacant_slots peripherals (slots_in counter.devices)
+      (subst (AllByRecursion IsVacant) (sym (same ∙ all_vacant entries)) (entries_vacant entries))
 
   -- ---- one more device is served
 

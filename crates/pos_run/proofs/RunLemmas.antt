@@ -2,8 +2,8 @@
 use Rattle.pos_run.proofs.Common.{Counter, DiskGhosts, Err, Finishes, FinishesUnflushed, Ghosts, Given, IsRun, Leads}
 use Rattle.pos_run.proofs.Common.{List, Machine, Ok, Request, Response, Result, Run, RunFault, RunsOverProfile}
 use Rattle.pos_run.proofs.Common.{RunsThrough, ScriptLeaves, Session, Stops, TotalsPart, Writing, ap, begun_session}
-use Rattle.pos_run.proofs.Common.{begun_with, carried_steps, inl, inr, lines_read, machine, machine_runs, new_totals}
-use Rattle.pos_run.proofs.Common.{off_over, refl, runs_from, script_steps, simulated_all, simulated_devices, spares_in}
+use Rattle.pos_run.proofs.Common.{carried_steps, inl, inr, lines_read, machine, machine_runs, new_totals}
+use Rattle.pos_run.proofs.Common.{off_over, refl, runs_from, script_steps, simulated_all, simulated_machine, spares_in}
 use Rattle.pos_run.proofs.Common.{subst, sym, ℕ, ◌++◌, ◌∙◌, ◌≡◌}
 use Rattle.pos_counter.proofs.DiskUseLemmas.{runs_anyhow}
 use Rattle.pos_counter.specs.Counters.{IsLeftDuring}
@@ -134,7 +134,7 @@ module _ {D P : Type 0} (bound : DiskGhosts D)
       → (after : List Standing) × Holds b.totals after
       × Over (machine peripherals a (part a.totals left)) steps (machine peripherals b (part b.totals after)))
       → Holds (off_over disk) left
-      → let begins = begun_with (simulated_devices contents.devices) (part (off_over disk) left) in
+      → let begins = simulated_machine contents.devices (part (off_over disk) left) in
       let session = begun_session (simulated_all contents.spares) in
       (n : Machine) × (s : ScriptLeaves Over begins session lines streams.writer streams.writer_after result kept n)
       × (carried_steps Over begins session lines streams.writer streams.writer_after result kept n s

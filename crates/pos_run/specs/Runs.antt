@@ -1,5 +1,5 @@
 -- What a run of a script leaves (docs/reference/console.md, "The program").
-use Rattle.std.specs.Prelude.{◌≡◌, ◌++◌, ◌∷◌, ◌⊎◌, [], ℕ, length, replicate, List, Option, Some, None, Result, Ok, Err}
+use Rattle.std.specs.Prelude.{◌≡◌, ◌++◌, ◌∷◌, ◌⊎◌, [], ℕ, length, replicate, List, Option, None, Result, Ok, Err}
 use Rattle.std.specs.Prelude.{option_map}
 use Rattle.std.proofs.Common.{inl, inr}
 use Rattle.pos_streams.specs.Streams.{Appends, Fails, Given}
@@ -115,11 +115,11 @@ script_steps {Runs = Runs} {old = old} {session = session} {streams = streams} {
 
 -- a device of this name that is of a kind and has this peripheral, or none
 abbrev pub device_with : List ℕ → Kind → Option PeripheralState → Device
-device_with name kind state = record { name = name; kind = Some kind; hardware = option_map hardware_of state }
+device_with name kind state = record { name = name; kind = kind; hardware = option_map hardware_of state }
 
--- the machine with these devices, no control and no claim
-abbrev pub begun_with : List Device → TotalsPart → Machine
-begun_with devices part = machine_with [] (replicate (length devices) None) devices part
+-- the machine with these devices, the Hard Totals of this name, if there are some, no control and no claim
+abbrev pub begun_with : List Device → Option (List ℕ) → TotalsPart → Machine
+begun_with devices totals part = machine_with [] (replicate (length devices) None) devices totals part
 
 -- totals that are off, over a disk, with the layout of a new one
 abbrev pub off_over : {D : Type 0} → D → TotalsView D

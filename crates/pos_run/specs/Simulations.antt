@@ -1,5 +1,5 @@
 -- What is simulated for the entries of a profile (docs/reference/console.md, "The program").
-use Rattle.std.specs.Prelude.{◌≡◌, ◌≤◌, ◌⊎◌, ◌++◌, ◌∷◌, [], ℕ, Bool, true, false, List, Option, Some, None, Result, Err}
+use Rattle.std.specs.Prelude.{◌≡◌, ◌≤◌, ◌⊎◌, ◌∷◌, [], ℕ, Bool, true, false, List, Option, Some, None, Result, Err}
 use Rattle.std.specs.Prelude.{IfSome, map, option_map, slice_get, ⊤}
 use Rattle.pos_service.specs.declared.kind.Kind.{Kind}
 use Rattle.pos_service.specs.declared.kind.Kind.TheVariants as kind
@@ -27,7 +27,7 @@ use Rattle.pos_disk.specs.declared.device.Disk.{Ghosts as DiskGhosts}
 use Rattle.pos_profile.specs.Entries.{Contents}
 use Rattle.pos_store.specs.Standing.{Standing, LeavesOneOf}
 use Rattle.pos_counter.specs.Machine.{Device, Machine}
-use Rattle.pos_counter.specs.KeptDevices.{slots_in, totals_devices, totals_name}
+use Rattle.pos_counter.specs.KeptDevices.{slots_in, totals_name}
 use Rattle.pos_profile.specs.Registries.{IsPut}
 use Rattle.pos_profile.specs.declared.slot.Slot.{Slot}
 use Rattle.pos_counter.specs.Counters.{IsCounterSound, IsLeftDuring, machine}
@@ -178,17 +178,20 @@ pub record IsSimulable (entry : Entry) : Type 0 where
 abbrev pub device_for : Option PeripheralState → Entry → Option Device
 device_for state entry = option_map (λ kind. device_with entry.name kind state) (kind_of entry)
 
--- the devices of entries in order, each served by what is simulated for it, and after them that of Hard Totals
+-- the devices of entries in order, each served by what is simulated for it
 abbrev pub simulated_devices : List Entry → List Device
-simulated_devices entries =
-    filter_map (λ entry. device_for (simulated_for entry) entry) entries ++ totals_devices (totals_name entries)
+simulated_devices entries = filter_map (λ entry. device_for (simulated_for entry) entry) entries
+
+-- the machine with these devices and the Hard Totals of the entries, no control and no claim
+abbrev pub simulated_machine : List Entry → TotalsPart → Machine
+simulated_machine entries part = begun_with (simulated_devices entries) (totals_name entries) part
 
 -- a counter of a profile's devices, each served by what is simulated for it, with totals that are off over this disk,
 -- and spares that are what is simulated for the profile's
 pub record IsSimulatedCounter {D P : Type 0} (peripherals : Ghosts P) (contents : Contents) (disk : D)
     (counter : Counter D P) (spares : Spares P) : Type 0 where
   pub served : (part : TotalsPart)
-      → machine peripherals counter part ≡ begun_with (simulated_devices contents.devices) part
+      → machine peripherals counter part ≡ simulated_machine contents.devices part
   pub totals : counter.totals ≡ off_over disk
   pub left : spares_in peripherals spares ≡ simulated_all contents.spares
   pub sound : IsCounterSound peripherals counter
@@ -207,7 +210,7 @@ pub record RunsOverProfile (Runs : Leads Machine) (contents : Contents) (part : 
     (result : Result (Unit {0}) RunFault) : Type 0 where
   pub end : Machine
   pub left : Session
-  pub run : RunsScript Runs (begun_with (simulated_devices contents.devices) part)
+  pub run : RunsScript Runs (simulated_machine contents.devices part)
       (begun_session (simulated_all contents.spares)) streams result left end
 
 -- there was no memory, and nothing was read or written
@@ -217,7 +220,7 @@ FindsNoMemory streams result = (result ≡ Err fault.NoMemory) × AreUntouched s
 -- the machine of a profile's devices, each served by what is simulated for it, with totals that are off, over a disk
 -- that may leave these
 abbrev pub begun_over : Contents → List Standing → DiskState → Machine
-begun_over contents left disk = begun_with (simulated_devices contents.devices) (new_totals left disk.failures)
+begun_over contents left disk = simulated_machine contents.devices (new_totals left disk.failures)
 
 -- A run over a profile and an honest disk that may leave these before it. A crash at any moment of it leaves what the
 -- machine may leave before, in or after one of its steps, and a crash after it what the machine may leave at the end.

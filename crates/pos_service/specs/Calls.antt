@@ -1,5 +1,5 @@
 -- What is known of each call beforehand, and the refusals of open and close.
-use Rattle.std.specs.Prelude.{ℕ, Bool, true, false, List, [], ◌∷◌, Option, Some, None, is_some, is_none}
+use Rattle.std.specs.Prelude.{Bool, true, false, List, [], ◌∷◌, Option, Some, None, is_some, is_none}
 use Rattle.pos_service.specs.declared.category.Category.{Category}
 use Rattle.pos_service.specs.declared.category.Category.TheVariants as category
 use Rattle.pos_service.specs.declared.call.Call.{Call}
@@ -9,6 +9,7 @@ use Rattle.pos_service.specs.declared.code.Code.TheVariants as code
 use Rattle.pos_service.specs.declared.needs.ClaimNeed.{ClaimNeed}
 use Rattle.pos_service.specs.declared.needs.ClaimNeed.TheVariants as claim_need
 use Rattle.pos_service.specs.declared.needs.Needs.{Needs}
+use Rattle.pos_service.specs.declared.context.OpenDevice.{OpenDevice}
 use Rattle.pos_service.specs.declared.context.OpenTarget.{OpenTarget}
 use Rattle.pos_service.specs.declared.context.OpenTarget.TheVariants as finding
 use Rattle.pos_service.specs.Categories.{is_category}
@@ -83,19 +84,19 @@ takes_memory asked = (row_of asked).takes_memory
 abbrev pub is_not_there : OpenTarget → Bool
 is_not_there finding.NotThere = true
 is_not_there finding.Vacant = false
-is_not_there (finding.At place) = false
+is_not_there (finding.There device) = false
 
 -- the device has no peripheral
 abbrev pub is_vacant : OpenTarget → Bool
 is_vacant finding.NotThere = false
 is_vacant finding.Vacant = true
-is_vacant (finding.At place) = false
+is_vacant (finding.There device) = false
 
--- the place of the device that can be opened
-abbrev pub place_found : OpenTarget → Option ℕ
-place_found finding.NotThere = None
-place_found finding.Vacant = None
-place_found (finding.At place) = Some place
+-- the device that can be opened
+abbrev pub device_found : OpenTarget → Option OpenDevice
+device_found finding.NotThere = None
+device_found finding.Vacant = None
+device_found (finding.There device) = Some device
 
 -- open, by what is found under the name
 abbrev pub open_rows : Control → OpenTarget → List Row

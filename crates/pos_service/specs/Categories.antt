@@ -16,24 +16,15 @@ category_named word =
     else if bytes_eq word (codes "HardTotals") then Some category.HardTotals
     else None
 
--- controls of a category may open devices of its kind
-abbrev pub serves : Category → Option Kind → Bool
-serves category.CashDrawer None = false
-serves category.CashDrawer (Some kind.Drawer) = true
-serves category.CashDrawer (Some kind.Scanner) = false
-serves category.CashDrawer (Some (kind.Display rows columns)) = false
-serves category.CashDrawer (Some (kind.Printer chars near)) = false
-serves category.Scanner None = false
-serves category.Scanner (Some kind.Drawer) = false
-serves category.Scanner (Some kind.Scanner) = true
-serves category.Scanner (Some (kind.Display rows columns)) = false
-serves category.Scanner (Some (kind.Printer chars near)) = false
-serves category.LineDisplay None = false
-serves category.LineDisplay (Some k) = is_display k
-serves category.PosPrinter None = false
-serves category.PosPrinter (Some k) = is_printer k
-serves category.HardTotals None = true
-serves category.HardTotals (Some k) = false
+-- controls of a category may open devices of its kind; the Hard Totals are of none
+abbrev pub serves : Category → Kind → Bool
+serves category.CashDrawer kind.Drawer = true
+serves category.CashDrawer other = false
+serves category.Scanner kind.Scanner = true
+serves category.Scanner other = false
+serves category.LineDisplay k = is_display k
+serves category.PosPrinter k = is_printer k
+serves category.HardTotals k = false
 
 -- the category is this one
 abbrev pub is_category : Option Category → Category → Bool

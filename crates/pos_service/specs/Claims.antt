@@ -9,7 +9,7 @@ use Rattle.pos_service.specs.Refusals.{Row, when}
 
 -- The table of claims has the control that holds each device, by the devices' places; None is nobody.
 
--- the control that holds a control's device: nobody where the control is closed
+-- the control that holds the device at a place: nobody if there is none, as of a closed control and of the Hard Totals
 abbrev pub holder_at : List (Option ℕ) → Option ℕ → Option ℕ
 holder_at claims None = None
 holder_at claims (Some place) = slice_index_or claims place None

@@ -3,6 +3,8 @@
 use Rattle.std.specs.Prelude.{ℕ, Bool, false, not, ◌&&◌, ◌||◌, List, [], Option, Some, None, is_none, option_map, map}
 use Rattle.std.specs.Prelude.{nat_eq, if◌then◌else◌}
 use Rattle.pos_service.specs.declared.category.Category.{Category}
+use Rattle.pos_service.specs.declared.context.OpenDevice.{OpenDevice}
+use Rattle.pos_service.specs.declared.context.OpenDevice.TheVariants as open_device
 use Rattle.pos_service.specs.declared.display_text.Cursor.{Cursor}
 use Rattle.pos_service.specs.declared.display_text.Place.{Place}
 use Rattle.pos_service.specs.declared.event.ErrorReply.{ErrorReply}
@@ -44,11 +46,11 @@ pub record Writer : Type 0 where
 abbrev pub default_writer : ℕ → Writer
 default_writer next = record { output_id = 0; output = no_output next }
 
--- a control: closed where it has no device, which is named by its place in the profile; with DeviceEnabled, and the
--- scan that ScanData, ScanDataLabel and ScanDataType show
+-- a control: closed if it has no device open; with DeviceEnabled, and the scan that ScanData, ScanDataLabel and
+-- ScanDataType show
 pub record Control : Type 0 where
   pub category : Category
-  pub device : Option ℕ
+  pub device : Option OpenDevice
   pub enabled : Bool
   pub settings : Settings
   pub shown : Scan
@@ -69,10 +71,10 @@ new_control category = record {
   list = no_events;
 }
 
--- a control that has opened the device at a place: its properties have their defaults, and its OutputIDs go on
-abbrev pub opened : Control → Option ℕ → Control
-opened control place = record (new_control control.category) {
-  device = place;
+-- a control that has opened a device: its properties have their defaults, and its OutputIDs go on
+abbrev pub opened : Control → Option OpenDevice → Control
+opened control device = record (new_control control.category) {
+  device = device;
   writer = default_writer control.writer.output.next;
 }
 
@@ -115,10 +117,17 @@ state_of control =
     if is_none control.device then 1
     else (if is_in_error control then 4 else (if is_outstanding control.writer.output then 3 else 2))
 
+-- the place of the device that is open; the Hard Totals have none
+abbrev pub open_place : Option OpenDevice → Option ℕ
+open_place None = None
+open_place (Some (open_device.At place)) = Some place
+open_place (Some open_device.Totals) = None
+
 -- a control's device is the one at this place
-abbrev pub is_at : Option ℕ → ℕ → Bool
+abbrev pub is_at : Option OpenDevice → ℕ → Bool
 is_at None place = false
-is_at (Some at) place = nat_eq at place
+is_at (Some (open_device.At at)) place = nat_eq at place
+is_at (Some open_device.Totals) place = false
 
 -- a control has the device at this place open and enabled
 abbrev pub listens : ℕ → Control → Bool

@@ -1,6 +1,6 @@
 -- What devices are, with the sizes of displays (chapter Line Display, properties Rows and Columns) and of printers
 -- (chapter POS Printer, property RecLineChars).
-use Rattle.std.specs.Prelude.{ℕ, Bool, true, false, Option, Some, None}
+use Rattle.std.specs.Prelude.{ℕ, Bool, true, false, Option, Some}
 use Rattle.pos_service.specs.declared.kind.Kind.{Kind}
 use Rattle.pos_service.specs.declared.kind.Kind.TheVariants as kind
 

@@ -42,22 +42,22 @@ impl Category {
         None
     }
 
-    /// Returns whether its controls may open a device of this kind. A device of no kind has no peripheral.
-    pub fn serves(self, kind: Option<Kind>) -> bool
+    /// Returns whether its controls may open a device of this kind. The Hard Totals have no such device.
+    pub fn serves(self, kind: Kind) -> bool
         ensures { result ≡ serves self kind }
     {
         match self {
-            Category::CashDrawer => matches!(kind, Some(Kind::Drawer)),
-            Category::Scanner => matches!(kind, Some(Kind::Scanner)),
+            Category::CashDrawer => matches!(kind, Kind::Drawer),
+            Category::Scanner => matches!(kind, Kind::Scanner),
             Category::LineDisplay => matches!(
                 kind,
-                Some(Kind::Display {
+                Kind::Display {
                     rows: _,
                     columns: _,
-                })
+                }
             ),
-            Category::PosPrinter => matches!(kind, Some(Kind::Printer { chars: _, near: _ })),
-            Category::HardTotals => kind.is_none(),
+            Category::PosPrinter => matches!(kind, Kind::Printer { chars: _, near: _ }),
+            Category::HardTotals => false,
         }
     }
 

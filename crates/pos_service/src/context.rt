@@ -30,6 +30,15 @@ pub struct FilesSummary {
     pub count: usize,
 }
 
+/// The device that a control has open (common chapter, method open).
+#[derive(Clone, Copy, PartialEq, Eq)]
+pub enum OpenDevice {
+    /// The device at this place among those that have a peripheral, counted from 0 in the profile's order.
+    At(usize),
+    /// The Hard Totals, which have no peripheral.
+    Totals,
+}
+
 /// What `open` finds under a name in the profile (common chapter).
 #[derive(Clone, Copy, PartialEq, Eq)]
 pub enum OpenTarget {
@@ -37,6 +46,6 @@ pub enum OpenTarget {
     NotThere,
     /// A device has it, but the device has no peripheral.
     Vacant,
-    /// The device at this place.
-    At(usize),
+    /// This device.
+    There(OpenDevice),
 }

@@ -38,7 +38,7 @@ pub use answer::{Answer, Value, WorkResult};
 pub use call::{Call, CallRow};
 pub use category::Category;
 pub use code::{Code, EPTR_COVER_OPEN, EPTR_REC_EMPTY, ETOT_NOROOM};
-pub use context::{FilesSummary, OpenTarget, PropertyContext};
+pub use context::{FilesSummary, OpenDevice, OpenTarget, PropertyContext};
 pub use event::{ErrorReply, Event, Locus};
 pub use faults::{AttachFault, DetachFault, NoMemory};
 pub use input::{Input, Scan, Taken};

@@ -1359,7 +1359,7 @@ impl<'till> HardTotals<'till> {
         self.property(Property::TotalsSize)?.number()
     }
 
-    /// FreeData (Hard Totals): how many bytes are left for new files.
+    /// FreeData (Hard Totals): how many bytes are left for new files, which is TotalsSize less the sizes of all files.
     ///
     /// # Errors
     ///

@@ -62,7 +62,7 @@ pub enum Property {
     RecNearEnd,
     /// TotalsSize of HardTotals: how many bytes all files may have together.
     TotalsSize,
-    /// FreeData of HardTotals: how many bytes are left for new files.
+    /// FreeData of HardTotals: how many bytes are left for new files, which is TotalsSize less the sizes of all files.
     FreeData,
     /// NumberOfFiles of HardTotals: how many files there are.
     NumberOfFiles,

@@ -1,8 +1,8 @@
 //! The methods that every category has, and the check before each call.
 ghost use Rattle.std.specs.Prelude.{◌≡◌, ◌<◌, ⊤, IfSome, Some, length};
-ghost use Rattle.pos_service.specs.Calls.{place_found, open_rows, close_rows};
+ghost use Rattle.pos_service.specs.Calls.{device_found, open_rows, close_rows};
 ghost use Rattle.pos_service.specs.Claims.{holder_at, is_own, is_foreign, claim_rows, claimed_by, release_rows, released_by, after_release};
-ghost use Rattle.pos_service.specs.Controls.{opened, closed, stopped};
+ghost use Rattle.pos_service.specs.Controls.{opened, closed, open_place, stopped};
 ghost use Rattle.pos_service.specs.Refusals.{Decided};
 ghost use Rattle.pos_common.specs.Checks.{Checks};
 ghost use Rattle.pos_common.specs.KeptControls.{TurnsInto};
@@ -12,7 +12,9 @@ use super::Control;
 use crate::claims::Claims;
 use pos_service::claims::{is_foreign, is_own, is_timeout};
 use pos_service::display_text::Cursor;
-use pos_service::{Answer, Call, Category, ClaimNeed, Code, Needs, OpenTarget, Settings, Value};
+use pos_service::{
+    Answer, Call, Category, ClaimNeed, Code, Needs, OpenDevice, OpenTarget, Settings, Value,
+};
 
 impl Control {
     /// `open`: opens it for the device that was found, with all properties at their defaults (common chapter).
@@ -23,7 +25,7 @@ impl Control {
     /// peripheral.
     pub fn open(&mut self, found: OpenTarget) -> Answer
         ensures { TurnsInto (open_rows self.old.control found) result self.old self.new
-            (opened self.old.control (place_found found)) }
+            (opened self.old.control (device_found found)) }
     {
         if self.device.is_some() {
             return Answer::Refused(Code::Illegal, 0);
@@ -31,18 +33,18 @@ impl Control {
         match found {
             OpenTarget::NotThere => Answer::Refused(Code::NoExist, 0),
             OpenTarget::Vacant => Answer::Refused(Code::NoService, 0),
-            OpenTarget::At(place) => {
-                self.start_over(place);
+            OpenTarget::There(device) => {
+                self.start_over(device);
                 Answer::Done(Value::Empty)
             }
         }
     }
 
-    /// Opens it for the device at this place, with all properties at their defaults, and without events.
-    fn start_over(&mut self, place: usize)
-        ensures { self.new.control ≡ opened self.old.control (Some place) }
+    /// Opens it for this device, with all properties at their defaults, and without events.
+    fn start_over(&mut self, device: OpenDevice)
+        ensures { self.new.control ≡ opened self.old.control (Some device) }
     {
-        self.device = Some(place);
+        self.device = Some(device);
         self.settings = Settings::new();
         self.shown.clear();
         self.cursor = Cursor::new();
@@ -82,16 +84,14 @@ impl Control {
     ///
     /// As of `claim_by`. Then nothing has changed.
     pub fn claim(&self, number: usize, claims: &mut Claims, timeout: i128) -> Answer
-        requires { IfSome self.now.control.device (λ place. place < length claims.old) }
-        ensures { let device = self.now.control.device in
-            Decided (claim_rows self.now.control (is_foreign number (holder_at claims.old device)) timeout)
+        requires { IfSome (open_place self.now.control.device) (λ place. place < length claims.old) }
+        ensures { let place = open_place self.now.control.device in
+            Decided (claim_rows self.now.control (is_foreign number (holder_at claims.old place)) timeout)
             result (claims.new ≡ claims.old)
-            ((result ≡ Answer.Done Value.Empty) × (claims.new ≡ claimed_by claims.old device number)) }
+            ((result ≡ Answer.Done Value.Empty) × (claims.new ≡ claimed_by claims.old place number)) }
     {
-        let Some(place) = self.device else {
-            return Answer::Refused(Code::Closed, 0);
-        };
-        match self.claim_by(number, claims.holder(Some(place)), timeout) {
+        let place = self.place();
+        match self.claim_by(number, claims.holder(place), timeout) {
             Answer::Done(value) => {
                 claims.claim(place, number);
                 Answer::Done(value)
@@ -131,16 +131,16 @@ impl Control {
     ///
     /// As of `release_by`. Then nothing has changed.
     pub fn release(&mut self, number: usize, claims: &mut Claims) -> Answer
-        ensures { let device = self.old.control.device in
-            Decided (release_rows self.old.control (is_own number (holder_at claims.old device))) result
+        ensures { let place = open_place self.old.control.device in
+            Decided (release_rows self.old.control (is_own number (holder_at claims.old place))) result
             ((self.new ≡ self.old) × (claims.new ≡ claims.old))
             ((result ≡ Answer.Done Value.Empty)
             × (self.new.control ≡ after_release self.old.control.category self.old.control)
-            × (claims.new ≡ released_by claims.old device number)) }
+            × (claims.new ≡ released_by claims.old place number)) }
     {
-        let device = self.device;
-        let answer = self.release_by(number, claims.holder(device));
-        claims.release(device, number);
+        let place = self.place();
+        let answer = self.release_by(number, claims.holder(place));
+        claims.release(place, number);
         answer
     }
 
@@ -182,11 +182,11 @@ impl Control {
     ) -> Result<usize, Code>
         ensures { ChecksCall category number claims.now call.now self.now.control result }
     {
+        let Some(place) = self.place() else {
+            return Err(Code::Closed);
+        };
         self.check(number, claims, call.needs(category))?;
-        match self.device {
-            Some(place) => Ok(place),
-            None => unreachable!(),
-        }
+        Ok(place)
     }
 
     /// Checks that it is as a call or a property requires, by its number and the claims of all devices (common
@@ -196,9 +196,10 @@ impl Control {
     ///
     /// The [`Code`] of the refusal, as of `check_by`.
     pub fn check(&self, number: usize, claims: &Claims, needs: Needs) -> Result<(), Code>
-        ensures { Checks number (holder_at claims.now self.now.control.device) self.now.control needs result }
+        ensures { Checks number (holder_at claims.now (open_place self.now.control.device)) self.now.control needs
+            result }
     {
-        self.check_by(number, claims.holder(self.device), needs)
+        self.check_by(number, claims.holder(self.place()), needs)
     }
 
     /// Checks that it is as a call or a property requires, by its number and the number of its device's holder, if any

@@ -24,7 +24,7 @@ impl Control {
     pub fn listens(&self, place: usize) -> bool
         ensures { result ≡ listens place self.now.control }
     {
-        self.is_enabled && self.device == Some(place)
+        self.is_enabled && self.place() == Some(place)
     }
 
     /// Makes room for this many events, if it has the device at this place open and enabled and has less room.

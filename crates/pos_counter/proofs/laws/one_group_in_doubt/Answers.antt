@@ -1,5 +1,6 @@
 -- The example's runs, machine by machine.
 use Rattle.std.specs.Prelude.{pos}
+use Rattle.pos_counter.proofs.Common.{TheTotals}
 use Rattle.pos_counter.proofs.Common.{◌+◌, ◌++◌, Answered, AreLeft, CallOf, Control, DeviceEnabled, Failure, HardTotals}
 use Rattle.pos_counter.proofs.Common.{IsOneOf, Layout1, List, Machine, Mode, None, Off, PlainFile, Ready, Refused}
 use Rattle.pos_counter.proofs.Common.{Request, Response, Run, Some, Standing, Stands, Step, Truth, [], after_set, arith}
@@ -15,6 +16,7 @@ with_one control mode next left failures = record {
   controls = control ∷ [];
   devices = new_machine.devices;
   claims = new_machine.claims;
+  totals_name = new_machine.totals_name;
   totals = record {
     totals = record { layout = Layout1; mode = mode; tail = 0; next = next; area = None; transactions = None ∷ [] };
     left = left;
@@ -30,7 +32,7 @@ abbrev both : List Standing
 both = Stands Layout1 [] 1 ∷ Stands Layout1 (a_file ∷ []) 1 ∷ Stands Layout1 (a_file ∷ []) 2 ∷ []
 
 abbrev one_opened : Control
-one_opened = opened (new_control HardTotals) (Some 0)
+one_opened = opened (new_control HardTotals) (Some TheTotals)
 
 abbrev one_enabled : Control
 one_enabled = after_set (signs_at new_machine one_opened) one_opened DeviceEnabled (Truth true)

@@ -10,7 +10,7 @@ returns g c =
     (record { registry = c.attach.ensures.sound }) refl
     (λ part. attach_step old.controls.items (registered g.P.Peripheral old.devices.registry)
     (registered g.P.Peripheral c.attach.new.self)
-    old.devices.totals c.args.name.now old.claims part g.P.Peripheral.state c.args.peripheral c.attach.result
+    c.args.name.now old.claims old.totals_name part g.P.Peripheral.state c.args.peripheral c.attach.result
     c.attach.ensures.handed_back
     c.attach.ensures.attaches) in
     record {

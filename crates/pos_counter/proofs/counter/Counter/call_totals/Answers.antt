@@ -1,6 +1,7 @@
-use Rattle.pos_counter.proofs.Common.{HardTotals, [], controls_of, is_totals, machine, needs_of, part_with, refl, true}
+use Rattle.pos_counter.proofs.Common.{HardTotals, Some, TheTotals, [], controls_of, machine, needs_of, part_with, refl}
 use Rattle.pos_counter.proofs.Common.{◌≡◌}
-use Rattle.pos_counter.proofs.HardwareLemmas.{are_totals, at_number, own_call, totals_let, totals_refuse}
+use Rattle.pos_counter.proofs.HardwareLemmas.{at_number, own_call, totals_let, totals_refuse}
+use Rattle.pos_counter.proofs.SoundnessLemmas.{totals_category}
 use Rattle.pos_counter.proofs.LiftLemmas.{decided_some, kept_at}
 use Rattle.pos_counter.proofs.ServiceLemmas.{quiet_serves}
 use Rattle.pos_counter.proofs.TotalsStepLemmas.{files_serve}
@@ -12,9 +13,11 @@ returns-in-Err g c =
     let old = c.args.self.now in
     let h = c.index-control.result.now in
     let found = kept_at _ _ _ c.requires.in_range c.index-control.ensures in
-    let is = are_totals h.control.category
-    (at_number (controls_of c.args.self.now.controls.items) c.args.number h.control
-    (λ control. is_totals control.category ≡ true) found c.requires.totals) in
+    let opens = at_number (controls_of old.controls.items) c.args.number h.control
+    (λ control. control.device ≡ Some TheTotals) found c.requires.totals in
+    let part = part_with old.totals.totals [] 0 in
+    let is = totals_category (machine g.P.Peripheral old part) c.args.number h.control
+    (c.requires.sound.machine part) found opens in
     let out = simp (c.in-Err.is, c.area.ensures, c.needs-needs.ensures) at c.check_by.ensures in
     quiet_serves g.D.Disk g.P.Peripheral old _ _ _ old.totals.totals (g.met.D.Disk.only_now _) refl refl
     (λ left. refl) c.requires.sound
@@ -23,7 +26,7 @@ returns-in-Err g c =
     let m = machine g.P.Peripheral old (part_with old.totals.totals left failures) in
     rw found
     (decided_some (rw (own_call m c.args.number h.control c.args.call.now c.requires.own).rows
-    (totals_refuse m c.args.number h.control c.args.call.now _ is out)) refl refl))
+    (totals_refuse m c.args.number h.control c.args.call.now _ is opens out)) refl refl))
 
 pub call_files-requires : goal.call_files-requires
 call_files-requires g c =
@@ -36,12 +39,15 @@ returns g c =
     let h = c.index-control.result.now in
     let found = kept_at _ _ _ c.requires.in_range c.index-control.ensures in
     let lets = simp (c.in_default.is, c.area.ensures, c.needs-needs.ensures) at c.check_by.ensures in
-    let is = are_totals h.control.category
-    (at_number (controls_of c.args.self.now.controls.items) c.args.number h.control
-    (λ control. is_totals control.category ≡ true) found c.requires.totals) in
+    let old = c.args.self.now in
+    let opens = at_number (controls_of old.controls.items) c.args.number h.control
+    (λ control. control.device ≡ Some TheTotals) found c.requires.totals in
+    let part = part_with old.totals.totals [] 0 in
+    let is = totals_category (machine g.P.Peripheral old part) c.args.number h.control
+    (c.requires.sound.machine part) found opens in
     files_serve g.D.Disk g.P.Peripheral c.args.self.now c.call_files.new.totals c.args.number h.control c.args.call.now
     c.call_files.result c.requires.own
-    found is
+    found opens
     (λ left failures. totals_let (machine g.P.Peripheral c.args.self.now
-    (part_with c.args.self.now.totals.totals left failures)) c.args.number h.control c.args.call.now is lets)
+    (part_with c.args.self.now.totals.totals left failures)) c.args.number h.control c.args.call.now is opens lets)
     (g.met.D.Disk.only_now _) c.call_files.ensures c.requires.sound

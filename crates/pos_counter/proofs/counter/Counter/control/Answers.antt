@@ -8,7 +8,8 @@ pub returns-then-is_err-clause-sound : goal.returns-then-is_err-clause-sound
 returns-then-is_err-clause-sound g c =
     let old = c.args.self.now in
     same_sound g.P.Peripheral old _
-    (λ part. ap (λ (hs : List KeptControl). machine_with hs old.claims (devices_in g.P.Peripheral old.devices) part)
+    (λ part. ap (λ (hs : List KeptControl). machine_with hs old.claims (devices_in g.P.Peripheral old.devices)
+    old.totals_name part)
     c.reserve.ensures.items) c.requires.sound c.requires.sound.devices
 
 pub returns-in-Ok : goal.returns-in-Ok
@@ -40,5 +41,6 @@ pub returns-in-Err-clause-sound : goal.returns-in-Err-clause-sound
 returns-in-Err-clause-sound g c =
     let old = c.args.self.now in
     same_sound g.P.Peripheral old _
-    (λ part. ap (λ (hs : List KeptControl). machine_with hs old.claims (devices_in g.P.Peripheral old.devices) part)
+    (λ part. ap (λ (hs : List KeptControl). machine_with hs old.claims (devices_in g.P.Peripheral old.devices)
+    old.totals_name part)
     c.reserve.ensures.items) c.requires.sound c.requires.sound.devices

@@ -12,6 +12,6 @@ returns g c =
     steps_beside g.P.Peripheral old _ _ _ c.requires.sound c.requires.sound.devices refl
     (λ part. rw (kept_at hs c.args.number h within c.index_mut.ensures.value) (
       c.deliver.ensures.event,
-      set_machine hs old.claims (devices_in g.P.Peripheral old.devices) part c.args.number c.deliver.new.self _
-          c.deliver.ensures.rest,
+      set_machine hs old.claims (devices_in g.P.Peripheral old.devices) old.totals_name part c.args.number
+          c.deliver.new.self _ c.deliver.ensures.rest,
     ))

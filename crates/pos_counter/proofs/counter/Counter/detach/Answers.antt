@@ -12,7 +12,7 @@ returns g c =
     (record { registry = c.detach.ensures.sound }) refl
     (λ part. detach_step old.controls.items (registered g.P.Peripheral old.devices.registry)
     (registered g.P.Peripheral c.detach.new.self)
-    old.devices.totals c.args.name.now old.claims part g.P.Peripheral.state c.is_open-is_open.result c.detach.result
+    c.args.name.now old.claims old.totals_name part g.P.Peripheral.state c.is_open-is_open.result c.detach.result
     (λ place is. (rw c.deref.ensures.value at c.is_open-is_open.ensures) place is
     ∙ sym (any_mapped (has_open place) (λ (kept : KeptControl). kept.control) old.controls.items))
     c.detach.ensures.detaches) in

@@ -5,7 +5,7 @@ returns g c = λ left failures claimed.
     simp (
       c.kind_at.ensures,
       c.signs_at.ensures,
-      c.device-device.ensures,
+      c.place-place.ensures,
       c.size.ensures,
       c.find_files_summary.ensures,
       claimed,

@@ -16,7 +16,7 @@ returns-in-Ok g c =
     let old = c.args.self.now in
     let kept = kept_in_place old.controls _ _ c.deref_mut.ensures.value c.input_there.auto.controls in
     steps_beside g.P.Peripheral old _ _ _ c.requires.sound c.in-Ok.ensures.sound refl
-    (λ part. on_hardware _ _ _ _ _ part c.in-Some.place _
+    (λ part. on_hardware _ _ _ _ _ _ part c.in-Some.place _
     (λ place. TakenAt c.args.input.now place (Ok tt)) c.in-Some.ensures.0
     (rw (← kept) at (rw c.deref_mut.ensures.value at c.in-Ok.ensures.done)))
 
@@ -30,5 +30,5 @@ returns-in-Err g c =
     steps_beside g.P.Peripheral old _ _ _ c.requires.sound c.in-Err.ensures.sound refl
     (λ part. (
       record { before = before; is_attached = rw c.in-Some.ensures.0 c.in-Some.ensures.1; fit = fit },
-      unchanged _ _ _ _ _ part c.in-Some.place done done.does,
+      unchanged _ _ _ _ _ _ part c.in-Some.place done done.does,
     ))

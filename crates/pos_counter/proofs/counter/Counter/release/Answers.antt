@@ -1,14 +1,38 @@
-use Rattle.pos_counter.proofs.Common.{None, Totals, ap, devices_in, part_with, refl, settled, sym, ◌∙◌}
-use Rattle.pos_counter.proofs.HardwareLemmas.{are_totals, of_devices}
-use Rattle.pos_counter.proofs.LiftLemmas.{decided_weaker, kept_at, kept_machine, set_machine}
+use Rattle.pos_counter.proofs.Common.{At, List, Machine, OpenDevice, Option, holder_at, holder_in, open_place, released}
+use Rattle.pos_counter.proofs.Common.{released_by, with_totals, ℕ, ◌≡◌}
+use Rattle.pos_counter.proofs.Common.{None, Some, Totals, ap, devices_in, part_with, refl, settled, sym, ◌∙◌}
+use Rattle.pos_counter.proofs.LiftLemmas.{decided_some, decided_weaker, kept_at, kept_machine, set_machine}
 use Rattle.pos_counter.proofs.ServiceLemmas.{quiet_serves, stays_serves}
 use Rattle.pos_counter.proofs.counter.Counter.release.Goals as goal
 
-pub returns-then-is_totals : goal.returns-then-is_totals
-returns-then-is_totals g c =
+-- who holds a device at a place, and what its release leaves
+held_at : (claims : List (Option ℕ)) (area : Option ℕ) (device : Option OpenDevice) (place : ℕ)
+    → device ≡ Some (At place) → holder_in claims area device ≡ holder_at claims (open_place device)
+held_at claims area device place is = rw is refl
+
+freed_at : (m : Machine) (n : ℕ) (device : Option OpenDevice) (place : ℕ) → device ≡ Some (At place)
+    → released device m n ≡ record m { claims = released_by m.claims (open_place device) n }
+freed_at m n device place is = rw is refl
+
+pub returns-in-None : goal.returns-in-None
+returns-in-None g c =
     let old = c.args.self.now in
     let here = c.index_mut-control.ensures.value in
-    let is = are_totals _ (sym c.is_totals.ensures ∙ c.if-is_totals.true) in
+    stays_serves g.D.Disk g.P.Peripheral old _ _ _
+    (g.met.D.Disk.only_now _) c.requires.sound refl c.requires.sound.devices
+    (λ part. rw (kept_at _ _ _ c.requires.in_range here) (decided_some (rw (← c.in-None.ensures)) refl
+    (kept_machine old.controls.items _ _ _ part c.args.number _ _ refl here)))
+
+pub returns-in-Some-Totals : goal.returns-in-Some-Totals
+returns-in-Some-Totals g c =
+    let old = c.args.self.now in
+    let here = c.index_mut-control.ensures.value in
+    let opens = sym c.in-Some-Totals.ensures ∙ ap Some c.in-Some-Totals.field-0-is in
+    let held = ap (holder_in old.claims old.totals.totals.area) opens in
+    let device = c.index_mut-control.result.now.control.device in
+    let frees : (m : Machine)
+    → released device m c.args.number ≡ with_totals m (record m.totals.totals { area = None }) =
+    λ m. ap (λ d. released d m c.args.number) opens in
     quiet_serves g.D.Disk g.P.Peripheral old _ _ _ c.release_area.new.totals.totals
     (g.met.D.Disk.only_now _) c.release_area.ensures.disk refl
     (λ left. ap (λ (t : Totals). settled t.layout t.mode left) c.release_area.ensures.rest) c.requires.sound
@@ -16,25 +40,28 @@ returns-then-is_totals g c =
     (λ left failures so.
     let devices = devices_in g.P.Peripheral old.devices in
     let now = part_with (record old.totals.totals { area = None }) left failures in
-    rw (kept_at _ _ _ c.requires.in_range here, is) (decided_weaker
+    rw (kept_at _ _ _ c.requires.in_range here, held, frees) (decided_weaker
     (λ done. (
       done.0,
-      rw done.2 (rw is at (set_machine old.controls.items old.claims devices now c.args.number
-          c.release_area.new.control _ done.1)),
+      rw done.2 (set_machine old.controls.items old.claims devices old.totals_name now c.args.number
+          c.release_area.new.control _ done.1),
     ))
     (λ same. rw same.1
-    (kept_machine old.controls.items _ devices _ c.args.number c.release_area.new.control _ same.0 here))
+    (kept_machine old.controls.items _ devices _ _ c.args.number c.release_area.new.control _ same.0 here))
     c.release_area.ensures.answer))
 
-pub returns : goal.returns
-returns g c =
+pub returns-in-Some-At : goal.returns-in-Some-At
+returns-in-Some-At g c =
     let old = c.args.self.now in
     let here = c.index_mut-control.ensures.value in
-    let table = of_devices c.index_mut-control.result.now.control.category
-    (sym c.is_totals.ensures ∙ c.if-is_totals.false) in
+    let opens = sym c.in-Some-At.ensures ∙ ap Some c.in-Some-At.field-0-is in
+    let device = c.index_mut-control.result.now.control.device in
+    let frees : (m : Machine) → released device m c.args.number
+    ≡ record m { claims = released_by m.claims (open_place device) c.args.number } =
+    λ m. freed_at m c.args.number device _ opens in
     stays_serves g.D.Disk g.P.Peripheral old _ _ _
     (g.met.D.Disk.only_now _) c.requires.sound refl c.requires.sound.devices
-    (λ part. rw (kept_at _ _ _ c.requires.in_range here, table.holds, table.releases) (decided_weaker
-    (λ done. (done.0, rw done.2 (set_machine old.controls.items _ _ part c.args.number c.release.new.self _ done.1)))
-    (λ same. rw same.1 (kept_machine old.controls.items _ _ part c.args.number c.release.new.self _ same.0 here))
+    (λ part. rw (kept_at _ _ _ c.requires.in_range here, held_at _ _ _ _ opens, frees) (decided_weaker
+    (λ done. (done.0, rw done.2 (set_machine old.controls.items _ _ _ part c.args.number c.release.new.self _ done.1)))
+    (λ same. rw same.1 (kept_machine old.controls.items _ _ _ part c.args.number c.release.new.self _ same.0 here))
     c.release.ensures))

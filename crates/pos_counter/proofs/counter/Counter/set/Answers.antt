@@ -27,7 +27,7 @@ returns g c =
     quiet_serves g.D.Disk g.P.Peripheral old _ _ _ old.totals.totals (g.met.D.Disk.only_now _) refl refl
     (λ left. refl) c.requires.sound
     c.requires.sound.devices
-    (λ left failures so. plain_set _ _ _
+    (λ left failures so. plain_set _ _ _ _
     (part_with old.totals.totals left failures) c.args.number c.set_control.new.control h c.args.property
     c.args.value.now
     c.set_control.result c.requires.in_range is plain turns)

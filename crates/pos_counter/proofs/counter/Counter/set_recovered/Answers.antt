@@ -1,5 +1,6 @@
 use Rattle.pos_counter.proofs.Common.{[], kind_of, machine, part_with, refl, same_Some, signs_at, sym, ◌∙◌}
 use Rattle.pos_counter.proofs.LiftLemmas.{kept_at, set_machine}
+use Rattle.pos_counter.proofs.SoundnessLemmas.{totals_category}
 use Rattle.pos_counter.proofs.RecoveryLemmas.{asks_there, done_set, failed_serves, recovered_serves, starved_serves}
 use Rattle.pos_counter.proofs.counter.Counter.set_recovered.Goals as goal
 
@@ -12,12 +13,14 @@ returns-in-Ok g c =
     let there = asks_there hs n c.args.property c.args.value.now _ c.requires.recovers in
     let same = same_Some h.control there.control
     (sym (kept_at hs n h c.requires.in_range c.index_mut-control.ensures.value) ∙ there.at) in
-    let done = done_set there.control there.totals n _ (kind_of m h.control)
+    let part = part_with c.args.self.now.totals.totals [] 0 in
+    let is = totals_category m n there.control (c.requires.sound.machine part) there.at there.totals in
+    let done = done_set there.control is n _ (kind_of m h.control)
     (signs_at m h.control) h c.set_control.new.control _ _ c.set_control.result
     there.opened same there.names there.gives c.set_control.ensures in
     recovered_serves g.D.Disk g.P.Peripheral c.args.self.now _ c.requires.sound c.requires.sound.devices n _ _ there
     c.set_control.result done.0
-    c.in-Ok.ensures (λ part. set_machine hs _ _ part n c.set_control.new.control _ (rw same at done.1))
+    c.in-Ok.ensures (λ part. set_machine hs _ _ _ part n c.set_control.new.control _ (rw same at done.1))
 
 pub returns-in-Ok-code : goal.returns-in-Ok-code
 returns-in-Ok-code g c =

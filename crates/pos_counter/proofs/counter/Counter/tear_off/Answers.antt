@@ -10,7 +10,7 @@ pub returns-in-Ok-clause-torn : goal.returns-in-Ok-clause-torn
 returns-in-Ok-clause-torn g c =
     let old = c.args.self.now in
     record {
-      machine = λ part. on_hardware _ _ _ _ _ part c.in-Some.place _ (λ place. IsTorn) c.in-Some.ensures.0
+      machine = λ part. on_hardware _ _ _ _ _ _ part c.in-Some.place _ (λ place. IsTorn) c.in-Some.ensures.0
           (c.in-Ok.ensures.done old.controls.items);
       totals = refl;
     }
@@ -20,7 +20,7 @@ returns-in-Ok-clause-sound g c =
     let old = c.args.self.now in
     record {
       machine = λ part. torn_sound _ _ _
-          (on_hardware _ _ _ _ _ part c.in-Some.place _ (λ place. IsTorn) c.in-Some.ensures.0
+          (on_hardware _ _ _ _ _ _ part c.in-Some.place _ (λ place. IsTorn) c.in-Some.ensures.0
           (c.in-Ok.ensures.done old.controls.items))
           (c.requires.sound.machine part);
       devices = c.in-Ok.ensures.sound;
@@ -30,7 +30,7 @@ pub returns-in-Err-clause-torn : goal.returns-in-Err-clause-torn
 returns-in-Err-clause-torn g c =
     let old = c.args.self.now in
     record {
-      machine = λ part. ap (λ ds. machine_with old.controls.items old.claims ds part)
+      machine = λ part. ap (λ ds. machine_with old.controls.items old.claims ds old.totals_name part)
           (c.in-Err.ensures.done old.controls.items);
       totals = refl;
     }

@@ -1,9 +1,8 @@
-use Rattle.pos_counter.proofs.Common.{rules}
-use Rattle.pos_counter.proofs.DeviceListLemmas.{found_first, found_last}
+use Rattle.pos_counter.proofs.Common.{sym, ◌∙◌}
+use Rattle.pos_counter.proofs.DeviceListLemmas.{found_same}
+use Rattle.pos_profile.specs.Registries.{devices}
 use Rattle.pos_counter.proofs.devices.Devices.find.Goals as goal
 
-pub returns-in-Some : goal.returns-in-Some
-returns-in-Some g c = search (rules, found_first, c.in-Some.ensures)
-
-pub returns-in-None : goal.returns-in-None
-returns-in-None g c = search (rules, found_last, c.in-None.ensures, c.find_totals.ensures)
+pub returns : goal.returns
+returns g c =
+    c.find.ensures ∙ sym (found_same c.args.name.now (devices g.P.Peripheral c.args.self.now.registry))

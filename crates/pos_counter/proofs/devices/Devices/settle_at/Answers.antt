@@ -13,7 +13,7 @@ returns-clause-hosts g c = hosts_with g.P.Awaits.course c.args.self.now.registry
 pub returns-clause-same : goal.returns-clause-same
 returns-clause-same g c =
     let old = devices g.P.Peripheral c.args.self.now.registry in
-    ap (λ ds. devices_of ds c.args.self.now.totals)
+    ap devices_of
     (c.serving-peripheral.ensures.devices c.settle_with.new.peripheral
     ∙ ap (λ s. with_peripheral old c.args.place (Some s)) c.settle_with.ensures.state
     ∙ same_peripheral old c.args.place _ c.serving-peripheral.ensures.value)

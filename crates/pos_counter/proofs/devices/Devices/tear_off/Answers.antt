@@ -8,7 +8,7 @@ use Rattle.pos_counter.proofs.devices.Devices.tear_off.Goals as goal
 pub returns-clause-done : goal.returns-clause-done
 returns-clause-done g c helds =
     let state = g.P.Peripheral.state in
-    torn_there (devices g.P.Peripheral c.args.self.now.registry) _ c.args.self.now.totals c.args.place
+    torn_there (devices g.P.Peripheral c.args.self.now.registry) _ c.args.place
     (state c.serving-peripheral.result.now)
     (state c.tear_with.new.peripheral) c.tear_with.result c.requires.sound.registry.served
     c.serving-peripheral.ensures.value
