@@ -16,7 +16,6 @@ use Rattle.pos_streams.specs.Transfers.{given_to}
 use Rattle.pos_run.specs.LineRuns.{RunsGivenLines}
 use Rattle.pos_run.specs.Transcript.{Session}
 use Rattle.pos_run.specs.WaitingLines.{IsOneLine, lines_in}
-use Rattle.pos_run.specs.declared.waiting_lines.LineProgress.TheVariants.{Printed}
 use Rattle.kijolvar.specs.declared.device.Device.{Device}
 use Rattle.kijolvar.specs.HeldLines.{AreHeld, BeginsAnswer, DropsHeld, GoesOn, behind_first}
 use Rattle.kijolvar.specs.Reports.{CutsInputs, IsReported, TakesDone, TakesFailure}

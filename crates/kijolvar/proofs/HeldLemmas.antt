@@ -1,10 +1,10 @@
 -- How a text falls into its first line and the others, and lines behind others.
-use Rattle.std.proofs.Common.{All, List, Vec, [], ap, append-nil, arith, drop, get_or, length, length-drop, refl, subst}
+use Rattle.std.proofs.Common.{All, List, Vec, [], ap, append-nil, arith, drop, get_or, length, length-drop, refl}
 use Rattle.std.proofs.Common.{sym, take, true, ℕ, ◌+◌, ◌-◌, ◌++◌, ◌<◌, ◌∙◌, ◌∷◌, ◌≡◌, ◌≤◌}
 use Rattle.std.proofs.lemmas.List.{append_assoc, drop_all, take-append-drop, take_all, take_more}
 use Rattle.std.proofs.lemmas.List.Elements.{All-append, All-nil, All-push, All-tail}
 use Rattle.pos_script.specs.LineBuffers.{have_no_feed}
-use Rattle.pos_script.specs.Lines.{complete_lines, last_line, lines_of, pieces, unfinished, without_cr}
+use Rattle.pos_script.specs.Lines.{lines_of, pieces, without_cr}
 use Rattle.pos_script.proofs.LineLemmas.{ends_lines, ends_rest, go_on_lines, go_on_rest, one_piece, two_parts}
 use Rattle.kijolvar.specs.HeldLines.{SplitsOff, behind_first}
 use Rattle.pos_run.specs.WaitingLines.{IsOneLine, lines_in}

@@ -1,5 +1,5 @@
 -- The devices of a profile, as lines of text (abi/README.md, "Questions").
-use Rattle.std.specs.Prelude.{◌≡◌, ◌++◌, ◌⊎◌, ℕ, List, [], Option, Some, None, codes, decimal, flat_map}
+use Rattle.std.specs.Prelude.{◌≡◌, ◌++◌, ◌⊎◌, ℕ, List, [], Option, Some, codes, decimal, flat_map}
 use Rattle.pos_service.specs.declared.category.Category.{Category}
 use Rattle.pos_service.specs.declared.category.Category.TheVariants.{CashDrawer, Scanner, LineDisplay, PosPrinter}
 use Rattle.pos_service.specs.declared.category.Category.TheVariants.{HardTotals}
@@ -11,7 +11,6 @@ use Rattle.pos_profile.specs.declared.entry.Entry.{Entry}
 use Rattle.kijolvar.specs.Codes.{ok}
 use Rattle.kijolvar.specs.Profiles.{GivesProfile, RefusesProfile}
 use Rattle.kijolvar.specs.Questions.{WritesText}
-use Rattle.kijolvar.specs.Tills.{WritesNothing}
 
 -- the word of a category in profiles and lines
 abbrev pub category_word : Category → List ℕ

@@ -1,6 +1,6 @@
 -- How gates are closed, one after another.
-use Rattle.std.proofs.Common.{◌≡◌, ◌++◌, ◌∷◌, [], ◌∙◌, ℕ, List, Ok, Err, false, ap, refl, subst, sym}
-use Rattle.std.specs.Prelude.{Result, Bool, slice_set, true}
+use Rattle.std.proofs.Common.{◌≡◌, ◌++◌, ◌∷◌, [], ◌∙◌, ℕ, List, Ok, false, ap, subst, sym}
+use Rattle.std.specs.Prelude.{slice_set, true}
 use Rattle.pos_survey.specs.Damages.{Breaks}
 use Rattle.pos_survey.specs.declared.fault.SurveyFault.{SurveyFault}
 use Rattle.pos_survey.specs.declared.fault.SurveyFault.TheVariants.{Damaged}

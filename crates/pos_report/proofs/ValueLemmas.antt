@@ -11,7 +11,7 @@ use Rattle.pos_dir.specs.declared.file.File.{File}
 use Rattle.pos_survey.specs.declared.survey.Survey.{Survey}
 use Rattle.serde_json.specs.Data.{Data, depth, items_depth}
 use Rattle.serde_json.specs.View.{items_of}
-use Rattle.pos_report.specs.Json.{file_data, files_data, room_data, survey_data}
+use Rattle.pos_report.specs.Json.{file_data, survey_data}
 
 abbrev pub value_of : File → Data
 value_of file = file_data file.name file.bytes
