@@ -9,7 +9,7 @@ use pos_profile::{Profile, Registry, Slot};
 use pos_service::{Category, Kind, NoMemory, OpenDevice, OpenTarget, Peripheral, Signs};
 use std::alloc::Global;
 
-/// The devices of a profile that have a peripheral, in its order.
+/// The devices of a profile, all of which may have a peripheral, in its order. Hard Totals are none of them.
 pub(crate) struct Devices<P> {
     pub(crate) registry: Registry<P>,
 }
@@ -56,7 +56,7 @@ impl<P: Peripheral> Devices<P> {
         Some((place, peripheral))
     }
 
-    /// Returns what a control of a category finds under a name, which is no device of Hard Totals.
+    /// Returns what a control of a category finds under a name, among these devices.
     pub(crate) fn find_for(&self, category: Category, name: &[u8]) -> OpenTarget
         requires { AreDevicesSound P.Peripheral self.now }
         ensures { result ≡ found_among (devices_in P.Peripheral self.now) category name.now }

@@ -22,7 +22,7 @@ impl<D: Disk, P: Peripheral> Counter<D, P> {
     ///
     /// With the peripheral as it was, and nothing changed:
     ///
-    /// - `Unknown`: no device has the name.
+    /// - `Unknown`: no device has the name. Hard Totals are none.
     /// - `InUse`: the device has its peripheral.
     /// - `KindDiffers`: the device is of another kind.
     pub fn attach(&mut self, name: &[u8], peripheral: P) -> Result<(), (AttachFault, P)>
@@ -45,7 +45,7 @@ impl<D: Disk, P: Peripheral> Counter<D, P> {
     ///
     /// In this order, and nothing has changed:
     ///
-    /// - `Unknown`: no device has the name.
+    /// - `Unknown`: no device has the name. Hard Totals are none.
     /// - `Vacant`: the device has no peripheral.
     /// - `InUse`: a control has the device open.
     pub fn detach(&mut self, name: &[u8]) -> Result<P, DetachFault>

@@ -8,9 +8,8 @@ ghost use Rattle.pos_service.specs.Peripherals.{input_fits};
 use pos_common::{Claims, Control};
 use pos_service::display_text::Place;
 use pos_service::{
-    Answer, Call, Category, Code, ErrorReply, Event, Input, Kind, NoMemory, OpenDevice,
-    OpenTarget, PaperLevel,
-    Peripheral, Property, Signs, Snapshot, Value, WorkResult, columns_of, rows_of,
+    Answer, Call, Category, Code, ErrorReply, Event, Input, Kind, NoMemory, OpenDevice, OpenTarget,
+    PaperLevel, Peripheral, Property, Signs, Snapshot, Value, WorkResult, columns_of, rows_of,
 };
 use std::alloc::Global;
 use std::test::Fail;

@@ -89,7 +89,7 @@ impl Profile {
         self.devices.as_slice()
     }
 
-    /// Returns how many devices have a peripheral, and so a place in a registry.
+    /// Returns how many devices may have a peripheral, and so have a place in a registry.
     pub fn count_places(&self) -> usize
         ensures { result ≡ length (planned_of self.now.devices) }
     {

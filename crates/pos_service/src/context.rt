@@ -33,7 +33,7 @@ pub struct FilesSummary {
 /// The device that a control has open (common chapter, method open).
 #[derive(Clone, Copy, PartialEq, Eq)]
 pub enum OpenDevice {
-    /// The device at this place among those that have a peripheral, counted from 0 in the profile's order.
+    /// The device at this place among those that may have a peripheral, counted from 0 in the profile's order.
     At(usize),
     /// The Hard Totals, which have no peripheral.
     Totals,
