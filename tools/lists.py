@@ -10,6 +10,7 @@ import functools
 import glob
 import os
 import re
+import shlex
 import sys
 
 sys.dont_write_bytecode = True
@@ -119,8 +120,8 @@ def files_with(pattern):
 def additions():
     rows = []
     for median, kind, most, words in re.findall(r'^count(_median)? "([^"]+)" (\d+) (.*)$', sources.read("tests/adding.sh"), re.M):
-        pattern = rf"\b{words.split()[2]}\b" if median else words.strip("'")
-        name = words.split()[2] if median else re.findall(r"\w+", pattern.replace("\\b", ""))[0]
+        pattern = rf"\b(?:{shlex.split(words)[2]})\b" if median else words.strip("'")
+        name = re.findall(r"\w+", pattern.replace("\\b", "").replace("(?:", ""))[0]
         rows.append([kind, name, most, *files_with(rf"(?<!specs\.)(?<!proofs\.)(?:{pattern})")])
     return table(["Kind", "As", "At most", "Today", "Files that name it"], rows)
 

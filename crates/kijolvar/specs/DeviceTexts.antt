@@ -1,8 +1,6 @@
 -- The devices of a profile, as lines of text (abi/README.md, "Questions").
 use Rattle.std.specs.Prelude.{◌≡◌, ◌++◌, ◌⊎◌, ℕ, List, [], Option, Some, codes, decimal, flat_map}
-use Rattle.pos_service.specs.declared.category.Category.{Category}
-use Rattle.pos_service.specs.declared.category.Category.TheVariants.{CashDrawer, Scanner, LineDisplay, PosPrinter}
-use Rattle.pos_service.specs.declared.category.Category.TheVariants.{HardTotals}
+use Rattle.pos_service.specs.Categories.{name_of}
 use Rattle.pos_service.specs.declared.kind.Kind.{Kind}
 use Rattle.pos_service.specs.declared.kind.Kind.TheVariants as kind
 use Rattle.pos_profile.specs.Entries.{Contents}
@@ -11,14 +9,6 @@ use Rattle.pos_profile.specs.declared.entry.Entry.{Entry}
 use Rattle.kijolvar.specs.Codes.{ok}
 use Rattle.kijolvar.specs.Profiles.{GivesProfile, RefusesProfile}
 use Rattle.kijolvar.specs.Questions.{WritesText}
-
--- the word of a category in profiles and lines
-abbrev pub category_word : Category → List ℕ
-category_word CashDrawer = codes "CashDrawer"
-category_word Scanner = codes "Scanner"
-category_word LineDisplay = codes "LineDisplay"
-category_word PosPrinter = codes "POSPrinter"
-category_word HardTotals = codes "HardTotals"
 
 -- the numbers of a kind, each behind its key in a profile
 abbrev pub kind_text : Option Kind → List ℕ
@@ -29,7 +19,7 @@ kind_text other = []
 -- a device: its name, its category, and the numbers of its kind
 abbrev pub device_text : Entry → List ℕ
 device_text entry =
-    entry.name ++ codes " " ++ category_word entry.category ++ kind_text (kind_of entry) ++ codes "\n"
+    entry.name ++ codes " " ++ name_of entry.category ++ kind_text (kind_of entry) ++ codes "\n"
 
 -- the devices in order
 abbrev pub devices_text : List Entry → List ℕ

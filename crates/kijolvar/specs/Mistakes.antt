@@ -5,6 +5,7 @@ use Rattle.toml.specs.Data.{Members}
 use Rattle.toml.specs.Errors.{span_start}
 use Rattle.toml.specs.Parse.{parse_document}
 use Rattle.pos_profile.specs.Entries.{Contents}
+use Rattle.pos_profile.specs.Kinds.{categories_of}
 use Rattle.pos_profile.specs.Numbers.{key_of_number, least_of, most_of}
 use Rattle.pos_profile.specs.Profiles.{FromDocument}
 use Rattle.pos_profile.specs.Tables.{key_of}
@@ -16,8 +17,6 @@ use Rattle.pos_profile.specs.declared.mistake.Reason.TheVariants as reason
 use Rattle.pos_profile.specs.declared.number.NumberKey.{NumberKey}
 use Rattle.pos_profile.specs.declared.optional.OptionalKey.{OptionalKey}
 use Rattle.pos_profile.specs.declared.optional.OptionalKey.TheVariants.{Ring, Flaky, Record}
-use Rattle.pos_profile.specs.declared.entry.Role.{Role}
-use Rattle.pos_profile.specs.declared.entry.Role.TheVariants.{Device, Spare}
 use Rattle.pos_program.specs.ProfileFiles.{Reads}
 use Rattle.pos_program.specs.declared.profile_fault.ProfileFileFault.{ProfileFileFault}
 use Rattle.pos_program.specs.declared.profile_fault.ProfileFileFault.TheVariants as fault
@@ -28,11 +27,6 @@ use Rattle.kijolvar.specs.Questions.{WritesNoText, WritesText}
 abbrev pub place_text : Place → List ℕ
 place_text Root = []
 place_text (Listed role number) = key_of role ++ codes " " ++ decimal number ++ codes ": "
-
--- the categories that an entry of a list may have
-abbrev pub category_reason : Role → List ℕ
-category_reason Device = codes "category must be CashDrawer, Scanner, LineDisplay, POSPrinter or HardTotals"
-category_reason Spare = codes "category must be CashDrawer, Scanner, LineDisplay or POSPrinter"
 
 -- the range of a number
 abbrev pub number_reason : NumberKey → List ℕ
@@ -50,7 +44,7 @@ abbrev pub reason_text : Reason → List ℕ
 reason_text (reason.NotAnArray role) = key_of role ++ codes " must be an array of tables"
 reason_text (reason.UnknownKey key) = codes "unknown key: " ++ key
 reason_text reason.NotATable = codes "must be a table"
-reason_text (reason.BadCategory role) = category_reason role
+reason_text (reason.BadCategory role) = codes "category must be " ++ categories_of role
 reason_text reason.BadName = codes "name must be 1 to 16 letters, digits or hyphens"
 reason_text (reason.BadNumber key) = number_reason key
 reason_text (reason.BadOption key) = option_reason key

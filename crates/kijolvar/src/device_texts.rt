@@ -1,24 +1,11 @@
 //! The devices of a profile, as lines of text.
 ghost use Rattle.std.specs.Prelude.{◌≡◌, ◌++◌, IfOk, OnOk, decimal};
-ghost use Rattle.kijolvar.specs.DeviceTexts.{category_word, device_text, devices_text, kind_text};
+ghost use Rattle.kijolvar.specs.DeviceTexts.{device_text, devices_text, kind_text};
 
 use itoa::Buffer;
 use pos_profile::Entry;
-use pos_service::{Category, Kind};
+use pos_service::Kind;
 use std::alloc::{AllocError, Global};
-
-// Returns the word of a category in profiles and lines.
-fn category_word(category: Category) -> &'static str
-    ensures { result.now ≡ category_word category }
-{
-    match category {
-        Category::CashDrawer => "CashDrawer",
-        Category::Scanner => "Scanner",
-        Category::LineDisplay => "LineDisplay",
-        Category::PosPrinter => "POSPrinter",
-        Category::HardTotals => "HardTotals",
-    }
-}
 
 // Adds a word and a number to a text.
 fn add_number(text: &mut Vec<u8>, word: &str, number: u32) -> Result<(), AllocError>
@@ -52,7 +39,7 @@ fn add_device(text: &mut Vec<u8>, entry: &Entry) -> Result<(), AllocError>
 {
     text.extend_from_slice(entry.name.as_bytes())?;
     text.extend_from_slice(b" ")?;
-    text.extend_from_slice(category_word(entry.category).as_bytes())?;
+    text.extend_from_slice(entry.category.name().as_bytes())?;
     add_kind(text, entry.kind())?;
     text.extend_from_slice(b"\n")
 }

@@ -1,13 +1,13 @@
 //! Why a profile is refused, in words (docs/reference/profile.md).
 ghost use Rattle.std.specs.Prelude.{◌≡◌, ◌++◌, IfOk, OnOk, codes, decimal};
 ghost use Rattle.toml.specs.Parse.{parse_document};
-ghost use Rattle.kijolvar.specs.Mistakes.{AnswersDocument, AnswersMistake, AnswersRefusal, category_reason};
+ghost use Rattle.kijolvar.specs.Mistakes.{AnswersDocument, AnswersMistake, AnswersRefusal};
 ghost use Rattle.kijolvar.specs.Mistakes.{mistake_text, number_reason, option_reason, place_text, reason_text};
 
 use crate::answers::write_text;
 use crate::codes::{BAD_PROFILE, BAD_TEXT, NO_MEMORY, OK};
 use itoa::Buffer;
-use pos_profile::{Mistake, NumberKey, OptionalKey, Place, Reason, Role};
+use pos_profile::{Mistake, NumberKey, OptionalKey, Place, Reason};
 use pos_program::{ProfileFileFault, profile_of_text};
 use std::alloc::{AllocError, Global};
 use std::str;
@@ -41,18 +41,6 @@ fn place_text(alloc: Global, place: Place) -> Result<Vec<u8>, AllocError>
         text.extend_from_slice(": ".as_bytes())?;
     }
     Ok(text)
-}
-
-// Returns the categories that an entry of a list may have.
-fn category_reason(role: Role) -> &'static str
-    ensures { result.now ≡ category_reason role }
-{
-    match role {
-        Role::Device => {
-            "category must be CashDrawer, Scanner, LineDisplay, POSPrinter or HardTotals"
-        }
-        Role::Spare => "category must be CashDrawer, Scanner, LineDisplay or POSPrinter",
-    }
 }
 
 // Adds the range of a number to a text.
@@ -100,7 +88,7 @@ fn add_reason(text: &mut Vec<u8>, reason: &Reason) -> Result<(), AllocError>
         Reason::NotAnArray(role) => add_both(text, role.key(), " must be an array of tables"),
         Reason::UnknownKey(key) => add_both(text, "unknown key: ", key.as_str()),
         Reason::NotATable => add_words(text, "must be a table"),
-        Reason::BadCategory(role) => add_words(text, category_reason(*role)),
+        Reason::BadCategory(role) => add_both(text, "category must be ", role.categories()),
         Reason::BadName => add_words(text, "name must be 1 to 16 letters, digits or hyphens"),
         Reason::BadNumber(key) => add_number_reason(text, *key),
         Reason::BadOption(key) => add_words(text, option_reason(*key)),

@@ -2,7 +2,7 @@
 use Rattle.std.specs.Prelude.{◌∷◌, [], false, List, Some, Result, codes}
 use Rattle.pos_counter.specs.Machine.{Device, Machine}
 use Rattle.pos_sims.specs.Drawers.{drawer_state}
-use Rattle.pos_sims.specs.LineDisplays.{display_state}
+use Rattle.pos_sims.specs.ScreenDisplays.{display_state}
 use Rattle.pos_sims.specs.ReceiptPrinters.{printer_state}
 use Rattle.pos_sims.specs.Scanners.{scanner_state}
 use Rattle.pos_image.specs.declared.layout.Layout.TheVariants.{Layout1}

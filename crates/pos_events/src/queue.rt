@@ -101,8 +101,6 @@ impl EventQueue {
         self.enqueue(ImmediateEvent::Status(code));
     }
 
-    /// A scan has come: a DataEvent is enqueued, but not in the input error state (common chapter).
-
     /// Enqueues a DataEvent for a scan that has come, but not in the input error state (common chapter).
     pub fn data(&mut self, scan: Scan)
         requires { 1 ≤ self.old.spare }

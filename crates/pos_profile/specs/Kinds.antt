@@ -1,11 +1,13 @@
 -- What a profile says of each category: what a peripheral for an entry has to be, and its device of the built profile.
-use Rattle.std.specs.Prelude.{List, [], ◌∷◌, Option, Some, None}
+use Rattle.std.specs.Prelude.{ℕ, List, [], ◌∷◌, Option, Some, None, codes}
 use Rattle.pos_service.specs.declared.kind.Kind.{Kind}
 use Rattle.pos_service.specs.declared.kind.Kind.TheVariants as kind
 use Rattle.pos_service.specs.declared.category.Category.{Category}
 use Rattle.pos_service.specs.declared.category.Category.TheVariants.{CashDrawer, Scanner, LineDisplay, PosPrinter}
 use Rattle.pos_service.specs.declared.category.Category.TheVariants.{HardTotals}
 use Rattle.pos_profile.specs.declared.entry.Entry.{Entry}
+use Rattle.pos_profile.specs.declared.entry.Role.{Role}
+use Rattle.pos_profile.specs.declared.entry.Role.TheVariants.{Device, Spare}
 use Rattle.pos_profile.specs.Entries.{entry_with, no_numbers, plain}
 
 -- the kind of a category's devices with the numbers of an entry; Hard Totals have no peripheral
@@ -23,6 +25,11 @@ kind_of entry = kind_with entry.category entry
 -- all categories
 abbrev pub all_categories : List Category
 all_categories = CashDrawer ∷ Scanner ∷ LineDisplay ∷ PosPrinter ∷ HardTotals ∷ []
+
+-- the categories that an entry of a list may have, as a user reads them
+abbrev pub categories_of : Role → List ℕ
+categories_of Device = codes "CashDrawer, Scanner, LineDisplay, POSPrinter or HardTotals"
+categories_of Spare = codes "CashDrawer, Scanner, LineDisplay or POSPrinter"
 
 -- the device of a category in the built profile: the cash drawer d1, the scanner s1, the line display p1 of 2 rows of 4
 -- columns, the receipt printer r1 of 8 characters a line, with 5 lines of paper, near their end at 2, and the Hard

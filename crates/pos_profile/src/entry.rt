@@ -1,9 +1,9 @@
 //! An entry of a profile, and the two lists of entries.
 ghost use Rattle.std.specs.Prelude.{◌≡◌};
-ghost use Rattle.pos_profile.specs.Kinds.{kind_of};
+ghost use Rattle.pos_profile.specs.Kinds.{categories_of, kind_of};
 ghost use Rattle.pos_profile.specs.Tables.{key_of};
 
-use crate::category::kind_with;
+use crate::category::{DEVICE_CATEGORIES, SPARE_CATEGORIES, kind_with};
 use crate::text::Text;
 use pos_service::{Category, Kind};
 
@@ -61,6 +61,16 @@ impl Role {
         match self {
             Role::Device => "device",
             Role::Spare => "spare",
+        }
+    }
+
+    /// Returns the categories that an entry of the list may have, as a user reads them.
+    pub fn categories(self) -> &'static str
+        ensures { result.now ≡ categories_of self }
+    {
+        match self {
+            Role::Device => DEVICE_CATEGORIES,
+            Role::Spare => SPARE_CATEGORIES,
         }
     }
 }

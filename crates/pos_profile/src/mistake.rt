@@ -1,5 +1,4 @@
 //! What isn't sound in a profile.
-use crate::category::{DEVICE_CATEGORIES, SPARE_CATEGORIES};
 use crate::entry::Role;
 use crate::number::NumberKey;
 use crate::optional::OptionalKey;
@@ -67,10 +66,10 @@ impl fmt::Display for Reason {
             }
             Reason::UnknownKey(key) => write!(f, "unknown key: {key}"),
             Reason::NotATable => write!(f, "must be a table"),
-            Reason::BadCategory(Role::Device) => {
-                write!(f, "category must be {DEVICE_CATEGORIES}")
+            Reason::BadCategory(role) => {
+                let categories = role.categories();
+                write!(f, "category must be {categories}")
             }
-            Reason::BadCategory(Role::Spare) => write!(f, "category must be {SPARE_CATEGORIES}"),
             Reason::BadName => write!(f, "name must be 1 to 16 letters, digits or hyphens"),
             Reason::BadNumber(number) => {
                 let (key, least, most) = (number.key(), number.least(), number.most());

@@ -12,7 +12,7 @@ use Rattle.pos_service.specs.Receipts.{empty_roll}
 use Rattle.pos_sims.specs.declared.flaky.Flaky.{Flaky}
 use Rattle.pos_sims.specs.Drawers.{state_of as state_of_drawer}
 use Rattle.pos_sims.specs.Flakies.{flaky_of, state_of as state_of_flaky}
-use Rattle.pos_sims.specs.LineDisplays.{display_state, state_of as state_of_display}
+use Rattle.pos_sims.specs.ScreenDisplays.{display_state, state_of as state_of_display}
 use Rattle.pos_sims.specs.ReceiptPrinters.{state_of as state_of_printer}
 use Rattle.pos_sims.specs.Recorders.{recorder_of, state_of as state_of_recorder}
 use Rattle.pos_sims.specs.RingDisplays.{state_of as state_of_ring}

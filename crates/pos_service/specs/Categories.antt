@@ -6,14 +6,22 @@ use Rattle.pos_service.specs.declared.kind.Kind.{Kind}
 use Rattle.pos_service.specs.declared.kind.Kind.TheVariants as kind
 use Rattle.pos_service.specs.Kinds.{is_display, is_printer}
 
+-- the word of a category
+abbrev pub name_of : Category → List ℕ
+name_of category.CashDrawer = codes "CashDrawer"
+name_of category.Scanner = codes "Scanner"
+name_of category.LineDisplay = codes "LineDisplay"
+name_of category.PosPrinter = codes "POSPrinter"
+name_of category.HardTotals = codes "HardTotals"
+
 -- the category of this word
 abbrev pub category_named : List ℕ → Option Category
 category_named word =
-    if bytes_eq word (codes "CashDrawer") then Some category.CashDrawer
-    else if bytes_eq word (codes "Scanner") then Some category.Scanner
-    else if bytes_eq word (codes "LineDisplay") then Some category.LineDisplay
-    else if bytes_eq word (codes "POSPrinter") then Some category.PosPrinter
-    else if bytes_eq word (codes "HardTotals") then Some category.HardTotals
+    if bytes_eq word (name_of category.CashDrawer) then Some category.CashDrawer
+    else if bytes_eq word (name_of category.Scanner) then Some category.Scanner
+    else if bytes_eq word (name_of category.LineDisplay) then Some category.LineDisplay
+    else if bytes_eq word (name_of category.PosPrinter) then Some category.PosPrinter
+    else if bytes_eq word (name_of category.HardTotals) then Some category.HardTotals
     else None
 
 -- controls of a category may open devices of its kind; the Hard Totals are of none

@@ -22,7 +22,6 @@ use Rattle.pos_service.specs.declared.input.Taken.TheVariants as taken
 use Rattle.pos_service.specs.declared.signs.PaperLevel.TheVariants as paper
 use Rattle.pos_service.specs.declared.signs.Signs.{Signs}
 use Rattle.pos_service.specs.declared.faults.NoMemory.{NoMemory}
-use Rattle.pos_service.specs.declared.receipt_text.PrintResult.TheVariants as outcome
 use Rattle.pos_service.specs.declared.receipt_text.Piece.{Piece}
 use Rattle.pos_service.specs.Displays.{Display, ShowsText, Scrolls, attribute_number_of, blank_display}
 use Rattle.pos_service.specs.Displays.{direction_number_of, is_cursor_place, is_display_text, most_units}
@@ -190,9 +189,9 @@ Moves direction units old new = ⊥
 
 -- a printer prints a request of these pieces then, or says why it prints nothing of it
 abbrev pub PrintsOut : List Piece → Mechanism → Reply → Mechanism → Type 0
-PrintsOut ps (mechanism.Printer old) reply.Done (mechanism.Printer new) = Prints old ps outcome.Done new
-PrintsOut ps (mechanism.Printer old) reply.CoverOpen (mechanism.Printer new) = Prints old ps outcome.CoverOpen new
-PrintsOut ps (mechanism.Printer old) reply.PaperEnd (mechanism.Printer new) = Prints old ps outcome.PaperEnd new
+PrintsOut ps (mechanism.Printer old) reply.Done (mechanism.Printer new) = Prints old ps reply.Done new
+PrintsOut ps (mechanism.Printer old) reply.CoverOpen (mechanism.Printer new) = Prints old ps reply.CoverOpen new
+PrintsOut ps (mechanism.Printer old) reply.PaperEnd (mechanism.Printer new) = Prints old ps reply.PaperEnd new
 PrintsOut ps old said new = ⊥
 
 -- From the old mechanism, an order that reaches a peripheral that is on may get this reply and leave the new: a drawer

@@ -216,6 +216,15 @@ settings_after was property.DecodeData (value.Truth is_true) = record was { deco
 settings_after was property.AsyncMode (value.Truth is_true) = record was { async_mode = is_true }
 settings_after was p v = was
 
+-- the value of a property that is one of the truth values among these
+abbrev pub truth_of : Settings → Property → Option Bool
+truth_of settings property.FreezeEvents = Some settings.freeze_events
+truth_of settings property.DataEventEnabled = Some settings.data_event_enabled
+truth_of settings property.AutoDisable = Some settings.auto_disable
+truth_of settings property.DecodeData = Some settings.decode_data
+truth_of settings property.AsyncMode = Some settings.async_mode
+truth_of settings p = None
+
 -- the cursor, once the property is set
 abbrev pub cursor_after : Cursor → Property → Value → Cursor
 cursor_after was property.CursorRow (value.Number n) = record was { place = record was.place { row = nat_abs n } }

@@ -11,8 +11,8 @@ use Rattle.pos_service.specs.declared.receipt_text.Token.TheVariants as token
 use Rattle.pos_service.specs.declared.receipt_text.PrintedCharacter.{PrintedCharacter}
 use Rattle.pos_service.specs.declared.receipt_text.Mark.{Mark}
 use Rattle.pos_service.specs.declared.receipt_text.Mark.TheVariants as mark
-use Rattle.pos_service.specs.declared.receipt_text.PrintResult.{PrintResult}
-use Rattle.pos_service.specs.declared.receipt_text.PrintResult.TheVariants as outcome
+use Rattle.pos_service.specs.declared.order.Reply.{Reply}
+use Rattle.pos_service.specs.declared.order.Reply.TheVariants as reply
 use Rattle.pos_service.specs.declared.signs.PaperLevel.{PaperLevel}
 use Rattle.pos_service.specs.declared.signs.PaperLevel.TheVariants as paper
 
@@ -247,12 +247,12 @@ pub record Printer : Type 0 where
 abbrev pub empty_roll : ℕ → ℕ → Printer
 empty_roll chars lines = record { chars = chars; items = []; buffer = []; left = lines; is_cover_open = false }
 
--- What comes of a request that needs so many lines: it is done where the cover is closed, a line is left, and no more
+-- What a printer replies to a request that needs so many lines: it is done where the cover is closed, a line is left, and no more
 -- are needed than are left; else the cover is open, or the paper has ended.
-abbrev pub outcome_of : Printer → ℕ → PrintResult
+abbrev pub outcome_of : Printer → ℕ → Reply
 outcome_of printer needed =
-    if printer.is_cover_open then outcome.CoverOpen
-    else (if nat_lt 0 printer.left && nat_le needed printer.left then outcome.Done else outcome.PaperEnd)
+    if printer.is_cover_open then reply.CoverOpen
+    else (if nat_lt 0 printer.left && nat_le needed printer.left then reply.Done else reply.PaperEnd)
 
 -- the printer after a request that is done
 abbrev pub with_printout : Printer → Printout → Printer
@@ -263,13 +263,12 @@ with_printout printer made = record printer {
 }
 
 -- the printer after a request: all of it is printed, or nothing
-abbrev pub printer_after : PrintResult → Printer → Printout → Printer
-printer_after outcome.Done printer made = with_printout printer made
-printer_after outcome.CoverOpen printer made = printer
-printer_after outcome.PaperEnd printer made = printer
+abbrev pub printer_after : Reply → Printer → Printout → Printer
+printer_after reply.Done printer made = with_printout printer made
+printer_after other printer made = printer
 
--- From the old printer, a request of these pieces has this outcome and leaves the new one.
-pub record Prints (old : Printer) (ps : List Piece) (answer : PrintResult) (new : Printer) : Type 0 where
+-- From the old printer, a request of these pieces has this reply and leaves the new one.
+pub record Prints (old : Printer) (ps : List Piece) (answer : Reply) (new : Printer) : Type 0 where
   pub outcome : answer ≡ outcome_of old (lines_needed (printed_by old.chars old.buffer ps).items)
   pub printer : new ≡ printer_after answer old (printed_by old.chars old.buffer ps)
 

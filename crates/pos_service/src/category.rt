@@ -1,6 +1,6 @@
 //! The categories of devices.
 ghost use Rattle.std.specs.Prelude.{◌≡◌};
-ghost use Rattle.pos_service.specs.Categories.{serves, is_exclusive, reports_power, category_named};
+ghost use Rattle.pos_service.specs.Categories.{serves, is_exclusive, reports_power, category_named, name_of};
 
 use crate::kind::Kind;
 
@@ -40,6 +40,19 @@ impl Category {
             return Some(Category::HardTotals);
         }
         None
+    }
+
+    /// Returns its word, as [`named`](Self::named) reads it.
+    pub fn name(self) -> &'static str
+        ensures { result.now ≡ name_of self }
+    {
+        match self {
+            Category::CashDrawer => "CashDrawer",
+            Category::Scanner => "Scanner",
+            Category::LineDisplay => "LineDisplay",
+            Category::PosPrinter => "POSPrinter",
+            Category::HardTotals => "HardTotals",
+        }
     }
 
     /// Returns whether its controls may open a device of this kind. The Hard Totals have no such device.

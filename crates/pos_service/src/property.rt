@@ -1,9 +1,10 @@
 //! The properties of a control.
-ghost use Rattle.std.specs.Prelude.{◌≡◌, ◌==◌, ◌||◌, bytes_eq, nat_le};
+ghost use Rattle.std.specs.Prelude.{◌≡◌, ◌==◌, ◌||◌, bytes_eq, is_some, nat_le};
 ghost use Rattle.std.specs.Map.{lookup};
 ghost use Rattle.pos_service.specs.Controls.{default_settings};
-ghost use Rattle.pos_service.specs.Properties.{names_of, property_named, row_of, plain, settable, of_device, is_in, needs_of, needs_to_set};
+ghost use Rattle.pos_service.specs.Properties.{names_of, property_named, row_of, plain, settable, of_device, is_in, needs_of, needs_to_set, settings_after, truth_of};
 
+use crate::answer::Value;
 use crate::category::Category;
 use crate::needs::{ClaimNeed, Needs};
 use crate::words::is;
@@ -113,6 +114,36 @@ impl Settings {
             decode_data: false,
             async_mode: false,
         }
+    }
+
+    /// Returns the value of a property that is a truth value, or `None` if the property isn't one of these.
+    pub fn truth(&self, property: Property) -> Option<bool>
+        ensures { result ≡ truth_of self.now property }
+    {
+        match property {
+            Property::FreezeEvents => Some(self.freeze_events),
+            Property::DataEventEnabled => Some(self.data_event_enabled),
+            Property::AutoDisable => Some(self.auto_disable),
+            Property::DecodeData => Some(self.decode_data),
+            Property::AsyncMode => Some(self.async_mode),
+            _ => None,
+        }
+    }
+
+    /// Sets a property that is a truth value. Returns whether the property is one of these; if not, nothing has changed.
+    pub fn set_truth(&mut self, property: Property, is_true: bool) -> bool
+        ensures known { result ≡ is_some (truth_of self.old property) }
+        ensures set { self.new ≡ settings_after self.old property (Value.Truth is_true) }
+    {
+        match property {
+            Property::FreezeEvents => self.freeze_events = is_true,
+            Property::DataEventEnabled => self.data_event_enabled = is_true,
+            Property::AutoDisable => self.auto_disable = is_true,
+            Property::DecodeData => self.decode_data = is_true,
+            Property::AsyncMode => self.async_mode = is_true,
+            _ => return false,
+        }
+        true
     }
 }
 

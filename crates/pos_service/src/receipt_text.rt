@@ -68,17 +68,6 @@ pub enum Mark {
     Cut(u8),
 }
 
-/// What comes of a request to a printer.
-#[derive(Clone, Copy, PartialEq, Eq)]
-pub enum PrintResult {
-    /// It is done.
-    Done,
-    /// The cover is open, and nothing was done.
-    CoverOpen,
-    /// The paper has ended or isn't enough, and nothing was done.
-    PaperEnd,
-}
-
 /// Returns whether a word is this text.
 fn is(word: &[u8], text: &str) -> bool
     ensures { result ≡ bytes_eq word.now text.now }

@@ -1,7 +1,7 @@
 pub mod Powers
 pub mod Drawers
 pub mod Scanners
-pub mod LineDisplays
+pub mod ScreenDisplays
 pub mod Windows
 pub mod Tapes
 pub mod ReceiptPrinters

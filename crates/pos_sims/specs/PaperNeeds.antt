@@ -1,7 +1,7 @@
 -- How many lines of paper a request needs, by how many characters the line buffer has.
 use Rattle.std.specs.Prelude.{ℕ, ◌+◌, ◌==◌, List, if◌then◌else◌}
 use Rattle.std.specs.List.{fold}
-use Rattle.pos_service.specs.declared.receipt_text.PrintResult.{PrintResult}
+use Rattle.pos_service.specs.declared.order.Reply.{Reply}
 use Rattle.pos_service.specs.declared.receipt_text.Piece.{Piece}
 use Rattle.pos_service.specs.declared.receipt_text.Piece.TheVariants as piece
 use Rattle.pos_service.specs.Receipts.{Printer, lines_needed, outcome_of, printed_by}
@@ -39,6 +39,6 @@ need_step chars n other = n
 abbrev pub needs : ℕ → Need → List Piece → Need
 needs chars n ps = fold (need_step chars) n ps
 
--- what comes of a request of these pieces
-abbrev pub outcome_by : Printer → List Piece → PrintResult
+-- what a printer replies to a request of these pieces
+abbrev pub outcome_by : Printer → List Piece → Reply
 outcome_by printer ps = outcome_of printer (lines_needed (printed_by printer.chars printer.buffer ps).items)

@@ -2,10 +2,6 @@
 use Rattle.std.specs.Prelude.{ℕ, Bool, true}
 use Rattle.pos_service.specs.declared.kind.Kind.TheVariants as kind
 use Rattle.pos_service.specs.declared.plant.Mechanism.TheVariants as mechanism
-use Rattle.pos_service.specs.declared.order.Reply.{Reply}
-use Rattle.pos_service.specs.declared.order.Reply.TheVariants as reply
-use Rattle.pos_service.specs.declared.receipt_text.PrintResult.{PrintResult}
-use Rattle.pos_service.specs.declared.receipt_text.PrintResult.TheVariants as outcome
 use Rattle.pos_service.specs.Receipts.{Printer}
 use Rattle.pos_service.specs.Peripherals.{PeripheralState}
 use Rattle.pos_sims.specs.Powers.{switched}
@@ -26,9 +22,3 @@ printer_state printed near is_parked = record {
 abbrev pub state_of : RollPrinter → PeripheralState
 state_of printer = switched printer.powered
     (record (printer_state printer.roll printer.near printer.is_parked) { orders = printer.orders })
-
--- what a printer replies, once this has come of a request
-abbrev pub reply_of : PrintResult → Reply
-reply_of outcome.Done = reply.Done
-reply_of outcome.CoverOpen = reply.CoverOpen
-reply_of outcome.PaperEnd = reply.PaperEnd

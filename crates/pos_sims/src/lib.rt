@@ -1,6 +1,6 @@
 //! Simulated peripherals, to test a till without hardware.
 //!
-//! - [`PlainDrawer`], [`PlainScanner`], [`LineDisplay`] and [`RollPrinter`] are one of each kind.
+//! - [`PlainDrawer`], [`PlainScanner`], [`ScreenDisplay`] and [`RollPrinter`] are one of each kind.
 //! - A [`Screen`] keeps a display's cells: a [`Window`] row by row, a [`Ring`] with rows that turn. A [`Roll`] is what
 //!   a printer prints on.
 //! - [`Flaky`] fails chosen orders of a peripheral, and [`Recorder`] counts all of them.
@@ -12,7 +12,6 @@
 
 mod flaky;
 mod grid;
-mod line_display;
 mod paper_needs;
 mod plain_drawer;
 mod plain_scanner;
@@ -24,13 +23,13 @@ mod ring_places;
 mod roll;
 mod roll_printer;
 mod screen;
+mod screen_display;
 mod scroll;
 mod tape;
 mod text_layout;
 mod window;
 
 pub use flaky::Flaky;
-pub use line_display::{LineDisplay, PlainDisplay, RingDisplay};
 pub use plain_drawer::PlainDrawer;
 pub use plain_scanner::PlainScanner;
 pub use print_preview::PrintPreview;
@@ -39,4 +38,5 @@ pub use ring::Ring;
 pub use roll::Roll;
 pub use roll_printer::RollPrinter;
 pub use screen::Screen;
+pub use screen_display::{PlainDisplay, RingDisplay, ScreenDisplay};
 pub use window::Window;

@@ -4,11 +4,10 @@ ghost use Rattle.pos_service.specs.declared.receipt_text.Piece.{Piece};
 ghost use Rattle.pos_service.specs.Receipts.{Prints, empty_roll, pieces, cut_pieces, items_from, buffer_from};
 ghost use Rattle.pos_sims.specs.PaperNeeds.{outcome_by};
 ghost use Rattle.pos_sims.specs.Tapes.{pieces_asked};
-ghost use Rattle.pos_sims.specs.ReceiptPrinters.{reply_of};
 
 use crate::paper_needs::request_fits;
 use crate::tape::{Asked, PrintStop, Tape};
-use pos_service::receipt_text::{Mark, PrintResult, PrintedCharacter};
+use pos_service::receipt_text::{Mark, PrintedCharacter};
 use pos_service::{NoMemory, Reply};
 use std::alloc::Global;
 use std::marker::Model;
@@ -74,22 +73,22 @@ impl Roll {
         self.left = lines;
     }
 
-    /// Returns what hinders each request: an open cover, or otherwise no line of paper left.
-    fn hindrance(&self) -> Option<PrintResult>
+    /// Returns the reply to each request while something hinders it: an open cover, or otherwise no line of paper left.
+    fn hindrance(&self) -> Option<Reply>
         ensures hindered { (ps : List Piece) → IfSome result (λ outcome. Prints self.now ps outcome self.now) }
         ensures free { result ≡ None → (self.now.is_cover_open ≡ false) × (1 ≤ self.now.left) }
     {
         if self.is_cover_open {
-            return Some(PrintResult::CoverOpen);
+            return Some(Reply::CoverOpen);
         }
         if self.left == 0 {
-            return Some(PrintResult::PaperEnd);
+            return Some(Reply::PaperEnd);
         }
         None
     }
 
     /// Carries out a request, as `print` says.
-    fn request(&mut self, asked: &Asked<'_>) -> Result<PrintResult, NoMemory>
+    fn request(&mut self, asked: &Asked<'_>) -> Result<Reply, NoMemory>
         ensures outcome { IfOk result (λ outcome. Prints self.old (pieces_asked asked.now) outcome self.new) }
         ensures no_memory { OnErr result (self.new ≡ self.old) }
     {
@@ -99,32 +98,32 @@ impl Roll {
         match self.tape.print(asked, self.left) {
             Ok(used) => {
                 self.left -= used;
-                Ok(PrintResult::Done)
+                Ok(Reply::Done)
             }
-            Err(PrintStop::PaperEnd) => Ok(PrintResult::PaperEnd),
+            Err(PrintStop::PaperEnd) => Ok(Reply::PaperEnd),
             Err(PrintStop::NoMemory) => Err(NoMemory),
         }
     }
 
-    /// Prints the data of a request, all of it or nothing, and returns what came of it. The result is `CoverOpen` if
-    /// the cover is open, and otherwise `PaperEnd` if no line of paper is left, or fewer than the request needs.
+    /// Prints the data of a request, all of it or nothing, and returns the reply: `Done`, or `CoverOpen` if the cover is
+    /// open, or otherwise `PaperEnd` if no line of paper is left, or fewer than the request needs.
     ///
     /// # Errors
     ///
     /// [`NoMemory`] if memory ran out. Then nothing has changed.
-    pub fn print(&mut self, bytes: &[u8]) -> Result<PrintResult, NoMemory>
+    pub fn print(&mut self, bytes: &[u8]) -> Result<Reply, NoMemory>
         ensures outcome { IfOk result (λ outcome. Prints self.old (pieces bytes.now) outcome self.new) }
         ensures no_memory { OnErr result (self.new ≡ self.old) }
     {
         self.request(&Asked::Text(bytes))
     }
 
-    /// Cuts the paper by 0 to 100 percent, which is a request with that cut alone. Its results are those of `print`.
+    /// Cuts the paper by 0 to 100 percent, which is a request with that cut alone. Its replies are those of `print`.
     ///
     /// # Errors
     ///
     /// [`NoMemory`] if memory ran out. Then nothing has changed.
-    pub fn cut(&mut self, percentage: u8) -> Result<PrintResult, NoMemory>
+    pub fn cut(&mut self, percentage: u8) -> Result<Reply, NoMemory>
         requires { percentage ≤ 100 }
         ensures outcome { IfOk result (λ outcome. Prints self.old (cut_pieces percentage) outcome self.new) }
         ensures no_memory { OnErr result (self.new ≡ self.old) }
@@ -132,8 +131,8 @@ impl Roll {
         self.request(&Asked::Cut(percentage))
     }
 
-    /// Returns what would come of a request.
-    fn would(&self, asked: &Asked<'_>) -> PrintResult
+    /// Returns what a request would get as its reply.
+    fn would(&self, asked: &Asked<'_>) -> Reply
         ensures { result ≡ outcome_by self.now (pieces_asked asked.now) }
     {
         if let Some(outcome) = self.hindrance() {
@@ -141,21 +140,21 @@ impl Roll {
         }
         let begun = self.tape.buffer_length();
         if request_fits(self.chars(), self.left, begun, asked) {
-            PrintResult::Done
+            Reply::Done
         } else {
-            PrintResult::PaperEnd
+            Reply::PaperEnd
         }
     }
 
-    /// Returns what would come of the data of a request if they were printed, and memory didn't run out.
-    pub fn would_print(&self, bytes: &[u8]) -> PrintResult
+    /// Returns what the data of a request would get as their reply, if memory didn't run out.
+    pub fn would_print(&self, bytes: &[u8]) -> Reply
         ensures { result ≡ outcome_by self.now (pieces bytes.now) }
     {
         self.would(&Asked::Text(bytes))
     }
 
-    /// Returns what would come of a cut by so many percent, if memory didn't run out.
-    pub fn would_cut(&self, percentage: u8) -> PrintResult
+    /// Returns what a cut by so many percent would get as its reply, if memory didn't run out.
+    pub fn would_cut(&self, percentage: u8) -> Reply
         ensures { result ≡ outcome_by self.now (cut_pieces percentage) }
     {
         self.would(&Asked::Cut(percentage))
@@ -197,16 +196,5 @@ impl Roll {
         ensures { result.now ≡ self.now.buffer }
     {
         self.tape.buffer()
-    }
-}
-
-/// Returns what a printer replies, once this has come of a request.
-pub(crate) fn reply_of(outcome: PrintResult) -> Reply
-    ensures { result ≡ reply_of outcome }
-{
-    match outcome {
-        PrintResult::Done => Reply::Done,
-        PrintResult::CoverOpen => Reply::CoverOpen,
-        PrintResult::PaperEnd => Reply::PaperEnd,
     }
 }

@@ -3,9 +3,8 @@ ghost use Rattle.std.specs.Prelude.{◌≤◌};
 
 use crate::power::{off_reply, passes_by};
 use crate::print_preview::PrintPreview;
-use crate::roll::{Roll, reply_of};
+use crate::roll::Roll;
 use pos_drive::{Preview, Tears};
-use pos_service::receipt_text::PrintResult;
 use pos_service::{
     Input, Kind, Mechanism, NoMemory, Order, PaperLevel, Peripheral, Plant, Receipt, Reply, Signs,
     Snapshot, Taken,
@@ -52,7 +51,7 @@ impl RollPrinter {
 impl Peripheral for RollPrinter {
     ghost use Rattle.std.specs.Prelude.{◌≡◌, true, false, IsOk};
     ghost use Rattle.pos_service.specs.Peripherals.{Fed, input_fits};
-    ghost use Rattle.pos_sims.specs.ReceiptPrinters.{reply_of, state_of};
+    ghost use Rattle.pos_sims.specs.ReceiptPrinters.{state_of};
 
     ghost state = { λ printer. state_of printer };
 
@@ -81,8 +80,8 @@ impl Peripheral for RollPrinter {
             return Ok(Reply::LineFault);
         }
         match order {
-            Order::Print { bytes } => Ok(reply_of(self.roll.print(bytes.as_slice())?)),
-            Order::Cut { percentage } => Ok(reply_of(self.roll.cut(*percentage)?)),
+            Order::Print { bytes } => self.roll.print(bytes.as_slice()),
+            Order::Cut { percentage } => self.roll.cut(*percentage),
             _ => unreachable!(),
         }
     }
@@ -133,15 +132,13 @@ impl Peripheral for RollPrinter {
 }
 
 impl Preview for RollPrinter {
-    ghost use Rattle.pos_sims.specs.ReceiptPrinters.{reply_of};
-
     fn would(&self, order: &Order) -> Reply {
         if let Some(off) = off_reply(self.powered) {
             return off;
         }
         match order {
-            Order::Print { bytes } => reply_of(self.roll.would_print(bytes.as_slice())),
-            Order::Cut { percentage } => reply_of(self.roll.would_cut(*percentage)),
+            Order::Print { bytes } => self.roll.would_print(bytes.as_slice()),
+            Order::Cut { percentage } => self.roll.would_cut(*percentage),
             _ => Reply::LineFault,
         }
     }
@@ -153,12 +150,12 @@ impl PrintPreview for RollPrinter {
             return Ok(None);
         }
         let mut roll = self.roll.begun(alloc)?;
-        let outcome = match order {
+        let reply = match order {
             Order::Print { bytes } => roll.print(bytes.as_slice())?,
             Order::Cut { percentage } => roll.cut(*percentage)?,
             _ => unreachable!(),
         };
-        if outcome == PrintResult::Done {
+        if reply == Reply::Done {
             Ok(Some(roll))
         } else {
             Ok(None)

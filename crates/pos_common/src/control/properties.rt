@@ -163,13 +163,12 @@ impl Control {
     {
         match property {
             Property::DeviceEnabled => return self.set_enabled(signs, is_true),
-            Property::FreezeEvents => self.settings.freeze_events = is_true,
-            Property::DataEventEnabled => self.settings.data_event_enabled = is_true,
-            Property::AutoDisable => self.settings.auto_disable = is_true,
-            Property::DecodeData => self.settings.decode_data = is_true,
             Property::CursorUpdate => self.cursor.update = is_true,
-            Property::AsyncMode => self.settings.async_mode = is_true,
-            _ => return Ok(Answer::Refused(Code::Illegal, 0)),
+            _ => {
+                if !self.settings.set_truth(property, is_true) {
+                    return Ok(Answer::Refused(Code::Illegal, 0));
+                }
+            }
         }
         Ok(Answer::Done(Value::Empty))
     }
@@ -296,11 +295,13 @@ impl Control {
         ensures { Decided (when ((row_of property).is_of_files && is_none context.now.files) Code.Failure ∷ []) result ⊤
             (result ≡ Answer.Done (property_of self.now.control context.now property)) }
     {
+        if let Some(is_true) = self.settings.truth(property) {
+            return Answer::Done(Value::Truth(is_true));
+        }
         match property {
             Property::State => Answer::Done(Value::Number(i128::from(self.state()))),
             Property::Claimed => Answer::Done(Value::Truth(context.is_claimed)),
             Property::DeviceEnabled => Answer::Done(Value::Truth(self.is_enabled)),
-            Property::FreezeEvents => Answer::Done(Value::Truth(self.settings.freeze_events)),
             Property::CapPowerReporting => {
                 Answer::Done(Value::Number(i128::from(self.power_reporting())))
             }
@@ -308,13 +309,7 @@ impl Control {
             Property::PowerState => {
                 Answer::Done(Value::Number(i128::from(self.power_state(context.signs))))
             }
-            Property::DataEventEnabled => Answer::Done(Value::Truth(
-                self.settings.data_event_enabled,
-            )),
-            Property::AutoDisable => Answer::Done(Value::Truth(self.settings.auto_disable)),
             Property::DataCount => Answer::Done(Value::Number(self.events.data_count() as i128)),
-            Property::DecodeData => Answer::Done(Value::Truth(self.settings.decode_data)),
-            Property::ScanData | Property::ScanDataLabel => unreachable!(),
             Property::ScanDataType => Answer::Done(Value::Number(i128::from(self.shown.kind()))),
             Property::Rows => Answer::Done(Value::Number(i128::from(rows_of(context.kind)))),
             Property::Columns => Answer::Done(Value::Number(i128::from(columns_of(context.kind)))),
@@ -323,7 +318,6 @@ impl Control {
                 Answer::Done(Value::Number(i128::from(self.cursor.place.column)))
             }
             Property::CursorUpdate => Answer::Done(Value::Truth(self.cursor.update)),
-            Property::AsyncMode => Answer::Done(Value::Truth(self.settings.async_mode)),
             Property::OutputId => Answer::Done(Value::Number(i128::from(self.writer.output_id()))),
             Property::RecLineChars => Answer::Done(Value::Number(i128::from(chars_of(
                 context.kind,
@@ -346,6 +340,7 @@ impl Control {
                 Some(files) => Answer::Done(Value::Number(files.count as i128)),
                 None => Answer::Refused(Code::Failure, 0),
             },
+            _ => unreachable!(),
         }
     }
 }

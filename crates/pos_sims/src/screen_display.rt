@@ -2,7 +2,7 @@
 ghost use Rattle.std.specs.Prelude.{◌≡◌, ◌≤◌, true, false, IsOk, IfOk};
 ghost use Rattle.pos_service.specs.Displays.{blank_display};
 ghost use Rattle.pos_service.specs.Peripherals.{Asked, Fed, order_fits};
-ghost use Rattle.pos_sims.specs.LineDisplays.{display_state, state_on};
+ghost use Rattle.pos_sims.specs.ScreenDisplays.{display_state, state_on};
 
 use crate::power::{off_reply, passes_by, reply_while};
 use crate::ring::Ring;
@@ -19,7 +19,7 @@ use std::alloc::Global;
 /// A line display of 1 to 8 rows of 1 to 80 columns whose line never fails (chapter Line Display), over a window of its
 /// own kind. `new` makes its cells; after that only a snapshot takes memory.
 #[derive(Drop)]
-pub struct LineDisplay<S: Screen> {
+pub struct ScreenDisplay<S: Screen> {
     alloc: Global,
     screen: S,
     powered: bool,
@@ -28,12 +28,12 @@ pub struct LineDisplay<S: Screen> {
 }
 
 /// A line display whose cells are kept row by row.
-pub type PlainDisplay = LineDisplay<Window>;
+pub type PlainDisplay = ScreenDisplay<Window>;
 
 /// A line display whose rows are a ring: a scroll up or down by a row moves no cell.
-pub type RingDisplay = LineDisplay<Ring>;
+pub type RingDisplay = ScreenDisplay<Ring>;
 
-impl<S: Screen> LineDisplay<S> {
+impl<S: Screen> ScreenDisplay<S> {
     /// Returns a blank display of 1 to 8 rows of 1 to 80 columns that is on and in service.
     ///
     /// # Errors
@@ -45,7 +45,7 @@ impl<S: Screen> LineDisplay<S> {
         ensures { IfOk result (λ display.
             state_on S.Screen display ≡ display_state (blank_display rows columns) false) }
     {
-        Ok(LineDisplay {
+        Ok(ScreenDisplay {
             alloc,
             screen: S::new(alloc, rows, columns)?,
             powered: true,
@@ -55,9 +55,9 @@ impl<S: Screen> LineDisplay<S> {
     }
 }
 
-impl LineDisplay<Window> {
+impl ScreenDisplay<Window> {
     ghost use Rattle.std.specs.Prelude.{◌*◌, length};
-    ghost use Rattle.pos_sims.specs.LineDisplays.{state_of};
+    ghost use Rattle.pos_sims.specs.ScreenDisplays.{state_of};
 
     /// Returns a display of 1 to 8 rows of 1 to 80 columns that shows these cells, and is on and in service.
     ///
@@ -70,7 +70,7 @@ impl LineDisplay<Window> {
         requires cells { length shown.now.cells ≡ shown.now.rows * shown.now.columns }
         ensures { IfOk result (λ display. state_of display ≡ display_state shown.now false) }
     {
-        Ok(LineDisplay {
+        Ok(ScreenDisplay {
             alloc,
             screen: Window::showing(alloc, shown)?,
             powered: true,
@@ -80,7 +80,7 @@ impl LineDisplay<Window> {
     }
 }
 
-impl<S: Screen> Peripheral for LineDisplay<S> {
+impl<S: Screen> Peripheral for ScreenDisplay<S> {
     ghost state = { λ display. state_on S.Screen display };
 
     fn kind(&self) -> Kind {
@@ -161,13 +161,13 @@ impl<S: Screen> Peripheral for LineDisplay<S> {
     }
 }
 
-impl<S: Screen> Preview for LineDisplay<S> {
+impl<S: Screen> Preview for ScreenDisplay<S> {
     fn would(&self, _: &Order) -> Reply {
         reply_while(self.powered, Reply::Done)
     }
 }
 
-impl<S: Screen> Tears for LineDisplay<S> {
+impl<S: Screen> Tears for ScreenDisplay<S> {
     fn tear_off(&mut self) -> Result<(), NoMemory> {
         Ok(())
     }
