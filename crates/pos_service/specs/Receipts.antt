@@ -247,8 +247,8 @@ pub record Printer : Type 0 where
 abbrev pub empty_roll : ℕ → ℕ → Printer
 empty_roll chars lines = record { chars = chars; items = []; buffer = []; left = lines; is_cover_open = false }
 
--- What a printer replies to a request that needs so many lines: it is done where the cover is closed, a line is left, and no more
--- are needed than are left; else the cover is open, or the paper has ended.
+-- What a printer replies to a request that needs so many lines: it is done where the cover is closed, a line is left,
+-- and no more are needed than are left; else the cover is open, or the paper has ended.
 abbrev pub outcome_of : Printer → ℕ → Reply
 outcome_of printer needed =
     if printer.is_cover_open then reply.CoverOpen

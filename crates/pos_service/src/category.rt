@@ -24,19 +24,19 @@ impl Category {
     pub fn named(word: &[u8]) -> Option<Self>
         ensures { result ≡ category_named word.now }
     {
-        if word == "CashDrawer".as_bytes() {
+        if word == Category::CashDrawer.name().as_bytes() {
             return Some(Category::CashDrawer);
         }
-        if word == "Scanner".as_bytes() {
+        if word == Category::Scanner.name().as_bytes() {
             return Some(Category::Scanner);
         }
-        if word == "LineDisplay".as_bytes() {
+        if word == Category::LineDisplay.name().as_bytes() {
             return Some(Category::LineDisplay);
         }
-        if word == "POSPrinter".as_bytes() {
+        if word == Category::PosPrinter.name().as_bytes() {
             return Some(Category::PosPrinter);
         }
-        if word == "HardTotals".as_bytes() {
+        if word == Category::HardTotals.name().as_bytes() {
             return Some(Category::HardTotals);
         }
         None

@@ -130,7 +130,7 @@ impl Settings {
         }
     }
 
-    /// Sets a property that is a truth value. Returns whether the property is one of these; if not, nothing has changed.
+    /// Sets a property that is a truth value. Returns whether the property is one of these; if not, nothing changes.
     pub fn set_truth(&mut self, property: Property, is_true: bool) -> bool
         ensures known { result ≡ is_some (truth_of self.old property) }
         ensures set { self.new ≡ settings_after self.old property (Value.Truth is_true) }

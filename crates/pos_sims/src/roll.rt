@@ -105,8 +105,8 @@ impl Roll {
         }
     }
 
-    /// Prints the data of a request, all of it or nothing, and returns the reply: `Done`, or `CoverOpen` if the cover is
-    /// open, or otherwise `PaperEnd` if no line of paper is left, or fewer than the request needs.
+    /// Prints the data of a request, all of it or nothing, and returns the reply: `CoverOpen` if the cover is open,
+    /// otherwise `PaperEnd` if no line of paper is left, or fewer than the request needs, otherwise `Done`.
     ///
     /// # Errors
     ///
