@@ -2,7 +2,7 @@
 use Rattle.std.proofs.Common.{Bool, Err, List, Ok, Option, [], ap, arith, false, inl, inr, refl, subst, true, ℕ, ⊎_elim}
 use Rattle.std.proofs.Common.{◌++◌, ◌<◌, ◌^◌, ◌∙◌, ◌∷◌, ◌≡◌, ◌≢◌}
 use Rattle.std.specs.Prelude.{IfSome, None, OnOk, Some, ◌||◌}
-use Rattle.pos_disk.proofs.Common.{DiskState, Elapses, HasCause, Memory, Reads, Syncs, Writes, splice, state_of}
+use Rattle.pos_disk.proofs.Common.{DiskState, Elapses, HasCause, Memory, Reads, Writes, splice, state_of}
 use Rattle.pos_disk.specs.Fuse.{may_under, with_failures}
 use Rattle.pos_disk.specs.State.{Answer}
 use Rattle.pos_disk.specs.declared.device.DiskFault.{DiskFault}
@@ -92,17 +92,6 @@ writes_hosted old new at bytes (Ok u) answer done writes adds = record {
   cause = cause_of (IsWrite at bytes) old.work new.work answer (state_of old.memory) (state_of new.memory) adds;
 }
 
--- a sync whose errand is there
-pub syncs_hosted : (old new : HostedDisk) (said answer : Answer) → said ≡ Ok tt → answer ≡ Ok tt
-    → Syncs (state_of old.memory) (state_of new.memory) said
-    → AddsIfHosted IsSync old.work new.work answer → Syncs (hosted_state old) (hosted_state new) answer
-syncs_hosted old new (Err e) answer done fine syncs adds = absurd (cc)
-syncs_hosted old new (Ok u) answer done fine syncs adds = record {
-  at_rest = any_answer answer syncs.at_rest;
-  reading = syncs.reading;
-  loose = syncs.loose;
-  time = time_under (failures_of old.work) (failures_of new.work) syncs.time;
-  cause = cause_of IsSync old.work new.work answer (state_of old.memory) (state_of new.memory) adds;
 }
 
 -- behind the others, an errand is done last

@@ -6,16 +6,11 @@ use Rattle.kijolvar.proofs.Common.{move, never, nothing, null_ptr, of_list, ptr_
 use Rattle.kijolvar.proofs.Common.{tnil, vcons, vnil, vptr, vstruct, within, ‵, ℕ, ◌$◌, ◌++◌, ◌∷◌, ◌≡◌}
 use Rattle.std_alloc.proofs.ResultValues.{and_tt}
 use lib.Dec.{T}
-use mathlib.Core.Bool.{Bool, false, true, ◌&&◌}
+use mathlib.Core.Bool.{true, ◌&&◌}
 use Rattle.kijolvar.specs.contracts.raw_box.RawBox as raw_box
 
 abbrev pub both : Val → Val → Val
 both v w = vstruct (vcons v (vcons w vnil))
-
-pub both_tt : (x y : Bool) → T x → T y → T (x && (y && true))
-both_tt true true s t = tt
-both_tt true false s t = absurd t
-both_tt false y s t = absurd s
 
 module _ (R Z : RattleType) (L : Laws Z) (g : Ghosts Z.Denot) where
   abbrev pub RawBox : RattleType

@@ -1,6 +1,6 @@
 -- What the check of a control decides of a call's table.
 use Rattle.pos_common.proofs.Common.{Answer, Bool, Control, Decided, Err, Gets, KeptControl, List, NoMemory, None, Ok}
-use Rattle.pos_common.proofs.Common.{Option, Result, Row, SetsTo, Some, [], arith, false, first_refusal, is_none, not}
+use Rattle.pos_common.proofs.Common.{Option, Result, Row, SetsTo, Some, [], arith, first_refusal, is_none, not}
 use Rattle.pos_common.proofs.Common.{refl, true, when, ℕ, ◌&&◌, ◌∷◌, ◌≡◌}
 use Rattle.pos_common.specs.Checks.{Checks}
 use Rattle.pos_service.specs.Claims.{is_foreign}
@@ -58,11 +58,6 @@ asks_second number holder control needs a b is checks =
       lets_there (needs.is_open && is_none control.device) needs.is_there
           (claim_rows number holder control needs) (checks []),
     )
-
--- what a control is that its check lets through: open, where it has to be
-pub lets_open : (number : ℕ) (holder : Option ℕ) (control : Control) (needs : Needs) → needs.is_open ≡ true
-    → first_refusal (table number holder control needs []) ≡ None → is_none control.device ≡ false
-lets_open number holder control needs is none = grind arith
 
 -- one of a category that has what is asked
 pub lets_own : (number : ℕ) (holder : Option ℕ) (control : Control) (needs : Needs)

@@ -3,7 +3,6 @@ use Rattle.pos_common.proofs.Common.{Answer, Control, Err, Hardware, IsTrue, Lis
 use Rattle.pos_common.proofs.Common.{None, Ok, Option, Result, Row, SameHardware, Some, first_refusal, refl, slice_get}
 use Rattle.pos_common.proofs.Common.{ℕ, ◌≡◌}
 use Rattle.pos_common.specs.OwnCalls.{OwnCall, OwnOrders, own_refusals}
-use Rattle.pos_service.specs.Calls.{takes_memory}
 use Rattle.pos_service.specs.Controls.{open_place}
 use Rattle.pos_service.specs.Actions.{Does, MayWantFor, OrdersBy, may_want}
 use Rattle.pos_service.specs.Peripherals.{counted}
@@ -43,14 +42,6 @@ module _ (k : Category) (n : ℕ) (claims : List (Option ℕ)) (asked : Call) (o
   pub refused_orders : (code : Code) (orders : ℕ) → first_refusal refusals ≡ Some (answer.Refused code 0)
       → Ordered (Ok (answer.Refused code 0)) orders orders
   refused_orders code orders refuses = rw (found, refuses) refl
-
-  -- it finds no memory for its text
-  pub wanting_call : (want : NoMemory) (at : Hardware) → IsTrue (takes_memory asked) → first_refusal refusals ≡ None
-      → Called (Err want) at olds at
-  wanting_call want at takes none = rw found (takes, none, record { controls = refl; hardware = refl })
-
-  pub wanting_orders : (want : NoMemory) (orders : ℕ) → first_refusal refusals ≡ None → Ordered (Err want) orders orders
-  wanting_orders want orders none = rw (found, none) (inl refl)
 
   -- it comes to an action
   pub done_call : (d : Action) (place : ℕ) (outcome : Result Answer NoMemory) (new : List Control)

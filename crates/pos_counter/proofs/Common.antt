@@ -113,11 +113,10 @@ pub use Rattle.pos_counter.specs.Responses.{response_of, steps_of}
 pub use Rattle.pos_counter.specs.Sparing.{StepSparing}
 pub use Rattle.pos_counter.specs.Steps.{Answered, Attach, CallOf, Delivered, Detach, DeviceDoes, Does, DoesOwn}
 pub use Rattle.pos_counter.specs.Steps.{FindsWork, HasItsDevice, HasItsKind, IsAttached, IsDetached, IsOpenFor}
-pub use Rattle.pos_counter.specs.Steps.{IsPlaceOn, IsServed as IsServedFor, IsSound}
-pub use Rattle.pos_counter.specs.Steps.{OnHardware, OutOfMemory, Request, Response, Run, Sets, SetsByRecovery, Step}
-pub use Rattle.pos_counter.specs.Steps.{WorkOn, Worked, claimed, context_of, device_action, device_rows, dropped}
-pub use Rattle.pos_counter.specs.Steps.{has_open, is_open_at, is_taken, most_controls, own_rows, refusals, released}
-pub use Rattle.pos_counter.specs.Steps.{takes_memory}
+pub use Rattle.pos_counter.specs.Steps.{IsPlaceOn, IsServed as IsServedFor, IsSound, OnHardware, OutOfMemory, Request}
+pub use Rattle.pos_counter.specs.Steps.{Response, Run, Sets, SetsByRecovery, Step, WorkOn, Worked, claimed, context_of}
+pub use Rattle.pos_counter.specs.Steps.{device_action, device_rows, dropped, has_open, is_open_at, is_taken}
+pub use Rattle.pos_counter.specs.Steps.{most_controls, own_rows, refusals, released, takes_memory}
 pub use Rattle.pos_counter.specs.Totals.{FilesCalled, PutsChanges, Recovered, Recovers, TotalsDo, TotalsPart}
 pub use Rattle.pos_counter.specs.Totals.{asks_recovery, is_totals_open, left_after, put_at_once, recovers, settled}
 pub use Rattle.pos_counter.specs.declared.counter.Counter.{Counter}

@@ -2,9 +2,9 @@
 -- exchanges.
 use Rattle.pos_counter.proofs.Common.{All, All-nil, AllByRecursion, Attach, Attaches, Bool, Detach, Detaches, Device}
 use Rattle.pos_counter.proofs.Common.{Does, Effect, Entry, Err, Hardware, HasItsKind, HasKindInRange, IfErr, IsDoneAt}
-use Rattle.pos_counter.proofs.Common.{IsNamed, IsServed, KeptControl, List, None, Ok, Option, PeripheralState}
-use Rattle.pos_counter.proofs.Common.{Registered, Result, Some, Step, TotalsPart, [], ap, attached, controls_of}
-use Rattle.pos_counter.proofs.Common.{detached, device_at, device_of, devices_of, hardware_in, hardware_of, is_open_at}
+use Rattle.pos_counter.proofs.Common.{IsNamed, IsServed, KeptControl, List, None, Ok, Option, PeripheralState, []}
+use Rattle.pos_counter.proofs.Common.{Registered, Result, Some, Step, TotalsPart, ap, attached, controls_of}
+use Rattle.pos_counter.proofs.Common.{detached, device_at, device_of, devices_of, hardware_of, is_open_at}
 use Rattle.pos_counter.proofs.Common.{kind_in, length, length-map, machine_with, map, names_of, option_and_then_some}
 use Rattle.pos_counter.proofs.Common.{option_map, parked, parked_state, place_of, planned_of, profile_devices, refl}
 use Rattle.pos_counter.proofs.Common.{registered_place, rules, set, slice_get, slice_get-map, standing_at, suc, sym}
@@ -34,13 +34,6 @@ pub kind_unnamed : (name : List ℕ) (list : List Registered) → registered_pla
 kind_unnamed name list is = ap (λ o. kind_in (device_at (devices_of list) o)) (found_same name list ∙ is)
 
 -- ---- what stands at a place
-
--- what stands at it
-pub hardware_there : (list : List Registered) (place : ℕ)
-    → hardware_in (slice_get (devices_of list) place) ≡ option_map hardware_of (standing_at list place)
-hardware_there [] place = refl
-hardware_there (d ∷ list) zero = refl
-hardware_there (d ∷ list) (suc place) = hardware_there list place
 
 -- what is at a place of the registry is at that place of the machine
 pub registered_there : (list : List Registered) (place : ℕ) (d : Registered) → slice_get list place ≡ Some d

@@ -1,16 +1,15 @@
 -- What is done at a device and by whom it is held, and the steps that it makes.
-use Rattle.pos_counter.proofs.Common.{◌<◌, Answer, At, Call, CallOf, CallsAt, Control, Device, DoesOwn}
-use Rattle.pos_counter.proofs.Common.{DeviceDoes, Does, Effect, Err, FindsWork, HardTotals, Hardware, IfSome}
-use Rattle.pos_counter.proofs.Common.{IsDoneAt, IsOpenFor, IsServedFor, OpenDevice, TheTotals, IsSound, IsTrue, KeptControl, List, Machine}
+use Rattle.pos_counter.proofs.Common.{◌<◌, Answer, At, Call, CallOf, CallsAt, Control, Device, DoesOwn, DeviceDoes}
+use Rattle.pos_counter.proofs.Common.{Does, Effect, Err, FindsWork, HardTotals, Hardware, IfSome, IsDoneAt, IsOpenFor}
+use Rattle.pos_counter.proofs.Common.{IsServedFor, OpenDevice, TheTotals, IsSound, IsTrue, KeptControl, List, Machine}
 use Rattle.pos_counter.proofs.Common.{MatchOption-at_some, MayBeCalled, NoMemory, None, Ok, OnHardware, Option, Result}
 use Rattle.pos_counter.proofs.Common.{Row, SameHardware, Some, Step, TotalsPart, WorksAt, answered, ap, arith}
-use Rattle.pos_counter.proofs.Common.{controls_of, device_rows, open_place, own_rows}
-use Rattle.pos_counter.proofs.Common.{due_request_at, false, first_refusal, get_or_from_slice_get, holder_at, holder_in}
-use Rattle.pos_counter.proofs.Common.{holder_of, inl, inr, is_common}
-use Rattle.pos_counter.proofs.Common.{kind_of, length, machine_with, needs_of, own_takes_memory, place_of, refl}
-use Rattle.pos_counter.proofs.Common.{refusals, rules, set, set-get_or, slice_get}
-use Rattle.pos_counter.proofs.Common.{slice_get_within, sym, table, takes_memory, with_items_is, ℕ, ◌∙◌}
-use Rattle.pos_counter.proofs.Common.{◌≡◌, ap₂, device_action, MatchOption, Refused}
+use Rattle.pos_counter.proofs.Common.{controls_of, device_rows, open_place, own_rows, due_request_at, false}
+use Rattle.pos_counter.proofs.Common.{first_refusal, get_or_from_slice_get, holder_at, holder_in, holder_of, inl, inr}
+use Rattle.pos_counter.proofs.Common.{is_common, kind_of, length, machine_with, needs_of, own_takes_memory, place_of}
+use Rattle.pos_counter.proofs.Common.{refl, refusals, rules, set, set-get_or, slice_get, slice_get_within, sym, table}
+use Rattle.pos_counter.proofs.Common.{takes_memory, with_items_is, ℕ, ◌∙◌, ◌≡◌, ap₂, device_action, MatchOption}
+use Rattle.pos_counter.proofs.Common.{Refused}
 use Rattle.pos_common.specs.OwnCalls.{OwnCall as OwnCalled, OwnDoes, own_refusals}
 use Rattle.pos_service.specs.declared.code.Code.TheVariants.{Closed}
 use Rattle.std.specs.Prelude.{Vec}

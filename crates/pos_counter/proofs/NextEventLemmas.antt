@@ -27,15 +27,6 @@ gives_none machine number control is none reply event after step =
 past_none : (machine : Machine) (number : ℕ) → slice_get machine.controls number ≡ None → GivesNone machine number
 past_none machine number is reply event after step = let given = rw is at step in given.0
 
--- the same of the controls that a counter keeps
-pub kept_gives : (hs : List KeptControl) (cl : List (Option ℕ)) (ds : List Device) (tn : Option (List ℕ))
-    (part : TotalsPart) (number : ℕ)
-    (h : KeptControl) → number < length hs
-    → h ≡ get_or hs number h → is_some (deliverable h.control) ≡ true
-    → GivesEvent (machine_with hs cl ds tn part) number
-kept_gives hs cl ds tn part number h within is some =
-    gives (machine_with hs cl ds tn part) number h.control (kept_at hs number h within is) some
-
 pub kept_none : (hs : List KeptControl) (cl : List (Option ℕ)) (ds : List Device) (tn : Option (List ℕ))
     (part : TotalsPart) (number : ℕ)
     (h : KeptControl) → number < length hs

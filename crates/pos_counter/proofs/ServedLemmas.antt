@@ -8,8 +8,7 @@ use Rattle.pos_drive.specs.declared.courses.Course.{Course}
 use Rattle.pos_profile.specs.Registries.{devices_of as registered_of, peripheral_at}
 use Rattle.pos_profile.specs.declared.slot.Slot.{Slot}
 use Rattle.pos_service.specs.declared.peripheral.Peripheral.{Ghosts}
-use Rattle.pos_counter.specs.Hosts.{IsFirstPending, NonePending, host_of, hosts_of, pending_peripheral}
-use Rattle.pos_counter.specs.Hosts.{served_named}
+use Rattle.pos_counter.specs.Hosts.{IsFirstPending, NonePending, host_of, hosts_of, pending_peripheral, served_named}
 
 module _ {P : Type 0} (course_of : P → Course) where
   -- no device has an order

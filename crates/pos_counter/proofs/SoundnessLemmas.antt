@@ -1,20 +1,19 @@
 -- What keeps a machine sound: each control stays at its device, and each device of its kind.
-use Rattle.pos_counter.proofs.Common.{At, HardTotals, IsOpenFor, IsServedFor as IsServed, OpenDevice, OpenTarget, TheTotals}
-use Rattle.pos_counter.proofs.Common.{bytes_eq, device_found, found_under, is_at, open_place, place_of, same_Some, totals_under}
-use Rattle.pos_counter.proofs.Common.{All, All-get_or, All-map, All-set, Answer, Call, CarriesOut, Category}
-use Rattle.pos_counter.proofs.Common.{ControlUpdate, Changes, ChangesOne, Control, Action, Device, DeviceDoes, Does}
-use Rattle.pos_counter.proofs.Common.{DueRequest, Effect, Err, Follows, Gives, Hardware, HasItsDevice, HasItsKind}
-use Rattle.pos_counter.proofs.Common.{IfSome, Input, IsAttached, IsDetached, IsInRange, IsPlaceOn, IsSound}
+use Rattle.pos_counter.proofs.Common.{At, HardTotals, IsOpenFor, IsServedFor as IsServed, OpenDevice, OpenTarget}
+use Rattle.pos_counter.proofs.Common.{TheTotals, bytes_eq, device_found, found_under, is_at, open_place, place_of}
+use Rattle.pos_counter.proofs.Common.{same_Some, totals_under, All, All-get_or, All-map, All-set, Answer, Call}
+use Rattle.pos_counter.proofs.Common.{CarriesOut, Category, ControlUpdate, Changes, ChangesOne, Control, Action, Device}
+use Rattle.pos_counter.proofs.Common.{DeviceDoes, Does, DueRequest, Effect, Err, Follows, Gives, Hardware, HasItsDevice}
+use Rattle.pos_counter.proofs.Common.{HasItsKind, IfSome, Input, IsAttached, IsDetached, IsInRange, IsPlaceOn, IsSound}
 use Rattle.pos_counter.proofs.Common.{List, Machine, MatchOption, MatchOption-at_some, MatchResult, NoMemory, None, Ok}
 use Rattle.pos_counter.proofs.Common.{OnHardware, Option, Ordered, Place, Property, Queues, Result, SameHardware, Signs}
 use Rattle.pos_counter.proofs.Common.{Some, TakesIn, Value, WorksAt, WorksOn, [], after_release, after_set, after_work}
 use Rattle.pos_counter.proofs.Common.{all_listening, ap, arith, changed, cond_both, device_at, device_action}
 use Rattle.pos_counter.proofs.Common.{device_rows, due_request_at, eq-eqb, false≢true, found_at, get_or}
-use Rattle.pos_counter.proofs.Common.{get_or_from_slice_get, has_open, if_listening, inl, inr, is_exclusive}
-use Rattle.pos_counter.proofs.Common.{is_some, kind_in, kind_of, length-set, listens, option_map}
-use Rattle.pos_counter.proofs.Common.{origin, reaction, refl, rules, serves, set, signs_of, slice_get}
-use Rattle.pos_counter.proofs.Common.{slice_get-map, slice_get_within, slice_set, stopped, subst, suc, sym, takes, true}
-use Rattle.pos_counter.proofs.Common.{with_control, zero, ℕ, ◌∙◌, ◌∷◌, ◌≡◌}
+use Rattle.pos_counter.proofs.Common.{get_or_from_slice_get, has_open, if_listening, inl, inr, is_exclusive, is_some}
+use Rattle.pos_counter.proofs.Common.{kind_in, kind_of, length-set, listens, option_map, origin, reaction, refl, rules}
+use Rattle.pos_counter.proofs.Common.{serves, set, signs_of, slice_get, slice_get-map, slice_get_within, slice_set}
+use Rattle.pos_counter.proofs.Common.{stopped, subst, suc, sym, takes, true, with_control, zero, ℕ, ◌∙◌, ◌∷◌, ◌≡◌}
 use Rattle.std.proofs.lemmas.List.Folds.{list_any_at}
 use Rattle.pos_service.specs.Controls.{queued}
 use Rattle.pos_service.specs.Statuses.{heard_signs}

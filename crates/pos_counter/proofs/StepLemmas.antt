@@ -1,8 +1,7 @@
 -- What each step of the machine leaves: a sound machine, and the files of the totals as its event says.
 use Rattle.pos_counter.proofs.Common.{Action, Kind, MatchOption, OpenDevice, TheTotals, claimed, device_action}
-use Rattle.pos_counter.proofs.Common.{open_place}
-use Rattle.pos_counter.proofs.Common.{◌+◌, ◌++◌, All-push, Answer, Answered, Arranges, Asks, Bool, Call, CallOf}
-use Rattle.pos_counter.proofs.Common.{Category, DoesOwn, Claim, Close, Control, Delivered, Does, DoesTogether}
+use Rattle.pos_counter.proofs.Common.{open_place, ◌+◌, ◌++◌, All-push, Answer, Answered, Arranges, Asks, Bool, Call}
+use Rattle.pos_counter.proofs.Common.{CallOf, Category, DoesOwn, Claim, Close, Control, Delivered, Does, DoesTogether}
 use Rattle.pos_counter.proofs.Common.{Done, Effect, Failure, File, FileCall, Get, HardTotals, Hardware, HasItsDevice}
 use Rattle.pos_counter.proofs.Common.{History, IsAttached, IsDetached, IsOneGroup, IsOneOf, IsSettled, IsSound}
 use Rattle.pos_counter.proofs.Common.{IsUndone, Layout, List, Machine, MatchBool, Mode, None, Nothing, Off, Ok}
@@ -10,13 +9,13 @@ use Rattle.pos_counter.proofs.Common.{OnHardware, Open, Option, OutOfMemory, Pla
 use Rattle.pos_counter.proofs.Common.{Recovers, Refused, Release, Request, Response, Set, Sets, SetsByRecovery, Some}
 use Rattle.pos_counter.proofs.Common.{Standing, Stands, Step, Totals, TotalsChange, TotalsDo, TotalsPart, Value, WorkOn}
 use Rattle.pos_counter.proofs.Common.{Worked, [], after_disk_fault, after_release, after_set, and_parts, ap, arith}
-use Rattle.pos_counter.proofs.Common.{asks_recovery, own_rows, changes_asked, changes_of, closed, delivered}
-use Rattle.pos_counter.proofs.Common.{dropped, event_between, false, file_call, files_after_all, first_refusal}
-use Rattle.pos_counter.proofs.Common.{has_call, history_with, inl, inr, is_common, is_ready, kind_of}
-use Rattle.pos_counter.proofs.Common.{left_after, length, length-set, limits_of, map, new_control, next_sequences, not}
-use Rattle.pos_counter.proofs.Common.{numbered, outcome_of_all, plain, recovers, refl, refusals, released}
-use Rattle.pos_counter.proofs.Common.{rules, signs_at, slice_get, subst, sym, takes, true, with_control}
-use Rattle.pos_counter.proofs.Common.{with_place, with_totals, ℕ, ◌∷◌, ◌≡◌}
+use Rattle.pos_counter.proofs.Common.{asks_recovery, own_rows, changes_asked, changes_of, closed, delivered, dropped}
+use Rattle.pos_counter.proofs.Common.{event_between, false, file_call, files_after_all, first_refusal, has_call}
+use Rattle.pos_counter.proofs.Common.{history_with, inl, inr, is_common, is_ready, kind_of, left_after, length}
+use Rattle.pos_counter.proofs.Common.{length-set, limits_of, map, new_control, next_sequences, not, numbered}
+use Rattle.pos_counter.proofs.Common.{outcome_of_all, plain, recovers, refl, refusals, released, rules, signs_at}
+use Rattle.pos_counter.proofs.Common.{slice_get, subst, sym, takes, true, with_control, with_place, with_totals, ℕ, ◌∷◌}
+use Rattle.pos_counter.proofs.Common.{◌≡◌}
 use Rattle.pos_totals.specs.Groups.{group_of}
 use Rattle.pos_counter.proofs.CursorLemmas.{NoneApplies, none_applies, none_dropped, unless_not}
 use Rattle.pos_counter.proofs.FileCallLemmas.{Comes, Groups, Stays, puts_comes}

@@ -1,12 +1,7 @@
 -- What holds of a disk holds of one that is the same.
-use Rattle.pos_disk.proofs.Common.{DiskState, Elapses, IsAtRest, IsSame, LeavesOnly, List, MayLeave, Watches, arith}
-use Rattle.pos_disk.proofs.Common.{rules, ℕ, ◌≡◌}
-use Rattle.pos_disk.specs.Keeps.{KeepsDisk, KeepsState}
+use Rattle.pos_disk.proofs.Common.{DiskState, IsAtRest, IsSame, LeavesOnly, List, MayLeave, arith, ℕ}
+use Rattle.pos_disk.specs.Keeps.{KeepsState}
 use Rattle.pos_disk.specs.declared.device.Disk.{Ghosts}
-
--- a disk is the same as itself
-pub same_as_itself : (disk : DiskState) → IsSame disk disk
-same_as_itself disk = search rules
 
 -- and as what it was the same as
 pub same_again : (old new : DiskState) → IsSame old new → IsSame new old
@@ -23,10 +18,6 @@ same_rest old new same rest = grind arith
 pub same_may : (old new : DiskState) (bytes : List ℕ) → IsSame old new → MayLeave old bytes → MayLeave new bytes
 same_may old new bytes same may = grind arith
 
--- no time has gone by
-pub same_time : (old new : DiskState) → IsSame old new → Elapses old new
-same_time old new same = grind arith
-
 -- a run before it, and one after it
 pub leaves_before : (old mid new : DiskState) (P : List ℕ → Type 0) → LeavesOnly old mid P → IsSame mid new
     → LeavesOnly old new P
@@ -35,16 +26,6 @@ leaves_before old mid new P run same = grind arith
 pub leaves_after : (old mid new : DiskState) (P : List ℕ → Type 0) → IsSame old mid → LeavesOnly mid new P
     → LeavesOnly old new P
 leaves_after old mid new P same run = grind arith
-
--- it was only looked at
-pub same_watches : (old new : DiskState) → ((c : List ℕ) → old.left_since old.moment c → MayLeave old c)
-    → IsSame old new → Watches old new
-same_watches old new only same = grind arith
-
--- a disk of which all is as it was keeps what each call of a disk keeps
-pub keeps_disk : {D : Type 0} (bound : Ghosts D) (old new : D) → bound.fixed new ≡ bound.fixed old
-    → KeepsState bound old new → KeepsDisk bound old new
-keeps_disk bound old new fixed keeps = grind arith
 
 -- two such steps are one
 pub keeps_on : {D : Type 0} (bound : Ghosts D) (old mid new : D) → KeepsState bound old mid → KeepsState bound mid new

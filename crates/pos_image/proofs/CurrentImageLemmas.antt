@@ -123,11 +123,6 @@ stage_current {slot = slot} apart current stages =
     let here = places slot in
     kept_away current stages.same (omega arith) (stage_opens current.whole stages)
 
--- while its gate is written, closed, no more happens
-pub shut_stages : {target : Slot} {old new : List ℕ} → SameBut (start target) 1 old new
-    → is_open new (start target) ≡ false → Stages target old new
-shut_stages {target = target} same shut = grind arith
-
 -- and open, the new image is the current one
 pub published : {slot : Slot} {it : Prepared} {old new body : List ℕ} {sequence : ℕ} → IsCurrent old slot body sequence
     → HasPrepared old slot sequence it

@@ -8,7 +8,7 @@ use Rattle.pos_service.specs.declared.signs.Signs.{Signs}
 use Rattle.pos_service.specs.Controls.{Control, all_listening}
 use Rattle.pos_service.specs.Actions.{Ordered}
 use Rattle.pos_service.specs.Peripherals.{PeripheralState, Asked, signs_of}
-use Rattle.pos_service.specs.Hardware.{SameHardware, hardware_of}
+use Rattle.pos_service.specs.Hardware.{hardware_of}
 use Rattle.pos_service.specs.Statuses.{heard_signs}
 use Rattle.pos_printer.proofs.ReplyLemmas.{same_covered, same_ended}
 
@@ -23,12 +23,6 @@ pub heard_of : (place : ℕ) (s t : PeripheralState) (a b : Signs) (old mid new 
     → b ≡ signs_of t.kind t.plant → mid ≡ old → new ≡ all_listening place (heard_signs a b) mid
     → new ≡ heard_at place s t old
 heard_of place s t a b old mid new is_a is_b same h = rw (h, same, is_a, is_b)
-
--- nothing has changed at a printer that does nothing
-same_hardware : (s t : PeripheralState) (old : List Control) → t.kind ≡ s.kind → t.plant ≡ s.plant
-    → t.failures ≡ s.failures
-    → SameHardware old (hardware_of s) old (hardware_of t)
-same_hardware s t old kind plant failures = record { controls = refl; hardware = rw (kind, plant, failures) refl }
 
 -- the printer has done it
 pub ordered_done : (given : Order) (place : ℕ) (s t : PeripheralState) (old new : List Control)

@@ -7,12 +7,6 @@ use Rattle.std.proofs.lemmas.Option.{same_Some}
 use Rattle.std.proofs.lemmas.Slice.Eq.{bytes_eq-Decides}
 use Rattle.pos_profile.proofs.ListLemmas.{take_next}
 
--- a place before the end is looked at first
-cond_first : (here : Bool) (at : ℕ) (long short later : Option ℕ) → long ≡ first_of short later
-    → cond here (Some at) long ≡ first_of (cond here (Some at) short) later
-cond_first true at long short later is = refl
-cond_first false at long short later is = is
-
 -- the place of a name in a list with one more name
 place_longer : (at : ℕ) (name : List ℕ) (names : List (List ℕ)) (noted : List ℕ) (end : ℕ) → end ≡ at + length names
     → place_from at name (names ++ noted ∷ []) ≡ first_of (place_from at name names) (where_same name noted end)

@@ -1,7 +1,7 @@
 -- The devices of a registry, where the peripheral of one changes.
-use Rattle.pos_profile.proofs.Common.{AllByRecursion, Device, Entry, HasKindInRange, IfSome, IsInRange, IsInUse}
+use Rattle.pos_profile.proofs.Common.{AllByRecursion, Device, Entry, HasKindInRange, IfSome, IsInRange, IsInUse, []}
 use Rattle.pos_profile.proofs.Common.{IsIndexOf, IsNamed, IsPut, IsRegistrySound, IsServed, IsSoundEntry, List}
-use Rattle.pos_profile.proofs.Common.{MayServe, None, Option, PeripheralState, Planned, Some, [], ap, arith}
+use Rattle.pos_profile.proofs.Common.{MayServe, None, Option, PeripheralState, Planned, Some, ap, arith}
 use Rattle.pos_profile.proofs.Common.{common_steps, cons_option, device_of, devices, devices_of, drop, get_or}
 use Rattle.pos_profile.proofs.Common.{get_or-map, gets, is_some, kind_of, length, length-map, map, map-set, parked}
 use Rattle.pos_profile.proofs.Common.{place_of, planned_for, planned_of, refl, set, slice_get, slice_get-map}
@@ -59,11 +59,6 @@ devices_set peripherals (first ∷ slots) (suc place) slot x at = rw (devices_se
 
 pub standing_within : (list : List Device) (place : ℕ) → is_some (standing_at list place) ≡ true → place < length list
 standing_within list place stands = grind (arith, slice_get_past)
-
--- what stands at the place of a device
-pub standing_is : (list : List Device) (place : ℕ) (device : Device) → slice_get list place ≡ Some device
-    → standing_at list place ≡ device.peripheral
-standing_is list place device at = rw at
 
 -- what is put at the place of a name is put into a slot of that name
 pub put_named : {P : Type 0} (peripherals : Ghosts P) (slots new : List (Slot P)) (name : List ℕ) (place : ℕ)

@@ -1,5 +1,5 @@
 -- What a move to layout 2 did, by what the store's recovery and migration did.
-use Rattle.std.proofs.Common.{◌≡◌, inl, inr, ⊎_elim, ℕ, List, [], ◌∷◌, map, Result, Ok, Err, IsErrOf, refl, ap, subst}
+use Rattle.std.proofs.Common.{Err, IsErrOf, List, Ok, Result, [], ap, inl, inr, map, refl, subst, ℕ, ⊎_elim, ◌∷◌, ◌≡◌}
 use Rattle.std.proofs.Common.{◌⊎◌, ◌∙◌}
 use Rattle.pos_dir.specs.declared.file.File.{File}
 use Rattle.pos_disk.specs.State.{HasNotFailed, IsAtRest, LeavesOnly, Rises}
@@ -154,13 +154,6 @@ module _ {D : Type 0} (bound : Ghosts D) (disk : D) where
       found_moves mid layout files sequence tail recovers honest candidates leaves layout refl result new
       migrates.answer (migrates.crash there)
       (at_rest (migrates.keeps.honest.0 there)) (migrates.device there)
-
-  -- no slot of layout 1 was written
-  pub migrated_rest : (mid : StoreView D) (result : Result (Unit {0}) StoreFault)
-      → Recovers bound (new_store disk) result mid
-      → bound.honest disk → KeepsFirstLayout (bound.state disk).reading (bound.state mid.disk).reading
-  migrated_rest mid result recovers honest =
-      rw (recovers.reading honest) (record { same_length = refl; each = λ i first. refl })
 
   pub moved_rest : (mid new : StoreView D) (found result : Result (Unit {0}) StoreFault)
       → Recovers bound (new_store disk) found mid

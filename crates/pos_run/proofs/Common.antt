@@ -15,8 +15,7 @@ pub use Rattle.pos_run.specs.Runs.{Finishes, FinishesUnflushed, RunsScript, Scri
 pub use Rattle.pos_run.specs.Runs.{carried_steps, device_with, lines_read, new_totals, off_over, script_steps}
 pub use Rattle.pos_run.specs.Simulations.{HoldsOnlyIf, IsDeviceFor, IsSimulable, RunsOverProfile, device_for}
 pub use Rattle.pos_run.specs.Simulations.{new_device, simulated_all, simulated_devices, simulated_for}
-pub use Rattle.pos_run.specs.Simulations.{simulated_machine, state_of}
-pub use Rattle.pos_run.specs.Simulations.{wrapped_by, wrapped_state}
+pub use Rattle.pos_run.specs.Simulations.{simulated_machine, state_of, wrapped_by, wrapped_state}
 pub use Rattle.pos_run.specs.Spares.{AreSparesSound, IsEmptyAt, IsInService, SpareStates, spare_at, spares_in}
 pub use Rattle.pos_run.specs.Spares.{states_in, with_spare}
 pub use Rattle.pos_run.specs.Streams.{IsFlushed, Reading, ReadsOn, ReadsScript, ReadsToEnd, ReadsToFault, Streams}

@@ -1,6 +1,6 @@
 -- What a response prints, which is the same whatever its peripherals are.
 use Rattle.pos_run.proofs.Common.{Err, List, Ok, Response, Result, Session, refl, session_after, ℕ, ◌≡◌}
-use Rattle.pos_counter.specs.Responses.{answered, made, shown, taken_in, worked}
+use Rattle.pos_counter.specs.Responses.{made, shown, taken_in, worked}
 use Rattle.pos_counter.specs.declared.faults.ControlFault.{ControlFault}
 use Rattle.pos_counter.specs.declared.faults.ControlFault.TheVariants as control_fault
 use Rattle.pos_counter.specs.declared.faults.InputFault.{InputFault}
@@ -11,7 +11,6 @@ use Rattle.pos_counter.specs.declared.faults.WorkFault.{WorkFault}
 use Rattle.pos_counter.specs.declared.faults.WorkFault.TheVariants as work_fault
 use Rattle.pos_counter.specs.Steps.{NewControl}
 use Rattle.pos_script.specs.Text.{response_text}
-use Rattle.pos_service.specs.declared.answer.Answer.{Answer}
 use Rattle.pos_service.specs.declared.category.Category.{Category}
 use Rattle.pos_service.specs.declared.faults.NoMemory.{NoMemory}
 use Rattle.pos_service.specs.declared.plant.Snapshot.{Snapshot}
@@ -26,10 +25,6 @@ pub control_text : (answer : Result ℕ ControlFault) → PrintsAs (made answer)
 control_text (Ok number) = refl
 control_text (Err control_fault.Full) = refl
 control_text (Err control_fault.NoMemory) = refl
-
-pub call_text : (answer : Result Answer NoMemory) → PrintsAs (answered answer) (answered answer)
-call_text (Ok answer) = refl
-call_text (Err want) = refl
 
 pub input_text : (answer : Result (Unit {0}) InputFault) → PrintsAs (taken_in answer) (taken_in answer)
 input_text (Ok u) = refl

@@ -1,6 +1,6 @@
 -- Lines that are carried out one after another, and may wait.
-use Rattle.pos_run.proofs.Common.{Appends, Appends-nil, Appends-trans, Counter, DiskGhosts, Finishes, Ghosts, Given}
-use Rattle.pos_run.proofs.Common.{IsRun, List, Request, Response, Result, Run, Session, Stops, Ok, Err, [], ap}
+use Rattle.pos_run.proofs.Common.{Appends, Appends-nil, Appends-trans, Counter, DiskGhosts, Finishes, Ghosts, Given, []}
+use Rattle.pos_run.proofs.Common.{IsRun, List, Request, Response, Result, Run, Session, Stops, Ok, Err, ap}
 use Rattle.pos_run.proofs.Common.{append-nil, append_assoc, arith, drop, given_after, length, machine, machine_runs}
 use Rattle.pos_run.proofs.Common.{refl, subst, sym, true, false, ℕ, ◌++◌, ◌<◌, ◌≤◌, ◌∙◌, ◌∷◌, ◌≡◌, ◌⊎◌, codes, get_or}
 use Rattle.pos_run.proofs.Common.{suc, false≢true}
@@ -94,15 +94,6 @@ module _ {D P : Type 0} (bound : DiskGhosts D) (peripherals : Ghosts P) where
       let (later, leave, run) = machine_runs bound peripherals a b done.steps standing leaves done.run in
       (later, leave, record { steps = done.steps; run = run; prints = done.prints })
 
-  -- lines that a counter ran by, and what they print was given
-  pub tells_lines : (a b : Counter D P) (s left : Session) (lines : List (List ℕ)) (before after : Given)
-      → Finishes (IsRun bound peripherals) a s lines before after left b
-      → RunsAndWrites bound peripherals a s lines before after b left
-  tells_lines a b s left lines before after done = record {
-    text = done.text;
-    runs = runs_lines a b s left lines done.text done.transcript;
-    written = done.written;
-    kept = run_keeps a b done.transcript.steps done.transcript.run;
   }
 
   -- then the counter stays as it is to the machine

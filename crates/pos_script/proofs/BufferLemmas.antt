@@ -1,6 +1,6 @@
 -- What a line buffer keeps of a line as it goes on, at its line feed, and at the end of the input.
-use Rattle.std.proofs.Common.{◌≡◌, ◌++◌, ◌∷◌, ℕ, ◌+◌, ◌-◌, ◌<◌, ◌≤◌, List, [], Bool, true, false, cond, eqb, length}
-use Rattle.std.proofs.Common.{get_or, take, drop, ap, sym, ◌∙◌, subst, refl, arith, ◌||◌, append-nil, length-append}
+use Rattle.std.proofs.Common.{Bool, List, [], eqb, length, true, ℕ, ◌++◌, ◌+◌, ◌-◌, ◌<◌, ◌∷◌, ◌≡◌}
+use Rattle.std.proofs.Common.{get_or, take, drop, ap, sym, ◌∙◌, subst, refl, arith, append-nil, length-append}
 use Rattle.std.proofs.Common.{take-append-drop, append_assoc}
 use Rattle.std.proofs.lemmas.List.{drop_more, get_or-append-add, length-take, take_all, take_rest}
 use Rattle.std.proofs.Math.Seq.{take-append-add}
@@ -11,7 +11,7 @@ use Rattle.pos_script.specs.declared.line_buffer.EndedLine.TheVariants as ended
 use Rattle.pos_script.specs.declared.line_buffer.Line.{Line}
 use Rattle.pos_script.specs.declared.line_buffer.LongLineKind.{LongLineKind}
 use Rattle.pos_script.specs.Lines.{pieces, complete_lines, unfinished, lines_of, last_line, without_cr, is_nothing}
-use Rattle.pos_script.specs.Lines.{is_plain, is_space, is_quiet}
+use Rattle.pos_script.specs.Lines.{is_plain, is_space}
 use Rattle.pos_script.specs.LineBuffers.{Kept, EndsInput, EndsLine, IsHeld, IsLine, StandsFor, are_plain, have_no_feed}
 use Rattle.pos_script.specs.LineBuffers.{is_blank, is_comment, is_kept_nothing, is_no_feed, kept_ended, kept_of}
 use Rattle.pos_script.specs.LineBuffers.{kept_with, look_of, look_with}
@@ -43,13 +43,6 @@ kept_more xs ys =
     let count = length-append xs ys in
     let more = look_more xs ys in
     grind (arith, nat_tests)
-
-quiet_is : (line : List ℕ) → is_quiet line ≡ (is_comment line || is_blank line)
-quiet_is line = grind arith
-
-length_cases : (t : Bool) (xs : List ℕ) → length xs ≤ length (cond t (take (length xs - 1) xs) xs) + 1
-length_cases true xs = omega (arith, length-take (length xs - 1) xs)
-length_cases false xs = omega arith
 
 -- a line that is blank is so without a carriage return
 blank_kept : (xs : List ℕ) → is_blank xs ≡ true → is_blank (without_cr xs) ≡ true

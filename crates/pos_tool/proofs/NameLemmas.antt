@@ -1,6 +1,6 @@
 -- Names with an end, and paths that are found one after another.
-use Rattle.std.proofs.Common.{ap, arith, false, length, refl, subst, sym, take, true, drop, get_or, ◌+◌, ◌-◌, ◌++◌, ◌<◌}
-use Rattle.std.proofs.Common.{◌∙◌, ◌∷◌, ◌≡◌, append-nil, append_assoc, Bool, List, Ok, [], ℕ}
+use Rattle.std.proofs.Common.{[], ap, arith, drop, false, get_or, length, refl, subst, sym, take, ◌++◌, ◌+◌, ◌-◌, ◌<◌}
+use Rattle.std.proofs.Common.{◌∙◌, ◌∷◌, ◌≡◌, append-nil, append_assoc, Bool, List, Ok, ℕ}
 use Rattle.std.specs.Prelude.{None, String, codes, nat_eq, if◌then◌else◌, string_bytes}
 use Rattle.std.specs.Borrow.{Bor}
 use Rattle.std.specs.Cmp.Lexicographic.{slice_cmp}
@@ -10,8 +10,7 @@ use Rattle.std.specs.Ordering.{nat_cmp}
 use Rattle.std.specs.String.{string_cmp}
 use Rattle.std.proofs.lemmas.List.{drop_more, get_or-map, length-map, take-append-drop, take_more}
 use Rattle.pos_tool.specs.Texts.{texts}
-use Rattle.std.specs.Str.{IsCharBoundary}
-use Rattle.std.specs.Str.Pattern.{FindsTextSuffix, StripsSuffix}
+use Rattle.std.specs.Str.Pattern.{FindsTextSuffix}
 use Rattle.std.proofs.lemmas.Str.Pattern.{ends_text}
 use Rattle.pos_tool.specs.Names.{FindsAll, FindsAt, script_of}
 use Rattle.pos_tool.specs.declared.folder.Folder.{Ghosts as FolderGhosts}
@@ -19,18 +18,6 @@ use Rattle.pos_tool.specs.declared.folder.Folder.{Ghosts as FolderGhosts}
 by_test : (name : List ℕ) (test : Bool) → ends_with nat_eq name (codes ".stdout") ≡ test
     → script_of name ≡ (if test then take (length name - 7) name ∷ [] else [])
 by_test name test is = rw is refl
-
--- a name with the end
-pub with_end : (name script : List ℕ) → StripsSuffix (FindsTextSuffix (codes ".stdout")) name script
-    → script_of name ≡ script ∷ []
-with_end name script (n, (is, same, boundary), taken, long) =
-    by_test name true (sym (ends_text true (codes ".stdout") name (
-      n,
-      (is, same, boundary),
-      omega (arith, long),
-      subst (λ m. IsCharBoundary name (length name - m)) (sym is) boundary,
-    )))
-    ∙ ap (λ rest. rest ∷ []) (ap (λ m. take (length name - m) name) (sym is) ∙ sym taken)
 
 -- a name without it
 pub without_end : (name : List ℕ) → FindsTextSuffix (codes ".stdout") name None → script_of name ≡ []
