@@ -92,8 +92,6 @@ writes_hosted old new at bytes (Ok u) answer done writes adds = record {
   cause = cause_of (IsWrite at bytes) old.work new.work answer (state_of old.memory) (state_of new.memory) adds;
 }
 
-}
-
 -- behind the others, an errand is done last
 pub last_done : (errands : List Errand) (one : Errand) (file : List ℕ)
     → file_after_all (errands ++ one ∷ []) file ≡ file_after one (file_after_all errands file)

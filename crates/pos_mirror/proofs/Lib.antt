@@ -1,4 +1,4 @@
-pub mod AskedLemmas
+pub mod ContinuationLemmas
 mod CallLemmas
 mod MirrorLemmas
 mod StepLemmas

@@ -1,4 +1,4 @@
-pub mod Asked
+pub mod Continuations
 pub mod Calls
 pub mod Mirror
 pub mod Shown

@@ -11,7 +11,7 @@ use Rattle.pos_disk.specs.Kept.{from_moment, to_moment}
 use Rattle.pos_disk.specs.Memory.{LeftAt, Memory, Moment, state_of, written}
 use Rattle.pos_disk.specs.State.{IsAtRest, MayLeave, splice}
 use Rattle.pos_file.specs.declared.file_disk.FileDisk.{FileDisk}
-use Rattle.pos_mirror.specs.Asked.{Continues, and_write, no_more}
+use Rattle.pos_mirror.specs.Continuations.{Continues, and_write, no_more}
 use Rattle.pos_mirror.specs.Mirror.{Mirror, mirror_state}
 use Rattle.pos_file.specs.Calls.{Call}
 use Rattle.pos_image.specs.NewDisk.{KeepsRest}

@@ -16,8 +16,8 @@ use Rattle.pos_file.specs.Calls.{Call, read_call, sync_call, write_call}
 use Rattle.pos_file.specs.Disks.{FileReads, FileSyncs, FileWrites}
 use Rattle.pos_file.specs.Follows.{Follows}
 use Rattle.pos_file.specs.declared.file_disk.FileDisk.{FileDisk}
-use Rattle.pos_mirror.proofs.AskedLemmas.{left_within}
-use Rattle.pos_mirror.specs.Asked.{Continues, and_write, no_more}
+use Rattle.pos_mirror.proofs.ContinuationLemmas.{left_within}
+use Rattle.pos_mirror.specs.Continuations.{Continues, and_write, no_more}
 use Rattle.pos_mirror.specs.Mirror.{Makes, Mirror, begun, found, ignored, mirror_state, settled, unread, unsettled}
 use Rattle.pos_mirror.specs.Mirror.{wrote}
 use Rattle.pos_program.specs.MirroredFiles.{CutMayLeave, HasRead, IsMirrored}

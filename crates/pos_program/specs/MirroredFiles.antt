@@ -6,7 +6,7 @@ use Rattle.pos_file.specs.Calls.{Call, read_call}
 use Rattle.pos_file.specs.Courses.{CourseLeaves}
 use Rattle.pos_file.specs.Follows.{Follows}
 use Rattle.pos_file.specs.declared.file_disk.FileDisk.{FileDisk}
-use Rattle.pos_mirror.specs.Asked.{Continues}
+use Rattle.pos_mirror.specs.Continuations.{Continues}
 use Rattle.pos_mirror.specs.Mirror.{Mirror}
 
 -- these calls, and then a read from the start on that gave all these bytes, and more

@@ -94,8 +94,6 @@ module _ {D P : Type 0} (bound : DiskGhosts D) (peripherals : Ghosts P) where
       let (later, leave, run) = machine_runs bound peripherals a b done.steps standing leaves done.run in
       (later, leave, record { steps = done.steps; run = run; prints = done.prints })
 
-  }
-
   -- then the counter stays as it is to the machine
   runs_stay : (a b c : Counter D P) (s left : Session) (lines : List (List ℕ)) (text : List ℕ)
       → RunsLines bound peripherals a s lines text b left
