@@ -976,12 +976,11 @@ def try_guide():
         till = stack.enter_context(names["till"])
         told("the guide's devices are there", [True] * 2,
              [drive.driver.is_online for drive in till._drives._drives.values()])
-        control = stack.enter_context(till.scanner("s1").in_use())
-        control.data_event_enabled = True
-        scanner.scan(b"123")
         loop = programs[2].replace("while True", "for _ in range(20)").replace("1.0", "0.05")
+        scanner.scan(b"123")
         told("the guide's loop", (True, True), ("for _ in range(20)" in loop, "timeout=0.05" in loop))
-        told("the guide's loop delivers a scan", True, "DataEvent" in said(loop))
+        printed = said(loop)
+        told("the guide's loop delivers a scan", (True, True), ("DataEvent" in printed, "b'123'" in printed))
         told("the guide's own driver", texts[0], said(programs[3]))
     path = WORK / "guide"
     command = commands[0].replace("/tmp/printer", str(path))

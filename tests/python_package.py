@@ -610,7 +610,7 @@ def try_totals():
         totals["A"].delete()
     with open(path, "rb") as unwritable, opened(totals=unwritable) as till:
         totals = till.totals("t1")
-        told("a file that can't be written", "OSError", name_of(totals.create, "A", 1))
+        told("a file that can't be written", "DiskError", name_of(totals.create, "A", 1))
         told("and no call after it", "DiskError", name_of(lambda: totals.state))
 
 

@@ -145,6 +145,9 @@ class Session:
                     os.fsync(file)
                 elif code != KIJOLVAR_WRITE or os.pwrite(file, self._errand[:count.value], at.value) != count.value:
                     raise library_fault(KIJOLVAR_DISK_FAILED)
+            except OSError as fault:
+                failed(self._raw, self._out)
+                raise library_fault(KIJOLVAR_DISK_FAILED) from fault
             except BaseException:
                 failed(self._raw, self._out)
                 raise

@@ -10,14 +10,14 @@ pub(crate) const VERSION_LINE: &str = "kijolvar 0.1.0\n";
 pub(crate) const LINES_HELP: &str = "\
   new CONTROL CATEGORY           make a control: new a CashDrawer
   open CONTROL DEVICE            open it at a device of the profile: open a d1
-  claim CONTROL TIMEOUT          claim the device, for so many milliseconds
+  claim CONTROL TIMEOUT          claim the device; it never waits: claim a 0
   set CONTROL PROPERTY VALUE     set a property: set a DeviceEnabled true
   get CONTROL PROPERTY           print a property
   call CONTROL METHOD ..         call a method of the standard
   deliver CONTROL [retry|clear|continue]
                                  deliver the next event, and answer an ErrorEvent
   release CONTROL, close CONTROL
-  input DEVICE ..                something happens at a device: input d1 opened
+  input DEVICE ..                something happens at a device: input d1 open
   show DEVICE                    print what a device shows
   work DEVICE                    a device does its next work
   attach DEVICE SPARE, detach DEVICE
