@@ -217,10 +217,10 @@ def replies():
 
 def categories():
     """The categories: their variants and words, whether they are exclusive, and whether they report power."""
-    named = equations(SERVICE / "Categories.antt", "category_named")
+    named = equations(SERVICE / "Categories.antt", "name_of")
     exclusive = equations(SERVICE / "Categories.antt", "is_exclusive")
     power = equations(SERVICE / "Categories.antt", "reports_power")
-    for word, variant in re.findall(r'codes "(\w+)"\) then Some category\.(\w+)', named):
+    for variant, word in re.findall(r'name_of category\.(\w+) = codes "(\w+)"', named):
         yield {"name": word, "variant": variant, "word": word,
                "exclusive": BOOLEANS[one(rf"category\.{variant} = (\w+)", exclusive)],
                "reports_power": BOOLEANS[one(rf"category\.{variant} = (\w+)", power)]}

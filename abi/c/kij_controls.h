@@ -625,8 +625,8 @@ kij_result kij_display_scroll_text(kij_control *display, int64_t direction, int6
  * printNormal (POS Printer): prints data, with its escape sequences; if AsyncMode is true, it is queued and
  * printed later.
  *
- * The data is printed whole, or not at all. An asynchronous request gets the next OutputID; an OutputCompleteEvent
- * follows when it is printed.
+ * The data counts as printed whole, or not at all; an attached printer may have printed its first lines. An
+ * asynchronous request gets the next OutputID; an OutputCompleteEvent follows when it is printed.
  *
  * @param station The station; only the receipt is there. KIJ_PTR_S_RECEIPT.
  * @param data What is printed: bytes 0x20 to 0x7E, line feeds, carriage returns and escape sequences. Range: 0 to
@@ -649,7 +649,7 @@ kij_result kij_printer_print(kij_control *printer, int64_t station, const void *
 /**
  * printImmediate (POS Printer): prints data at once, before all requests that wait.
  *
- * The data is printed whole, or not at all.
+ * The data counts as printed whole, or not at all; an attached printer may have printed its first lines.
  *
  * @param station The station; only the receipt is there. KIJ_PTR_S_RECEIPT.
  * @param data What is printed: bytes 0x20 to 0x7E, line feeds, carriage returns and escape sequences. Range: 0 to
@@ -704,7 +704,7 @@ kij_result kij_printer_clear_output(kij_control *printer);
    Enabling the first one recovers the files from the disk. A change is on the disk before its call returns. */
 
 /**
- * create (Hard Totals): creates a file of zero bytes, and returns its handle.
+ * create (Hard Totals): creates a file whose bytes are all 0, and returns its handle.
  *
  * Error detection changes nothing.
  *

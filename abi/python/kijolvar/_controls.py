@@ -850,8 +850,8 @@ class POSPrinter(StandardControl):
     def print_normal(self, station: int, data: Text) -> None:
         """Prints data, with its escape sequences; if AsyncMode is true, it is queued and printed later.
 
-        The data is printed whole, or not at all. An asynchronous request gets the next OutputID; an OutputCompleteEvent
-        follows when it is printed.
+        The data counts as printed whole, or not at all; an attached printer may have printed its first lines. An
+        asynchronous request gets the next OutputID; an OutputCompleteEvent follows when it is printed.
 
         Args:
             station: The station; only the receipt is there. Always PTR_S_RECEIPT.
@@ -879,7 +879,7 @@ class POSPrinter(StandardControl):
     def print_immediate(self, station: int, data: Text) -> None:
         """Prints data at once, before all requests that wait.
 
-        The data is printed whole, or not at all.
+        The data counts as printed whole, or not at all; an attached printer may have printed its first lines.
 
         Args:
             station: The station; only the receipt is there. Always PTR_S_RECEIPT.
@@ -1077,7 +1077,7 @@ class HardTotals(StandardControl):
         raise self._refusal(answer, "cap_error_detection")
 
     def create(self, name: Text, size: int, error_detection: bool = False) -> int:
-        """Creates a file of zero bytes, and returns its handle.
+        """Creates a file whose bytes are all 0, and returns its handle.
 
         Error detection changes nothing.
 

@@ -863,8 +863,8 @@ impl<'till> PosPrinter<'till> {
     /// printNormal (POS Printer): prints data, with its escape sequences; if AsyncMode is true, it is queued and
     /// printed later.
     ///
-    /// The data is printed whole, or not at all. An asynchronous request gets the next OutputID; an OutputCompleteEvent
-    /// follows when it is printed.
+    /// The data counts as printed whole, or not at all; an attached printer may have printed its first lines. An
+    /// asynchronous request gets the next OutputID; an OutputCompleteEvent follows when it is printed.
     ///
     /// - `station`: the station; only the receipt is there.
     /// - `data`: what is printed: bytes 0x20 to 0x7E, line feeds, carriage returns and escape sequences. Range: 0 to
@@ -891,7 +891,7 @@ impl<'till> PosPrinter<'till> {
 
     /// printImmediate (POS Printer): prints data at once, before all requests that wait.
     ///
-    /// The data is printed whole, or not at all.
+    /// The data counts as printed whole, or not at all; an attached printer may have printed its first lines.
     ///
     /// - `station`: the station; only the receipt is there.
     /// - `data`: what is printed: bytes 0x20 to 0x7E, line feeds, carriage returns and escape sequences. Range: 0 to
@@ -1107,7 +1107,7 @@ impl<'till> HardTotals<'till> {
         Ok(self)
     }
 
-    /// create (Hard Totals): creates a file of zero bytes, and returns its handle.
+    /// create (Hard Totals): creates a file whose bytes are all 0, and returns its handle.
     ///
     /// Error detection changes nothing.
     ///
