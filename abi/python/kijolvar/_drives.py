@@ -1,13 +1,15 @@
 """The devices that a till drives: orders are answered once their drivers have carried them out."""
 from __future__ import annotations
 
+import contextlib
 import select
 import time
 from typing import TYPE_CHECKING
 
+from ._constants import KIJOLVAR_NO_MEMORY
 from ._control import device_word
 from ._devices import Device, Order, WorkDone, read_order
-from ._faults import DriverError, InputError, LineError
+from ._faults import DriverError, InputError, LineError, library_fault
 from ._questions import ProfileDevice
 from ._session import Session
 from .drivers import Driver
@@ -59,15 +61,20 @@ class Drives:
         self._drives: dict[str, Drive] = {}
         self._by_word: dict[bytes, Drive] = {}
         self._is_handing_in = False
+        # What went wrong behind an order that was done.
+        self._fault: Exception | None = None
         session.serve = self.serve
         session.served = self.served
 
-    def add(self, device: ProfileDevice, driver: Driver) -> None:
-        """Has a driver carry out the orders of a device from now on."""
+    def check(self, device: ProfileDevice, driver: Driver) -> None:
+        """Checks that a device can have a driver."""
         if driver.category not in ("", device.category):
             raise DriverError(f"{device.name!r} is a {device.category}, and the driver is for a {driver.category}")
         if device.name in self._drives:
             raise DriverError(f"{device.name!r} has a driver already")
+
+    def add(self, device: ProfileDevice, driver: Driver) -> None:
+        """Has a driver carry out the orders of a device from now on."""
         try:
             driver.begin(self._till, device)
             if device.category != "Scanner":
@@ -95,7 +102,11 @@ class Drives:
         """Is called once orders were carried out. It is most often all that there is to do."""
         for drive in self._by_word.values():
             if not (drive.is_on and drive.driver.is_quiet and drive.orders < _KEPT_ORDERS):
-                self.hand_in()
+                try:
+                    self.hand_in()
+                except Exception as fault:
+                    # The order is done, and its call says so. The next `run` says what went wrong.
+                    self._fault = fault
                 return
 
     # Inputs.
@@ -114,15 +125,23 @@ class Drives:
         if drive.orders >= _KEPT_ORDERS and drive.category == "POSPrinter":
             drive.orders = 0
             self._session.tear_off(drive.word)
+        was_on = drive.is_on
         lines = drive.inputs()
         if lines:
-            self._happens(lines)
+            try:
+                self._happens(lines)
+            except BaseException:
+                # What wasn't taken is said again.
+                drive.is_on = was_on
+                raise
         return lines != b""
 
     def _happens(self, lines: bytes) -> None:
         for answer in self._session.carry_out(lines).decode().splitlines():
             if answer == "bad input":
                 raise InputError("that can't happen at the device")
+            if answer == "memory":
+                raise library_fault(KIJOLVAR_NO_MEMORY)
             if answer != "ok":
                 raise LineError(answer)
 
@@ -131,6 +150,9 @@ class Drives:
     def run(self, seconds: float) -> bool:
         """Does what the devices need, and waits for something to do as long as it may. Returns whether anything was
         done."""
+        if self._fault is not None:
+            fault, self._fault = self._fault, None
+            raise fault
         end = time.monotonic() + seconds
         while True:
             if self._round():
@@ -172,5 +194,6 @@ class Drives:
 
     def close(self) -> None:
         """Closes the ports."""
-        for drive in self._drives.values():
-            drive.driver.close()
+        with contextlib.ExitStack() as ends:
+            for drive in self._drives.values():
+                ends.callback(drive.driver.close)

@@ -156,7 +156,8 @@ class ExchangeError(Error):
 
 
 class DriverError(Error):
-    """A device can't have this driver: it is of another category, or has a driver already."""
+    """A device can't have this driver: it is of another category, or has a driver already. Or a driver ran lines while
+    it carried out an order."""
 
 
 class InputError(Error):

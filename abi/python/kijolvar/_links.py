@@ -207,6 +207,9 @@ class PrinterLink:
             return Job(data, is_once)
         failed = self._failed
         if failed is None or failed.data != data:
+            if failed is not None and failed.is_done and failed.data:
+                # It was printed after it had failed, and isn't asked for again.
+                self.late += 1
             self._failed = Job(data, is_once)
             return self._failed
         self._catches_up(failed, end)

@@ -13,7 +13,7 @@ from ._constants import (KIJOLVAR_CUT, KIJOLVAR_DISK_FAILED, KIJOLVAR_DISK_LENGT
                          KIJOLVAR_SYNC, KIJOLVAR_UNDONE, KIJOLVAR_WAITS, KIJOLVAR_WRITE)
 from ._library import Raw, by_addresses, carrier, check
 from ._wire import RawSettings, Reply
-from .errors import ThreadError, TillClosedError, library_fault
+from .errors import DriverError, ThreadError, TillClosedError, library_fault
 
 _identity = threading.get_ident
 _ROOM = 1024
@@ -54,7 +54,7 @@ class Session:
         self._next_order, self._order_done, self._order_bytes, self._replies = (
             by_addresses(library, f"kijolvar_{name}") for name in ("next_order", "order_done", "order_bytes", "replies"))
         self._later: deque[Callable[[], None]] = deque()
-        self._is_settling = self._has_served = False
+        self._is_settling = self._has_served = self._is_serving = False
         # Whether the library holds lines for which memory ran out, and what was printed of them and isn't reported yet.
         self._is_holding = False
         self._unreported: tuple[int, bytes] | None = None
@@ -136,9 +136,10 @@ class Session:
         next_errand, failed = self._library.kijolvar_next_errand, self._library.kijolvar_errand_failed
         at, count, file = ctypes.c_uint64(), ctypes.c_size_t(), self._totals.fileno()
         while True:
-            code = next_errand(self._raw, self._out, ctypes.byref(at), self._errand, KIJOLVAR_DISK_LENGTH,
-                               ctypes.byref(count))
             try:
+                # An interrupt in this call has taken an errand out, too.
+                code = next_errand(self._raw, self._out, ctypes.byref(at), self._errand, KIJOLVAR_DISK_LENGTH,
+                                   ctypes.byref(count))
                 if code == KIJOLVAR_OK:
                     return
                 if code == KIJOLVAR_SYNC:
@@ -197,6 +198,8 @@ class Session:
         is_held = code == KIJOLVAR_WAITS or (code == KIJOLVAR_NO_MEMORY and self._is_holding)
         if is_held and self._needed.value == _UNWRITTEN:
             # Lines of an earlier call are held, and none of these was carried out.
+            if self._is_serving:
+                raise DriverError("a driver can't run lines while it carries out an order")
             self._give_up()
             return self.carry_out(lines)
         text = self._told(code)
@@ -273,8 +276,11 @@ class Session:
             order = self._driven_order()
         if order is None or self.serve is None:
             raise library_fault(KIJOLVAR_NO_ORDER)
-        self._has_served = True
-        is_done, inputs = self.serve(order)
+        self._has_served = self._is_serving = True
+        try:
+            is_done, inputs = self.serve(order)
+        finally:
+            self._is_serving = False
         return (_DONE, b"") if is_done else (_NOT_DONE, inputs)
 
     def _refused(self) -> tuple[int, bytes]:

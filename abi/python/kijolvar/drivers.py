@@ -35,6 +35,8 @@ Cutter = Literal["both", "full", "partial", "absent"]
 Protocol = Literal["cd5220", "escpos"]
 _CUTTERS, _PROTOCOLS = ("both", "full", "partial", "absent"), ("cd5220", "escpos")
 # The most lines that a printer's device counts.
+# As many lines as a request of line feeds alone feeds; and from how many lines on the count begins again before its end.
+_MOST_FEEDS, _LONG = 4096, 100
 _MOST_LINES = 100_000
 # How long a lost port may take to open, in seconds, while other devices wait.
 _QUICKLY = 0.25
@@ -195,16 +197,23 @@ class EscPosPrinter(Driver):
         if self.is_quiet:
             return []
         words, self._compared = _told(link, self._wire), link.statuses
-        if not self._is_known and link.told:
-            self._is_known = True
-            if link.has_paper:
+        if link.told and link.has_paper and not any(word.startswith("paper ") for word in words):
+            is_due = link.lines >= self._lines_until and self._lines - self._near >= _LONG
+            if is_due or not self._is_known:
                 words.append(f"paper {self._lines}")
+        self._is_known = self._is_known or bool(link.told)
         for word in words:
             if word.startswith("paper "):
-                # So many lines on, the till counts down to another level than the sensors may see.
-                count = int(word[len("paper "):])
-                self._lines_until = link.lines + (count - self._near if count > self._near else count)
+                self._lines_until = link.lines + self._counted_until(int(word[len("paper "):]))
         return words
+
+    def _counted_until(self, count: int) -> int:
+        """How many lines on the till has to look at the sensors again, when it counts so many. It looks before a long
+        request could be refused though they still see enough."""
+        left = count - self._near
+        if left <= 0:
+            return count
+        return left if left < _LONG else left - min(left // 4, _MOST_FEEDS)
 
     def poll(self) -> None:
         self.link.poll()
@@ -411,7 +420,7 @@ _LONGEST = 4096
 
 # Linux input events: the time, type, code and value.
 _EVENT = struct.Struct("@llHHi")
-_KEY, _GRAB, _ENTER, _SHIFTS = 1, 0x40044590, (28, 96), (42, 54)
+_KEY, _DROPPED, _GRAB, _ENTER, _SHIFTS = 1, (0, 3), 0x40044590, (28, 96), (42, 54)
 _KEYS: dict[int, str] = {57: "  "}
 _KEYS.update(zip(range(2, 14), ["1!", "2@", "3#", "4$", "5%", "6^", "7&", "8*", "9(", "0)", "-_", "=+"]))
 _KEYS.update(zip(range(16, 28), ["qQ", "wW", "eE", "rR", "tT", "yY", "uU", "iI", "oO", "pP", "[{", "]}"]))
@@ -420,41 +429,60 @@ _KEYS.update(zip(range(43, 54), ["\\|", "zZ", "xX", "cC", "vV", "bB", "nN", "mM"
 
 
 class _Lines:
-    """Codes that a serial scanner sends, each with CR, LF or both behind it."""
+    """Codes that a serial scanner sends, each with CR, LF or both behind it. A code that isn't whole is None."""
 
     def __init__(self) -> None:
-        self._begun = bytearray()
+        self._begun, self._is_noise = bytearray(), False
 
-    def take(self, data: bytes) -> list[bytes]:
+    def take(self, data: bytes) -> list[bytes | None]:
         self._begun += data
         *whole, rest = bytes(self._begun).replace(b"\r", b"\n").split(b"\n")
-        # What is longer than any code is noise.
-        self._begun[:] = rest if len(rest) <= _LONGEST else b""
-        return [code for code in whole if code]
+        codes: list[bytes | None] = []
+        for code in whole:
+            if self._is_noise or len(code) > _LONGEST:
+                codes.append(None)
+                self._is_noise = False
+            elif code:
+                codes.append(code)
+        # What is longer than any code is noise, up to its end.
+        self._is_noise = self._is_noise or len(rest) > _LONGEST
+        self._begun[:] = b"" if self._is_noise else rest
+        return codes
 
 
 class _Keys:
-    """Codes that a scanner types as a keyboard of the layout US, each with Enter behind it."""
+    """Codes that a scanner types as a keyboard of the layout US, each with Enter behind it. A code that isn't whole is
+    None: the system drops keys that nobody reads in time."""
 
     def __init__(self) -> None:
-        self._bytes, self._begun, self._is_shifted = bytearray(), bytearray(), False
+        self._bytes, self._begun = bytearray(), bytearray()
+        self._is_shifted = self._is_noise = False
 
-    def take(self, data: bytes) -> list[bytes]:
+    def take(self, data: bytes) -> list[bytes | None]:
         self._bytes += data
-        codes: list[bytes] = []
+        codes: list[bytes | None] = []
         while len(self._bytes) >= _EVENT.size:
             *_, kind, key, value = _EVENT.unpack_from(self._bytes)
             del self._bytes[:_EVENT.size]
+            if (kind, key) == _DROPPED:
+                self._is_noise, self._is_shifted = True, False
             if kind != _KEY:
                 continue
             if key in _SHIFTS:
                 self._is_shifted = value != 0
             elif key in _ENTER and value:
-                codes.append(bytes(self._begun))
-                self._begun.clear()
+                codes += self._ended()
             elif key in _KEYS and value:
                 self._begun += _KEYS[key][self._is_shifted].encode()
-        return [code for code in codes if code]
+                self._is_noise = self._is_noise or len(self._begun) > _LONGEST
+        return codes
+
+    def _ended(self) -> list[bytes | None]:
+        """The code that Enter ends; none if nothing came."""
+        code = None if self._is_noise else bytes(self._begun)
+        self._begun.clear()
+        self._is_noise = False
+        return [] if code == b"" else [code]
 
 
 class _KeyPort(FilePort):
@@ -497,6 +525,7 @@ class WedgeScanner(Driver):
         self._reader = self._new_reader()
         self._kind, self._pause, self._tried_at = kind, pause, -1e9
         self._found: deque[Scan] = deque()
+        self._faults = 0
 
     def __repr__(self) -> str:
         return f"<kijolvar.WedgeScanner {self.port.name!r}, {'online' if self.is_online else 'offline'}>"
@@ -516,7 +545,11 @@ class WedgeScanner(Driver):
         with contextlib.suppress(PortError):
             self._open()
             while self.port.ready(False, 0)[0]:
-                self._found += map(self._scan, self._reader.take(self.port.read_some()))
+                for code in self._reader.take(self.port.read_some()):
+                    if code is None:
+                        self._faults += 1
+                    else:
+                        self._found.append(self._scan(code))
 
     def _new_reader(self) -> _Keys | _Lines:
         return _Keys() if self._has_keys else _Lines()
@@ -533,6 +566,10 @@ class WedgeScanner(Driver):
             kind = _AIM_DIGIT.get(name, _AIM.get(name[:1], 501))
             return Scan(kind, code, code[3:])
         return Scan(self._kind, code, code)
+
+    def happened(self) -> list[str]:
+        faults, self._faults = self._faults, 0
+        return ["fault"] * faults
 
     def scans(self) -> list[Scan]:
         found = list(self._found)

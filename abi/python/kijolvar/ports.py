@@ -4,6 +4,7 @@ A driver opens its port when it needs it, and opens it again after it was lost. 
 """
 from __future__ import annotations
 
+import contextlib
 import errno
 import fcntl
 import os
@@ -19,6 +20,8 @@ from ._library import Path
 Parity = Literal["none", "even", "odd"]
 Flow = Literal["none", "rts-cts", "xon-xoff"]
 _AT_ONCE = 65_536
+# For how long the addresses of a name are kept though nothing answers there, in seconds.
+_LOOKED_UP_FOR = 60.0
 _READABLE = select.POLLIN | select.POLLHUP | select.POLLERR | select.POLLNVAL
 
 
@@ -91,6 +94,8 @@ class Port:
         """Closes the port, if it is open. What isn't sent yet is dropped."""
         if self._file is not None:
             file, self._file = self._file, None
+            with contextlib.suppress(OSError, termios.error):
+                _drop_unsent(file)
             os.close(file)
 
     def ready(self, is_writing: bool, seconds: float) -> tuple[bool, bool]:
@@ -173,14 +178,31 @@ class Port:
         """Whether what was written has left this machine before a time."""
         return True
 
+    def _line_drained(self, end: float) -> bool:
+        """Looks how much waits in a line's driver, in place of waiting for it without an end."""
+        try:
+            while _unsent(self.fileno()):
+                if time.monotonic() >= end:
+                    return False
+                time.sleep(0.001)
+        except OSError as fault:
+            self._loses(fault)
+        return True
+
 
 class FilePort(Port):
     """A device file that takes bytes as they are, such as /dev/usb/lp0."""
 
     def __init__(self, path: Path) -> None:
         super().__init__(os.fspath(path))
+        # Whether `port_of` made it of a path that may be a link to a serial line later, and the line that it then is.
+        self._may_be_line = False
+        self._line: SerialPort | None = None
 
     def _opened(self, seconds: float) -> int:
+        if self._may_be_line:
+            self._line = SerialPort(self.name) if _is_line(self.name) else None
+            self.is_reliable = self._line is None
         file = os.open(self.name, os.O_RDWR | os.O_NONBLOCK | os.O_NOCTTY | os.O_CLOEXEC)
         try:
             if stat.S_ISREG(os.fstat(file).st_mode):
@@ -196,7 +218,13 @@ class FilePort(Port):
 
     def _set_up(self, file: int) -> None:
         """Sets up a terminal line, so that bytes pass as they are."""
-        termios.tcsetattr(file, termios.TCSANOW, _raw(file))
+        if self._line is not None:
+            self._line._set_up(file)
+        else:
+            termios.tcsetattr(file, termios.TCSANOW, _raw(file))
+
+    def _drained(self, end: float) -> bool:
+        return self._line is None or self._line_drained(end)
 
 
 class SerialPort(FilePort):
@@ -241,30 +269,70 @@ class SerialPort(FilePort):
         termios.tcflush(file, termios.TCIOFLUSH)
 
     def _drained(self, end: float) -> bool:
-        """Looks how much waits in the line's driver, in place of waiting for it without an end."""
-        try:
-            while int.from_bytes(fcntl.ioctl(self.fileno(), termios.TIOCOUTQ, bytes(4)), "little"):
-                if time.monotonic() >= end:
-                    return False
-                time.sleep(0.001)
-        except OSError as fault:
-            self._loses(fault)
-        return True
+        return self._line_drained(end)
 
 
 class TcpPort(Port):
-    """A TCP port, as network printers have at 9100."""
+    """A TCP port, as network printers have at 9100.
+
+    A name is looked up when the port is opened first, and again a minute after that if nothing answers at its
+    addresses. That may take longer than opening is told to: a number, such as 192.168.1.9, needs no look-up.
+    """
 
     def __init__(self, host: str, port: int = 9100) -> None:
         super().__init__(f"tcp://{host}:{port}")
         self._where = host, port
+        self._addresses: list[tuple[str, int]] = []
+        self._looked_up_at = 0.0
 
     def _opened(self, seconds: float) -> int:
-        with socket.create_connection(self._where, timeout=max(seconds, 0.001)) as made:
-            made.setsockopt(socket.IPPROTO_TCP, socket.TCP_NODELAY, 1)
-            made.setsockopt(socket.SOL_SOCKET, socket.SO_KEEPALIVE, 1)
-            made.setblocking(False)
-            return made.detach()
+        if not self._addresses:
+            found = socket.getaddrinfo(*self._where, type=socket.SOCK_STREAM)
+            self._addresses = [(str(address[0]), int(address[1])) for *_, address in found]
+            self._looked_up_at = time.monotonic()
+        try:
+            return self._connected(time.monotonic() + max(seconds, 0.001))
+        except OSError:
+            if time.monotonic() - self._looked_up_at > _LOOKED_UP_FOR:
+                self._addresses = []
+            raise
+
+    def _connected(self, end: float) -> int:
+        """Connects to the first of the addresses that answers before a time."""
+        fault: OSError = TimeoutError(errno.ETIMEDOUT, "timed out")
+        for address in self._addresses:
+            left = end - time.monotonic()
+            if left <= 0:
+                break
+            try:
+                with socket.create_connection(address, timeout=left) as made:
+                    made.setsockopt(socket.IPPROTO_TCP, socket.TCP_NODELAY, 1)
+                    made.setsockopt(socket.SOL_SOCKET, socket.SO_KEEPALIVE, 1)
+                    made.setblocking(False)
+                    return made.detach()
+            except OSError as found:
+                fault = found
+        raise fault
+
+
+def _is_line(path: str) -> bool:
+    """Whether a path is that of a serial line, or of a link to one."""
+    return os.path.realpath(path).startswith("/dev/tty") or path.startswith("/dev/serial/")
+
+
+def _unsent(file: int) -> int:
+    """How many bytes a terminal line hasn't sent yet."""
+    return int.from_bytes(fcntl.ioctl(file, termios.TIOCOUTQ, bytes(4)), "little")
+
+
+def _drop_unsent(file: int) -> None:
+    """Drops what a terminal line hasn't sent. Closing it would wait for that, while flow control holds it back."""
+    if os.isatty(file) and _unsent(file):
+        found = termios.tcgetattr(file)
+        found[0] &= ~(termios.IXON | termios.IXOFF)
+        found[2] &= ~termios.CRTSCTS
+        termios.tcsetattr(file, termios.TCSANOW, found)
+        termios.tcflush(file, termios.TCOFLUSH)
 
 
 def _raw(file: int) -> list[Any]:
@@ -281,7 +349,7 @@ def port_of(name: Union[Port, Path]) -> Port:
     file.
 
     A path of /dev/tty.. or /dev/serial/.., or a link to one, is a serial line of 9,600 bits per second with RTS/CTS.
-    For other settings use SerialPort.
+    A link that leads nowhere yet is looked at again when the port is opened. For other settings use SerialPort.
     """
     if isinstance(name, Port):
         return name
@@ -289,5 +357,8 @@ def port_of(name: Union[Port, Path]) -> Port:
     if text.startswith("tcp:"):
         host, colon, port = text[len("tcp:"):].removeprefix("//").rpartition(":")
         return TcpPort(host, int(port)) if colon else TcpPort(port)
-    is_serial = os.path.realpath(text).startswith("/dev/tty") or text.startswith("/dev/serial/")
-    return SerialPort(text) if is_serial else FilePort(text)
+    if _is_line(text):
+        return SerialPort(text)
+    port = FilePort(text)
+    port._may_be_line = True
+    return port

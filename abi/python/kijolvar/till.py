@@ -86,9 +86,10 @@ class Till:
     def close(self) -> None:
         """Ends the till, and closes the file of totals if the till has opened it. Closing it again does nothing."""
         self._session.close()
-        self._drives.close()
-        if self._owns_file and self._file is not None:
-            self._file.close()
+        with contextlib.ExitStack() as ends:
+            if self._owns_file and self._file is not None:
+                ends.callback(self._file.close)
+            ends.callback(self._drives.close)
 
     # Controls.
 
@@ -276,6 +277,8 @@ class Till:
             if name not in known:
                 raise NoDeviceError(KIJOLVAR_NO_DEVICE, f"the profile has no device {name!r}")
         for name, one in drivers.items():
+            self._drives.check(known[name], one)
+        for name, one in drivers.items():
             self._drives.add(known[name], one)
 
     def order_bytes(self, settings: WireSettings, is_new: bool = False, job: int | None = None) -> bytes:
@@ -405,7 +408,11 @@ def _file_of(library: ctypes.CDLL, totals: Path | BinaryIO | None, create: bool,
     except FileNotFoundError:
         if not create:
             raise
+    try:
         return _files.create_totals(library, totals, profile), True, where
+    except FileExistsError:
+        # Another till created it in between.
+        return _files.open_totals(totals), True, where
 
 
 def create_totals(path: Path, library: Path | ctypes.CDLL | None = None) -> BinaryIO:

@@ -6,6 +6,7 @@ from collections.abc import Iterator
 from types import TracebackType
 from typing import SupportsIndex
 
+from ._constants import E_NOEXIST
 from ._control import Text
 from ._controls import HardTotals
 from .errors import NoExistError
@@ -139,7 +140,13 @@ class TotalsFile:
         self.name = _name(name)
 
     def delete(self) -> None:
-        """Deletes the file."""
+        """Deletes the file.
+
+        Raises:
+            NoExistError: Another file has its name by now.
+        """
+        if self._totals.find(self.name)[0] != self.handle:
+            raise NoExistError(E_NOEXIST, 0, f"delete of {self!r}", "Another file has its name by now.")
         self._totals.delete(self.name)
 
     def claim(self, timeout: SupportsIndex = 0) -> FileClaim:
