@@ -18,17 +18,21 @@ import random
 import re
 import shutil
 import signal
+import socket
 import statistics
+import struct
 import subprocess
 import sys
 import tempfile
 import time
+from unittest import mock
 
 TOP = pathlib.Path(__file__).resolve().parent.parent
 sys.path[:0] = [str(TOP / "abi/python"), str(TOP / "tests")]
 
 import kijolvar
 from emulator import Cut, Display, Line, Printer, PtyCable, Scanner, TcpCable
+from emulator.scanner import KEYS
 from kijolvar import (Driver, EscPosDrawer, EscPosPrinter, OutputCompleteEvent, PrintedCut, SerialDisplay, SerialPort,
                       StatusUpdateEvent, WedgeScanner, WireSettings)
 from kijolvar._links import PrinterLink, pieces_of
@@ -737,6 +741,103 @@ def try_scanner():
             device.types(b"7") if keys else device.scan(b"7")
             until(lambda: scans() or found)
             told("a scanner is back", [(b"7", 0, b"7")], found)
+
+
+def typed(code):
+    """The key events of a code and of Enter behind it."""
+    keys = {both[0]: key for key, both in KEYS.items()}
+    events = [(1, keys[character], value) for character in code for value in (1, 0)] + [(1, 28, 1), (1, 28, 0)]
+    return b"".join(struct.pack("@llHHi", 0, 0, *event) for event in events)
+
+
+def try_torn_scans():
+    """What isn't a whole code is a failed scan: keys that the system dropped, and what is longer than any code."""
+    with contextlib.ExitStack() as stack:
+        till = stack.enter_context(opened())
+        device = stack.enter_context(Scanner(cable()))
+        till.drive("s1", WedgeScanner(device.path, keys=True, pause=PAUSE))
+        scanner = till.scanner("s1")
+        stack.enter_context(scanner.in_use())
+        scanner.data_event_enabled = True
+        dropped = struct.pack("@llHHi", 0, 0, 0, 3, 0)
+        device.garbage(typed("400638")[:-48] + dropped + typed("31"))
+        told("dropped keys are an error", True, until(lambda: till.run_devices(0.01) and scanner.state == 4))
+        told("and no scan", ["ErrorEvent"], [type(event).__name__ for event in scanner.events()])
+        device.garbage(typed("31"))
+        told("the next code is whole", True, until(lambda: till.run_devices(0.01) and scanner.data_count == 1))
+    lines = kijolvar.drivers._Lines()
+    told("a line is too long", [], lines.take(b"1" * 4000) + lines.take(b"2" * 4000))
+    told("its end is no code", [None, b"34"], lines.take(b"5\r\n34\n"))
+    keys = kijolvar.drivers._Keys()
+    told("too many keys", [None, b"34"], keys.take(typed("1" * 4097) + typed("34")))
+
+
+class Meddler(Driver):
+    """Runs a line while it carries out an order, or says what no device can say."""
+
+    def __init__(self, till, words=()):
+        self.till, self.words, self.is_closed = till, list(words), False
+
+    def carry_out(self, order):
+        if not self.words:
+            self.till.device("r1").paper(3)
+        return True
+
+    def happened(self):
+        return self.words
+
+    def close(self):
+        self.is_closed = True
+        raise OSError("the port can't be closed")
+
+
+def try_meddlers():
+    """Drivers of one's own that do what they may not."""
+    path = WORK / "meddled"
+    till = opened(totals=path, create=True)
+    driver = Meddler(till)
+    till.drive("d1", driver)
+    with till.drawer("d1").in_use() as drawer:
+        told("lines in an order", "DriverError", name_of(drawer.open_drawer))
+        driver.words = ["cover open"]
+        told("an order that is done", None, name_of(drawer.open_drawer))
+        told("what went wrong behind it", "InputError", name_of(till.run_devices, 0))
+        driver.words = ["open"]
+        told("and then nothing", None, name_of(till.run_devices, 0))
+    told("a port that can't be closed", "OSError", name_of(till.close))
+    told("lets the till be closed", (True, True), (till.is_closed, driver.is_closed))
+    with opened(totals=path):
+        pass
+    with opened() as till:
+        told("a printer with another's drawer", "DriverError",
+             name_of(till.drive, "r1", EscPosPrinter("/dev/null", drawer="s1")))
+        told("drives neither", None, name_of(till.drive, "r1", EscPosPrinter("/dev/null", drawer="d1", timeout=0.1)))
+
+
+def try_ports_again():
+    """A link that leads nowhere yet, and a name that was looked up once."""
+    link = WORK / "receipt"
+    port = kijolvar.port_of(link)
+    told("a link that leads nowhere", "PortError", name_of(port.open))
+    with Printer(cable()) as device:
+        os.symlink(device.path, link)
+        with mock.patch("kijolvar.ports._is_line", return_value=True):
+            port.open()
+        told("a link to a line", (False, True), (port.is_reliable, port.write(b"\n", 1.0)))
+        port.close()
+        port.open()
+        told("a link to another device", True, port.is_reliable)
+        port.close()
+    with socket.create_server(("127.0.0.1", 0)) as server, mock.patch("socket.getaddrinfo", side_effect=socket.getaddrinfo) as asked:
+        port = kijolvar.TcpPort("localhost", server.getsockname()[1])
+        for _ in range(3):
+            port.open()
+            port.close()
+        names = [call.args[0] for call in asked.call_args_list]
+        told("a name is looked up once", 1, names.count("localhost"))
+    told("nothing answers", "PortError", name_of(port.open))
+    port._looked_up_at -= 61
+    told("nothing answers for a minute", ("PortError", []), (name_of(port.open), port._addresses))
 
 
 def try_refusals():

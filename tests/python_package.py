@@ -20,6 +20,7 @@ import sys
 import tempfile
 import threading
 import warnings
+from unittest import mock
 
 import typed
 from typed import PARTS, TOP
@@ -528,6 +529,29 @@ def try_many_controls():
 
 # ---- totals
 
+class Interrupted:
+    """A library whose call for the next errand an interrupt follows at once."""
+
+    def __init__(self, library):
+        self.library = library
+
+    def __getattr__(self, name):
+        return getattr(self.library, name)
+
+    def kijolvar_next_errand(self, *words):
+        self.library.kijolvar_next_errand(*words)
+        raise KeyboardInterrupt
+
+
+def interrupted(call, *words):
+    """The name of an interrupt that ends a call, or None."""
+    try:
+        call(*words)
+    except KeyboardInterrupt as fault:
+        return type(fault).__name__
+    return None
+
+
 def try_totals():
     path = WORK / "totals"
     told("a file that is missing", "FileNotFoundError", name_of(opened, totals=path))
@@ -608,6 +632,26 @@ def try_totals():
             session._raw, session._out, line, len(line), session._room, 1024, session._needed_at))
         told("the next call does them first", b"\x07\x07", totals["A"].read())
         totals["A"].delete()
+    with opened(totals=path) as till:
+        totals = till.totals("t1")
+        totals.create("DAY", 1)
+        day = totals["DAY"]
+        totals.rename(day, "OLD")
+        totals.create("DAY", 1)
+        told("a file whose name is another's", "NoExistError", name_of(day.delete))
+        told("nothing is deleted", [b"OLD", b"DAY"], list(totals)[-2:])
+        totals["DAY"].delete()
+        totals["OLD"].delete()
+        session = till._session
+        session._library = Interrupted(session._library)
+        told("an interrupt as an errand is taken out", "KeyboardInterrupt", interrupted(totals.create, "A", 1))
+        session._library = session._library.library
+        told("ends the till", "DiskError", name_of(lambda: totals.state))
+    with opened(totals=path) as till:
+        told("and leaves the files before it", 0, len(till.totals("t1")))
+    with mock.patch("kijolvar._files.open_totals", side_effect=[FileNotFoundError, kijolvar.open_totals(path)]):
+        with opened(totals=path, create=True) as till:
+            told("a file that another till has just created", 0, len(till.totals("t1")))
     with open(path, "rb") as unwritable, opened(totals=unwritable) as till:
         totals = till.totals("t1")
         told("a file that can't be written", "DiskError", name_of(totals.create, "A", 1))
