@@ -413,22 +413,30 @@ static int type_of(const uint8_t *name) {
     return 501;
 }
 
-/* Tells the till of the code that has come: a code of enum kij_code. */
-static int scan(kij_till *till, kij_drive *drive, bool *is_any) {
-    static const kij_word word = KIJ_WORD(" scan");
-    kij_argument arguments[3];
+/* Tells the till of a scan: a code of enum kij_code. */
+static int tell_scan(kij_till *till, const kij_drive *drive, const kij_word *word, const kij_argument *arguments,
+                     size_t count) {
     char *value;
+    int code = kij_internal_run(till, KIJ_VERB_INPUT, &drive->name, word, arguments, count);
+    return code == KIJ_OK ? kij_internal_answer(till, KIJ_NO_CATEGORY, &value).code : code;
+}
+
+/* Tells the till of the code that has come, or that a scan failed if a part of it was lost: a code of enum kij_code. */
+static int scan(kij_till *till, kij_drive *drive, bool *is_any) {
+    static const kij_word fault = KIJ_WORD(" fault"), word = KIJ_WORD(" scan");
+    kij_argument arguments[3];
     size_t size = drive->begun_size;
-    bool has_name = size > 3 && drive->begun[0] == ']';
+    bool has_name = size > 3 && drive->begun[0] == ']', is_torn = drive->is_torn;
     drive->begun_size = 0;
+    drive->is_torn = false;
     /* What is longer than any code is noise. */
-    if (size == 0 || size > LONGEST_CODE) return KIJ_OK;
+    if (!is_torn && (size == 0 || size > LONGEST_CODE)) return KIJ_OK;
+    *is_any = true;
+    if (is_torn) return tell_scan(till, drive, &fault, NULL, 0);
     arguments[0] = kij_internal_number(has_name ? type_of(drive->begun + 1) : drive->type);
     arguments[1] = kij_internal_bytes(drive->begun, size);
     arguments[2] = kij_internal_bytes(drive->begun + (has_name ? 3 : 0), size - (has_name ? 3 : 0));
-    int code = kij_internal_run(till, KIJ_VERB_INPUT, &drive->name, &word, arguments, 3);
-    *is_any = true;
-    return code == KIJ_OK ? kij_internal_answer(till, KIJ_NO_CATEGORY, &value).code : code;
+    return tell_scan(till, drive, &word, arguments, 3);
 }
 
 static void add_byte(kij_drive *drive, uint8_t byte) {
@@ -436,7 +444,8 @@ static void add_byte(kij_drive *drive, uint8_t byte) {
     if (drive->begun_size <= LONGEST_CODE) drive->begun_size++;
 }
 
-enum { FIRST_KEY = 2, KEY_COUNT = 56, EVENT_SIZE = 24 };
+/* The type of a key event, and the code of an event of type 0 that says that events were lost. */
+enum { KEY_EVENT = 1, EVENTS_LOST = 3, FIRST_KEY = 2, KEY_COUNT = 56, EVENT_SIZE = 24 };
 
 /* The characters of the keys of the layout US from number 2 on, without and with shift; a 0 byte is no character. */
 static const char key_characters[2][KEY_COUNT + 1] = {
@@ -451,9 +460,15 @@ static bool take_key(kij_drive *drive, const uint8_t *event) {
     memcpy(&type, event + EVENT_SIZE - 8, sizeof type);
     memcpy(&key, event + EVENT_SIZE - 6, sizeof key);
     memcpy(&value, event + EVENT_SIZE - 4, sizeof value);
-    if (type != 1) return false;
+    if (type == 0 && key == EVENTS_LOST) {
+        /* Nobody has read for so long that the system had no room left for events. */
+        drive->is_torn = true;
+        drive->is_shifted = false;
+    }
+    if (type != KEY_EVENT) return false;
     if (key == 42 || key == 54) drive->is_shifted = value != 0;
-    else if ((key == 28 || key == 96) && value != 0) return true;
+    /* A code that was lost up to its end ends where the key goes up. */
+    else if ((key == 28 || key == 96) && (value != 0 || drive->is_torn)) return true;
     else if (key >= FIRST_KEY && key < FIRST_KEY + KEY_COUNT && value != 0) {
         char found = key_characters[drive->is_shifted][key - FIRST_KEY];
         if (found != 0) add_byte(drive, (uint8_t)found);
@@ -495,7 +510,7 @@ static void connect_port(kij_drive *drive, int64_t time) {
     drive->tried_at = kij_internal_now();
     drive->is_new = true;
     drive->begun_size = drive->got_size = 0;
-    drive->is_shifted = false;
+    drive->is_shifted = drive->is_torn = false;
 }
 
 /* Reads what a device has said, and looks for one that was lost, without waiting. */

@@ -160,9 +160,11 @@ typedef struct kij_drive {
     int64_t pause;
     int64_t tried_at;
     bool is_new;
-    /* A scanner: what of a code has come, of key events, and whether the shift key is down. */
+    /* A scanner: what of a code has come, of key events, whether the shift key is down, and whether events of the code
+       were lost. */
     int type;
     bool is_shifted;
+    bool is_torn;
     uint8_t *begun;
     size_t begun_size;
     uint8_t got[64];
