@@ -517,7 +517,8 @@ typedef enum kij_flow { KIJ_FLOW_NONE = 0, KIJ_FLOW_RTS_CTS = 1, KIJ_FLOW_XON_XO
 
 /** How a serial line is set up. */
 typedef struct kij_serial_settings {
-    /** Whether the path is a serial line, whatever its name. A path of /dev/tty.. or /dev/serial/.. always is one. */
+    /** Whether the path is a serial line, whatever its name. A path of /dev/tty.. or /dev/serial/.. always is one, and
+     * so is a link to /dev/tty.., which may be missing until the port is opened. */
     bool is_serial;
     /** Bits per second, as the device is set up: 1,200 to 230,400. */
     int speed;
@@ -615,7 +616,9 @@ typedef struct kij_scanner_settings {
  * that the printer hasn't acknowledged are sent again.
  *
  * @param device   the name of a printer of the profile
- * @param port     /dev/usb/lp0, /dev/ttyUSB0, tcp:HOST or tcp:HOST:PORT (9100 if there is none)
+ * @param port     /dev/usb/lp0, /dev/ttyUSB0, tcp:HOST or tcp:HOST:PORT (9100 if there is none). Give HOST as a number
+ * address, as 192.0.2.7. The timeout doesn't limit how long the system looks a name up. It is looked up when the port is
+ * first opened, and then at most once a minute, while none of its addresses answers
  * @param settings null is KIJ_ESCPOS_SETTINGS
  * @return KIJ_BAD_DEVICE, KIJ_KIND_DIFFERS, KIJ_DRIVEN, KIJ_NO_DEVICE (it can't be driven, as one with `flaky`),
  * KIJ_BAD_SETTINGS, KIJ_NO_MEMORY or KIJ_BAD_ARGUMENT on failure; then no device has a driver of this call
@@ -625,8 +628,9 @@ kij_result kij_escpos_printer_open(kij_till *till, const char *device, const cha
 
 /**
  * Has a customer display show what the orders of a device from now on say: characters, but neither blinking nor
- * reverse ones. A display answers nothing, so an order counts as done once its bytes have left this machine. One that
- * was lost shows all its rows again with the next order.
+ * reverse ones. A display answers nothing, so an order counts as done once its bytes have left this machine over a
+ * serial line. Over TCP and /dev/usb/lp0 it counts as done once the system has taken them. A display that was lost shows
+ * all its rows again with the next order.
  *
  * @param device   the name of a line display of the profile
  * @param port     as kij_escpos_printer_open takes it
