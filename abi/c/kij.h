@@ -621,7 +621,8 @@ typedef struct kij_scanner_settings {
  * first opened, and then at most once a minute, while none of its addresses answers
  * @param settings null is KIJ_ESCPOS_SETTINGS
  * @return KIJ_BAD_DEVICE, KIJ_KIND_DIFFERS, KIJ_DRIVEN, KIJ_NO_DEVICE (it can't be driven, as one with `flaky`),
- * KIJ_BAD_SETTINGS, KIJ_NO_MEMORY or KIJ_BAD_ARGUMENT on failure; then no device has a driver of this call
+ * KIJ_BAD_SETTINGS, KIJ_NO_MEMORY or KIJ_BAD_ARGUMENT on failure; then no device has a driver of this call. If only the
+ * drawer can't be driven (KIJ_NO_DEVICE), the printer has its driver, as kij_show_driver tells
  */
 kij_result kij_escpos_printer_open(kij_till *till, const char *device, const char *port,
                                    const kij_escpos_settings *settings);
@@ -657,7 +658,8 @@ kij_result kij_wedge_scanner_open(kij_till *till, const char *device, const char
  * Does what the driven devices need: tells the till what they say of themselves and what was scanned, opens lost ports
  * again, and prints output that waits (AsyncMode). Call it regularly, and then deliver events.
  *
- * @param timeout how long to wait until there is something to do, in milliseconds. Printing may take longer.
+ * @param timeout how long to wait until there is something to do, in milliseconds. Printing may take longer. Without
+ * driven devices the call waits the whole time.
  * @param is_any  where it is written whether anything was done; may be null
  * @return KIJ_BAD_INPUT if the device can't be as its hardware says, KIJ_NO_MEMORY, KIJ_DISK_FAILED or KIJ_BAD_ARGUMENT
  * on failure

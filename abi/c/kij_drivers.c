@@ -557,11 +557,11 @@ static int run_round(kij_till *till, bool *is_any) {
     return code;
 }
 
-/* Waits until a device says something. */
+/* Waits until a device says something; without devices it takes the whole time. */
 static void wait_for_any(const kij_drives *drives, int64_t time) {
     struct pollfd waiting[MOST_PORTS];
     nfds_t count = 0;
-    for (kij_drive *drive = drives->first; drive != NULL && count < MOST_PORTS; drive = drive->next) {
+    for (kij_drive *drive = drives == NULL ? NULL : drives->first; drive != NULL && count < MOST_PORTS; drive = drive->next) {
         const kij_port *port = port_of(drive);
         if (drive->link != NULL && !drive->has_link) continue;
         if (!kij_internal_port_is_open(port)) continue;
@@ -578,8 +578,8 @@ kij_result kij_run_devices(kij_till *till, int timeout, bool *is_any) {
     if (timeout < 0) return plain(KIJ_BAD_ARGUMENT);
     int code = kij_internal_enter(till);
     if (code != KIJ_OK) return plain(code);
-    while (code == KIJ_OK && till->drives != NULL) {
-        code = run_round(till, &found);
+    while (code == KIJ_OK) {
+        if (till->drives != NULL) code = run_round(till, &found);
         int64_t left = end - kij_internal_now();
         if (code != KIJ_OK || found || left <= 0) break;
         wait_for_any(till->drives, left < 100 ? left : 100);
@@ -744,7 +744,28 @@ static bool make_link(kij_till *till, kij_drive *printer, const char *port, cons
     return true;
 }
 
-/* Opens a printer and its drawer: a code of enum kij_code. What was made is written in any case. */
+/* Begins to drive a device, and adds its drive: a code of enum kij_code. Null is written then. */
+static int take_drive(kij_till *till, kij_drive **drive) {
+    int code = begin_drive(till, *drive);
+    if (code != KIJ_OK) return code;
+    add_drive(till->drives, *drive);
+    *drive = NULL;
+    return code;
+}
+
+/* Begins to drive a printer and its drawer: a code of enum kij_code. Nothing undoes it, so a printer stays driven if
+   only its drawer is refused. */
+static int take_drives(kij_till *till, kij_drive **printer, kij_drive **drawer) {
+    kij_link *link = (*printer)->link;
+    int code = take_drive(till, printer);
+    if (code != KIJ_OK) return code;
+    if (*drawer != NULL) code = take_drive(till, drawer);
+    kij_internal_link_start(link);
+    return code;
+}
+
+/* Opens a printer and its drawer: a code of enum kij_code. A drive that was made and not added is written in any case.
+   */
 static int open_printer(kij_till *till, const char *device, const char *port, const kij_escpos_settings *settings,
                         kij_drive **printer, kij_drive **drawer) {
     kijolvar_wire_settings wire;
@@ -762,9 +783,7 @@ static int open_printer(kij_till *till, const char *device, const char *port, co
         code = settings_code(till, *drawer);
     }
     if (code != KIJ_OK) return code;
-    kij_internal_link_start((*printer)->link);
-    if (*drawer != NULL) code = begin_drive(till, *drawer);
-    return code == KIJ_OK ? begin_drive(till, *printer) : code;
+    return take_drives(till, printer, drawer);
 }
 
 kij_result kij_escpos_printer_open(kij_till *till, const char *device, const char *port,
@@ -776,15 +795,10 @@ kij_result kij_escpos_printer_open(kij_till *till, const char *device, const cha
     int code = kij_internal_enter(till);
     if (code != KIJ_OK) return plain(code);
     code = open_printer(till, device, port, settings == NULL ? &usual : settings, &printer, &drawer);
-    if (code == KIJ_OK) {
-        add_drive(till->drives, printer);
-        if (drawer != NULL) add_drive(till->drives, drawer);
-        /* What isn't handed in now is the next time. */
-        (void)kij_internal_hand_in(till, &is_any);
-    } else {
-        if (drawer != NULL) free_drive(drawer);
-        if (printer != NULL) free_drive(printer);
-    }
+    /* What isn't handed in now is the next time. */
+    if (code == KIJ_OK) (void)kij_internal_hand_in(till, &is_any);
+    if (drawer != NULL) free_drive(drawer);
+    if (printer != NULL) free_drive(printer);
     kij_internal_leave(till);
     return plain(code);
 }
