@@ -616,9 +616,9 @@ typedef struct kij_scanner_settings {
  * that the printer hasn't acknowledged are sent again.
  *
  * @param device   the name of a printer of the profile
- * @param port     /dev/usb/lp0, /dev/ttyUSB0, tcp:HOST or tcp:HOST:PORT (9100 if there is none). Give HOST as a number
- * address, as 192.0.2.7. The timeout doesn't limit how long the system looks a name up. It is looked up when the port is
- * first opened, and then at most once a minute, while none of its addresses answers
+ * @param port     /dev/usb/lp0, /dev/ttyUSB0, tcp:HOST or tcp:HOST:PORT (9100 if there is none). HOST had better be an
+ * address in numbers, as 192.0.2.7: the timeout doesn't limit how long the system looks a name up. Once a name is
+ * found, its addresses are kept. It is looked up again at most once a minute, if none of them can be reached
  * @param settings null is KIJ_ESCPOS_SETTINGS
  * @return KIJ_BAD_DEVICE, KIJ_KIND_DIFFERS, KIJ_DRIVEN, KIJ_NO_DEVICE (it can't be driven, as one with `flaky`),
  * KIJ_BAD_SETTINGS, KIJ_NO_MEMORY or KIJ_BAD_ARGUMENT on failure; then no device has a driver of this call. If only the
@@ -629,9 +629,9 @@ kij_result kij_escpos_printer_open(kij_till *till, const char *device, const cha
 
 /**
  * Has a customer display show what the orders of a device from now on say: characters, but neither blinking nor
- * reverse ones. A display answers nothing, so an order counts as done once its bytes have left this machine over a
- * serial line. Over TCP and /dev/usb/lp0 it counts as done once the system has taken them. A display that was lost shows
- * all its rows again with the next order.
+ * reverse ones. A display answers nothing. Over a serial line an order counts as done once its bytes have left this
+ * machine; over TCP and /dev/usb/lp0 once the system has taken them. A display that was lost shows all its rows again
+ * with the next order.
  *
  * @param device   the name of a line display of the profile
  * @param port     as kij_escpos_printer_open takes it
@@ -645,6 +645,9 @@ kij_result kij_serial_display_open(kij_till *till, const char *device, const cha
  * Has a scanner read the codes of a device from now on. It sends each with a terminator (CR, LF or both), or types it
  * as a keyboard of the layout US, whose keys no other program gets meanwhile. An AIM identifier in front of a code,
  * such as ]E0, says which type it has; ScanDataLabel is the code without it.
+ *
+ * While a call waits for a printer, the system keeps fewer key events than a code of 13 digits has. If it drops some,
+ * the scan has failed (kij_input_scan_fault).
  *
  * @param device   the name of a scanner of the profile
  * @param port     /dev/input/.. for a keyboard wedge; else as kij_escpos_printer_open takes it

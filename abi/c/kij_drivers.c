@@ -561,7 +561,8 @@ static int run_round(kij_till *till, bool *is_any) {
 static void wait_for_any(const kij_drives *drives, int64_t time) {
     struct pollfd waiting[MOST_PORTS];
     nfds_t count = 0;
-    for (kij_drive *drive = drives == NULL ? NULL : drives->first; drive != NULL && count < MOST_PORTS; drive = drive->next) {
+    kij_drive *first = drives == NULL ? NULL : drives->first;
+    for (kij_drive *drive = first; drive != NULL && count < MOST_PORTS; drive = drive->next) {
         const kij_port *port = port_of(drive);
         if (drive->link != NULL && !drive->has_link) continue;
         if (!kij_internal_port_is_open(port)) continue;

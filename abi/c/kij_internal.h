@@ -154,8 +154,8 @@ kij_result kij_internal_call(kij_control *control, kij_verb verb, const kij_word
  * kij_code. */
 int kij_internal_settled(kij_till *till, uint32_t code, size_t *needed);
 
-/* Ends lines of an earlier call that are held: their orders failed, and nobody wants the answer. Without memory some are
-   held still. */
+/* Ends lines of an earlier call that are held: their orders failed, and nobody wants the answer. Without memory some
+   are held still. */
 void kij_internal_give_up(kij_till *till);
 
 /* Adds arguments to the line, which goes to `*at`: a code. Four that aren't bytes have room behind the words. */

@@ -33,9 +33,11 @@ static bool is_synced(int file) {
 
 int kij_internal_read_file(int file, uint8_t *bytes, size_t *size) {
     ssize_t found = 1;
-    for (*size = 0; found != 0 && *size < KIJOLVAR_DISK_LENGTH; *size += found > 0 ? (size_t)found : 0) {
+    *size = 0;
+    while (found != 0 && *size < KIJOLVAR_DISK_LENGTH) {
         found = pread(file, bytes + *size, KIJOLVAR_DISK_LENGTH - *size, (off_t)*size);
-        if (found < 0 && errno != EINTR) return errno;
+        if (found > 0) *size += (size_t)found;
+        else if (found < 0 && errno != EINTR) return errno;
     }
     return 0;
 }
