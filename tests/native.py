@@ -8,11 +8,16 @@ last line is 'N passed, M failed'.
 """
 import argparse
 import contextlib
+import errno
+import fcntl
+import os
 import pathlib
 import random
 import subprocess
 import sys
 import tempfile
+import termios
+import threading
 import time
 
 TOP = pathlib.Path(__file__).resolve().parent.parent
@@ -80,12 +85,15 @@ def until(condition, seconds=PATIENCE):
 
 
 class Host:
-    """A program with a till."""
+    """A program with a till. It has the terminal of a file, if one is given."""
 
-    def __init__(self, stack, profile=PROFILE, *totals):
+    def __init__(self, stack, profile=PROFILE, *totals, terminal=None):
         path = WORK / "profile"
         path.write_text(profile)
         pipes = {"stdin": subprocess.PIPE, "stdout": subprocess.PIPE, "text": True, "bufsize": 1}
+        if terminal is not None:
+            pipes |= {"start_new_session": True, "pass_fds": [terminal],
+                      "preexec_fn": lambda: fcntl.ioctl(terminal, termios.TIOCSCTTY, 0)}
         self.program = subprocess.Popen([WORDS.host, path, *totals], **pipes)
         stack.callback(self.close)
 
@@ -414,6 +422,132 @@ def try_scanner():
                 scanned(b"456", ["ok 0", "ok 343536", "ok 343536"])
 
 
+def try_scanner_events():
+    """A code of which the system has dropped events, since nobody has read them in time, is a failed scan."""
+    with contextlib.ExitStack() as stack:
+        device = stack.enter_context(Scanner(cable()))
+        host = Host(stack)
+        told("opened for keys", "ok", host.ask(f"scanner s1 {device.path} keys pause 10"))
+        host.lines("new s Scanner", "open s s1", "claim s 0", "set s DeviceEnabled true", "set s DecodeData true")
+
+        def comes(code, dropped, name, wanted):
+            device.types(code, dropped)
+            told(f"{name}: it comes", True, until(lambda: host.ask("run 10") == "true"))
+            told(name, wanted, host.lines("set s DataEventEnabled true", "deliver s", "get s ScanDataLabel")[1:])
+        code = b"]E04006381333931"
+        failed, whole = ["event ErrorEvent 111 0 2", "ok -"], ["event DataEvent 0", "ok " + code[3:].hex()]
+        comes(code, 10, "the front of a code was dropped", failed)
+        comes(code, 0, "a code after it", whole)
+        comes(b"aBC", 3, "shift is down where events were dropped", [failed[0], whole[1]])
+        comes(b"abc", 0, "small letters after it", [whole[0], "ok 616263"])
+        if host.ask(f"totals {WORK / 'none'}") == "not understood":
+            return
+        comes(b"123", 7, "all but the end of Enter was dropped", [failed[0], "ok 616263"])
+        comes(code, 0, "a code after that", whole)
+
+
+def try_asked_retries():
+    """A printer that is asked falls silent for two retries. What it answers to them is no answer to a later order."""
+    with contextlib.ExitStack() as stack:
+        shop = Shop(stack, "asked")
+        device = shop.device
+
+        def goes_on(count):
+            """Lets it work so many bytes off, while an order waits."""
+            device.after(count, device.hang)
+            timer = threading.Timer(0.2, device.hang, [False])
+            timer.start()
+            stack.callback(timer.join)
+        device.hang()
+        told("an order of a silent printer", "err 111", shop.print(b"Once\n"))
+        size = len(device._got)
+        told("two retries", ["err 111"] * 2, [shop.print(b"Once\n"), shop.print(b"Once\n")])
+        device.after(size, device.hang)
+        device.hang(False)
+        told("the order is printed", True, device.wait(lambda: device.is_hung and len(device.receipt()) == 1))
+        told("a third retry", "ok", shop.print(b"Once\n"))
+        goes_on(6)
+        told("another order isn't done", "err 111", shop.print(b"Another one\n"))
+        told("nor printed", 1, len(device.receipt()))
+        device.hang(False)
+        told("it answers again", True, shop.settle())
+        told("a retry of that", "ok", shop.print(b"Another one\n"))
+        told("the paper", [b"Once", b"Another one"], [item[1] for item in shop.paper()])
+        device.hang()
+        for letter in b"AB":
+            text = b"".join(b"%c%02d\n" % (letter, number) for number in range(40))
+            told("a long order of a silent printer", "err 111", shop.print(text))
+        goes_on(len(device._got))
+        told("an order behind two that are due", "err 111", shop.print(b"Last\n"))
+        device.hang(False)
+        told("it answers at last", True, shop.settle())
+        told("a retry of the last one", "ok", shop.print(b"Last\n"))
+        told("it is printed once", 1, [item[1] for item in shop.paper()].count(b"Last"))
+
+
+def try_late_line():
+    """A link to a serial line that is made after its driver was opened is set up as a serial line. /dev/tty is the line
+    here, which is the terminal of the host's session."""
+    master, slave = os.openpty()
+    path = WORK / "late"
+    with contextlib.ExitStack() as stack:
+        for file in (master, slave):
+            stack.callback(os.close, file)
+        host = Host(stack, terminal=slave)
+        told("a display that isn't there", "ok", host.ask(f"display p1 {path} pause 10"))
+        told("it is off", "offline 0", host.ask("state p1"))
+        path.symlink_to("/dev/tty")
+        told("it is found", True, until(lambda: host.ask("run 10") and host.ask("state p1") == "online 0"))
+        settings = termios.tcgetattr(slave)
+        told("its speed", [termios.B9600] * 2, settings[4:6])
+        told("its flow control", True, settings[2] & termios.CRTSCTS != 0)
+        host.lines("new p LineDisplay", "open p p1", "claim p 0", "set p DeviceEnabled true")
+        told("an order of it", "ok", host.line("call p displayTextAt 0 0 546f74616c 0"))
+        told("its text", True, b"Total" in os.read(master, 1000))
+
+
+def try_flaky():
+    """A printer or a drawer that can't be driven leaves no other one without its driver."""
+    port = cable().path
+    with contextlib.ExitStack() as stack:
+        host = Host(stack, PROFILE.replace("near = 20", "near = 20\nflaky = [1, 1]"))
+        if host.ask(f"totals {WORK / 'none'}") == "not understood":
+            # This layer drives a printer and a drawer by a call each.
+            return
+        told("a flaky printer", "KIJ_NO_DEVICE", host.ask(f"printer r1 {port} timeout 100 drawer d1"))
+        told("it leaves no driver", ["KIJ_NO_DEVICE"] * 2, [host.ask("state r1"), host.ask("state d1")])
+        told("its drawer opens", ["ok"] * 4,
+             host.lines("new d CashDrawer", "open d d1", "set d DeviceEnabled true", "call d openDrawer"))
+    with contextlib.ExitStack() as stack:
+        host = Host(stack, PROFILE.replace('"CashDrawer"', '"CashDrawer"\nflaky = [1, 1]', 1))
+        told("a flaky drawer", "KIJ_NO_DEVICE", host.ask(f"printer r1 {port} timeout 100 drawer d1"))
+        told("its printer is driven", ["offline 0", "KIJ_NO_DEVICE"], [host.ask("state r1"), host.ask("state d1")])
+
+
+def try_totals_files():
+    """What the system says of a file of totals that can't be read, where the layer passes it on."""
+    short, pipe = WORK / "short", WORK / "pipe"
+    short.write_bytes(bytes(100))
+    os.mkfifo(pipe)
+    with contextlib.ExitStack() as stack:
+        host = Host(stack)
+        if host.ask(f"totals {WORK / 'none'}") == "not understood":
+            return
+        for verb in ("totals", "migrate"):
+            told(f"{verb}: no file", f"KIJ_SYSTEM {errno.ENOENT}", host.ask(f"{verb} {WORK / 'none'}"))
+            told(f"{verb}: a short file", "KIJ_TOO_SMALL", host.ask(f"{verb} {short}"))
+            told(f"{verb}: one that can't be read", f"KIJ_SYSTEM {errno.ESPIPE}", host.ask(f"{verb} {pipe}"))
+
+
+def try_idle():
+    """Without drivers the call that serves them waits as long as it is told."""
+    with contextlib.ExitStack() as stack:
+        host = Host(stack)
+        began = time.monotonic()
+        told("nothing is driven", "false", host.ask("run 300"))
+        told("it takes its time", True, time.monotonic() - began >= 0.3)
+
+
 def try_refusals():
     """What can't be opened."""
     with contextlib.ExitStack() as stack:
@@ -508,6 +642,31 @@ def try_memory():
         told("want of memory: the till's paper", str(100_000 - len(wanted)), host.line("show r1").split()[2])
         told("want of memory: nothing is held", "ok", host.line("call r printNormal 2 410a"))
         print(f"{WORDS.name}: memory was refused at up to {refused} allocations", flush=True)
+
+
+def try_memory_while():
+    """Want of memory for a while, which ends within the next order: each order is answered for itself."""
+    with contextlib.ExitStack() as stack:
+        host = Host(stack)
+        if host.ask("memory 0") != "ok":
+            return
+        device = stack.enter_context(Printer(cable(), lines=100_000))
+        host.ask(f"printer r1 {device.path} timeout 100 pause 10")
+        host.lines("new r POSPrinter", "open r r1", "claim r 0", "set r DeviceEnabled true")
+        wanted, found = [], []
+        for first in range(1, 40):
+            for count in range(1, 8):
+                host.ask(f"memory {first} {count}")
+                for letter in "AB":
+                    line = f"{letter} {first} {count}".encode()
+                    answer = host.ask(f"lines call r printNormal 2 {line.hex()}0a")
+                    # One that failed may be printed all the same, if there was no memory for its acknowledgement.
+                    if answer in ("ok;", "KIJ_NO_ANSWER"):
+                        wanted.append(line)
+                        found.append(device.receipt()[-1].characters)
+                host.ask("memory 0")
+        told("want of memory for a while: some orders are done", True, len(wanted) > 100)
+        told("want of memory for a while: what was printed last", wanted, found)
 
 
 # ---- random faults

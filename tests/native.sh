@@ -1,8 +1,9 @@
 #!/usr/bin/env bash
 # Tries the drivers of the typed layers of C and Rust over an emulated printer, drawer, display and scanner
 # (tests/native.py says what): the layer of C as it is, and under the address and the undefined behaviour sanitizer;
-# the crate of Rust. valgrind looks for what the layer of C forgets, and tests/native/cost.c says what an order costs. It
-# installs nothing, and a missing tool is a failure that names its package.
+# the crate of Rust. valgrind looks for what the layer of C forgets, tests/native/system.c tries what only the system
+# can do, and tests/native/cost.c says what an order costs. It installs nothing, and a missing tool is a failure that
+# names its package.
 # Usage: tests/native.sh [WORD ..]. The words are those of tests/native.py: --faults N (100 random faults by default),
 # --seed N, --only WORD. KIJOLVAR_ARCHIVE names a library in place of the one that rt lib builds. Its last line is
 # 'N passed, M failed'.
@@ -95,6 +96,10 @@ runs "the host in C is built with a heap" gcc -std=c99 "${strict[@]}" -O1 -g -DH
   "$here/host.c" "$here/scarce_heap.c" "$work/libkijolvar.a" -Wl,--wrap=malloc,--wrap=calloc,--wrap=realloc
 runs "what measures the cost is built" gcc -std=c99 "${strict[@]}" -O2 -o "$work/cost" "$here/cost.c" \
   "$work/libkijolvar.a"
+runs "what tries the system is built" gcc -std=c99 "${strict[@]}" -O1 -g -fsanitize=address,undefined \
+  -fno-sanitize-recover -o "$work/system" "$here/system.c" "$abi"/c/kij_*.c "${bare[@]}" \
+  -Wl,--wrap=getaddrinfo,--wrap=pread,--wrap=pwrite
+runs "ports and files where the system does less" "$work/system" "$work"
 runs "the host in C++17 is built" g++ -std=c++17 "${strict[@]}" -O1 -x c++ "$here/host.c" "$abi"/c/kij_*.c -x none \
   -o "$work/plus" "${bare[@]}"
 cat > "$work/watched" <<END

@@ -517,7 +517,8 @@ typedef enum kij_flow { KIJ_FLOW_NONE = 0, KIJ_FLOW_RTS_CTS = 1, KIJ_FLOW_XON_XO
 
 /** How a serial line is set up. */
 typedef struct kij_serial_settings {
-    /** Whether the path is a serial line, whatever its name. A path of /dev/tty.. or /dev/serial/.. always is one. */
+    /** Whether the path is a serial line, whatever its name. A path of /dev/tty.. or /dev/serial/.. always is one, and
+     * so is a link to /dev/tty.., which may be missing until the port is opened. */
     bool is_serial;
     /** Bits per second, as the device is set up: 1,200 to 230,400. */
     int speed;
@@ -615,18 +616,22 @@ typedef struct kij_scanner_settings {
  * that the printer hasn't acknowledged are sent again.
  *
  * @param device   the name of a printer of the profile
- * @param port     /dev/usb/lp0, /dev/ttyUSB0, tcp:HOST or tcp:HOST:PORT (9100 if there is none)
+ * @param port     /dev/usb/lp0, /dev/ttyUSB0, tcp:HOST or tcp:HOST:PORT (9100 if there is none). HOST had better be an
+ * address in numbers, as 192.0.2.7: the timeout doesn't limit how long the system looks a name up. Once a name is
+ * found, its addresses are kept. It is looked up again at most once a minute, if none of them can be reached
  * @param settings null is KIJ_ESCPOS_SETTINGS
  * @return KIJ_BAD_DEVICE, KIJ_KIND_DIFFERS, KIJ_DRIVEN, KIJ_NO_DEVICE (it can't be driven, as one with `flaky`),
- * KIJ_BAD_SETTINGS, KIJ_NO_MEMORY or KIJ_BAD_ARGUMENT on failure; then no device has a driver of this call
+ * KIJ_BAD_SETTINGS, KIJ_NO_MEMORY or KIJ_BAD_ARGUMENT on failure; then no device has a driver of this call. If only the
+ * drawer can't be driven (KIJ_NO_DEVICE), the printer has its driver, as kij_show_driver tells
  */
 kij_result kij_escpos_printer_open(kij_till *till, const char *device, const char *port,
                                    const kij_escpos_settings *settings);
 
 /**
  * Has a customer display show what the orders of a device from now on say: characters, but neither blinking nor
- * reverse ones. A display answers nothing, so an order counts as done once its bytes have left this machine. One that
- * was lost shows all its rows again with the next order.
+ * reverse ones. A display answers nothing. Over a serial line an order counts as done once its bytes have left this
+ * machine; over TCP and /dev/usb/lp0 once the system has taken them. A display that was lost shows all its rows again
+ * with the next order.
  *
  * @param device   the name of a line display of the profile
  * @param port     as kij_escpos_printer_open takes it
@@ -641,6 +646,9 @@ kij_result kij_serial_display_open(kij_till *till, const char *device, const cha
  * as a keyboard of the layout US, whose keys no other program gets meanwhile. An AIM identifier in front of a code,
  * such as ]E0, says which type it has; ScanDataLabel is the code without it.
  *
+ * While a call waits for a printer, the system keeps fewer key events than a code of 13 digits has. If it drops some,
+ * the scan has failed (kij_input_scan_fault).
+ *
  * @param device   the name of a scanner of the profile
  * @param port     /dev/input/.. for a keyboard wedge; else as kij_escpos_printer_open takes it
  * @param settings null is KIJ_SCANNER_SETTINGS
@@ -653,7 +661,8 @@ kij_result kij_wedge_scanner_open(kij_till *till, const char *device, const char
  * Does what the driven devices need: tells the till what they say of themselves and what was scanned, opens lost ports
  * again, and prints output that waits (AsyncMode). Call it regularly, and then deliver events.
  *
- * @param timeout how long to wait until there is something to do, in milliseconds. Printing may take longer.
+ * @param timeout how long to wait until there is something to do, in milliseconds. Printing may take longer. Without
+ * driven devices the call waits the whole time.
  * @param is_any  where it is written whether anything was done; may be null
  * @return KIJ_BAD_INPUT if the device can't be as its hardware says, KIJ_NO_MEMORY, KIJ_DISK_FAILED or KIJ_BAD_ARGUMENT
  * on failure

@@ -413,22 +413,30 @@ static int type_of(const uint8_t *name) {
     return 501;
 }
 
-/* Tells the till of the code that has come: a code of enum kij_code. */
-static int scan(kij_till *till, kij_drive *drive, bool *is_any) {
-    static const kij_word word = KIJ_WORD(" scan");
-    kij_argument arguments[3];
+/* Tells the till of a scan: a code of enum kij_code. */
+static int tell_scan(kij_till *till, const kij_drive *drive, const kij_word *word, const kij_argument *arguments,
+                     size_t count) {
     char *value;
+    int code = kij_internal_run(till, KIJ_VERB_INPUT, &drive->name, word, arguments, count);
+    return code == KIJ_OK ? kij_internal_answer(till, KIJ_NO_CATEGORY, &value).code : code;
+}
+
+/* Tells the till of the code that has come, or that a scan failed if a part of it was lost: a code of enum kij_code. */
+static int scan(kij_till *till, kij_drive *drive, bool *is_any) {
+    static const kij_word fault = KIJ_WORD(" fault"), word = KIJ_WORD(" scan");
+    kij_argument arguments[3];
     size_t size = drive->begun_size;
-    bool has_name = size > 3 && drive->begun[0] == ']';
+    bool has_name = size > 3 && drive->begun[0] == ']', is_torn = drive->is_torn;
     drive->begun_size = 0;
+    drive->is_torn = false;
     /* What is longer than any code is noise. */
-    if (size == 0 || size > LONGEST_CODE) return KIJ_OK;
+    if (!is_torn && (size == 0 || size > LONGEST_CODE)) return KIJ_OK;
+    *is_any = true;
+    if (is_torn) return tell_scan(till, drive, &fault, NULL, 0);
     arguments[0] = kij_internal_number(has_name ? type_of(drive->begun + 1) : drive->type);
     arguments[1] = kij_internal_bytes(drive->begun, size);
     arguments[2] = kij_internal_bytes(drive->begun + (has_name ? 3 : 0), size - (has_name ? 3 : 0));
-    int code = kij_internal_run(till, KIJ_VERB_INPUT, &drive->name, &word, arguments, 3);
-    *is_any = true;
-    return code == KIJ_OK ? kij_internal_answer(till, KIJ_NO_CATEGORY, &value).code : code;
+    return tell_scan(till, drive, &word, arguments, 3);
 }
 
 static void add_byte(kij_drive *drive, uint8_t byte) {
@@ -436,7 +444,8 @@ static void add_byte(kij_drive *drive, uint8_t byte) {
     if (drive->begun_size <= LONGEST_CODE) drive->begun_size++;
 }
 
-enum { FIRST_KEY = 2, KEY_COUNT = 56, EVENT_SIZE = 24 };
+/* The type of a key event, and the code of an event of type 0 that says that events were lost. */
+enum { KEY_EVENT = 1, EVENTS_LOST = 3, FIRST_KEY = 2, KEY_COUNT = 56, EVENT_SIZE = 24 };
 
 /* The characters of the keys of the layout US from number 2 on, without and with shift; a 0 byte is no character. */
 static const char key_characters[2][KEY_COUNT + 1] = {
@@ -451,9 +460,15 @@ static bool take_key(kij_drive *drive, const uint8_t *event) {
     memcpy(&type, event + EVENT_SIZE - 8, sizeof type);
     memcpy(&key, event + EVENT_SIZE - 6, sizeof key);
     memcpy(&value, event + EVENT_SIZE - 4, sizeof value);
-    if (type != 1) return false;
+    if (type == 0 && key == EVENTS_LOST) {
+        /* Nobody has read for so long that the system had no room left for events. */
+        drive->is_torn = true;
+        drive->is_shifted = false;
+    }
+    if (type != KEY_EVENT) return false;
     if (key == 42 || key == 54) drive->is_shifted = value != 0;
-    else if ((key == 28 || key == 96) && value != 0) return true;
+    /* A code that was lost up to its end ends where the key goes up. */
+    else if ((key == 28 || key == 96) && (value != 0 || drive->is_torn)) return true;
     else if (key >= FIRST_KEY && key < FIRST_KEY + KEY_COUNT && value != 0) {
         char found = key_characters[drive->is_shifted][key - FIRST_KEY];
         if (found != 0) add_byte(drive, (uint8_t)found);
@@ -495,7 +510,7 @@ static void connect_port(kij_drive *drive, int64_t time) {
     drive->tried_at = kij_internal_now();
     drive->is_new = true;
     drive->begun_size = drive->got_size = 0;
-    drive->is_shifted = false;
+    drive->is_shifted = drive->is_torn = false;
 }
 
 /* Reads what a device has said, and looks for one that was lost, without waiting. */
@@ -542,11 +557,12 @@ static int run_round(kij_till *till, bool *is_any) {
     return code;
 }
 
-/* Waits until a device says something. */
+/* Waits until a device says something; without devices it takes the whole time. */
 static void wait_for_any(const kij_drives *drives, int64_t time) {
     struct pollfd waiting[MOST_PORTS];
     nfds_t count = 0;
-    for (kij_drive *drive = drives->first; drive != NULL && count < MOST_PORTS; drive = drive->next) {
+    kij_drive *first = drives == NULL ? NULL : drives->first;
+    for (kij_drive *drive = first; drive != NULL && count < MOST_PORTS; drive = drive->next) {
         const kij_port *port = port_of(drive);
         if (drive->link != NULL && !drive->has_link) continue;
         if (!kij_internal_port_is_open(port)) continue;
@@ -563,8 +579,8 @@ kij_result kij_run_devices(kij_till *till, int timeout, bool *is_any) {
     if (timeout < 0) return plain(KIJ_BAD_ARGUMENT);
     int code = kij_internal_enter(till);
     if (code != KIJ_OK) return plain(code);
-    while (code == KIJ_OK && till->drives != NULL) {
-        code = run_round(till, &found);
+    while (code == KIJ_OK) {
+        if (till->drives != NULL) code = run_round(till, &found);
         int64_t left = end - kij_internal_now();
         if (code != KIJ_OK || found || left <= 0) break;
         wait_for_any(till->drives, left < 100 ? left : 100);
@@ -729,7 +745,28 @@ static bool make_link(kij_till *till, kij_drive *printer, const char *port, cons
     return true;
 }
 
-/* Opens a printer and its drawer: a code of enum kij_code. What was made is written in any case. */
+/* Begins to drive a device, and adds its drive: a code of enum kij_code. Null is written then. */
+static int take_drive(kij_till *till, kij_drive **drive) {
+    int code = begin_drive(till, *drive);
+    if (code != KIJ_OK) return code;
+    add_drive(till->drives, *drive);
+    *drive = NULL;
+    return code;
+}
+
+/* Begins to drive a printer and its drawer: a code of enum kij_code. Nothing undoes it, so a printer stays driven if
+   only its drawer is refused. */
+static int take_drives(kij_till *till, kij_drive **printer, kij_drive **drawer) {
+    kij_link *link = (*printer)->link;
+    int code = take_drive(till, printer);
+    if (code != KIJ_OK) return code;
+    if (*drawer != NULL) code = take_drive(till, drawer);
+    kij_internal_link_start(link);
+    return code;
+}
+
+/* Opens a printer and its drawer: a code of enum kij_code. A drive that was made and not added is written in any case.
+   */
 static int open_printer(kij_till *till, const char *device, const char *port, const kij_escpos_settings *settings,
                         kij_drive **printer, kij_drive **drawer) {
     kijolvar_wire_settings wire;
@@ -747,9 +784,7 @@ static int open_printer(kij_till *till, const char *device, const char *port, co
         code = settings_code(till, *drawer);
     }
     if (code != KIJ_OK) return code;
-    kij_internal_link_start((*printer)->link);
-    if (*drawer != NULL) code = begin_drive(till, *drawer);
-    return code == KIJ_OK ? begin_drive(till, *printer) : code;
+    return take_drives(till, printer, drawer);
 }
 
 kij_result kij_escpos_printer_open(kij_till *till, const char *device, const char *port,
@@ -761,15 +796,10 @@ kij_result kij_escpos_printer_open(kij_till *till, const char *device, const cha
     int code = kij_internal_enter(till);
     if (code != KIJ_OK) return plain(code);
     code = open_printer(till, device, port, settings == NULL ? &usual : settings, &printer, &drawer);
-    if (code == KIJ_OK) {
-        add_drive(till->drives, printer);
-        if (drawer != NULL) add_drive(till->drives, drawer);
-        /* What isn't handed in now is the next time. */
-        (void)kij_internal_hand_in(till, &is_any);
-    } else {
-        if (drawer != NULL) free_drive(drawer);
-        if (printer != NULL) free_drive(printer);
-    }
+    /* What isn't handed in now is the next time. */
+    if (code == KIJ_OK) (void)kij_internal_hand_in(till, &is_any);
+    if (drawer != NULL) free_drive(drawer);
+    if (printer != NULL) free_drive(printer);
     kij_internal_leave(till);
     return plain(code);
 }

@@ -3,6 +3,7 @@
 #define KIJ_HARDWARE_H
 
 #include "kij_internal.h"
+#include <sys/socket.h>
 
 /* A text or bytes that grow. */
 typedef struct kij_buffer {
@@ -12,6 +13,15 @@ typedef struct kij_buffer {
 } kij_buffer;
 
 typedef enum kij_port_kind { KIJ_PORT_FILE, KIJ_PORT_SERIAL, KIJ_PORT_TCP, KIJ_PORT_KEYS } kij_port_kind;
+
+/* An address of a TCP port. */
+typedef struct kij_address {
+    struct sockaddr_storage place;
+    socklen_t size;
+} kij_address;
+
+/* How many addresses of a TCP port are kept. */
+enum { KIJ_ADDRESS_ROOM = 4 };
 
 /* A port. Its name stays as long as it does. */
 typedef struct kij_port {
@@ -26,6 +36,10 @@ typedef struct kij_port {
     bool ends_empty;
     /* Why it couldn't be opened or was lost the last time. */
     int error;
+    /* Of a TCP port: the addresses that its name had the last time, and when it may be looked up again. */
+    kij_address addresses[KIJ_ADDRESS_ROOM];
+    size_t address_count;
+    int64_t resolve_at;
 } kij_port;
 
 /* An order on its way to the paper, piece by piece: a line, a cut or a pulse. One without any is one empty piece, so
@@ -160,9 +174,11 @@ typedef struct kij_drive {
     int64_t pause;
     int64_t tried_at;
     bool is_new;
-    /* A scanner: what of a code has come, of key events, and whether the shift key is down. */
+    /* A scanner: what of a code has come, of key events, whether the shift key is down, and whether events of the code
+       were lost. */
     int type;
     bool is_shifted;
+    bool is_torn;
     uint8_t *begun;
     size_t begun_size;
     uint8_t got[64];
@@ -222,7 +238,7 @@ static inline bool kij_internal_is_reliable(const kij_port *port) { return port-
 
 static inline bool kij_internal_port_is_open(const kij_port *port) { return port->file >= 0; }
 
-/* Opens a port that isn't open, in so many milliseconds: whether it is open. */
+/* Opens a port that isn't open, in so many milliseconds: whether it is open. Looking a name up isn't limited. */
 bool kij_internal_port_open(kij_port *port, int64_t time);
 
 void kij_internal_port_close(kij_port *port);
@@ -236,7 +252,7 @@ bool kij_internal_port_read(kij_port *port, void *bytes, size_t room, size_t *co
 /* Writes what there is room for. False if the port was lost: it is closed then. */
 bool kij_internal_port_write(kij_port *port, const void *bytes, size_t size, size_t *count);
 
-/* Whether all that was written has left this machine before a time. */
+/* Whether all that was written has left this machine before a time. If the port was lost, it is closed then. */
 bool kij_internal_port_drained(kij_port *port, int64_t end);
 
 /* kij_links.c */

@@ -154,7 +154,8 @@ kij_result kij_internal_call(kij_control *control, kij_verb verb, const kij_word
  * kij_code. */
 int kij_internal_settled(kij_till *till, uint32_t code, size_t *needed);
 
-/* Ends lines of an earlier call that are held: their orders failed, and nobody wants the answer. */
+/* Ends lines of an earlier call that are held: their orders failed, and nobody wants the answer. Without memory some
+   are held still. */
 void kij_internal_give_up(kij_till *till);
 
 /* Adds arguments to the line, which goes to `*at`: a code. Four that aren't bytes have room behind the words. */
@@ -166,6 +167,12 @@ static inline int kij_internal_carry(kij_till *till, const char *lines, size_t s
     size_t needed = 0;
     int found = KIJ_OK;
     if (till->is_holding) kij_internal_give_up(till);
+    if (till->is_holding) {
+        /* The library would go on with those in place of these. */
+        till->text_size = 0;
+        till->text[0] = 0;
+        return KIJ_NO_MEMORY;
+    }
     uint32_t code = kijolvar_carry_out(till->inner, &till->inner.at, (const uint8_t *)lines, size,
                                        (uint8_t *)till->text, till->text_room - 1, &needed);
     if (code != KIJOLVAR_OK) found = kij_internal_settled(till, code, &needed);
@@ -229,16 +236,19 @@ static inline kij_argument kij_internal_bytes(const void *data, size_t size) {
  * minus. */
 int kij_internal_open_file(const char *path, int flags, const char *profile, int *file);
 
-/* Opens the library's till, over the file if there is one: a code of enum kij_code. */
+/* Opens the library's till, over the file if there is one: 0, or errno, or a code of enum kij_code with a minus. */
 int kij_internal_open_till(kij_till *till, const char *profile);
 
 /* Moves the totals in a file to layout 2: 0, or errno, or a code of enum kij_code with a minus. */
 int kij_internal_move_file(const char *path);
 
+/* Reads a file, as many bytes as totals have: 0 or errno. */
+int kij_internal_read_file(int file, uint8_t *bytes, size_t *size);
+
 /* What the library's code means to who opens a file or a till. */
 int kij_internal_code_of(uint32_t code);
 
-/* Does in the file what the till's disk did: KIJOLVAR_OK once all of it is there. */
+/* Does in the file what the till's disk did: KIJOLVAR_OK once all of it is there, or KIJOLVAR_DISK_FAILED and errno. */
 uint32_t kij_internal_settle(kij_till *till);
 
 #ifdef __GNUC__

@@ -115,10 +115,12 @@ static void make_room(kij_link *link) {
     }
 }
 
-/* Puts bytes and the question for their acknowledgement out. Whether there is memory. */
+/* Puts bytes and the question for their acknowledgement out. Whether there is memory, and room. */
 static bool send_parcel(kij_link *link, const char *bytes, size_t size, kij_job *job) {
     uint8_t end[KIJ_END_ROOM];
     size_t before = link->out.size;
+    /* Each answer without a number is counted, so none of those that are due may be forgotten. */
+    if (link->is_asked && link->due_count == KIJ_DUE_ROOM) return false;
     link->number = (link->number + 1) % NUMBERS;
     memcpy(end, link->end, sizeof end);
     /* The library's question has the number in its last four bytes, a digit of sixteen in each. */
@@ -594,8 +596,11 @@ static void begin(kij_link *link, kij_job *job, bool is_once) {
 
 /* Asks for an acknowledgement of all that was sent before. */
 static void put_marker(kij_link *link) {
-    /* One that nobody has answered yet is of no use any more. */
-    if (link->due_count > 0 && link->due[link->due_count - 1].job == 0) link->due_count--;
+    if (link->due_count > 0 && link->due[link->due_count - 1].job == 0) {
+        /* Nobody has answered the last one yet. Its answer will be counted, if it has no number: it serves again. */
+        if (link->is_asked) return;
+        link->due_count--;
+    }
     send_parcel(link, NULL, 0, NULL);
 }
 

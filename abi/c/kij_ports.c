@@ -1,5 +1,5 @@
 /* The ports of devices: a file such as /dev/usb/lp0, a serial line such as /dev/ttyUSB0, a TCP port, or the key
-   events of a keyboard. No call waits longer than it is told. */
+   events of a keyboard. No call waits longer than it is told, unless a name has to be looked up. */
 #ifndef _GNU_SOURCE
 #define _GNU_SOURCE
 #endif
@@ -21,6 +21,10 @@
 #include <termios.h>
 #include <time.h>
 #include <unistd.h>
+
+/* How long looking a name up may take until it counts as long, and how long a name isn't looked up again then, in
+   milliseconds. */
+static const int64_t quickly = 250, rarely = 60000;
 
 bool kij_internal_buffer_room(kij_buffer *buffer, size_t room) {
     if (room <= buffer->room) return true;
@@ -159,20 +163,23 @@ static bool is_address(const char *name, char *host, size_t host_room, char *ser
 /* Waits for a connection that was begun, until a time: 0 or errno. */
 static int finish(int file, int64_t end) {
     struct pollfd waiting = {file, POLLOUT, 0};
-    int why = 0;
+    int why = 0, ready;
     socklen_t size = sizeof why;
-    int64_t left = end - kij_internal_now();
-    if (poll(&waiting, 1, (int)(left < 1 ? 1 : left)) <= 0) return ETIMEDOUT;
+    do {
+        int64_t left = end - kij_internal_now();
+        ready = poll(&waiting, 1, (int)(left < 1 ? 1 : left));
+    } while (ready < 0 && errno == EINTR && kij_internal_now() < end);
+    if (ready <= 0) return ETIMEDOUT;
     if (getsockopt(file, SOL_SOCKET, SO_ERROR, &why, &size) != 0) return errno;
     return why;
 }
 
 /* Connects to an address: 0 or errno. */
-static int join(const struct addrinfo *address, int64_t end, int *file) {
+static int join(const kij_address *address, int64_t end, int *file) {
     int one = 1;
-    *file = socket(address->ai_family, address->ai_socktype | SOCK_NONBLOCK | SOCK_CLOEXEC, address->ai_protocol);
+    *file = socket(address->place.ss_family, SOCK_STREAM | SOCK_NONBLOCK | SOCK_CLOEXEC, 0);
     if (*file < 0) return errno;
-    int why = connect(*file, address->ai_addr, address->ai_addrlen) == 0 ? 0 : errno;
+    int why = connect(*file, (const struct sockaddr *)&address->place, address->size) == 0 ? 0 : errno;
     if (why == EINPROGRESS) why = finish(*file, end);
     if (why == 0 && (setsockopt(*file, IPPROTO_TCP, TCP_NODELAY, &one, sizeof one) != 0 ||
                      setsockopt(*file, SOL_SOCKET, SO_KEEPALIVE, &one, sizeof one) != 0))
@@ -181,19 +188,48 @@ static int join(const struct addrinfo *address, int64_t end, int *file) {
     return why;
 }
 
-/* Opens a TCP port: 0 or errno. */
-static int open_tcp(kij_port *port, int64_t end, int *file) {
+/* Keeps addresses, as many as there is room for. */
+static void keep_addresses(kij_port *port, const struct addrinfo *found) {
+    port->address_count = 0;
+    for (; found != NULL && port->address_count < KIJ_ADDRESS_ROOM; found = found->ai_next) {
+        kij_address *address = &port->addresses[port->address_count];
+        if (found->ai_addrlen > sizeof address->place) continue;
+        memcpy(&address->place, found->ai_addr, found->ai_addrlen);
+        address->size = found->ai_addrlen;
+        port->address_count++;
+    }
+}
+
+/* Looks the name of a TCP port up: 0 or errno. The addresses that are kept stay if there are no others. A name that was
+   found, or took long, isn't looked up again for a while. */
+static int resolve(kij_port *port) {
     char host[256], service[16];
     struct addrinfo wanted, *found = NULL;
+    int64_t began = kij_internal_now();
     if (!is_address(port->name, host, sizeof host, service, sizeof service)) return EINVAL;
+    if (began < port->resolve_at) return EHOSTUNREACH;
     memset(&wanted, 0, sizeof wanted);
     wanted.ai_socktype = SOCK_STREAM;
     wanted.ai_flags = AI_NUMERICSERV;
-    if (getaddrinfo(host, service, &wanted, &found) != 0) return EHOSTUNREACH;
-    int why = EHOSTUNREACH;
-    for (const struct addrinfo *address = found; address != NULL && why != 0; address = address->ai_next)
-        why = join(address, end, file);
+    bool is_found = getaddrinfo(host, service, &wanted, &found) == 0;
+    int64_t now = kij_internal_now();
+    if (is_found || now - began > quickly) port->resolve_at = now + rarely;
+    if (!is_found) return EHOSTUNREACH;
+    keep_addresses(port, found);
     freeaddrinfo(found);
+    return 0;
+}
+
+/* Opens a TCP port: 0 or errno. */
+static int open_tcp(kij_port *port, int64_t time, int *file) {
+    int why = port->address_count > 0 ? 0 : resolve(port);
+    if (why != 0) return why;
+    why = EHOSTUNREACH;
+    int64_t end = kij_internal_now() + time;
+    for (size_t place = 0; place < port->address_count && why != 0; place++)
+        why = join(&port->addresses[place], end, file);
+    /* The name may have others by now, for the next time. */
+    if (why != 0) (void)resolve(port);
     port->ends_empty = true;
     return why;
 }
@@ -201,7 +237,9 @@ static int open_tcp(kij_port *port, int64_t end, int *file) {
 bool kij_internal_port_open(kij_port *port, int64_t time) {
     int file = -1;
     if (port->file >= 0) return true;
-    int why = port->kind == KIJ_PORT_TCP ? open_tcp(port, kij_internal_now() + time, &file) : open_file(port, &file);
+    /* A link to a serial line may have been missing before. */
+    if (port->kind == KIJ_PORT_FILE && is_line_name(port->name)) port->kind = KIJ_PORT_SERIAL;
+    int why = port->kind == KIJ_PORT_TCP ? open_tcp(port, time, &file) : open_file(port, &file);
     if (why != 0) {
         port->error = why;
         return false;
@@ -211,8 +249,23 @@ bool kij_internal_port_open(kij_port *port, int64_t time) {
     return true;
 }
 
+/* Drops what a terminal line couldn't send. Closing it would wait for that, by default for 30 seconds. Some drivers
+   can't drop it, so nothing may hold it back any more. */
+static void drop_unsent(int file) {
+    struct termios found;
+    if (!isatty(file)) return;
+    (void)tcflush(file, TCOFLUSH);
+    if (tcgetattr(file, &found) != 0) return;
+    found.c_cflag &= ~(tcflag_t)CRTSCTS;
+    found.c_iflag &= ~(tcflag_t)IXON;
+    (void)tcsetattr(file, TCSANOW, &found);
+}
+
 void kij_internal_port_close(kij_port *port) {
-    if (port->file >= 0) close(port->file);
+    if (port->file >= 0) {
+        if (port->kind != KIJ_PORT_TCP) drop_unsent(port->file);
+        close(port->file);
+    }
     port->file = -1;
 }
 
@@ -246,9 +299,14 @@ bool kij_internal_port_write(kij_port *port, const void *bytes, size_t size, siz
 bool kij_internal_port_drained(kij_port *port, int64_t end) {
     int left = 0;
     if (port->kind != KIJ_PORT_SERIAL) return true;
-    while (ioctl(port->file, TIOCOUTQ, &left) == 0 && left > 0) {
+    while (ioctl(port->file, TIOCOUTQ, &left) == 0) {
+        if (left <= 0) return true;
         if (kij_internal_now() >= end) return false;
         kij_internal_sleep(1);
     }
-    return true;
+    /* A file that was set up as a serial line may be none. */
+    if (errno == ENOTTY || errno == EINVAL) return true;
+    port->error = errno;
+    kij_internal_port_close(port);
+    return false;
 }

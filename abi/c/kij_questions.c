@@ -96,15 +96,11 @@ kij_result kij_devices(const char *profile, kij_device *devices, size_t room, si
 
 /* Reads a file that no till has open, as many bytes as totals have: 0, or errno, or KIJ_NO_MEMORY with a minus. */
 static int read_file(int file, uint8_t **bytes, size_t *size) {
-    ssize_t found = 1;
     if (flock(file, LOCK_SH | LOCK_NB) != 0) return errno;
     *bytes = (uint8_t *)malloc(KIJOLVAR_DISK_LENGTH);
     if (*bytes == NULL) return -KIJ_NO_MEMORY;
-    for (*size = 0; found > 0 && *size < KIJOLVAR_DISK_LENGTH; *size += found > 0 ? (size_t)found : 0)
-        found = pread(file, *bytes + *size, KIJOLVAR_DISK_LENGTH - *size, (off_t)*size);
-    if (found >= 0) return 0;
-    int why = errno;
-    free(*bytes);
+    int why = kij_internal_read_file(file, *bytes, size);
+    if (why != 0) free(*bytes);
     return why;
 }
 

@@ -41,13 +41,12 @@ kij_result kij_open(const char *profile, const char *totals, int flags, kij_till
     }
     int why = totals == NULL ? 0 : kij_internal_open_file(totals, flags, profile, &made->file);
     if (why == 0) {
-        int code = kij_internal_open_till(made, profile);
-        if (code == KIJ_OK) {
+        why = kij_internal_open_till(made, profile);
+        if (why == 0) {
             *till = made;
             return plain(KIJ_OK);
         }
         close_file(made->file);
-        why = -code;
     }
     free_till(made);
     return why < 0 ? plain(-why) : kij_internal_result(KIJ_SYSTEM, why, KIJ_NO_CATEGORY);

@@ -11,16 +11,51 @@
 #include <sys/file.h>
 #include <unistd.h>
 
+/* Whether all of the bytes are written to a place of a file; else errno says why. */
+static bool is_written(int file, const uint8_t *bytes, size_t size, uint64_t at) {
+    size_t done = 0;
+    while (done < size) {
+        ssize_t count = pwrite(file, bytes + done, size - done, (off_t)(at + done));
+        if (count > 0) done += (size_t)count;
+        else if (count == 0) return errno = EIO, false;
+        else if (errno != EINTR) return false;
+    }
+    return true;
+}
+
+/* Whether a file is synced; else errno says why. */
+static bool is_synced(int file) {
+    int found;
+    do found = fsync(file);
+    while (found != 0 && errno == EINTR);
+    return found == 0;
+}
+
+int kij_internal_read_file(int file, uint8_t *bytes, size_t *size) {
+    ssize_t found = 1;
+    *size = 0;
+    while (found != 0 && *size < KIJOLVAR_DISK_LENGTH) {
+        found = pread(file, bytes + *size, KIJOLVAR_DISK_LENGTH - *size, (off_t)*size);
+        if (found > 0) *size += (size_t)found;
+        else if (found < 0 && errno != EINTR) return errno;
+    }
+    return 0;
+}
+
 uint32_t kij_internal_settle(kij_till *till) {
     for (;;) {
         uint64_t at = 0;
         size_t count = 0;
         uint32_t code =
             kijolvar_next_errand(till->inner, &till->inner.at, &at, till->errand, KIJOLVAR_DISK_LENGTH, &count);
-        if (code == KIJOLVAR_WRITE && pwrite(till->file, till->errand, count, (off_t)at) == (ssize_t)count) continue;
-        if (code == KIJOLVAR_SYNC && fsync(till->file) == 0) continue;
         if (code == KIJOLVAR_OK) return code;
+        /* Unless the file says why. */
+        errno = EIO;
+        if (code == KIJOLVAR_WRITE && is_written(till->file, till->errand, count, at)) continue;
+        if (code == KIJOLVAR_SYNC && is_synced(till->file)) continue;
+        int why = errno;
         kijolvar_errand_failed(till->inner, &till->inner.at);
+        errno = why;
         return KIJOLVAR_DISK_FAILED;
     }
 }
@@ -28,18 +63,19 @@ uint32_t kij_internal_settle(kij_till *till) {
 /* A call of the library that makes a till over a file's bytes. */
 typedef uint32_t (*begins)(const uint8_t *profile, size_t size, const uint8_t *bytes, size_t length, void **till);
 
-/* Opens the till over the file's bytes. */
-static uint32_t open_over_file(kij_till *till, const uint8_t *profile, size_t size, begins begin) {
+/* Opens the till over the file's bytes: 0, or errno, or a code of enum kij_code with a minus. */
+static int open_over_file(kij_till *till, const uint8_t *profile, size_t size, begins begin) {
+    size_t length = 0;
     till->errand = (uint8_t *)malloc(KIJOLVAR_DISK_LENGTH);
-    if (till->errand == NULL) return KIJOLVAR_NO_MEMORY;
-    ssize_t found = pread(till->file, till->errand, KIJOLVAR_DISK_LENGTH, 0);
-    if (found < 0) return KIJOLVAR_DISK_FAILED;
-    uint32_t code = begin(profile, size, till->errand, (size_t)found, &till->inner.at);
+    if (till->errand == NULL) return -KIJ_NO_MEMORY;
+    int why = kij_internal_read_file(till->file, till->errand, &length);
+    if (why != 0) return why;
+    uint32_t code = begin(profile, size, till->errand, length, &till->inner.at);
     if (code == KIJOLVAR_OK && (code = kij_internal_settle(till)) != KIJOLVAR_OK) {
         kijolvar_close(till->inner);
         till->inner.at = NULL;
     }
-    return code;
+    return -kij_internal_code_of(code);
 }
 
 /* What the library's code means to who opens a till. */
@@ -59,9 +95,8 @@ int kij_internal_code_of(uint32_t code) {
 int kij_internal_open_till(kij_till *till, const char *profile) {
     const uint8_t *text = (const uint8_t *)profile;
     size_t size = profile == NULL ? 0 : strlen(profile);
-    uint32_t code = till->file < 0 ? kijolvar_open(text, size, &till->inner.at)
-                                   : open_over_file(till, text, size, kijolvar_open_file);
-    return kij_internal_code_of(code);
+    if (till->file < 0) return -kij_internal_code_of(kijolvar_open(text, size, &till->inner.at));
+    return open_over_file(till, text, size, kijolvar_open_file);
 }
 
 /* Closes a file after an error, which it returns. */
@@ -115,7 +150,7 @@ static int format(int file, const char *profile) {
     int why = code == KIJOLVAR_OK ? 0 : -kij_internal_code_of(code);
     if (code == KIJOLVAR_OK) {
         if (ftruncate(file, KIJOLVAR_DISK_LENGTH) != 0) why = errno;
-        else if (kij_internal_settle(&till) != KIJOLVAR_OK) why = EIO;
+        else if (kij_internal_settle(&till) != KIJOLVAR_OK) why = errno;
         kijolvar_close(till.inner);
     }
     free(till.errand);
@@ -160,9 +195,9 @@ int kij_internal_move_file(const char *path) {
     memset(&till, 0, sizeof till);
     int why = open_existing(path, &till.file);
     if (why != 0) return why;
-    uint32_t code = open_over_file(&till, NULL, 0, kijolvar_migrate_file);
-    if (code == KIJOLVAR_OK) kijolvar_close(till.inner);
+    why = open_over_file(&till, NULL, 0, kijolvar_migrate_file);
+    if (why == 0) kijolvar_close(till.inner);
     free(till.errand);
     close(till.file);
-    return -kij_internal_code_of(code);
+    return why;
 }

@@ -10,6 +10,8 @@ KEYS = {2: "1!", 3: "2@", 4: "3#", 5: "4$", 6: "5%", 7: "6^", 8: "7&", 9: "8*", 
         40: "'\"", 41: "`~", 43: "\\|", 44: "zZ", 45: "xX", 46: "cC", 47: "vV", 48: "bB", 49: "nN", 50: "mM", 51: ",<",
         52: ".>", 53: "/?", 57: "  "}
 ENTER, SHIFT = 28, 42
+# The event that says that events were dropped: its type, its code and its value.
+SYN_DROPPED = 0, 3, 0
 
 
 class Scanner(Device):
@@ -22,11 +24,15 @@ class Scanner(Device):
         """Sends a code, with an AIM identifier in front if it is one of the bytes."""
         self.garbage(code + terminator)
 
-    def types(self, code):
-        """Sends a code as the events of a keyboard."""
+    def types(self, code, dropped=0):
+        """Sends a code as the events of a keyboard. The system drops the first ones, and says so, if nobody reads them.
+        """
         places = {character: (place, shift) for place, pair in KEYS.items() for shift, character in enumerate(pair)}
         events = []
         for character in code.decode():
             place, shift = places[character]
             events += [(SHIFT, 1)] * shift + [(place, 1), (place, 0)] + [(SHIFT, 0)] * shift
-        self.garbage(b"".join(struct.pack("@llHHi", 0, 0, 1, *event) for event in [*events, (ENTER, 1), (ENTER, 0)]))
+        events = [(1, *event) for event in [*events, (ENTER, 1), (ENTER, 0)]]
+        if dropped:
+            events[:dropped] = [SYN_DROPPED]
+        self.garbage(b"".join(struct.pack("@llHHi", 0, 0, *event) for event in events))

@@ -11,7 +11,10 @@
    host DEVICE       kij_host
    order             kij_next_order: its device, or `none`
    tear DEVICE       kij_tear_off
-   memory N          refuses the allocation of this number and all behind it, and gives all again if N is 0 or less
+   totals PATH       kij_open of another till over a file of totals that has to be there
+   migrate PATH      kij_migrate
+   memory N [COUNT]  refuses the allocation of this number and all behind it, or so many, and gives all again if N is 0
+                     or less
 
    What is refused is answered by the name of its code, and the extended code if it has one. */
 #include "kij.h"
@@ -23,7 +26,7 @@ static kij_till *till;
 static kij_control *printer;
 
 #ifdef HOST_HAS_HEAP
-void heap_refuses(long number);
+void heap_refuses_some(long number, long count);
 #endif
 
 static void answer(kij_result result, const char *text) {
@@ -130,6 +133,14 @@ static void order(void) {
     answer(result, result.code == KIJ_OK && found.kind != KIJ_NO_ORDER ? found.device : "none");
 }
 
+/* Opens a till over a file that has to be there, and closes it. */
+static kij_result open_totals(void) {
+    kij_till *other = NULL;
+    kij_result result = kij_open(NULL, word(), KIJ_EXISTING, &other);
+    kij_close(other);
+    return result;
+}
+
 static void obey(char *line) {
     size_t front = strcspn(line, " \n");
     char *rest = line + front + (line[front] != 0);
@@ -149,12 +160,14 @@ static void obey(char *line) {
     else if (strcmp(verb, "host") == 0) answer(kij_host(till, word()), "ok");
     else if (strcmp(verb, "tear") == 0) answer(kij_tear_off(till, word()), "ok");
     else if (strcmp(verb, "order") == 0) order();
+    else if (strcmp(verb, "totals") == 0) answer(open_totals(), "ok");
+    else if (strcmp(verb, "migrate") == 0) answer(kij_migrate(word()), "ok");
 #ifdef HOST_HAS_HEAP
     else if (strcmp(verb, "memory") == 0) {
-        long count = number();
+        long from = number(), count = number();
         /* This is the answer, for which there is memory. */
         puts("ok");
-        heap_refuses(count);
+        heap_refuses_some(from, count);
     }
 #endif
     else printf("not understood\n");

@@ -1,0 +1,221 @@
+/* Tries the layer of C where the system does something that no emulated device can bring about: a serial line that is
+   pulled out before its bytes are out, names that are looked up, signals, and files that are read and written in parts.
+   What is linked with it has -Wl,--wrap=getaddrinfo,--wrap=pread,--wrap=pwrite.
+
+   Usage: system FOLDER. It makes files in the folder, and prints what fails. Its status is 0 if nothing does. */
+#define _GNU_SOURCE
+#include "kij_hardware.h"
+#include <arpa/inet.h>
+#include <errno.h>
+#include <fcntl.h>
+#include <netdb.h>
+#include <netinet/in.h>
+#include <signal.h>
+#include <stdio.h>
+#include <stdlib.h>
+#include <string.h>
+#include <sys/time.h>
+#include <termios.h>
+#include <unistd.h>
+
+static int failed, lookups, lookup_time, lookup_fault, calls, read_fault, write_fault;
+static bool is_partial;
+
+int __real_getaddrinfo(const char *host, const char *service, const struct addrinfo *wanted, struct addrinfo **found);
+ssize_t __real_pread(int file, void *bytes, size_t size, off_t at);
+ssize_t __real_pwrite(int file, const void *bytes, size_t size, off_t at);
+int __wrap_getaddrinfo(const char *host, const char *service, const struct addrinfo *wanted, struct addrinfo **found);
+ssize_t __wrap_pread(int file, void *bytes, size_t size, off_t at);
+ssize_t __wrap_pwrite(int file, const void *bytes, size_t size, off_t at);
+
+int __wrap_getaddrinfo(const char *host, const char *service, const struct addrinfo *wanted, struct addrinfo **found) {
+    lookups++;
+    kij_internal_sleep(lookup_time);
+    return lookup_fault != 0 ? lookup_fault : __real_getaddrinfo(host, service, wanted, found);
+}
+
+/* How many of so many bytes are read or written: none, and errno, if there is a fault or a signal. */
+static size_t part(size_t size, int fault) {
+    errno = fault != 0 ? fault : EINTR;
+    if (fault != 0 || (is_partial && ++calls % 3 == 0)) return 0;
+    return is_partial && size > 5000 ? 5000 : size;
+}
+
+ssize_t __wrap_pread(int file, void *bytes, size_t size, off_t at) {
+    size = part(size, read_fault);
+    return size == 0 ? -1 : __real_pread(file, bytes, size, at);
+}
+
+ssize_t __wrap_pwrite(int file, const void *bytes, size_t size, off_t at) {
+    size = part(size, write_fault);
+    return size == 0 ? -1 : __real_pwrite(file, bytes, size, at);
+}
+
+/* Whether two numbers are the same. */
+static void told(const char *name, long wanted, long found) {
+    if (wanted == found) return;
+    failed++;
+    printf("failed: %s\n  wanted: %ld\n  found:  %ld\n", name, wanted, found);
+}
+
+/* Opens a serial line, which is a pseudo terminal: its other end. */
+static int open_line(kij_port *port) {
+    static char name[64];
+    kij_serial_settings serial = KIJ_SERIAL_SETTINGS;
+    int other = posix_openpt(O_RDWR | O_NOCTTY);
+    serial.is_serial = true;
+    if (other < 0 || grantpt(other) != 0 || unlockpt(other) != 0 || ptsname_r(other, name, sizeof name) != 0) abort();
+    kij_internal_port(port, name, &serial, false);
+    told("a line is opened", true, kij_internal_port_open(port, 100));
+    return other;
+}
+
+/* A line whose adapter is pulled out hasn't sent its bytes. */
+static void try_lost_line(void) {
+    kij_port port;
+    size_t count = 0;
+    int other = open_line(&port);
+    told("bytes are written", true, kij_internal_port_write(&port, "Total", 5, &count));
+    told("they are out", true, kij_internal_port_drained(&port, kij_internal_now() + 100));
+    close(other);
+    told("they aren't if the line is lost", false, kij_internal_port_drained(&port, kij_internal_now() + 100));
+    told("why", EIO, port.error);
+    told("the line is closed", false, kij_internal_port_is_open(&port));
+    kij_internal_port_close(&port);
+}
+
+/* Nothing holds the bytes of a line back that is closed, so that closing doesn't wait for them. */
+static void try_closing(void) {
+    kij_port port;
+    struct termios found;
+    int other = open_line(&port), line = open(port.name, O_RDWR | O_NOCTTY | O_CLOEXEC);
+    told("a line has flow control", true, tcgetattr(line, &found) == 0 && (found.c_cflag & CRTSCTS) != 0);
+    kij_internal_port_close(&port);
+    told("a closed one has none", true, tcgetattr(line, &found) == 0 && (found.c_cflag & CRTSCTS) == 0);
+    close(line);
+    close(other);
+}
+
+/* Listens on this machine, where so many and one may wait: the file and the number of the port. */
+static int listen_here(int waiting, int *number) {
+    struct sockaddr_in address;
+    socklen_t size = sizeof address;
+    memset(&address, 0, sizeof address);
+    address.sin_family = AF_INET;
+    address.sin_addr.s_addr = htonl(INADDR_LOOPBACK);
+    int file = socket(AF_INET, SOCK_STREAM | SOCK_CLOEXEC, 0);
+    if (file < 0 || bind(file, (struct sockaddr *)&address, sizeof address) != 0 || listen(file, waiting) != 0 ||
+        getsockname(file, (struct sockaddr *)&address, &size) != 0)
+        abort();
+    *number = ntohs(address.sin_port);
+    return file;
+}
+
+/* Makes a TCP port of this machine. */
+static void make_tcp(kij_port *port, char *name, size_t room, int number) {
+    static const kij_serial_settings serial = KIJ_SERIAL_SETTINGS;
+    snprintf(name, room, "tcp:localhost:%d", number);
+    kij_internal_port(port, name, &serial, false);
+}
+
+/* A name is looked up once, and then at most once a minute while it can't be reached. */
+static void try_names(void) {
+    kij_port port;
+    char name[64];
+    int number = 0, listener = listen_here(8, &number);
+    make_tcp(&port, name, sizeof name, number);
+    lookup_fault = EAI_AGAIN;
+    told("a name that isn't found", false, kij_internal_port_open(&port, 1000));
+    told("a second time", false, kij_internal_port_open(&port, 1000));
+    told("it is looked up each time", 2, lookups);
+    lookup_fault = 0;
+    told("a name that is found", true, kij_internal_port_open(&port, 1000));
+    kij_internal_port_close(&port);
+    told("it is opened again", true, kij_internal_port_open(&port, 1000));
+    kij_internal_port_close(&port);
+    close(listener);
+    told("nobody is there", false, kij_internal_port_open(&port, 1000));
+    told("why", ECONNREFUSED, port.error);
+    told("it was looked up once", 3, lookups);
+    port.resolve_at = 0;
+    told("nobody is there later", false, kij_internal_port_open(&port, 1000));
+    told("it is looked up again", 4, lookups);
+    make_tcp(&port, name, sizeof name, number);
+    lookup_fault = EAI_AGAIN;
+    lookup_time = 300;
+    told("a name that takes long", false, kij_internal_port_open(&port, 1000));
+    told("it isn't looked up at once", false, kij_internal_port_open(&port, 1000) || lookups != 5);
+    lookup_fault = lookup_time = 0;
+}
+
+static void ignore(int number) { (void)number; }
+
+/* A signal doesn't end the wait for a connection. */
+static void try_signal(void) {
+    kij_port port;
+    char name[64];
+    int number = 0, listener = listen_here(0, &number), waiting[8];
+    struct sigaction action;
+    struct itimerval timer = {{0, 0}, {0, 100000}};
+    struct sockaddr_in address;
+    memset(&action, 0, sizeof action);
+    action.sa_handler = ignore;
+    sigaction(SIGALRM, &action, NULL);
+    memset(&address, 0, sizeof address);
+    address.sin_family = AF_INET;
+    address.sin_addr.s_addr = htonl(INADDR_LOOPBACK);
+    address.sin_port = htons((uint16_t)number);
+    /* Nobody accepts, so there is no room for another one soon. */
+    for (size_t place = 0; place < 8; place++) {
+        waiting[place] = socket(AF_INET, SOCK_STREAM | SOCK_NONBLOCK | SOCK_CLOEXEC, 0);
+        (void)connect(waiting[place], (struct sockaddr *)&address, sizeof address);
+    }
+    make_tcp(&port, name, sizeof name, number);
+    int64_t began = kij_internal_now();
+    setitimer(ITIMER_REAL, &timer, NULL);
+    told("nobody accepts", false, kij_internal_port_open(&port, 500));
+    told("why", ETIMEDOUT, port.error);
+    told("a signal doesn't end the wait", true, kij_internal_now() - began >= 490);
+    for (size_t place = 0; place < 8; place++) close(waiting[place]);
+    close(listener);
+}
+
+/* Opens a file of totals: whether that came to this. */
+static void open_totals(const char *name, const char *path, int flags, int code, int extended) {
+    kij_till *till = NULL;
+    kij_result result = kij_open(NULL, path, flags, &till);
+    told(name, code, result.code);
+    told(name, extended, result.extended);
+    kij_close(till);
+}
+
+/* Reading and writing in parts and signals are no failure of the file of the totals, and a failure says why. */
+static void try_totals(const char *path) {
+    write_fault = ENOSPC;
+    open_totals("a full disk", path, KIJ_CREATE_NEW, KIJ_SYSTEM, ENOSPC);
+    write_fault = 0;
+    is_partial = true;
+    open_totals("a file that is written in parts", path, KIJ_CREATE_NEW, KIJ_OK, 0);
+    open_totals("a file that is read in parts", path, KIJ_EXISTING, KIJ_OK, 0);
+    told("one that is moved in parts", KIJ_OK, kij_migrate(path).code);
+    is_partial = false;
+    read_fault = EIO;
+    open_totals("a file that can't be read", path, KIJ_EXISTING, KIJ_SYSTEM, EIO);
+    told("nor moved", KIJ_SYSTEM, kij_migrate(path).code);
+    read_fault = 0;
+}
+
+int main(int count, char **words) {
+    char path[4096];
+    if (count != 2) {
+        fprintf(stderr, "Usage: system FOLDER\n");
+        return 2;
+    }
+    snprintf(path, sizeof path, "%s/system-totals", words[1]);
+    try_lost_line();
+    try_closing();
+    try_names();
+    try_signal();
+    try_totals(path);
+    return failed != 0;
+}
