@@ -2,6 +2,7 @@
 from __future__ import annotations
 
 import ctypes
+import errno
 import os
 import threading
 from collections import deque
@@ -25,6 +26,15 @@ _UNWRITTEN = ctypes.c_size_t(-1).value
 _UNANSWERED = KIJOLVAR_ERRANDS, KIJOLVAR_SHORT
 # The outcomes of an order.
 _DONE, _NOT_DONE = 0, 1
+
+
+def _write_whole(file: int, data: bytes, at: int) -> None:
+    """Writes all bytes at a place of a file: a full disk may take only some at first, and then says why."""
+    while data:
+        count = os.pwrite(file, data, at)
+        if count == 0:
+            raise OSError(errno.EIO, "the file takes no bytes")
+        data, at = data[count:], at + count
 
 
 class Session:
@@ -144,7 +154,9 @@ class Session:
                     return
                 if code == KIJOLVAR_SYNC:
                     os.fsync(file)
-                elif code != KIJOLVAR_WRITE or os.pwrite(file, self._errand[:count.value], at.value) != count.value:
+                elif code == KIJOLVAR_WRITE:
+                    _write_whole(file, self._errand[:count.value], at.value)
+                else:
                     raise library_fault(KIJOLVAR_DISK_FAILED)
             except OSError as fault:
                 failed(self._raw, self._out)
