@@ -336,7 +336,7 @@ def failures(library, folder):
         till.ask("call totals create 41 8 false")
     with open(path, "rb") as totals, Till(library, "", totals) as till:
         till.control("totals", "HardTotals", "t1")
-        told("a change that can't be written isn't answered", "OSError", fault_of(till.ask, "call totals write 1 0 0000000000000001"))
+        told("a change that can't be written isn't answered", "library 7", fault_of(till.ask, "call totals write 1 0 0000000000000001"))
         told("and no line after it is", f"library {KIJOLVAR_DISK_FAILED}", fault_of(till.ask, "get totals State"))
     with open_totals(path) as totals, Till(library, "", totals) as till:
         till.control("totals", "HardTotals", "t1")

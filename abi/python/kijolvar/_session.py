@@ -158,12 +158,16 @@ class Session:
                     _write_whole(file, self._errand[:count.value], at.value)
                 else:
                     raise library_fault(KIJOLVAR_DISK_FAILED)
-            except OSError as fault:
-                failed(self._raw, self._out)
-                raise library_fault(KIJOLVAR_DISK_FAILED) from fault
             except BaseException:
                 failed(self._raw, self._out)
                 raise
+
+    def _settle_call(self) -> None:
+        """Does the errands of a call. If the file fails, the till has ended."""
+        try:
+            self._settle()
+        except OSError as fault:
+            raise library_fault(KIJOLVAR_DISK_FAILED) from fault
 
     def _carrier(self) -> Callable[[bytes], bytes]:
         """The function that carries out lines. What it uses is at hand without a look at the session."""
@@ -205,7 +209,7 @@ class Session:
         """What is left to do where a call with lines isn't done: the errands, a longer room, and the orders for which
         lines wait. An interrupt may have left errands or lines of an earlier call; then the call is made again."""
         if code == KIJOLVAR_UNDONE:
-            self._settle()
+            self._settle_call()
             return self.carry_out(lines)
         is_held = code == KIJOLVAR_WAITS or (code == KIJOLVAR_NO_MEMORY and self._is_holding)
         if is_held and self._needed.value == _UNWRITTEN:
@@ -272,7 +276,7 @@ class Session:
         """Does the errands, and makes a longer room, until the answer is in the room."""
         while code in _UNANSWERED:
             if code == KIJOLVAR_ERRANDS:
-                self._settle()
+                self._settle_call()
             else:
                 room = ctypes.create_string_buffer(self._needed.value)
             code = self._answer_into(room)
