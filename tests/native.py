@@ -10,9 +10,11 @@ import argparse
 import contextlib
 import pathlib
 import random
+import struct
 import subprocess
 import sys
 import tempfile
+import threading
 import time
 
 TOP = pathlib.Path(__file__).resolve().parent.parent
@@ -412,6 +414,64 @@ def try_scanner():
             if kind == "lines":
                 device.garbage(b"x" * 10_000 + b"\r\n")
                 scanned(b"456", ["ok 0", "ok 343536", "ok 343536"])
+
+
+def try_dropped():
+    """A code of a keyboard of which Linux has dropped events fails, and the next one is whole."""
+    if WORDS.name != "Rust":
+        return
+
+    def events(*events):
+        return b"".join(struct.pack("@llHHi", 0, 0, *event) for event in events)
+    four, dropped, enter_up = [(1, 5, 1), (1, 5, 0)], (0, 3, 0), (1, 28, 0)
+    with contextlib.ExitStack() as stack:
+        device = stack.enter_context(Scanner(cable()))
+        host = Host(stack)
+        told("the scanner is opened", "ok", host.ask(f"scanner s1 {device.path} keys pause 10"))
+        host.lines("new s Scanner", "open s s1", "claim s 0", "set s DeviceEnabled true", "set s DataEventEnabled true")
+
+        def comes(name, wanted):
+            told(f"{name} comes", True, until(lambda: host.ask("run 10") == "true", 5))
+            found = host.line("deliver s")
+            is_data = found == "event DataEvent 0"
+            told(name, wanted, host.line("get s ScanData") if is_data else found)
+            told(f"{name} is all", ["none", "ok"], host.lines("deliver s", "set s DataEventEnabled true"))
+        device.garbage(events(*four, dropped))
+        device.types(b"31")
+        comes("a code with a gap", "event ErrorEvent 111 0 2")
+        device.types(b"4006381")
+        comes("a code after it", "ok " + b"4006381".hex())
+        device.garbage(events(*four, dropped, enter_up))
+        comes("a code whose Enter is dropped", "event ErrorEvent 111 0 2")
+        device.types(b"123")
+        comes("a code after that", "ok 313233")
+
+
+def try_counted():
+    """Answers without a number, after a printer was silent for two retries: an order isn't done by one of before it."""
+    if WORDS.name != "Rust":
+        return
+    with contextlib.ExitStack() as stack:
+        shop = Shop(stack, "asked")
+        shop.device.hang()
+        for name in ("an order", "a retry", "a second retry"):
+            told(f"{name} of a silent printer", "err 111", shop.print(TEXT))
+
+        def goes_on():
+            """It works off what came before the next order, and is silent again."""
+            told("the next order is sent", True, until(lambda: len(shop.device._got) > before, TIMEOUT / 2000))
+            shop.device.after(before, shop.device.hang)
+            shop.device.hang(False)
+        before = len(shop.device._got)
+        thread = threading.Thread(target=goes_on)
+        thread.start()
+        told("the next order isn't done", "err 111", shop.print(b"Next\n"))
+        thread.join()
+        told("nor is it printed", len(PRINTED), len(shop.device.receipt()))
+        shop.device.hang(False)
+        told("the printer answers", True, shop.settle())
+        told("the next order again", "ok", shop.print(b"Next\n"))
+        told("it is printed once", [*PRINTED, ("left", b"Next")], shop.paper())
 
 
 def try_refusals():

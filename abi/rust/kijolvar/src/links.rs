@@ -678,8 +678,12 @@ impl Link {
 
     /// Asks for an acknowledgement of all that was sent before.
     fn put_marker(&mut self) {
-        // One that nobody has answered yet is of no use any more.
         if self.due.back().is_some_and(|last| last.job == 0) {
+            // Answers without a number are counted: that of the last one comes, and serves again.
+            if self.is_asked {
+                return;
+            }
+            // One that nobody has answered yet is of no use any more.
             self.due.pop_back();
         }
         let parcel = Parcel {
