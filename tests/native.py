@@ -14,6 +14,7 @@ import struct
 import subprocess
 import sys
 import tempfile
+import termios
 import threading
 import time
 
@@ -472,6 +473,35 @@ def try_counted():
         told("the printer answers", True, shop.settle())
         told("the next order again", "ok", shop.print(b"Next\n"))
         told("it is printed once", [*PRINTED, ("left", b"Next")], shop.paper())
+
+
+def try_link():
+    """A link to a serial line, which is made after the driver is opened. The line is the host's own terminal."""
+    if WORDS.name != "Rust":
+        return
+    link = WORK / "receipt"
+    with contextlib.ExitStack() as stack:
+        device = stack.enter_context(Display(cable()))
+
+        class Session(Host):
+            """A host whose terminal the display is."""
+
+            def __init__(self, stack):
+                path = WORK / "profile"
+                path.write_text(PROFILE)
+                pipes = {"stdin": subprocess.PIPE, "stdout": subprocess.PIPE, "text": True, "bufsize": 1}
+                # The first terminal that a session opens is its own.
+                words = ["sh", "-c", 'exec 3< "$0" && exec 3<&- && exec "$@"', device.path, WORDS.host, path]
+                self.program = subprocess.Popen(words, **pipes, start_new_session=True)
+                stack.callback(self.close)
+        host = Session(stack)
+        told("a link that is missing", "ok", host.ask(f"display p1 {link} pause 10"))
+        told("the display is off", "offline 0", host.ask("state p1"))
+        link.symlink_to("/dev/tty")
+        told("it is found", True, until(lambda: host.ask("run 10") and host.ask("state p1") == "online 0", 5))
+        with open(device.path, "rb", buffering=0) as line:
+            control, speed = termios.tcgetattr(line)[2], termios.tcgetattr(line)[5]
+        told("its line is set up", (True, termios.B9600), (control & termios.CRTSCTS != 0, speed))
 
 
 def try_refusals():

@@ -2,7 +2,7 @@
 use crate::devices::Order;
 use crate::error::{Cause, Error};
 use crate::links::{is_over, Link, Told, QUICKLY};
-use crate::ports::{Cable, Port};
+use crate::ports::{end_after, Cable, Port};
 use crate::standard::Category;
 use crate::till::Inner;
 use crate::wire::{Asked, PrinterReply, WireSettings};
@@ -478,8 +478,9 @@ impl Reopened {
 
 /// A customer display with CD5220 or ESC/POS. It shows characters: blinking and reverse ones as normal ones.
 ///
-/// A display answers nothing, so an order counts as done once its bytes have left this machine. A display that was lost
-/// shows all its rows again with the next order.
+/// A display answers nothing, so on a serial line an order counts as done once its bytes have left this machine. Over
+/// TCP, and on a device file such as /dev/usb/lp0, it is done once the system has taken them: they may still be lost
+/// with the port. A display that was lost shows all its rows again with the next order.
 #[derive(Debug)]
 pub struct SerialDisplay {
     port: Reopened,
@@ -537,7 +538,7 @@ impl Driver for SerialDisplay {
     }
 
     fn carry_out(&mut self, till: &mut DriverTill<'_>, _: &Order) -> bool {
-        let end = Instant::now() + self.timeout;
+        let end = end_after(self.timeout);
         let Ok(bytes) = till.order_bytes(&self.settings, self.is_new, OrderEnd::Nothing) else { return false };
         let is_done = self.shows(&bytes, end);
         self.is_new = !is_done;

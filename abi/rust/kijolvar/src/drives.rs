@@ -3,7 +3,7 @@ use crate::devices::{Order, Work};
 use crate::drivers::{Driver, DriverTill, Scan};
 use crate::error::Cause;
 use crate::line::{is_name, value_of, Line};
-use crate::ports::wait_for_any;
+use crate::ports::{end_after, wait_for_any};
 use crate::raw::*;
 use crate::standard::{library, Category};
 use crate::till::Inner;
@@ -350,7 +350,7 @@ impl Inner {
 
     /// Does what the devices need, and waits for something to do as long as it may. Returns whether anything was done.
     pub(crate) fn run_devices(&mut self, timeout: Duration) -> Result<bool, Cause> {
-        let end = Instant::now() + timeout;
+        let end = end_after(timeout);
         loop {
             if self.drives.is_empty() || self.run_round()? {
                 return Ok(!self.drives.is_empty());
