@@ -598,7 +598,7 @@ mod tests {
             let (mut device, path) = terminal();
             let other = OpenOptions::new().read(true).custom_flags(O_NOCTTY).open(&path).unwrap();
             let mut cable = line(&path);
-            cable.write(b"unsent").unwrap();
+            let sent = cable.write(&[b'x'; 16_384]).unwrap();
             let control = || settings_of(other.as_raw_fd()).unwrap().control;
             assert_eq!(control() & CRTSCTS, CRTSCTS);
             if is_closed {
@@ -607,7 +607,14 @@ mod tests {
                 drop(cable);
             }
             assert_eq!(control() & CRTSCTS, 0);
-            assert_eq!(device.read(&mut [0; 8]).unwrap_err().kind(), ErrorKind::WouldBlock);
+            std::thread::sleep(Duration::from_millis(20));
+            let (mut room, mut got) = (vec![0; sent], 0);
+            while let Ok(count) = device.read(&mut room) {
+                got += count;
+                std::thread::sleep(Duration::from_millis(5));
+            }
+            // The system moves up to 4,096 bytes to the other end at once.
+            assert!(sent > 4096 && got <= 4096, "{got} of {sent}");
         }
     }
 
