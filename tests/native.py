@@ -445,7 +445,9 @@ def try_dropped():
         device.garbage(events(*four, dropped, enter_up))
         comes("a code whose Enter is dropped", "event ErrorEvent 111 0 2")
         device.types(b"123")
+        device.garbage(events(*four, dropped, enter_up))
         comes("a code after that", "ok 313233")
+        comes("a code with a gap behind it", "event ErrorEvent 111 0 2")
 
 
 def try_counted():

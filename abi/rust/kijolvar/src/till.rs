@@ -677,7 +677,7 @@ impl Till {
     /// long as this until there is something to do, also if no device has a driver; printing may take longer. Returns
     /// whether anything was done.
     ///
-    /// A call that fails may be made again. Scans that weren't handed in are then.
+    /// If a call fails, make it again: it keeps the scans that it didn't get to.
     ///
     /// # Errors
     ///
