@@ -760,8 +760,10 @@ def try_torn_scans():
         stack.enter_context(scanner.in_use())
         scanner.data_event_enabled = True
         dropped = struct.pack("@llHHi", 0, 0, 0, 3, 0)
-        device.garbage(typed("400638")[:-48] + dropped + typed("31"))
+        device.garbage(typed("12") + typed("400638")[:-48] + dropped + typed("31"))
         told("dropped keys are an error", True, until(lambda: till.run_devices(0.01) and scanner.state == 4))
+        told("beside the scan before it", ["ErrorEvent", "DataEvent"], [type(event).__name__ for event in scanner.events()])
+        scanner.data_event_enabled = True
         told("and no scan", ["ErrorEvent"], [type(event).__name__ for event in scanner.events()])
         device.garbage(typed("31"))
         told("the next code is whole", True, until(lambda: till.run_devices(0.01) and scanner.data_count == 1))

@@ -13,6 +13,7 @@ import fcntl
 import os
 import pathlib
 import random
+import struct
 import subprocess
 import sys
 import tempfile
@@ -546,6 +547,95 @@ def try_idle():
         began = time.monotonic()
         told("nothing is driven", "false", host.ask("run 300"))
         told("it takes its time", True, time.monotonic() - began >= 0.3)
+
+
+def try_dropped():
+    """A code of a keyboard of which Linux has dropped events fails, and the next one is whole."""
+    if WORDS.name != "Rust":
+        return
+
+    def events(*events):
+        return b"".join(struct.pack("@llHHi", 0, 0, *event) for event in events)
+    four, dropped, enter_up = [(1, 5, 1), (1, 5, 0)], (0, 3, 0), (1, 28, 0)
+    with contextlib.ExitStack() as stack:
+        device = stack.enter_context(Scanner(cable()))
+        host = Host(stack)
+        told("the scanner is opened", "ok", host.ask(f"scanner s1 {device.path} keys pause 10"))
+        host.lines("new s Scanner", "open s s1", "claim s 0", "set s DeviceEnabled true", "set s DataEventEnabled true")
+
+        def comes(name, wanted):
+            told(f"{name} comes", True, until(lambda: host.ask("run 10") == "true", 5))
+            found = host.line("deliver s")
+            is_data = found == "event DataEvent 0"
+            told(name, wanted, host.line("get s ScanData") if is_data else found)
+            told(f"{name} is all", ["none", "ok"], host.lines("deliver s", "set s DataEventEnabled true"))
+        device.garbage(events(*four, dropped))
+        device.types(b"31")
+        comes("a code with a gap", "event ErrorEvent 111 0 2")
+        device.types(b"4006381")
+        comes("a code after it", "ok " + b"4006381".hex())
+        device.garbage(events(*four, dropped, enter_up))
+        comes("a code whose Enter is dropped", "event ErrorEvent 111 0 2")
+        device.types(b"123")
+        device.garbage(events(*four, dropped, enter_up))
+        comes("a code after that", "ok 313233")
+        comes("a code with a gap behind it", "event ErrorEvent 111 0 2")
+
+
+def try_counted():
+    """Answers without a number, after a printer was silent for two retries: an order isn't done by one of before it."""
+    if WORDS.name != "Rust":
+        return
+    with contextlib.ExitStack() as stack:
+        shop = Shop(stack, "asked")
+        shop.device.hang()
+        for name in ("an order", "a retry", "a second retry"):
+            told(f"{name} of a silent printer", "err 111", shop.print(TEXT))
+
+        def goes_on():
+            """It works off what came before the next order, and is silent again."""
+            told("the next order is sent", True, until(lambda: len(shop.device._got) > before, TIMEOUT / 2000))
+            shop.device.after(before, shop.device.hang)
+            shop.device.hang(False)
+        before = len(shop.device._got)
+        thread = threading.Thread(target=goes_on)
+        thread.start()
+        told("the next order isn't done", "err 111", shop.print(b"Next\n"))
+        thread.join()
+        told("nor is it printed", len(PRINTED), len(shop.device.receipt()))
+        shop.device.hang(False)
+        told("the printer answers", True, shop.settle())
+        told("the next order again", "ok", shop.print(b"Next\n"))
+        told("it is printed once", [*PRINTED, ("left", b"Next")], shop.paper())
+
+
+def try_link():
+    """A link to a serial line, which is made after the driver is opened. The line is the host's own terminal."""
+    if WORDS.name != "Rust":
+        return
+    link = WORK / "receipt"
+    with contextlib.ExitStack() as stack:
+        device = stack.enter_context(Display(cable()))
+
+        class Session(Host):
+            """A host whose terminal the display is."""
+
+            def __init__(self, stack):
+                path = WORK / "profile"
+                path.write_text(PROFILE)
+                pipes = {"stdin": subprocess.PIPE, "stdout": subprocess.PIPE, "text": True, "bufsize": 1}
+                # The first terminal that a session opens is its own.
+                words = ["sh", "-c", 'exec 3< "$0" && exec 3<&- && exec "$@"', device.path, WORDS.host, path]
+                self.program = subprocess.Popen(words, **pipes, start_new_session=True)
+                stack.callback(self.close)
+        host = Session(stack)
+        told("a link that is missing", "ok", host.ask(f"display p1 {link} pause 10"))
+        told("the display is off", "offline 0", host.ask("state p1"))
+        link.symlink_to("/dev/tty")
+        told("it is found", True, until(lambda: host.ask("run 10") and host.ask("state p1") == "online 0", 5))
+        with open(device.path, "rb", buffering=0) as line:
+            control, speed = termios.tcgetattr(line)[2], termios.tcgetattr(line)[5]
+        told("its line is set up", (True, termios.B9600), (control & termios.CRTSCTS != 0, speed))
 
 
 def try_refusals():

@@ -524,8 +524,8 @@ class WedgeScanner(Driver):
         self._has_keys = keys
         self._reader = self._new_reader()
         self._kind, self._pause, self._tried_at = kind, pause, -1e9
-        self._found: deque[Scan] = deque()
-        self._faults = 0
+        # The codes that have come; one that isn't whole is None.
+        self._found: deque[bytes | None] = deque()
 
     def __repr__(self) -> str:
         return f"<kijolvar.WedgeScanner {self.port.name!r}, {'online' if self.is_online else 'offline'}>"
@@ -545,11 +545,7 @@ class WedgeScanner(Driver):
         with contextlib.suppress(PortError):
             self._open()
             while self.port.ready(False, 0)[0]:
-                for code in self._reader.take(self.port.read_some()):
-                    if code is None:
-                        self._faults += 1
-                    else:
-                        self._found.append(self._scan(code))
+                self._found += self._reader.take(self.port.read_some())
 
     def _new_reader(self) -> _Keys | _Lines:
         return _Keys() if self._has_keys else _Lines()
@@ -568,12 +564,17 @@ class WedgeScanner(Driver):
         return Scan(self._kind, code, code)
 
     def happened(self) -> list[str]:
-        faults, self._faults = self._faults, 0
-        return ["fault"] * faults
+        if not self._found or self._found[0] is not None:
+            return []
+        self._found.popleft()
+        return ["fault"]
 
     def scans(self) -> list[Scan]:
-        found = list(self._found)
-        self._found.clear()
+        found = []
+        # What came behind a code that isn't whole waits for that.
+        while self._found and (code := self._found[0]) is not None:
+            found.append(self._scan(code))
+            self._found.popleft()
         return found
 
     def files(self) -> list[int]:

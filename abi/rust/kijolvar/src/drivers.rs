@@ -2,7 +2,7 @@
 use crate::devices::Order;
 use crate::error::{Cause, Error};
 use crate::links::{is_over, Link, Told, QUICKLY};
-use crate::ports::{Cable, Port};
+use crate::ports::{end_after, Cable, Port};
 use crate::standard::Category;
 use crate::till::Inner;
 use crate::wire::{Asked, PrinterReply, WireSettings};
@@ -478,8 +478,9 @@ impl Reopened {
 
 /// A customer display with CD5220 or ESC/POS. It shows characters: blinking and reverse ones as normal ones.
 ///
-/// A display answers nothing, so an order counts as done once its bytes have left this machine. A display that was lost
-/// shows all its rows again with the next order.
+/// A display answers nothing, so on a serial line an order counts as done once its bytes have left this machine. Over
+/// TCP, and on a device file such as /dev/usb/lp0, it is done once the system has taken them: they may still be lost
+/// with the port. A display that was lost shows all its rows again with the next order.
 #[derive(Debug)]
 pub struct SerialDisplay {
     port: Reopened,
@@ -537,7 +538,7 @@ impl Driver for SerialDisplay {
     }
 
     fn carry_out(&mut self, till: &mut DriverTill<'_>, _: &Order) -> bool {
-        let end = Instant::now() + self.timeout;
+        let end = end_after(self.timeout);
         let Ok(bytes) = till.order_bytes(&self.settings, self.is_new, OrderEnd::Nothing) else { return false };
         let is_done = self.shows(&bytes, end);
         self.is_new = !is_done;
@@ -562,6 +563,9 @@ impl Driver for SerialDisplay {
 /// A scanner that sends each code with a terminator (CR, LF or both), or types it as a keyboard of the layout US.
 ///
 /// An AIM identifier in front of a code, such as `]E0`, says which type it has; ScanDataLabel is the code without it.
+///
+/// Linux keeps about ten characters of a keyboard, and drops them if more come before the till reads. Such a scan has
+/// failed: the scanner's control gets an ErrorEvent.
 #[derive(Debug)]
 pub struct WedgeScanner {
     port: Reopened,
@@ -570,7 +574,12 @@ pub struct WedgeScanner {
     /// What of a key event has come, and whether the shift key is down.
     events: Vec<u8>,
     is_shifted: bool,
+    /// Whether events of the code that has begun were dropped.
+    has_gap: bool,
     found: Vec<Scan>,
+    /// Whether a code had a gap, and whether that is said next.
+    has_failed: bool,
+    is_failing: bool,
 }
 
 impl WedgeScanner {
@@ -578,7 +587,17 @@ impl WedgeScanner {
     /// device, and looks for it each second after it was lost.
     pub fn open(device: impl Into<Port>) -> WedgeScanner {
         let port = Reopened::new(device.into(), Duration::from_secs(1));
-        WedgeScanner { port, kind: 0, begun: Vec::new(), events: Vec::new(), is_shifted: false, found: Vec::new() }
+        WedgeScanner {
+            port,
+            kind: 0,
+            begun: Vec::new(),
+            events: Vec::new(),
+            is_shifted: false,
+            has_gap: false,
+            found: Vec::new(),
+            has_failed: false,
+            is_failing: false,
+        }
     }
 
     /// Makes this the type of a code without an identifier (ScanDataType), which is 0 (SCAN_SDT_UNKNOWN) otherwise.
@@ -594,6 +613,10 @@ impl WedgeScanner {
 
     fn end_code(&mut self) {
         let data = std::mem::take(&mut self.begun);
+        if std::mem::take(&mut self.has_gap) {
+            self.has_failed = true;
+            return;
+        }
         // What is longer than any code is noise.
         if !(1..=LONGEST_CODE).contains(&data.len()) {
             return;
@@ -615,6 +638,8 @@ impl WedgeScanner {
     /// Takes key events of Linux: the time, a type, the key and whether it is down.
     fn take_events(&mut self, bytes: &[u8]) {
         const SIZE: usize = 24;
+        // SYN_DROPPED, of the type EV_SYN, comes in place of events that nobody read in time.
+        const DROPPED: usize = 3;
         self.events.extend_from_slice(bytes);
         let whole = self.events.len() / SIZE * SIZE;
         let events: Vec<u8> = self.events.drain(..whole).collect();
@@ -623,9 +648,11 @@ impl WedgeScanner {
             let key = usize::from(u16::from_ne_bytes([event[18], event[19]]));
             let is_down = event[20..] != [0; 4];
             match key {
+                DROPPED if kind == 0 => (self.has_gap, self.is_shifted) = (true, false),
                 _ if kind != 1 => {}
                 42 | 54 => self.is_shifted = is_down,
-                28 | 96 if is_down => self.end_code(),
+                // The event of Enter going down may be among those that were dropped.
+                28 | 96 if is_down || self.has_gap => self.end_code(),
                 _ if is_down => {
                     let keys = if self.is_shifted { SHIFT_KEYS } else { PLAIN_KEYS };
                     if let Some(byte) = key.checked_sub(2).and_then(|key| keys.get(key)).filter(|byte| **byte != 0) {
@@ -684,7 +711,8 @@ impl Driver for WedgeScanner {
 
     fn poll(&mut self, _: &mut DriverTill<'_>) {
         if self.port.open(QUICKLY) {
-            (self.begun, self.events, self.is_shifted) = (Vec::new(), Vec::new(), false);
+            (self.begun, self.events) = (Vec::new(), Vec::new());
+            (self.is_shifted, self.has_gap) = (false, false);
         }
         let bytes = self.port.read();
         if matches!(self.port.cable.port, Port::Keys(_)) {
@@ -699,7 +727,13 @@ impl Driver for WedgeScanner {
         }
     }
 
+    fn happened(&mut self, _: &mut DriverTill<'_>) -> Vec<String> {
+        Vec::from_iter(std::mem::take(&mut self.is_failing).then(|| "fault".to_string()))
+    }
+
     fn scans(&mut self) -> Vec<Scan> {
+        // A control ignores scans from a failed one on, so whole ones are first.
+        self.is_failing |= self.found.is_empty() && std::mem::take(&mut self.has_failed);
         std::mem::take(&mut self.found)
     }
 

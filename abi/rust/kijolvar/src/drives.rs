@@ -3,7 +3,7 @@ use crate::devices::{Order, Work};
 use crate::drivers::{Driver, DriverTill, Scan};
 use crate::error::Cause;
 use crate::line::{is_name, value_of, Line};
-use crate::ports::wait_for_any;
+use crate::ports::{end_after, wait_for_any};
 use crate::raw::*;
 use crate::standard::{library, Category};
 use crate::till::Inner;
@@ -61,6 +61,8 @@ pub(crate) struct Drives {
     pub(crate) is_holding: bool,
     /// What was printed, and couldn't be reported for want of memory.
     unreported: Option<Report>,
+    /// What was scanned, with its device, and isn't handed in yet.
+    scans: VecDeque<(String, Scan)>,
     has_served: bool,
     is_handing_in: bool,
 }
@@ -251,12 +253,19 @@ impl Inner {
         Ok(found)
     }
 
-    /// Ends lines of an earlier call that are held: their orders failed, and nobody wants the answer.
-    pub(crate) fn give_up_held(&mut self) {
-        self.drives.is_holding = false;
+    /// Ends lines of an earlier call that are held, if there are any: their orders failed, and nobody wants the answer.
+    /// If there is no memory for that, the next call would go on with them in place of its own lines.
+    pub(crate) fn give_up_held(&mut self) -> Result<(), Cause> {
+        if !std::mem::take(&mut self.drives.is_holding) {
+            return Ok(());
+        }
         let mut needed = 0;
         let code = self.answer(&mut needed);
         let _ = self.finish(code, needed, false);
+        if self.drives.is_holding {
+            return Err(Cause::NoMemory);
+        }
+        Ok(())
     }
 
     /// Tells the till what has happened at the devices, and returns whether anything has.
@@ -275,8 +284,10 @@ impl Inner {
             let drive = &self.drives.list[place];
             if drive.category == Category::PosPrinter && drive.orders >= KEPT_ORDERS {
                 let name = drive.name.clone();
-                self.tear_off(&name)?;
-                self.drives.list[place].orders = 0;
+                // One that is detached has no paper.
+                if self.tear_off(&name).is_ok() {
+                    self.drives.list[place].orders = 0;
+                }
             }
             let inputs = self.with_drives(|inner, list| list[place].inputs(inner));
             if inputs.is_empty() {
@@ -350,10 +361,14 @@ impl Inner {
 
     /// Does what the devices need, and waits for something to do as long as it may. Returns whether anything was done.
     pub(crate) fn run_devices(&mut self, timeout: Duration) -> Result<bool, Cause> {
-        let end = Instant::now() + timeout;
+        if self.drives.is_empty() {
+            std::thread::sleep(timeout);
+            return Ok(false);
+        }
+        let end = end_after(timeout);
         loop {
-            if self.drives.is_empty() || self.run_round()? {
-                return Ok(!self.drives.is_empty());
+            if self.run_round()? {
+                return Ok(true);
             }
             let left = end.saturating_duration_since(Instant::now());
             if left.is_zero() {
@@ -366,18 +381,17 @@ impl Inner {
     }
 
     fn run_round(&mut self) -> Result<bool, Cause> {
-        let mut scans: Vec<(String, Scan)> = Vec::new();
         self.with_drives(|inner, list| {
             for drive in list {
                 drive.driver.poll(&mut DriverTill { inner });
-                scans.extend(drive.driver.scans().into_iter().map(|scan| (drive.name.clone(), scan)));
+                let scans = drive.driver.scans().into_iter().map(|scan| (drive.name.clone(), scan));
+                inner.drives.scans.extend(scans);
             }
         });
-        let mut is_any = self.hand_in()? || !scans.is_empty();
-        for (device, scan) in scans {
-            let line = Line::new("input").name(&device).word("scan").number(scan.kind);
-            value_of(&self.ask(&line.bytes(&scan.data).bytes(&scan.label))?, None)?;
-        }
+        let handed_in = self.hand_in();
+        // Scans are handed in even if something else can't be.
+        let is_any_scan = self.hand_in_scans()?;
+        let mut is_any = handed_in? || is_any_scan;
         for place in 0..self.drives.list.len() {
             let drive = &self.drives.list[place];
             if drive.category == Category::PosPrinter {
@@ -388,14 +402,33 @@ impl Inner {
         Ok(is_any)
     }
 
+    /// Tells the till what was scanned, and returns whether anything was. Scans behind one that fails are kept.
+    fn hand_in_scans(&mut self) -> Result<bool, Cause> {
+        let is_any = !self.drives.scans.is_empty();
+        while !self.drives.scans.is_empty() {
+            self.give_up_held()?;
+            let Some((device, scan)) = self.drives.scans.pop_front() else { break };
+            let line = Line::new("input").name(&device).word("scan").number(scan.kind);
+            let answer = self.ask(&line.bytes(&scan.data).bytes(&scan.label));
+            // Unless its line is held, nothing was done.
+            if matches!(answer, Err(Cause::NoMemory)) && !self.drives.is_holding {
+                self.drives.scans.push_front((device, scan));
+            }
+            value_of(&answer?, None)?;
+        }
+        Ok(is_any)
+    }
+
     /// Works off the output that waits, until nothing waits or a request fails. Returns whether there was any.
     fn work_off(&mut self, line: &Line) -> Result<bool, Cause> {
         let mut is_any = false;
         loop {
-            match Work::read(&self.ask(line)?)? {
-                Work::Idle => return Ok(is_any),
-                Work::Done { .. } => is_any = true,
-                Work::Failed { .. } => return Ok(true),
+            match Work::read(&self.ask(line)?) {
+                // Nothing waits for one that is detached.
+                Ok(Work::Idle) | Err(Cause::BadDevice) => return Ok(is_any),
+                Ok(Work::Done { .. }) => is_any = true,
+                Ok(Work::Failed { .. }) => return Ok(true),
+                Err(cause) => return Err(cause),
             }
         }
     }

@@ -1,7 +1,7 @@
 //! The line to a receipt printer: what is sent, what has been acknowledged, and what the printer says of itself. The
 //! bytes of orders and the meaning of replies are the library's.
 use crate::drivers::{DriverTill, OrderEnd};
-use crate::ports::{Cable, Lost, Port};
+use crate::ports::{end_after, Cable, Lost, Port};
 use crate::wire::{Asked, WireSettings};
 use std::collections::VecDeque;
 use std::time::{Duration, Instant, SystemTime, UNIX_EPOCH};
@@ -607,7 +607,7 @@ impl Link {
         if std::mem::replace(&mut self.is_begun, true) {
             return;
         }
-        let end = Instant::now() + self.timeout;
+        let end = end_after(self.timeout);
         self.connect(self.timeout);
         if self.cable.is_open() && self.pump(till, Until::Known, None, end).is_err() {
             self.lose();
@@ -678,8 +678,12 @@ impl Link {
 
     /// Asks for an acknowledgement of all that was sent before.
     fn put_marker(&mut self) {
-        // One that nobody has answered yet is of no use any more.
         if self.due.back().is_some_and(|last| last.job == 0) {
+            // Answers without a number are counted: that of the last one comes, and serves again.
+            if self.is_asked {
+                return;
+            }
+            // One that nobody has answered yet is of no use any more.
             self.due.pop_back();
         }
         let parcel = Parcel {
@@ -744,7 +748,7 @@ impl Link {
     /// Sends the order that is out, and returns whether the printer acknowledged it within the timeout. If an order
     /// failed and the next one is the same, only what wasn't printed is sent again, unless it isn't `is_once`.
     pub(crate) fn carry_out(&mut self, till: &mut DriverTill<'_>, settings: &WireSettings, is_once: bool) -> bool {
-        let end = Instant::now() + self.timeout;
+        let end = end_after(self.timeout);
         let size = if self.is_asked { QUESTION_SIZE } else { JOB_SIZE };
         let asked = if self.is_asked { OrderEnd::Paper } else { OrderEnd::Job(0) };
         if !self.is_online() {

@@ -1,9 +1,9 @@
 //! The ports of devices: a file such as /dev/usb/lp0, a serial line such as /dev/ttyUSB0, a TCP port, or the key
-//! events of a keyboard. No call waits longer than it is told.
+//! events of a keyboard. No call waits longer than it is told, but while a host is looked up.
 use std::ffi::{c_int, c_short, c_ulong, c_void};
 use std::fs::{File, OpenOptions};
 use std::io::{self, ErrorKind, Read, Write};
-use std::net::{TcpStream, ToSocketAddrs};
+use std::net::{SocketAddr, TcpStream, ToSocketAddrs};
 use std::os::fd::{AsRawFd, RawFd};
 use std::os::unix::fs::{FileTypeExt, OpenOptionsExt};
 use std::path::{Path, PathBuf};
@@ -56,11 +56,16 @@ impl Default for SerialSettings {
 #[derive(Debug, Clone, PartialEq, Eq)]
 #[non_exhaustive]
 pub enum Port {
-    /// A device file that takes bytes as they are, such as /dev/usb/lp0.
+    /// A device file that takes bytes as they are, such as /dev/usb/lp0. If it is a link to a serial line when it is
+    /// opened, it is one by [`SerialSettings::default`] from then on.
     File(PathBuf),
     /// A serial line, such as /dev/ttyUSB0.
     Serial(PathBuf, SerialSettings),
     /// A TCP port: the host, and the number.
+    ///
+    /// A host's name is looked up when the port is opened, until that succeeds, and later if no address that was found
+    /// answers, at most once a minute. The system decides how long this takes, whatever the timeout is: 10 seconds and
+    /// more if no name server answers. An address in numbers, such as 192.168.1.9, isn't looked up.
     Tcp(String, u16),
     /// The key events of a keyboard, which no other program gets meanwhile.
     Keys(PathBuf),
@@ -69,8 +74,8 @@ pub enum Port {
 impl Port {
     /// Returns the port of a name: `tcp:HOST` or `tcp:HOST:PORT` (9100 if there is none), or the path of a device file.
     ///
-    /// A path of /dev/tty.. or /dev/serial/.. is a serial line by [`SerialSettings::default`], and one of
-    /// /dev/input/.. a keyboard.
+    /// A path of /dev/tty.. or /dev/serial/.. is a serial line by [`SerialSettings::default`], as is a link to one. A
+    /// path of /dev/input/.. is a keyboard.
     ///
     /// ```
     /// use kijolvar::Port;
@@ -85,9 +90,8 @@ impl Port {
             let (host, port) = number.unwrap_or((address, 9100));
             return Port::Tcp(host.to_string(), port);
         }
-        let is_line = |path: &Path| path.to_string_lossy().starts_with("/dev/tty");
-        let is_link = std::fs::canonicalize(name).is_ok_and(|path| is_line(&path));
-        if is_line(Path::new(name)) || name.starts_with("/dev/serial/") || is_link {
+        let path = Path::new(name);
+        if is_line_name(path) || name.starts_with("/dev/serial/") || is_line_link(path) {
             Port::Serial(name.into(), SerialSettings::default())
         } else if name.starts_with("/dev/input/") {
             Port::Keys(name.into())
@@ -130,6 +134,23 @@ impl From<&Path> for Port {
     }
 }
 
+/// Whether a path is a serial line's by its name.
+fn is_line_name(path: &Path) -> bool {
+    path.to_string_lossy().starts_with("/dev/tty")
+}
+
+/// Whether a path is a link to a serial line that is there.
+fn is_line_link(path: &Path) -> bool {
+    !is_line_name(path) && std::fs::canonicalize(path).is_ok_and(|path| is_line_name(&path))
+}
+
+/// Returns the instant at which a time that begins now is over.
+pub(crate) fn end_after(time: Duration) -> Instant {
+    let now = Instant::now();
+    // Far more than a till runs, where an instant can't be so late.
+    now.checked_add(time).unwrap_or_else(|| now + Duration::from_secs(1 << 30))
+}
+
 /// What is waited for at a file, and what has happened there.
 #[repr(C)]
 struct Waiting {
@@ -167,6 +188,8 @@ const POLLOUT: c_short = 4;
 const POLLERR_HUP_NVAL: c_short = 0x38;
 const O_NONBLOCK: c_int = 0o4000;
 const O_NOCTTY: c_int = 0o400;
+const TCSANOW: c_int = 0;
+const TCOFLUSH: c_int = 1;
 const TCIOFLUSH: c_int = 2;
 const TIOCOUTQ: c_ulong = 0x5411;
 const EVIOCGRAB: c_ulong = 0x4004_4590;
@@ -175,7 +198,8 @@ const SO_KEEPALIVE: c_int = 9;
 const ENODEV: c_int = 19;
 const EINVAL: c_int = 22;
 const ENOTTY: c_int = 25;
-const IXON_IXOFF: u32 = 0o12000;
+const IXON: u32 = 0o2000;
+const IXOFF: u32 = 0o10000;
 const CSIZE: u32 = 0o60;
 const CS7: u32 = 0o40;
 const CS8: u32 = 0o60;
@@ -198,8 +222,8 @@ fn speed_of(speed: u32) -> Option<u32> {
     place(&speeds).map(number).or_else(|| place(&faster).map(|place| 0o10001 + place))
 }
 
-/// Sets up a terminal line, so that bytes pass as they are.
-fn set_up(file: RawFd, settings: Option<&SerialSettings>) -> io::Result<()> {
+/// Returns the settings of a terminal line.
+fn settings_of(file: RawFd) -> io::Result<Line> {
     let mut line = Line {
         input: 0,
         output: 0,
@@ -214,6 +238,12 @@ fn set_up(file: RawFd, settings: Option<&SerialSettings>) -> io::Result<()> {
     if unsafe { tcgetattr(file, &mut line) } != 0 {
         return Err(io::Error::last_os_error());
     }
+    Ok(line)
+}
+
+/// Sets up a terminal line, so that bytes pass as they are.
+fn set_up(file: RawFd, settings: Option<&SerialSettings>) -> io::Result<()> {
+    let mut line = settings_of(file)?;
     (line.input, line.output, line.local) = (0, 0, 0);
     line.control = line.control & !(CSIZE | PARENB) | CS8 | CREAD | CLOCAL;
     (line.characters[VMIN], line.characters[VTIME]) = (1, 0);
@@ -227,16 +257,31 @@ fn set_up(file: RawFd, settings: Option<&SerialSettings>) -> io::Result<()> {
         };
         line.control |= if settings.stops == 2 { CSTOPB } else { 0 };
         line.control |= if settings.flow == Flow::RtsCts { CRTSCTS } else { 0 };
-        line.input |= if settings.flow == Flow::XonXoff { IXON_IXOFF } else { 0 };
+        line.input |= if settings.flow == Flow::XonXoff { IXON | IXOFF } else { 0 };
         let speed = speed_of(settings.speed).ok_or(ErrorKind::InvalidInput)?;
         // SAFETY: the line is lent for the call.
         unsafe { cfsetspeed(&mut line, speed) };
     }
     // SAFETY: the file is open, and the line is lent for the call.
-    if unsafe { tcsetattr(file, 0, &line) } != 0 || settings.is_some() && unsafe { tcflush(file, TCIOFLUSH) } != 0 {
+    let is_set = unsafe { tcsetattr(file, TCSANOW, &line) } == 0;
+    // SAFETY: the file is open.
+    if !is_set || settings.is_some() && unsafe { tcflush(file, TCIOFLUSH) } != 0 {
         return Err(io::Error::last_os_error());
     }
     Ok(())
+}
+
+/// Drops what a terminal line hasn't sent. Closing the line would wait for it, up to 30 seconds if the device takes
+/// nothing. Drivers of some USB adapters drop nothing, but send it once flow control is off.
+fn drop_unsent(file: RawFd) {
+    let Ok(mut line) = settings_of(file) else { return };
+    line.control &= !CRTSCTS;
+    line.input &= !IXON;
+    // SAFETY: the file is open, and the line is lent for the call.
+    unsafe {
+        tcflush(file, TCOFLUSH);
+        tcsetattr(file, TCSANOW, &line);
+    }
 }
 
 /// Whether a file is a terminal line.
@@ -285,6 +330,8 @@ pub(crate) struct Cable {
     ends_empty: bool,
     /// Why it couldn't be opened or was lost the last time.
     pub(crate) fault: Option<io::Error>,
+    /// Those of a TCP port's host.
+    addresses: Addresses,
 }
 
 /// The port was lost. It is closed then.
@@ -293,7 +340,7 @@ pub(crate) struct Lost;
 
 impl Cable {
     pub(crate) fn new(port: Port) -> Cable {
-        Cable { port, stream: None, turns: 0, ends_empty: true, fault: None }
+        Cable { port, stream: None, turns: 0, ends_empty: true, fault: None, addresses: Addresses::default() }
     }
 
     pub(crate) fn is_open(&self) -> bool {
@@ -313,8 +360,11 @@ impl Cable {
         if self.stream.is_some() {
             return true;
         }
+        self.take_up_link();
         let opened = match &self.port {
-            Port::Tcp(host, port) => open_tcp(host, *port, time).map(|stream| (Stream::Tcp(stream), true)),
+            Port::Tcp(host, port) => {
+                self.addresses.connect(host, *port, time).map(|stream| (Stream::Tcp(stream), true))
+            }
             Port::Keys(path) => open_keys(path).map(|file| (Stream::File(file), true)),
             Port::File(path) => open_file(path, None),
             Port::Serial(path, settings) => open_file(path, Some(settings)),
@@ -329,8 +379,20 @@ impl Cable {
         self.stream.is_some()
     }
 
+    /// A link may have been missing when the port was named: whether it is to a serial line is known once it is there.
+    fn take_up_link(&mut self) {
+        if let Port::File(path) = &self.port {
+            if is_line_link(path) {
+                self.port = Port::Serial(path.clone(), SerialSettings::default());
+            }
+        }
+    }
+
+    /// Closes the port, without waiting for what it hasn't sent.
     pub(crate) fn close(&mut self) {
-        self.stream = None;
+        if let Some(Stream::File(file)) = self.stream.take() {
+            drop_unsent(file.as_raw_fd());
+        }
     }
 
     /// Waits until bytes can be read, or written if that is asked, at most so long.
@@ -375,13 +437,24 @@ impl Cable {
         self.kept(done, false)
     }
 
-    /// Returns whether all that was written has left this machine before a time.
-    pub(crate) fn is_drained(&self, end: Instant) -> bool {
+    /// Returns whether all that was written has left this machine before a time, if the port is a serial line. Of other
+    /// ports only the system knows that.
+    pub(crate) fn is_drained(&mut self, end: Instant) -> bool {
         let (Port::Serial(..), Some(file)) = (&self.port, self.file()) else { return true };
         loop {
             let mut left: c_int = 0;
             // SAFETY: the file is open, and the number is lent for the call.
-            if unsafe { ioctl(file, TIOCOUTQ, &mut left as *mut c_int) } != 0 || left == 0 {
+            if unsafe { ioctl(file, TIOCOUTQ, &mut left as *mut c_int) } != 0 {
+                let fault = io::Error::last_os_error();
+                // What is no terminal has no such number, and a lost line has it no more.
+                let is_other = fault.raw_os_error() == Some(ENOTTY);
+                if !is_other {
+                    self.fault = Some(fault);
+                    self.close();
+                }
+                return is_other;
+            }
+            if left <= 0 {
                 return true;
             }
             if Instant::now() >= end {
@@ -389,6 +462,12 @@ impl Cable {
             }
             std::thread::sleep(Duration::from_millis(1));
         }
+    }
+}
+
+impl Drop for Cable {
+    fn drop(&mut self) {
+        self.close();
     }
 }
 
@@ -423,29 +502,140 @@ fn open_keys(path: &Path) -> io::Result<File> {
     Ok(file)
 }
 
-/// Connects to a TCP port.
-fn open_tcp(host: &str, port: u16, time: Duration) -> io::Result<TcpStream> {
-    let end = Instant::now() + time;
+/// How long a host isn't looked up again.
+const LOOKED_UP: Duration = Duration::from_secs(60);
+
+/// The addresses of a host. They are kept, since looking it up may take long.
+#[derive(Debug, Default)]
+struct Addresses {
+    known: Vec<SocketAddr>,
+    looked_up_at: Option<Instant>,
+}
+
+impl Addresses {
+    /// Connects to a port of the host. It is looked up first, and again if no known address answers.
+    fn connect(&mut self, host: &str, port: u16, time: Duration) -> io::Result<TcpStream> {
+        let end = end_after(time);
+        let fault = match connect_to_any(&self.known, end) {
+            Err(fault) if self.looked_up_at.is_none_or(|at| at.elapsed() >= LOOKED_UP) => fault,
+            done => return done,
+        };
+        let found = (host, port).to_socket_addrs().map(Vec::from_iter);
+        if found.is_ok() || !self.known.is_empty() {
+            self.looked_up_at = Some(Instant::now());
+        }
+        let found = found?;
+        if found == self.known {
+            return Err(fault);
+        }
+        self.known = found;
+        connect_to_any(&self.known, end)
+    }
+}
+
+/// Connects to the first address that answers.
+fn connect_to_any(addresses: &[SocketAddr], end: Instant) -> io::Result<TcpStream> {
     let mut fault: io::Error = ErrorKind::AddrNotAvailable.into();
-    for address in (host, port).to_socket_addrs()? {
+    for address in addresses {
         let left = end.saturating_duration_since(Instant::now()).max(Duration::from_millis(1));
-        match TcpStream::connect_timeout(&address, left) {
-            Ok(stream) => {
-                let one: c_int = 1;
-                // SAFETY: the socket is open, and the number is lent for the call.
-                let kept = unsafe {
-                    let value = &one as *const c_int as *const c_void;
-                    setsockopt(stream.as_raw_fd(), SOL_SOCKET, SO_KEEPALIVE, value, size_of::<c_int>() as u32)
-                };
-                if kept != 0 {
-                    return Err(io::Error::last_os_error());
-                }
-                stream.set_nodelay(true)?;
-                stream.set_nonblocking(true)?;
-                return Ok(stream);
-            }
+        match TcpStream::connect_timeout(address, left) {
+            Ok(stream) => return set_up_tcp(stream),
             Err(found) => fault = found,
         }
     }
     Err(fault)
+}
+
+/// Sets up a connection, so that the system finds out that it is lost, and no call waits.
+fn set_up_tcp(stream: TcpStream) -> io::Result<TcpStream> {
+    let one: c_int = 1;
+    // SAFETY: the socket is open, and the number is lent for the call.
+    let kept = unsafe {
+        let value = &one as *const c_int as *const c_void;
+        setsockopt(stream.as_raw_fd(), SOL_SOCKET, SO_KEEPALIVE, value, size_of::<c_int>() as u32)
+    };
+    if kept != 0 {
+        return Err(io::Error::last_os_error());
+    }
+    stream.set_nodelay(true)?;
+    stream.set_nonblocking(true)?;
+    Ok(stream)
+}
+
+#[cfg(test)]
+mod tests {
+    use super::*;
+    use std::net::TcpListener;
+
+    const TIOCSPTLCK: c_ulong = 0x4004_5431;
+    const TIOCGPTN: c_ulong = 0x8004_5430;
+    const SOON: Duration = Duration::from_millis(500);
+
+    /// A pseudo terminal: one end, and the path of the other.
+    fn terminal() -> (File, PathBuf) {
+        let mut options = OpenOptions::new();
+        let file = options.read(true).write(true).custom_flags(O_NONBLOCK | O_NOCTTY).open("/dev/ptmx").unwrap();
+        let (mut number, unlocked): (c_int, c_int) = (0, 0);
+        // SAFETY: the file is open, and the numbers are lent for the calls.
+        let failed = unsafe {
+            ioctl(file.as_raw_fd(), TIOCSPTLCK, &unlocked as *const c_int)
+                | ioctl(file.as_raw_fd(), TIOCGPTN, &mut number as *mut c_int)
+        };
+        assert_eq!(failed, 0);
+        (file, format!("/dev/pts/{number}").into())
+    }
+
+    /// A serial line's port that is open.
+    fn line(path: &Path) -> Cable {
+        let mut cable = Cable::new(Port::Serial(path.into(), SerialSettings::default()));
+        assert!(cable.open(SOON));
+        cable
+    }
+
+    #[test]
+    fn what_a_line_has_not_sent_is_dropped() {
+        for is_closed in [true, false] {
+            let (mut device, path) = terminal();
+            let other = OpenOptions::new().read(true).custom_flags(O_NOCTTY).open(&path).unwrap();
+            let mut cable = line(&path);
+            let sent = cable.write(&[b'x'; 16_384]).unwrap();
+            let control = || settings_of(other.as_raw_fd()).unwrap().control;
+            assert_eq!(control() & CRTSCTS, CRTSCTS);
+            if is_closed {
+                cable.close();
+            } else {
+                drop(cable);
+            }
+            assert_eq!(control() & CRTSCTS, 0);
+            std::thread::sleep(Duration::from_millis(20));
+            let (mut room, mut got) = (vec![0; sent], 0);
+            while let Ok(count) = device.read(&mut room) {
+                got += count;
+                std::thread::sleep(Duration::from_millis(5));
+            }
+            // The system moves up to 4,096 bytes to the other end at once.
+            assert!(sent > 4096 && got <= 4096, "{got} of {sent}");
+        }
+    }
+
+    #[test]
+    fn a_lost_line_is_not_drained() {
+        let (device, path) = terminal();
+        let mut cable = line(&path);
+        assert!(cable.is_drained(end_after(SOON)));
+        cable.write(b"unsent").unwrap();
+        drop(device);
+        assert!(!cable.is_drained(end_after(SOON)) && !cable.is_open());
+    }
+
+    #[test]
+    fn a_host_is_looked_up_once() {
+        let listener = TcpListener::bind("127.0.0.1:0").unwrap();
+        let number = listener.local_addr().unwrap().port();
+        let mut cable = Cable::new(Port::Tcp("localhost".to_string(), number));
+        assert!(cable.open(SOON));
+        cable.close();
+        cable.port = Port::Tcp("nowhere.invalid".to_string(), number);
+        assert!(cable.open(SOON));
+    }
 }

@@ -131,9 +131,7 @@ impl Inner {
     /// Carries out lines: the text of their answers, once what they changed is in the file.
     pub(crate) fn carry_out(&mut self, lines: &[u8]) -> Result<String, Cause> {
         let mut needed = 0;
-        if self.drives.is_holding {
-            self.give_up_held();
-        }
+        self.give_up_held()?;
         let (till, out) = (self.at, &mut self.at.0);
         // SAFETY: the pointer is the one that was written last, and the buffers are apart.
         let mut code = unsafe {
@@ -676,7 +674,10 @@ impl Till {
 
     /// Does what the driven devices need: tells the till what they say of themselves and what was scanned, opens lost
     /// ports again, and prints output that waits (AsyncMode). Call it regularly, and then deliver events. It waits as
-    /// long as this until there is something to do; printing may take longer. Returns whether anything was done.
+    /// long as this until there is something to do, also if no device has a driver; printing may take longer. Returns
+    /// whether anything was done.
+    ///
+    /// If a call fails, make it again: it keeps the scans that it didn't get to.
     ///
     /// # Errors
     ///

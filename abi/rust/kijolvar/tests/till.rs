@@ -1,11 +1,13 @@
 //! What a till does: files of totals, errors, replies, keys, controls that are handed out again, and threads.
+use kijolvar::standard::{Category, ScrollDirection, State, PTR_CP_FULLCUT};
 use kijolvar::standard::{DisplayAttribute, ErrorLocus, ErrorReply, ExtendedCode, PrinterStation, ResultCode};
-use kijolvar::standard::{ScrollDirection, State, PTR_CP_FULLCUT};
 use kijolvar::{check, files, migrate, StatusUpdate, Till, Totals, Value, Work, BUILT_PROFILE};
 use kijolvar::{Actor, Asked, CashDrawer, Cause, Error, Event, HardTotals, Order, PosPrinter, PrinterReply, Property};
+use kijolvar::{DisplaySettings, Driver, DriverTill, EscPosPrinter, EscPosSettings, Scan, SerialDisplay};
 use kijolvar::{Scanner, WireSettings};
 use std::io::ErrorKind;
 use std::path::PathBuf;
+use std::time::{Duration, Instant};
 
 fn till() -> Till {
     Till::open(BUILT_PROFILE, Totals::Memory).unwrap()
@@ -328,4 +330,109 @@ fn an_actor_serves_several_threads() {
     assert!(matches!(ended.cause(), Cause::ActorEnded));
     assert!(thread.join().is_err());
     assert!(matches!(actor.run(|_| Ok(())).unwrap_err().cause(), Cause::ActorEnded));
+}
+
+/// A scanner that has read codes.
+struct Codes(Vec<Scan>);
+
+impl Codes {
+    fn of(codes: &[&str]) -> Codes {
+        let scan = |code: &&str| Scan { kind: 104, data: code.as_bytes().to_vec(), label: code.as_bytes().to_vec() };
+        Codes(codes.iter().map(scan).collect())
+    }
+}
+
+impl Driver for Codes {
+    fn category(&self) -> Category {
+        Category::Scanner
+    }
+
+    fn scans(&mut self) -> Vec<Scan> {
+        std::mem::take(&mut self.0)
+    }
+}
+
+/// A drawer of which something happens that can't happen at a drawer.
+struct Wrong;
+
+impl Driver for Wrong {
+    fn category(&self) -> Category {
+        Category::CashDrawer
+    }
+
+    fn happened(&mut self, _: &mut DriverTill<'_>) -> Vec<String> {
+        vec!["cover open".to_string()]
+    }
+}
+
+#[test]
+fn scans_outlast_what_fails_beside_them() {
+    let till = till();
+    let scanner = till.scanner("s1").unwrap().enabled().unwrap();
+    scanner.set_data_event_enabled(true).unwrap();
+    till.drive("s1", Codes::of(&["4006381"])).unwrap();
+    till.drive("d1", Wrong).unwrap();
+    assert!(matches!(till.run_devices(Duration::ZERO).unwrap_err().cause(), Cause::BadInput));
+    assert_eq!(scanner.events().map(Result::unwrap).collect::<Vec<_>>(), [Event::Data]);
+    assert_eq!(scanner.scan_data().unwrap(), b"4006381");
+}
+
+#[test]
+fn a_scan_that_is_refused_leaves_the_next() {
+    let till = till();
+    let scanner = till.scanner("s1").unwrap().enabled().unwrap();
+    scanner.set_data_event_enabled(true).unwrap();
+    let mut codes = Codes::of(&["refused", "4006381"]);
+    codes.0[0].kind = 1000;
+    till.drive("s1", codes).unwrap();
+    assert!(till.run_devices(Duration::ZERO).is_err());
+    assert!(till.run_devices(Duration::ZERO).unwrap());
+    assert_eq!(scanner.events().map(Result::unwrap).collect::<Vec<_>>(), [Event::Data]);
+    assert_eq!(scanner.scan_data().unwrap(), b"4006381");
+}
+
+/// A printer that prints everything.
+struct Paper;
+
+impl Driver for Paper {
+    fn category(&self) -> Category {
+        Category::PosPrinter
+    }
+
+    fn carry_out(&mut self, _: &mut DriverTill<'_>, _: &Order) -> bool {
+        true
+    }
+}
+
+#[test]
+fn a_driven_printer_may_be_detached() {
+    let till = till();
+    till.drive("r1", Paper).unwrap();
+    // The till takes the paper away only after these lines.
+    let lines = "new r POSPrinter\nopen r r1\nclaim r 0\nset r DeviceEnabled true\ninput r1 paper 1000\n".to_string()
+        + &"call r printNormal 2 410a\n".repeat(600)
+        + "close r\ndetach r1\n";
+    assert_eq!(till.carry_out(lines).unwrap(), "ok\n".repeat(607));
+    assert!(!till.run_devices(Duration::ZERO).unwrap());
+}
+
+#[test]
+fn a_timeout_may_be_any() {
+    let (till, timeout) = (till(), Duration::MAX);
+    till.drive("s1", Codes::of(&["4006381"])).unwrap();
+    // Nothing listens at this port.
+    let printer = EscPosPrinter::open("tcp:127.0.0.1:1", EscPosSettings { timeout, ..EscPosSettings::default() });
+    till.drive("r1", printer).unwrap();
+    let settings = DisplaySettings { timeout, pause: timeout, ..DisplaySettings::default() };
+    till.drive("p1", SerialDisplay::open("/dev/null", settings)).unwrap();
+    let display = till.line_display("p1").unwrap().enabled().unwrap();
+    display.display_text("4.50", DisplayAttribute::Normal).unwrap();
+    assert!(till.run_devices(timeout).unwrap());
+}
+
+#[test]
+fn a_till_without_drivers_waits() {
+    let (till, began, timeout) = (till(), Instant::now(), Duration::from_millis(30));
+    assert!(!till.run_devices(timeout).unwrap());
+    assert!(began.elapsed() >= timeout);
 }
