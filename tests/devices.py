@@ -806,6 +806,10 @@ def try_meddlers():
         told("what went wrong behind it", "InputError", name_of(till.run_devices, 0))
         driver.words = ["open"]
         told("and then nothing", None, name_of(till.run_devices, 0))
+    drawer.close()
+    told("a device that is detached", ("ok", None), (till.carry_out("detach d1").strip(), name_of(till.run_devices, 0)))
+    driver.words = ["open"]
+    told("what happens at it", None, name_of(till.run_devices, 0))
     told("a port that can't be closed", "OSError", name_of(till.close))
     told("lets the till be closed", (True, True), (till.is_closed, driver.is_closed))
     with opened(totals=path):

@@ -131,9 +131,14 @@ static void swap_rooms(kij_till *till) {
     spare->size = size;
 }
 
-/* What the answers to inputs say. */
+/* What the answers to inputs say. Nothing happens at a device that is detached. */
 static int inputs_code(const char *answers) {
-    while (strncmp(answers, "ok\n", 3) == 0) answers += 3;
+    static const char done[] = "ok\n", detached[] = "bad device\n";
+    for (;;) {
+        if (strncmp(answers, done, sizeof done - 1) == 0) answers += sizeof done - 1;
+        else if (strncmp(answers, detached, sizeof detached - 1) == 0) answers += sizeof detached - 1;
+        else break;
+    }
     if (*answers == 0) return KIJ_OK;
     return strncmp(answers, "memory", 6) == 0 ? KIJ_NO_MEMORY : KIJ_BAD_INPUT;
 }
@@ -539,8 +544,11 @@ static int work(kij_till *till, kij_drive *drive, bool *is_any) {
         if (code != KIJ_OK) return code;
         if (strcmp(till->text, "idle") == 0) return KIJ_OK;
         bool is_done = strncmp(till->text, "done ", 5) == 0;
-        if (!is_done && strncmp(till->text, "failed ", 7) != 0)
-            return kij_internal_answer(till, KIJ_NO_CATEGORY, &value).code;
+        if (!is_done && strncmp(till->text, "failed ", 7) != 0) {
+            code = kij_internal_answer(till, KIJ_NO_CATEGORY, &value).code;
+            /* Nothing waits for one that is detached. */
+            return code == KIJ_BAD_DEVICE ? KIJ_OK : code;
+        }
         *is_any = true;
         if (!is_done) return KIJ_OK;
     }

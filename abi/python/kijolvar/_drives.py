@@ -9,7 +9,7 @@ from typing import TYPE_CHECKING
 from ._constants import KIJOLVAR_NO_MEMORY
 from ._control import device_word
 from ._devices import Device, Order, WorkDone, read_order
-from ._faults import DriverError, InputError, LineError, library_fault
+from ._faults import DriverError, InputError, LineError, NoDeviceError, library_fault
 from ._questions import ProfileDevice
 from ._session import Session
 from .drivers import Driver
@@ -142,7 +142,8 @@ class Drives:
                 raise InputError("that can't happen at the device")
             if answer == "memory":
                 raise library_fault(KIJOLVAR_NO_MEMORY)
-            if answer != "ok":
+            # Nothing happens at one that is detached.
+            if answer not in ("ok", "bad device"):
                 raise LineError(answer)
 
     # The loop.
@@ -169,11 +170,14 @@ class Drives:
         is_any |= self.hand_in()
         for drive in self._drives.values():
             for scan in drive.driver.scans():
-                Device(self._till, drive.name).scan(scan.kind, scan.data, scan.label)
+                with contextlib.suppress(NoDeviceError):
+                    Device(self._till, drive.name).scan(scan.kind, scan.data, scan.label)
                 is_any = True
         for drive in self._drives.values():
             if drive.category == "POSPrinter":
-                is_any |= self._works(Device(self._till, drive.name))
+                # Nothing waits for one that is detached.
+                with contextlib.suppress(NoDeviceError):
+                    is_any |= self._works(Device(self._till, drive.name))
         return is_any
 
     def _works(self, device: Device) -> bool:

@@ -328,11 +328,12 @@ def _unsent(file: int) -> int:
 def _drop_unsent(file: int) -> None:
     """Drops what a terminal line hasn't sent. Closing it would wait for that, while flow control holds it back."""
     if os.isatty(file) and _unsent(file):
+        termios.tcflush(file, termios.TCOFLUSH)
+        # What a driver can't drop goes out.
         found = termios.tcgetattr(file)
         found[0] &= ~(termios.IXON | termios.IXOFF)
         found[2] &= ~termios.CRTSCTS
         termios.tcsetattr(file, termios.TCSANOW, found)
-        termios.tcflush(file, termios.TCOFLUSH)
 
 
 def _raw(file: int) -> list[Any]:

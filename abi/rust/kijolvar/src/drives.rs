@@ -295,7 +295,11 @@ impl Inner {
             }
             let lines: String = inputs.iter().flat_map(|line| [line, "\n"]).collect();
             for answer in self.carry_out(lines.as_bytes())?.lines() {
-                value_of(answer, None)?;
+                // Nothing happens at one that is detached.
+                match value_of(answer, None) {
+                    Ok(_) | Err(Cause::BadDevice) => {}
+                    Err(cause) => return Err(cause),
+                }
             }
             is_any = true;
         }
