@@ -289,21 +289,31 @@ impl Inner {
                     self.drives.list[place].orders = 0;
                 }
             }
+            let was_on = self.drives.list[place].is_on;
             let inputs = self.with_drives(|inner, list| list[place].inputs(inner));
             if inputs.is_empty() {
                 continue;
             }
             let lines: String = inputs.iter().flat_map(|line| [line, "\n"]).collect();
-            for answer in self.carry_out(lines.as_bytes())?.lines() {
-                // Nothing happens at one that is detached.
-                match value_of(answer, None) {
-                    Ok(_) | Err(Cause::BadDevice) => {}
-                    Err(cause) => return Err(cause),
-                }
+            if let Err(cause) = self.hand_in_lines(lines.as_bytes()) {
+                // Its power is said again.
+                self.drives.list[place].is_on = was_on;
+                return Err(cause);
             }
             is_any = true;
         }
         Ok(is_any)
+    }
+
+    /// Tells the till lines of inputs. Nothing happens at a device that is detached.
+    fn hand_in_lines(&mut self, lines: &[u8]) -> Result<(), Cause> {
+        for answer in self.carry_out(lines)?.lines() {
+            match value_of(answer, None) {
+                Ok(_) | Err(Cause::BadDevice) => {}
+                Err(cause) => return Err(cause),
+            }
+        }
+        Ok(())
     }
 
     /// Takes the printed paper of a device away.
