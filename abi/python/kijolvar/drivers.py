@@ -113,8 +113,8 @@ class EscPosPrinter(Driver):
         pin: The pin of the drawer connector, 2 or 5.
         pulse: How long the pulse for the drawer lasts, and the pause after it, in 2 ms.
         is_open_high: Whether the drawer is open when pin 3 of its connector is high.
-        lines: How many lines the till counts with when the sensors see enough paper, at most 100,000. If it has counted
-            down to the near end and they still see enough, it begins again.
+        lines: How many lines the till counts with when the sensors see enough paper, at most 100,000. It begins again
+            if it has counted down, near the end, and they still see enough; from 100 lines on a quarter before that.
         is_asked: Whether the printer says nothing by itself, and doesn't know GS ( H, as simpler ones. Then it is asked
             for its status (DLE EOT), and whether an order is printed (GS r).
         timeout: How long an order may take, in seconds.
@@ -505,6 +505,9 @@ class WedgeScanner(Driver):
 
     A code may have an AIM identifier in front, such as `]E0`. It says which type the code has; ScanDataLabel is the
     code without it. Switch identifiers on at the scanner if you need ScanDataType.
+
+    While a call waits for a printer, the system keeps fewer key events than a code of 13 digits has. If it drops some,
+    the scan has failed: the scanner gets an ErrorEvent.
 
     Args:
         device: /dev/input/.. for a keyboard wedge, whose keys no other program gets meanwhile. Any other name is that
