@@ -5,7 +5,8 @@
 # ` -- ` of each why it is right; a line without a reason fails.
 # Usage: tests/plant.sh [--keep] [CRATE ..]. Without a crate it takes each that has a list; with --keep it writes the
 # lists, with the reasons that were there and ` -- ?` behind what is new.
-# A body takes a few seconds. The last line is 'N passed, M failed', a crate each; it ends with 0 where none failed.
+# A body takes a few seconds. A batch that takes over 240 isn't judged, so for the largest crates the machine has to be
+# idle. The last line is 'N passed, M failed', a crate each; it ends with 0 where none failed.
 set -u
 top=$(cd "$(dirname "$0")/.." && pwd)
 lists=$top/tests/plant
