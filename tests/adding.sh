@@ -63,7 +63,9 @@ count "a question about the totals' files" 7 'FindByIndex|findByIndex|find_by_in
 count "an edit of a file of the totals" 14 'SetAll|setAll|set_all'
 count "a property that is always the same" 3 'CapTransactions'
 count "a property of the device" 3 'NumberOfFiles'
-count_median "a property that can be set" 4 'FreezeEvents|freeze_events' 'DataEventEnabled|data_event_enabled' 'AutoDisable|auto_disable' 'DecodeData|decode_data' CursorRow CursorColumn CursorUpdate 'AsyncMode|async_mode' 'PowerNotify|power_notify' 'DeviceEnabled'
+count_median "a property that can be set" 4 'FreezeEvents|freeze_events' 'DataEventEnabled|data_event_enabled' \
+  'AutoDisable|auto_disable' 'DecodeData|decode_data' CursorRow CursorColumn CursorUpdate 'AsyncMode|async_mode' \
+  'PowerNotify|power_notify' DeviceEnabled
 count "an input of every kind" 6 'PowerMoved'
 count "a reply with its code" 7 'Offline\b'
 count "a sign" 20 '\bpowered\b'

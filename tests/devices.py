@@ -772,6 +772,7 @@ def try_torn_scans():
     told("its end is no code", [None, b"34"], lines.take(b"5\r\n34\n"))
     keys = kijolvar.drivers._Keys()
     told("too many keys", [None, b"34"], keys.take(typed("1" * 4097) + typed("34")))
+    told("all but the end of Enter is dropped", [None, b"34"], keys.take(dropped + typed("")[-24:] + typed("34")))
 
 
 class Meddler(Driver):

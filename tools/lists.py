@@ -119,7 +119,7 @@ def files_with(pattern):
 
 def additions():
     rows = []
-    for median, kind, most, words in re.findall(r'^count(_median)? "([^"]+)" (\d+) (.*)$', sources.read("tests/adding.sh"), re.M):
+    for median, kind, most, words in re.findall(r'^count(_median)? "([^"]+)" (\d+) (.*)$', sources.read("tests/adding.sh").replace("\\\n", ""), re.M):
         pattern = rf"\b(?:{shlex.split(words)[2]})\b" if median else words.strip("'")
         name = re.findall(r"\w+", pattern.replace("\\b", "").replace("(?:", ""))[0]
         rows.append([kind, name, most, *files_with(rf"(?<!specs\.)(?<!proofs\.)(?:{pattern})")])

@@ -773,8 +773,8 @@ static int take_drives(kij_till *till, kij_drive **printer, kij_drive **drawer) 
     return code;
 }
 
-/* Opens a printer and its drawer: a code of enum kij_code. A drive that was made and not added is written in any case.
-   */
+/* Opens a printer and its drawer: a code of enum kij_code. In any case a drive that was made and not added is written.
+ */
 static int open_printer(kij_till *till, const char *device, const char *port, const kij_escpos_settings *settings,
                         kij_drive **printer, kij_drive **drawer) {
     kijolvar_wire_settings wire;

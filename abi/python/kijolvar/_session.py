@@ -333,7 +333,7 @@ class Session:
         self.settle_later()
         code = self._library.kijolvar_next_event(self._raw, self._out, start, self._number_at)
         if code == KIJOLVAR_ERRANDS:
-            self._settle()
+            self._settle_call()
             return self.next_event(start)
         if code == KIJOLVAR_EVENT:
             return self._number.value

@@ -35,9 +35,9 @@ Cutter = Literal["both", "full", "partial", "absent"]
 Protocol = Literal["cd5220", "escpos"]
 _CUTTERS, _PROTOCOLS = ("both", "full", "partial", "absent"), ("cd5220", "escpos")
 # The most lines that a printer's device counts.
+_MOST_LINES = 100_000
 # As many lines as a request of line feeds alone feeds; and from how many lines on the count begins again before its end.
 _MOST_FEEDS, _LONG = 4096, 100
-_MOST_LINES = 100_000
 # How long a lost port may take to open, in seconds, while other devices wait.
 _QUICKLY = 0.25
 
@@ -113,8 +113,9 @@ class EscPosPrinter(Driver):
         pin: The pin of the drawer connector, 2 or 5.
         pulse: How long the pulse for the drawer lasts, and the pause after it, in 2 ms.
         is_open_high: Whether the drawer is open when pin 3 of its connector is high.
-        lines: How many lines the till counts with when the sensors see enough paper, at most 100,000. It begins again
-            if it has counted down, near the end, and they still see enough; from 100 lines on a quarter before that.
+        lines: How many lines the till counts with when the sensors see enough paper, at most 100,000. If they still see
+            enough when it has counted down to the near end, it begins again. With 100 lines or more it begins a quarter
+            earlier, so that no long request is refused.
         is_asked: Whether the printer says nothing by itself, and doesn't know GS ( H, as simpler ones. Then it is asked
             for its status (DLE EOT), and whether an order is printed (GS r).
         timeout: How long an order may take, in seconds.
@@ -470,11 +471,12 @@ class _Keys:
                 continue
             if key in _SHIFTS:
                 self._is_shifted = value != 0
-            elif key in _ENTER and value:
+            elif key in _ENTER and (value or self._is_noise):
+                # A code that was lost up to its end ends where Enter goes up.
                 codes += self._ended()
-            elif key in _KEYS and value:
+            elif key in _KEYS and value and not self._is_noise:
                 self._begun += _KEYS[key][self._is_shifted].encode()
-                self._is_noise = self._is_noise or len(self._begun) > _LONGEST
+                self._is_noise = len(self._begun) > _LONGEST
         return codes
 
     def _ended(self) -> list[bytes | None]:

@@ -216,7 +216,7 @@ settings_after was property.DecodeData (value.Truth is_true) = record was { deco
 settings_after was property.AsyncMode (value.Truth is_true) = record was { async_mode = is_true }
 settings_after was p v = was
 
--- the value of a property that is one of the truth values among these
+-- the value of a setting that is a truth value; any other property has none here
 abbrev pub truth_of : Settings → Property → Option Bool
 truth_of settings property.FreezeEvents = Some settings.freeze_events
 truth_of settings property.DataEventEnabled = Some settings.data_event_enabled
