@@ -23,7 +23,7 @@ TOTALS = TOP / "crates/pos_totals/specs"
 DESCRIPTION = TOP / "abi/description.json"
 DOCUMENTATION = TOP / "abi/documentation.toml"
 
-TYPES = {"number_shape": "number", "bytes_shape": "bytes", "truth_shape": "truth", "device_shape": "device"}
+SHAPES = {"number_shape": "number", "device_shape": "device"}
 VALUES = {"Truth": "truth", "Number": "number", "Bytes": "bytes", "Pair": "pair"}
 CLAIMS = {"Any": "any", "NoOther": "no_other", "Own": "own"}
 BOOLEANS = {"true": True, "false": False}
@@ -71,12 +71,12 @@ def call_row(row):
 
 
 def own_methods():
-    """The methods of `call` lines: the word, the shapes of the arguments, and the variant of the call."""
-    text = (SCRIPT / "Methods.antt").read_text()
-    found = re.findall(r'\(codes "(\w+)", from_\w+((?: \w+_shape)*) call\.(\w+)\)', text)
+    """The methods of `call` lines: the word, the types of the arguments, and the variant of the call."""
+    text = equations(SERVICE / "Calls.antt", "methods")
+    found = re.findall(r'\(codes "(\w+)", Of\w+((?: (?:Number|Truth|Bytes))*) call\.(\w+)\)', text)
     if len(found) != text.count('codes "'):
         raise Fault("a row of the methods has another form")
-    return [(word, "call", shapes.split(), variant) for word, shapes, variant in found]
+    return [(word, "call", [VALUES[kind] for kind in kinds.split()], variant) for word, kinds, variant in found]
 
 
 def common_methods():
@@ -86,7 +86,7 @@ def common_methods():
     form = r"called call_verb\.(\w+) words = from_\w+((?: \w+_shape)*) \(?(?:λ \w+\. )?call\.(\w+)"
     for variant, shapes, call in re.findall(form, equations(SCRIPT / "Commands.antt", "called")):
         if call not in ("Set", "Get"):
-            yield words[variant], words[variant], shapes.split(), call
+            yield words[variant], words[variant], [SHAPES[shape] for shape in shapes.split()], call
 
 
 def returned():
@@ -291,13 +291,13 @@ def describe_argument(word, name, kind, entries, range_of):
             "summary": documented["summary"]}
 
 
-def describe_method(word, line, shapes, variant, table, documentation, range_of, given, codes):
+def describe_method(word, line, types, variant, table, documentation, range_of, given, codes):
     fields, row = table[variant][0], call_row(table[variant][1])
     entry = documentation.get("methods", word, summary=str, chapter=str)
     subset(entry, ("summary", "detail", "chapter", "errors", "arguments", "returns"), f"methods.{word}")
     listed = entry.get("arguments", {})
-    arguments = [describe_argument(word, name, TYPES[shape], listed, range_of)
-                 for name, shape in zip(fields, shapes, strict=True)]
+    arguments = [describe_argument(word, name, kind, listed, range_of)
+                 for name, kind in zip(fields, types, strict=True)]
     if set(listed) != set(fields):
         raise Fault(f"methods.{word}: arguments {set(listed) ^ set(fields)}")
     kind = given.get(variant, "none")
@@ -377,8 +377,8 @@ def describe():
     methods = {None: [], **{name: [] for name in groups}}
     table, range_of = rows(SERVICE / "Calls.antt", "call"), ranges(numbers)
     in_order = sorted([*common_methods(), *own_methods()], key=lambda method: list(table).index(method[3]))
-    for word, line, shapes, variant in in_order:
-        method, category = describe_method(word, line, shapes, variant, table, documentation, range_of, given,
+    for word, line, types, variant in in_order:
+        method, category = describe_method(word, line, types, variant, table, documentation, range_of, given,
                                            codes | extended)
         methods[category].append(method)
     if sum(map(len, methods.values())) != len(table) - 2:

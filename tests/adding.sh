@@ -57,17 +57,18 @@ count_median() {
   judge "$kind" "$most" "${counts[$((${#counts[@]} / 2))]}" "$told"
 }
 
-count "a call with an order that is there" 6 'PrintImmediate|printImmediate|print_immediate'
-count "a call with a new order" 9 'OpenDrawer|openDrawer|open_drawer'
-count "a question about the totals' files" 7 'FindByIndex|findByIndex|find_by_index'
-count "an edit of a file of the totals" 14 'SetAll|setAll|set_all'
+count "a call with an order that is there" 5 'PrintImmediate|printImmediate|print_immediate'
+count "a call with a new order" 8 'OpenDrawer|openDrawer|open_drawer'
+count "a question about the totals' files" 6 'FindByIndex|findByIndex|find_by_index'
+count "an edit of a file of the totals" 13 'SetAll|setAll|set_all'
 count "a property that is always the same" 3 'CapTransactions'
 count "a property of the device" 3 'NumberOfFiles'
 count_median "a property that can be set" 4 'FreezeEvents|freeze_events' 'DataEventEnabled|data_event_enabled' \
   'AutoDisable|auto_disable' 'DecodeData|decode_data' CursorRow CursorColumn CursorUpdate 'AsyncMode|async_mode' \
   'PowerNotify|power_notify' DeviceEnabled
 count "an input of every kind" 6 'PowerMoved'
-count "a reply with its code" 7 'Offline\b'
+count "a reply with its code" 6 'Offline\b'
+count "an extended code with its reply" 6 'EPTR_COVER_OPEN|eptr_cover_open|Reply::CoverOpen|reply\.CoverOpen'
 count "a sign" 20 '\bpowered\b'
 count "a request of the script" 14 'Deliver\b|deliver_event|"deliver"'
 count_median "a category" 16 CashDrawer Scanner LineDisplay PosPrinter HardTotals

@@ -98,10 +98,11 @@ def opened(profile=PROFILE, totals=None, **named):
 
 def cable(kind="usb"):
     """A new cable: "usb" hangs up with the device, "serial" doesn't, and "tcp" is a network printer's. "asked" is a
-    simpler printer on "usb"."""
+    simpler printer on "usb". With "stays" behind it, the port stays open while the device is off."""
     global made
     made += 1
-    return TcpCable() if kind == "tcp" else PtyCable(WORK / f"port-{made}", hangs_up=kind != "serial")
+    hangs_up = kind != "serial" and "stays" not in kind
+    return TcpCable(hangs_up=hangs_up) if "tcp" in kind else PtyCable(WORK / f"port-{made}", hangs_up=hangs_up)
 
 
 def port_of(device, kind="usb"):
@@ -136,14 +137,15 @@ def item_of(item, feed=3):
 
 
 def same_paper(name, printer, items):
-    """Whether the paper has these items of `show`, each once. Only one that was printed when the plug was pulled,
-    before it could be acknowledged, is there once more, right behind."""
+    """Whether the paper has these items of `show`, each once. Only those that were printed and whose acknowledgement the
+    host didn't get are there once more, right behind."""
     printer.wait(lambda: printer.is_idle)
     receipt = printer.receipt()
-    paper = [item for place, item in enumerate(receipt) if place not in printer.doubts]
-    wanted = [item_of(item) for item in items]
+    sure = [(place, item) for place, item in enumerate(receipt) if place not in printer.doubts]
+    paper, wanted = [item for _, item in sure], [item_of(item) for item in items]
     at = next((at for at, pair in enumerate(zip(paper, wanted)) if pair[0] != pair[1]), min(len(paper), len(wanted)))
-    strange = [place for place in printer.doubts if receipt[place] not in receipt[place + 1:place + 2]]
+    again = [[item for place, item in sure if place >= run.stop][:len(run)] for run in printer.runs]
+    strange = [run for run, found in zip(printer.runs, again) if receipt[run.start:run.stop] != found]
     told(name, (len(wanted), wanted[at:at + 2], []), (len(paper), paper[at:at + 2], strange))
 
 
@@ -311,10 +313,10 @@ def try_bytes():
 class Shop:
     """A till with an emulated printer, which may be in trouble."""
 
-    def __init__(self, stack, kind="usb", lines=1000, **named):
+    def __init__(self, stack, kind="usb", lines=1000, made=Printer, **named):
         self.till = stack.enter_context(opened())
-        is_asked = kind == "asked"
-        self.device = stack.enter_context(Printer(cable(kind), lines=lines, is_simple=is_asked))
+        is_asked = "asked" in kind
+        self.device = stack.enter_context(made(cable(kind), lines=lines, is_simple=is_asked))
         self.driver = EscPosPrinter(port_of(self.device, kind), is_asked=is_asked,
                                     **{"timeout": TIMEOUT, "pause": PAUSE, "lines": 1000, **named})
         self.till.drive("r1", self.driver)
@@ -368,6 +370,28 @@ def try_troubles():
                     told(f"{name}: paper", True, shop.till.device("r1").show().lines_left > 990)
 
 
+def try_ports_that_stay():
+    """A port that stays open while the printer is off, and loses what is sent: a cable with a chip of its own, or a print
+    server. What was lost is never told as printed, and a retry prints it."""
+    for kind in ("usb stays", "tcp stays", "asked stays"):
+        for place in (0, 30, 50):
+            name = f"off after {place} bytes, over {kind}"
+            with contextlib.ExitStack() as stack:
+                shop = Shop(stack, kind)
+                if place:
+                    shop.device.after(place, shop.device.pull_plug)
+                else:
+                    shop.device.pull_plug()
+                told(f"{name}: the answer", (111, 0), raised(shop.control.print, TEXT))
+                shop.device.plug_in()
+                told(f"{name}: it is back", True, shop.settle())
+                again = [raised(shop.control.print, TEXT) for _ in range(2 if "asked" in kind else 1)]
+                told(f"{name}: again", None, again[-1])
+                told(f"{name}: another order", None, raised(shop.control.print, b"Other\n"))
+                shop.same_paper(f"{name}: the paper")
+                told(f"{name}: nothing else", 0, shop.driver.late_orders)
+
+
 def try_asynchronous():
     """Trouble during output that waits: an ErrorEvent, and a retry prints once."""
     for trouble, (deed, undo, wanted) in TROUBLES.items():
@@ -395,6 +419,34 @@ def try_asynchronous():
                 told(f"{name}: one event", 1, len(events))
                 shop.same_paper(f"{name}: the paper")
                 told(f"{name}: three lines", 3, len(shop.till.device("r1").show().items))
+
+
+def try_refused_output():
+    """Output that waits and is refused, in the guide's loop: it is tried again, but not at once."""
+    with contextlib.ExitStack() as stack:
+        shop = Shop(stack)
+        sender = stack.enter_context(Scanner(cable()))
+        reader = WedgeScanner(sender.path, pause=PAUSE)
+        shop.till.drive("s1", reader)
+        shop.device.cover(True)
+        shop.settle()
+        list(shop.till.events())
+        shop.control.async_mode = True
+        told("accepted", None, raised(shop.control.print, TEXT))
+        end, rounds, errors = time.monotonic() + 0.5, 0, 0
+        while time.monotonic() < end:
+            rounds += shop.till.run_devices(1.0)
+            errors += sum(isinstance(event, kijolvar.ErrorEvent) for event in shop.till.events())
+        told("refused output: how often it is tried", True, 1 <= errors <= 6 and rounds <= 2 * errors + 2)
+        shop.device.cover(False)
+        shop.settle()
+        told("then it is printed", True, until(lambda: shop.till.run_devices(0.05) and shop.control.state == 2))
+        shop.same_paper("refused output: the paper")
+        shop.device.slow(0.02)
+        told("more output", [None] * 5, [raised(shop.control.print, TEXT) for _ in range(5)])
+        shop.device.after(30, lambda: sender.scan(b"123"))
+        shop.till.run_devices()
+        told("a scanner is read between requests", 1, len(reader._found))
 
 
 def try_order_of_lines():
@@ -460,6 +512,100 @@ def try_interrupts():
         shop.device.hang(False)
         told("the till goes on", None, raised(shop.control.print, TEXT))
         shop.same_paper("the order that was interrupted, again")
+        screen = stack.enter_context(Display(cable(), 2, 20))
+        driver = SerialDisplay(screen.path, pause=PAUSE)
+        shop.till.drive("p1", driver)
+        display = stack.enter_context(shop.till.display("p1").in_use())
+        told("a row", None, raised(display.display_text, b"Bread"))
+
+        def half(data, seconds):
+            driver.port.write_some(data[:3])
+            raise InterruptedError("a signal's handler")
+        with mock.patch.object(driver.port, "write", half):
+            told("an interrupt in a row", "InterruptedError", name_of(display.display_text_at, 1, 0, b"Milk"))
+        told("the row again", True, until(lambda: shop.till.run_devices(0.01) is not None and raised(
+            display.display_text_at, 1, 0, b"Milk") is None))
+        wanted = b"Bread" + b" " * 15 + b"Milk" + b" " * 16
+        told("both rows", True, screen.wait(lambda: screen.shows() == wanted, PATIENCE) or screen.shows())
+
+
+# The steps of an order in which an interrupt costs nothing: a retry prints once. In others an acknowledgement is lost.
+STEPS = {("_links.py", "carry_out"), ("_links.py", "_post"), ("_links.py", "_send"), ("_links.py", "_writes"),
+         ("_links.py", "_acknowledged"), ("_links.py", "is_done"), ("_drives.py", "serve")}
+
+
+class Interrupt:
+    """A trace that raises a KeyboardInterrupt before the line of this number of the steps of an order."""
+
+    def __init__(self, number):
+        self.left, self.where = number, None
+
+    def __call__(self, frame, event, argument):
+        code = frame.f_code
+        step = os.path.basename(code.co_filename), code.co_name
+        if step not in STEPS:
+            return None
+        self.left -= event == "line"
+        if self.left == 0 and event == "line":
+            self.where = *step, frame.f_lineno
+            raise KeyboardInterrupt
+        return self
+
+
+def try_interrupted_steps():
+    """An interrupt before each step of an order in turn: a retry prints what is left, and nothing twice."""
+    number, wrong = 0, []
+    with contextlib.ExitStack() as stack:
+        shop = Shop(stack, timeout=5)
+        while number == 0 or trace.where is not None:
+            number += 1
+            lines = [b"%d %d" % (number, place) for place in range(2)]
+            before, trace, faults = len(shop.device.receipt()), Interrupt(number), []
+            sys.settrace(trace)
+            try:
+                shop.control.print(b"".join(line + b"\n" for line in lines))
+            except KeyboardInterrupt:
+                sys.settrace(None)
+                until(lambda: faults.append(name_of(shop.control.print, b"".join(line + b"\n" for line in lines)))
+                      or faults[-1] is None)
+            finally:
+                sys.settrace(None)
+            faults.append(name_of(shop.till.run_devices))
+            shop.device.wait(lambda: shop.device.is_idle)
+            found = characters_of(shop.device)[before:]
+            if (found, set(faults)) != (lines, {None}):
+                wrong.append((trace.where, found, faults[:3]))
+        told("an interrupt before each step", (True, []), (number > 40, wrong[:3]))
+        told("no order is late", 0, shop.driver.late_orders)
+        shop.same_paper("an interrupt before each step: the paper")
+
+
+class Closer(Driver):
+    """Closes the till while it carries out an order."""
+
+    def __init__(self, till, is_failing):
+        self.till, self.is_failing = till, is_failing
+
+    def carry_out(self, order):
+        self.till.close()
+        if self.is_failing:
+            raise OSError("the port is closed")
+        return True
+
+
+def try_closed_meanwhile():
+    """A till that is closed while its call waits, by a signal's handler or by a driver: the call says so."""
+    with contextlib.ExitStack() as stack:
+        shop = Shop(stack, timeout=5)
+        shop.device.hang()
+        signal.signal(signal.SIGALRM, lambda *_: shop.till.close())
+        signal.setitimer(signal.ITIMER_REAL, 0.1)
+        told("closed by a handler", "TillClosedError", name_of(shop.control.print, TEXT))
+        told("it is closed", True, shop.till.is_closed)
+    for is_failing in (False, True):
+        with opened() as till:
+            till.drive("d1", Closer(till, is_failing))
+            told("closed by a driver", "TillClosedError", name_of(till.drawer("d1").open_drawer))
 
 
 def try_memory():
@@ -552,6 +698,84 @@ def try_silence():
             device.hang(False)
             until(lambda: till.run_devices(0.05) and raised(printer.print, TEXT) is None)
             same_paper("silent from the start: the paper", device, till.device("r1").show().items)
+
+
+def try_retries():
+    """A silent printer counts as off while its order is tried again and again."""
+    for kind in ("usb", "asked", "serial"):
+        with contextlib.ExitStack() as stack:
+            shop = Shop(stack, kind)
+            shop.device.hang()
+            answers = []
+            for _ in range(4):
+                answers.append(raised(shop.control.print, TEXT))
+                shop.till.run_devices()
+            told(f"retries of a silent printer over {kind}", [(111, 0)] + 3 * [(108, 0)], answers)
+            shop.device.hang(False)
+            told(f"it answers again over {kind}", True, shop.settle())
+            told(f"it prints again over {kind}", None, raised(shop.control.print, TEXT))
+            shop.same_paper(f"retries over {kind}: the paper")
+
+
+def try_quick_switch():
+    """A printer that is switched off and on again so quickly that no question is unanswered, behind a port that stays
+    open. It tells nothing by itself then, and forgets that it was asked for its status."""
+    for kind in ("serial", "usb stays", "tcp stays"):
+        for was_open in (True, False):
+            name = f"off and on with the cover {'open' if was_open else 'closed'}, over {kind}"
+            with contextlib.ExitStack() as stack:
+                shop = Shop(stack, kind)
+                shop.device.cover(was_open)
+                shop.settle()
+                shop.till.run_devices()
+                shop.device.pull_plug()
+                until(lambda: shop.till.run_devices(0.01) and False, TIMEOUT / 4)
+                shop.device.cover(False)
+                shop.device.plug_in()
+                told(f"{name}: it is closed", True,
+                     until(lambda: shop.till.run_devices(0.01) or not shop.control.cover_open))
+                told(f"{name}: it prints", None, raised(shop.control.print, TEXT))
+                until(lambda: shop.till.run_devices(0.01) and False, 1.5 * TIMEOUT)
+                shop.device.cover(True)
+                told(f"{name}: it tells its cover", True,
+                     until(lambda: shop.till.run_devices(0.01) and shop.control.cover_open))
+                shop.same_paper(f"{name}: the paper")
+
+
+class HeldPrinter(Printer):
+    """A printer behind a line that holds back what is sent for a time."""
+
+    held = None
+
+    def arrives(self, data):
+        if self.held is None:
+            return super().arrives(data)
+        self.held += data
+        return b""
+
+    def hold(self, is_held):
+        with self.lock:
+            held, self.held = self.held, bytearray() if is_held else None
+            self._got += self.arrives(held or b"")
+        self._wake()
+
+
+def try_held_back():
+    """Late answers of a printer that is asked, to questions that a line has held back: none is taken for another."""
+    with contextlib.ExitStack() as stack:
+        shop = Shop(stack, "asked", made=HeldPrinter)
+        # The bit of the drawer's pin is that of an open cover in another answer.
+        shop.device.drawer(True)
+        shop.settle()
+        list(shop.control.events())
+        shop.device.hold(True)
+        until(lambda: shop.till.run_devices(0.01) and False, 3.5 * TIMEOUT)
+        told("questions that are held back", (True, False), (shop.device.held.count(b"\x10\x04\1") > 2, shop.driver.is_online))
+        shop.device.hold(False)
+        until(lambda: shop.till.run_devices(0.01) and False, TIMEOUT)
+        told("late answers", ([], True), (list(shop.control.events()), shop.driver.is_online))
+        told("then it prints", None, raised(shop.control.print, TEXT))
+        shop.same_paper("held back: the paper")
 
 
 def try_absent():
@@ -743,11 +967,15 @@ def try_scanner():
             told("a scanner is back", [(b"7", 0, b"7")], found)
 
 
+def pressed(*keys, values=(1, 0)):
+    """The events of keys that go down and up again, one after the other."""
+    return b"".join(struct.pack("@llHHi", 0, 0, 1, key, value) for key in keys for value in values)
+
+
 def typed(code):
     """The key events of a code and of Enter behind it."""
     keys = {both[0]: key for key, both in KEYS.items()}
-    events = [(1, keys[character], value) for character in code for value in (1, 0)] + [(1, 28, 1), (1, 28, 0)]
-    return b"".join(struct.pack("@llHHi", 0, 0, *event) for event in events)
+    return pressed(*[keys[character] for character in code], 28)
 
 
 def try_torn_scans():
@@ -771,8 +999,78 @@ def try_torn_scans():
     told("a line is too long", [], lines.take(b"1" * 4000) + lines.take(b"2" * 4000))
     told("its end is no code", [None, b"34"], lines.take(b"5\r\n34\n"))
     keys = kijolvar.drivers._Keys()
+    control = pressed(29, values=(1,)) + pressed(27) + pressed(29, values=(0,))
+    told("Ctrl and ] is GS", [b"01\x1d10"], keys.take(typed("01")[:-48] + control + typed("10")))
+    told("the keypad, with NumLock", [b"12403-."], keys.take(
+        pressed(69) + typed("12")[:-48] + pressed(75, 82) + typed("3")[:-48] + pressed(74, 83, 96)))
+    told("a key that is held", [b"1"], keys.take(pressed(2, values=(1, 2, 2, 0)) + pressed(28, values=(1, 2, 0))))
+    for name, events in (("Tab", pressed(15)), ("Ctrl and A", control.replace(*map(pressed, (27, 30))))):
+        told(f"a key that gives nothing: {name}", [None, b"34"],
+             keys.take(typed("12")[:-48] + events + typed("3") + typed("34")))
     told("too many keys", [None, b"34"], keys.take(typed("1" * 4097) + typed("34")))
     told("all but the end of Enter is dropped", [None, b"34"], keys.take(dropped + typed("")[-24:] + typed("34")))
+
+
+class Forgetful:
+    """Carries out lines, but answers `memory` to the first one that has a word, or raises what a signal's handler would."""
+
+    def __init__(self, carry_out, word, fault=None):
+        self.carry_out, self.word, self.fault = carry_out, word, fault
+
+    def __call__(self, lines):
+        if self.word not in lines:
+            return self.carry_out(lines)
+        self.word = b"no such word"
+        if self.fault is not None:
+            raise self.fault
+        return b"memory\n"
+
+
+def try_scans_that_wait():
+    """Codes aren't lost if their port is lost in the same round, nor if the till has no memory for one. An interrupt loses
+    one of them at most."""
+    with contextlib.ExitStack() as stack:
+        server = stack.enter_context(socket.create_server(("127.0.0.1", 0)))
+        till = stack.enter_context(opened())
+        till.drive("s1", WedgeScanner(f"tcp:127.0.0.1:{server.getsockname()[1]}", pause=60))
+        scanner = till.scanner("s1")
+        scanner.power_notify = kijolvar.PN_ENABLED
+        stack.enter_context(scanner.in_use())
+        scanner.data_event_enabled = True
+        list(scanner.events())
+        peer, _ = server.accept()
+        peer.sendall(b"123\r")
+        peer.close()
+        told("a code whose port is lost", True, until(lambda: till.run_devices(0.05)))
+        told("comes before its power", ["DataEvent", 2004], [
+            getattr(event, "status", type(event).__name__) for event in scanner.events()])
+    for name, word, fault, wanted in (("a code", b" scan ", None, [b"1", b"2", b"3"]), ("a fault", b" fault", None, [4]),
+                                      ("a code", b" scan ", InterruptedError(), [b"2", b"3"])):
+        with contextlib.ExitStack() as stack:
+            till = stack.enter_context(opened())
+            device = stack.enter_context(Scanner(cable()))
+            has_codes = name == "a code"
+            till.drive("s1", WedgeScanner(device.path, keys=not has_codes, pause=PAUSE))
+            scanner = till.scanner("s1")
+            stack.enter_context(scanner.in_use())
+            till._carry_out = till._session.carry_out = Forgetful(till._carry_out, word, fault)
+            if has_codes:
+                device.garbage(b"1\r2\r3\r")
+            else:
+                device.types(b"400638", dropped=4)
+            device.wait(lambda: not device._sends)
+            faults, found = [], []
+            until(lambda: faults.append(name_of(till.run_devices, 0.01)) or faults[-1])
+            told(f"{name} that isn't taken", "NoMemoryError" if fault is None else "InterruptedError", faults[-1])
+
+            def is_told():
+                till.run_devices(0.01)
+                while has_codes and scanner.data_count:
+                    scanner.data_event_enabled = True
+                    scanner.next_event()
+                    found.append(scanner.scan_data)
+                return (found or [scanner.state]) == wanted
+            told(f"{name}: it is told again", True, until(is_told, 2))
 
 
 class Meddler(Driver):
@@ -821,6 +1119,68 @@ def try_meddlers():
         told("drives neither", None, name_of(till.drive, "r1", EscPosPrinter("/dev/null", drawer="d1", timeout=0.1)))
 
 
+SPARES = """
+[[spare]]
+category = "POSPrinter"
+chars = 42
+lines = 1000
+near = 20
+[[spare]]
+category = "CashDrawer"
+[[spare]]
+category = "LineDisplay"
+rows = 2
+columns = 20
+[[spare]]
+category = "POSPrinter"
+chars = 42
+lines = 1000
+near = 20
+flaky = [1, 1]
+"""
+
+
+def try_detached():
+    """Devices with a driver that are detached: the others go on. A spare that is attached has the driver then."""
+    with contextlib.ExitStack() as stack:
+        till = stack.enter_context(opened(PROFILE + SPARES))
+        device, sender = stack.enter_context(Printer(cable())), stack.enter_context(Scanner(cable()))
+        screen = stack.enter_context(Display(cable(), 2, 20))
+        till.drive("r1", EscPosPrinter(device.path, drawer="d1", timeout=TIMEOUT, pause=PAUSE))
+        till.drive("p1", SerialDisplay(screen.path, pause=PAUSE))
+        till.drive("s1", WedgeScanner(sender.path, pause=PAUSE))
+        scanner, drawer = till.scanner("s1"), till.drawer("d1")
+        stack.enter_context(scanner.in_use())
+        with till.printer("r1").in_use() as printer, till.display("p1").in_use() as display:
+            told("before", [None] * 2, [raised(printer.print, b"Before\n"), raised(display.display_text, b"Before")])
+        printer.close()
+        display.close()
+        told("detached", "ok\nok\n", till.carry_out("detach r1\ndetach p1\n"))
+        device.load(10)
+        sender.scan(b"123")
+        told("a round with what is detached", None, name_of(till.run_devices, 0.05))
+        told("a scan meanwhile", True, until(lambda: name_of(till.run_devices, 0.01) or scanner.data_count == 1))
+        told("the drawer on a printer that is detached", (None, 1), (raised(drawer.open_drawer), len(device.pulses)))
+        till.device("p1").attach(3)
+        with till.display("p1").in_use() as display:
+            display.display_text_at(1, 0, b"Behind")
+            told("a display's spare: all rows are new", True, screen.wait(
+                lambda: screen.shows() == b" " * 20 + b"Behind" + b" " * 14, PATIENCE) or screen.shows())
+        lines = "new x POSPrinter\nattach r1 1\nopen x r1\nclaim x 0\nset x DeviceEnabled true\n"
+        told("attached by a line, before others", "ok\n" * 7,
+             till.carry_out(f"{lines}call x printNormal 2 {b'Between'.hex()}0a\nclose x"))
+        with till.printer("r1").in_use() as printer:
+            told("what is known of it", True, printer.rec_near_end)
+            told("a printer's spare", None, raised(printer.print, b"Behind\n"))
+            told("its paper", [b"Before", b"Between", b"Behind"], characters_of(device))
+            device.cover(True)
+            told("its cover", True, until(lambda: name_of(till.run_devices, 0.01) or printer.cover_open))
+        printer.close()
+        told("detached again", "ok\n", till.carry_out("detach r1"))
+        told("a spare whose line fails", [None] * 2,
+             [name_of(till.device("r1").attach, 4), name_of(till.run_devices, 0.05)])
+
+
 def try_ports_again():
     """A link that leads nowhere yet, and a name that was looked up once."""
     link = WORK / "receipt"
@@ -830,21 +1190,76 @@ def try_ports_again():
         os.symlink(device.path, link)
         with mock.patch("kijolvar.ports._is_line", return_value=True):
             port.open()
-        told("a link to a line", (False, True), (port.is_reliable, port.write(b"\n", 1.0)))
+        told("a link to a line", (True, True), (isinstance(port._line, SerialPort), port.write(b"\n", 1.0)))
         port.close()
         port.open()
-        told("a link to another device", True, port.is_reliable)
+        told("a link to another device", None, port._line)
         port.close()
     with socket.create_server(("127.0.0.1", 0)) as server, mock.patch("socket.getaddrinfo", side_effect=socket.getaddrinfo) as asked:
         port = kijolvar.TcpPort("localhost", server.getsockname()[1])
         for _ in range(3):
             port.open()
+            with socket.socket(fileno=os.dup(port.fileno())) as made:
+                within = made.getsockopt(socket.IPPROTO_TCP, socket.TCP_USER_TIMEOUT)
             port.close()
         names = [call.args[0] for call in asked.call_args_list]
         told("a name is looked up once", 1, names.count("localhost"))
+        told("a connection to nobody ends", 60_000, within)
+        told("one of two addresses doesn't answer", [None, None], second_answers(server.getsockname()[1]))
     told("nothing answers", "PortError", name_of(port.open))
     port._looked_up_at -= 61
     told("nothing answers for a minute", ("PortError", []), (name_of(port.open), port._addresses))
+    for took, wanted in ((0.0, 3), (0.3, 1)):
+        def fails(*words, took=took, **named):
+            time.sleep(took)
+            raise socket.gaierror(socket.EAI_AGAIN, "nobody answers")
+        with mock.patch("socket.getaddrinfo", side_effect=fails) as asked:
+            port = kijolvar.TcpPort("printer")
+            faults = [name_of(port.open) for _ in range(3)]
+            told(f"a look-up that fails after {took} s", (["PortError"] * 3, wanted), (faults, asked.call_count))
+            port._looks_up_from -= 61
+            told(f"a look-up that fails after {took} s, a minute later", ("PortError", wanted + 1),
+                 (name_of(port.open), asked.call_count))
+
+
+def second_answers(port):
+    """What opening a port raises whose name has two addresses, if the first one lets everybody wait."""
+    connects = socket.create_connection
+
+    def tried(address, timeout):
+        if address[0] == "192.0.2.1":
+            time.sleep(timeout)
+            raise TimeoutError
+        return connects(address, timeout)
+    found = [(socket.AF_INET, socket.SOCK_STREAM, 6, "", (host, port)) for host in ("192.0.2.1", "127.0.0.1")]
+    with mock.patch("socket.getaddrinfo", return_value=found), mock.patch("socket.create_connection", tried):
+        return [name_of(kijolvar.TcpPort("printer", port).open, seconds) for seconds in (0.3, 1.0)]
+
+
+def late(*_):
+    raise InterruptedError("it takes too long")
+
+
+def in_time(call, *words):
+    """The name of what a call raises, or None. One that takes too long is interrupted."""
+    signal.signal(signal.SIGALRM, late)
+    signal.setitimer(signal.ITIMER_REAL, PATIENCE)
+    try:
+        return name_of(call, *words)
+    finally:
+        signal.setitimer(signal.ITIMER_REAL, 0)
+
+
+def try_endless_ports():
+    """Ports at which there is always something to be read: nothing, or more."""
+    for path in ("/dev/null", "/dev/zero"):
+        with opened() as till:
+            drivers = {"p1": SerialDisplay(path), "s1": WedgeScanner(path), "r1": EscPosPrinter(path, timeout=0.1)}
+            for name, driver in drivers.items():
+                told(f"{name} at {path}", None, in_time(till.drive, name, driver))
+            with till.display("p1").in_use() as display:
+                told(f"an order of a display at {path}", None, in_time(display.display_text, b"Hi"))
+            told(f"a round with {path}", None, in_time(till.run_devices))
 
 
 def try_refusals():
@@ -856,6 +1271,19 @@ def try_refusals():
         told("a narrow printer", "ValueError", name_of(till.drive, "r1", EscPosPrinter("/dev/null", width=20)))
         with till.printer("r1").in_use() as printer:
             told("a device that isn't driven answers at once", None, raised(printer.print, TEXT))
+    flaky = PROFILE.replace('category = "CashDrawer"', 'category = "CashDrawer"\nflaky = [1, 1]')
+    with contextlib.ExitStack() as stack:
+        device = stack.enter_context(Printer(cable()))
+        driver = EscPosPrinter(device.path, drawer="d1", timeout=TIMEOUT, pause=PAUSE)
+        with opened(flaky) as till:
+            told("a drawer that can't be driven", "NoDeviceError", name_of(till.drive, "r1", driver))
+            with till.printer("r1").in_use() as printer:
+                told("its printer isn't driven", (111, 0), raised(printer.print, TEXT))
+                told("but can be", None, name_of(till.drive, "r1", EscPosPrinter(
+                    device.path, timeout=TIMEOUT, pause=PAUSE)))
+                told("and prints", (None, 3), (raised(printer.print, TEXT), len(device.receipt())))
+        with opened(PROFILE.replace("chars = 42", "chars = 48").replace("near = 20", "near = 2")) as till:
+            told("a driver for another till", None, name_of(till.drive, "r1", driver))
     with opened(PROFILE.replace("near = 20", f"near = {MOST_LINES}")) as till:
         told("near its end for ever", "ValueError", name_of(till.drive, "r1", EscPosPrinter("/dev/null")))
     told("no such cutter", "ValueError", name_of(EscPosPrinter, "/dev/null", cutter="axe"))
@@ -864,17 +1292,23 @@ def try_refusals():
     told("no such protocol", "ValueError", name_of(SerialDisplay, "/dev/null", "morse"))
     told("no such speed", "ValueError", name_of(SerialPort, "/dev/ttyS0", 9601))
     told("no such parity", "ValueError", name_of(SerialPort, "/dev/ttyS0", parity="odder"))
-    told("ports", ["FilePort", "SerialPort", "TcpPort tcp://a:1", "TcpPort tcp://a:1", "TcpPort tcp://a:9100"],
+    told("ports", ["FilePort", "SerialPort", "TcpPort tcp://a:1", "TcpPort tcp://a:1", "TcpPort tcp://a:9100",
+                   "TcpPort tcp://[::1]:1", "TcpPort tcp://[::1]:9100"],
          [type(port).__name__ + f" {port.name}" * isinstance(port, kijolvar.TcpPort) for port in map(
-             kijolvar.port_of, ("/dev/usb/lp0", "/dev/ttyUSB0", "tcp:a:1", "tcp://a:1", "tcp:a"))])
+             kijolvar.port_of, ("/dev/usb/lp0", "/dev/ttyUSB0", "tcp:a:1", "tcp://a:1", "tcp:a", "tcp:[::1]:1",
+                                "tcp://[::1]"))])
+    told("no such ports", ["ValueError"] * 7, [name_of(kijolvar.port_of, f"tcp:{name}") for name in (
+        "", ":1", "::1", "a:b", "a:0", "a:65536", "[a:b]")])
+    told("a name that no host has", "PortError", name_of(kijolvar.port_of("tcp:.a").open))
 
 
 # ---- random faults
 
 def try_random():
     """Random trouble: each order that was answered ok is on the paper once, in order, and nothing else is."""
-    for kind in ("usb", "tcp", "asked"):
-        chance, left = random.Random(WORDS.seed), WORDS.faults // 3
+    kinds = "usb", "tcp", "asked", "usb stays", "tcp stays", "asked stays"
+    for kind in kinds:
+        chance, left = random.Random(f"{WORDS.seed} {kind}"), WORDS.faults // len(kinds)
         while left > 0:
             # A till keeps the paper of 500 orders of a driven printer.
             random_rounds(kind, chance, min(left, 400))
@@ -887,7 +1321,7 @@ def random_rounds(kind, chance, rounds):
         shop = Shop(stack, kind, lines=100_000)
         shop.device.load(100_000)
         for number in range(rounds):
-            trouble = random_round(shop, chance, number, SIMPLE if kind == "asked" else ())
+            trouble = random_round(shop, chance, number, SIMPLE if "asked" in kind else ())
             counts[trouble] = counts.get(trouble, 0) + 1
         shop.device.clear_triggers()
         shop.same_paper(f"{name}: the paper")
@@ -895,12 +1329,15 @@ def random_rounds(kind, chance, rounds):
              len({item.characters.split()[0] for item in shop.till.device("r1").show().items
                   if not isinstance(item, PrintedCut)}))
         told(f"{name}: no late order", 0, shop.driver.late_orders)
-        told(f"{name}: no more doubts than pulled plugs", True, len(shop.device.doubts) <= counts.get("plug", 0))
+        most = counts.get("plug", 0) + MOST_PIECES * counts.get("lost answers", 0)
+        told(f"{name}: no more doubts than there was reason for", True, len(shop.device.doubts) <= most)
         print(f"{name}: {counts}, in doubt: {len(shop.device.doubts)}", flush=True)
 
 
 # What a printer that is asked must not meet: its answers have no number.
-SIMPLE = ("lost answers", "garbage")
+SIMPLE = ("garbage",)
+# The most lines and cuts of an order: one line of them is in doubt if the plug is pulled, and all if answers are lost.
+MOST_PIECES = 5
 
 
 def random_trouble(device, chance, unless):

@@ -634,7 +634,7 @@ def tables(documents):
     has("docs/reference/calls.md", "properties", said, named)
     tables = re.findall(r"^\| Call \|.*\n\|[-|]*\n((?:^\|.*\n)+)", known, re.M)[1:]
     said = [ticked(row)[0] for table in tables for row in table.strip().split("\n")]
-    has("docs/reference/calls.md", "methods", said, re.findall(r'codes "(\w+)"', read("crates/pos_script/specs/Methods.antt")))
+    has("docs/reference/calls.md", "methods", said, re.findall(r'codes "(\w+)"', read("crates/pos_service/specs/Calls.antt")))
     console = documents["docs/reference/console.md"]
     said = [ticked(cells[0])[0] for cells in rows_of(console, "Lines") if ticked(cells[0])]
     verbs = re.search(r"^fn named_verb.*?^}", read("crates/pos_script/src/command.rt"), re.M | re.S)[0]

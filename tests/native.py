@@ -69,10 +69,12 @@ def told(name, wanted, found):
 
 
 def cable(kind="usb"):
-    """A new cable: "usb" hangs up with the device, a serial line doesn't, "tcp" is a network printer's."""
+    """A new cable: "usb" hangs up with the device, a serial line doesn't, "tcp" is a network printer's. With "stays"
+    behind it, the port stays open while the device is off."""
     global made
     made += 1
-    return TcpCable() if kind == "tcp" else PtyCable(WORK / f"port-{made}", hangs_up="serial" not in kind)
+    hangs_up = "serial" not in kind and "stays" not in kind
+    return TcpCable(hangs_up=hangs_up) if "tcp" in kind else PtyCable(WORK / f"port-{made}", hangs_up=hangs_up)
 
 
 def until(condition, seconds=PATIENCE):
@@ -155,7 +157,8 @@ class Shop:
         return until(is_well)
 
     def paper(self):
-        """What is printed, without what the plug was pulled at: no driver can know whether that was printed."""
+        """What is printed, without that whose acknowledgement was lost, or at which the plug was pulled: no driver can
+        know whether that was printed, and it is printed again."""
         self.device.wait(lambda: self.device.is_idle)
         items = [item for at, item in enumerate(self.device.receipt()) if at not in self.device.doubts]
         return [(item.alignment, item.characters) if isinstance(item, Line) else item for item in items]
@@ -225,6 +228,31 @@ def try_troubles():
                     told(f"{name}: again", True, until(lambda: shop.print(TEXT) == "ok"))
                     told(f"{name}: the paper", PRINTED, shop.paper())
                     told(f"{name}: nothing else", "0", shop.late())
+
+
+def try_ports_that_stay():
+    """A port that stays open while the printer is off, and loses what is sent: a cable with a chip of its own, or a
+    print server. What was lost is never told as printed, and a retry prints it."""
+    if WORDS.name != "Rust":
+        return
+    for kind in ("usb stays", "tcp stays", "asked stays"):
+        for place in (0, 30, 50):
+            name = f"off after {place} bytes, over {kind}"
+            with contextlib.ExitStack() as stack:
+                shop = Shop(stack, kind)
+                if place:
+                    shop.device.after(place, shop.device.pull_plug)
+                else:
+                    shop.device.pull_plug()
+                told(f"{name}: the answer", "err 111", shop.print(TEXT))
+                shop.device.plug_in()
+                told(f"{name}: it is back", True, shop.settle())
+                # Answers without a number may still come, as long as nothing says that they are lost.
+                again = [shop.print(TEXT) for _ in range(2 if "asked" in kind else 1)]
+                told(f"{name}: again", "ok", again[-1])
+                told(f"{name}: another order", "ok", shop.print(b"Other\n"))
+                told(f"{name}: the paper", [*PRINTED, ("left", b"Other")], shop.paper())
+                told(f"{name}: nothing else", "0", shop.late())
 
 
 def events_of(host):
@@ -420,6 +448,9 @@ def try_scanner():
             scanned(b"123", ["ok 0", "ok 313233", "ok 313233"])
             if kind == "lines":
                 device.garbage(b"x" * 10_000 + b"\r\n")
+                told("a code that is too long comes", True, until(lambda: host.ask("run 10") == "true"))
+                told("a code that is too long", ["event ErrorEvent 111 0 2", "ok"],
+                     host.lines("deliver s", "set s DataEventEnabled true"))
                 scanned(b"456", ["ok 0", "ok 343536", "ok 343536"])
 
 
@@ -594,7 +625,8 @@ def try_counted():
 
         def goes_on():
             """It works off what came before the next order, and is silent again."""
-            told("the next order is sent", True, until(lambda: len(shop.device._got) > before, TIMEOUT / 2000))
+            time.sleep(TIMEOUT / 4000)
+            told("the next order isn't sent while answers are due", False, b"Next" in bytes(shop.device._got))
             shop.device.after(before, shop.device.hang)
             shop.device.hang(False)
         before = len(shop.device._got)
@@ -636,6 +668,167 @@ def try_link():
         with open(device.path, "rb", buffering=0) as line:
             control, speed = termios.tcgetattr(line)[2], termios.tcgetattr(line)[5]
         told("its line is set up", (True, termios.B9600), (control & termios.CRTSCTS != 0, speed))
+
+
+def try_silence():
+    """A printer that falls silent is off soon, although an order is tried again and again."""
+    if WORDS.name != "Rust":
+        return
+    for kind in ("usb", "tcp", "serial", "asked"):
+        with contextlib.ExitStack() as stack:
+            shop = Shop(stack, kind)
+            shop.device.hang()
+            answers = []
+            for _ in range(4):
+                answers.append(shop.print(b"Once\n"))
+                shop.host.ask("run 10")
+            told(f"retries over {kind}", ("err 111", "err 108"), (answers[0], answers[-1]))
+            told(f"it is off over {kind}", "offline 0", shop.host.ask("state r1"))
+            shop.device.hang(False)
+            told(f"it answers again over {kind}", True, shop.settle())
+            told(f"the order again over {kind}", "ok", shop.print(b"Once\n"))
+            told(f"it is printed once over {kind}", [("left", b"Once")], shop.paper())
+    with contextlib.ExitStack() as stack:
+        shop = Shop(stack)
+        told("waiting output", ["ok", "ok"], shop.host.lines("set r AsyncMode true", "call r printNormal 2 410a"))
+        shop.device.hang()
+        events = []
+
+        def has(event):
+            shop.host.ask("run 10")
+            events.extend(events_of(shop.host))
+            return event in events
+        told("it fails", True, until(lambda: has("event ErrorEvent 111 0 1")))
+        told("its printer is off", True, until(lambda: has("event ErrorEvent 108 0 1")))
+        shop.device.hang(False)
+        told("it is complete", True, until(lambda: has("event OutputCompleteEvent 1")))
+        told("it is on the paper once", [("left", b"A")], shop.paper())
+
+
+def try_blinks():
+    """A printer whose port stays is off for a moment, which nobody sees: its status is asked for again."""
+    if WORDS.name != "Rust":
+        return
+    for kind in ("serial", "usb stays", "tcp stays"):
+        with contextlib.ExitStack() as stack:
+            shop = Shop(stack, kind)
+            device = shop.device
+
+            def shows(answer):
+                shop.host.ask("run 10")
+                return shop.host.line("get r CoverOpen") == answer
+            told(f"the printer is idle over {kind}", True,
+                 until(lambda: shop.host.ask("run 10") == "false" and device.is_idle))
+            device.cover(True)
+            told(f"the cover is open over {kind}", True, until(lambda: shows("ok true")))
+            told(f"it is asked for more over {kind}", True,
+                 until(lambda: shop.host.ask("run 10") and device._got == b"\x1da\xff"))
+            device.pull_plug()
+            device.cover(False)
+            device.plug_in()
+            told(f"it was closed while the printer was off over {kind}", True, until(lambda: shows("ok false")))
+            told(f"an order then over {kind}", "ok", shop.print(b"One\n"))
+            device.pull_plug()
+            device.plug_in()
+            told(f"it is to say again how it is over {kind}", True,
+                 until(lambda: shop.host.ask("run 10") and device._is_automatic))
+            device.cover(True)
+            told(f"the cover is open again over {kind}", True, until(lambda: shows("ok true")))
+            device.cover(False)
+            told(f"it ends over {kind}", True, shop.settle())
+            told(f"an order after it over {kind}", "ok", shop.print(b"Two\n"))
+            told(f"both are printed over {kind}", [b"One", b"Two"], [item[1] for item in shop.paper()])
+
+
+def try_lost_scanner():
+    """A code that comes just before its port is lost. The scanner is off only after it."""
+    if WORDS.name != "Rust":
+        return
+    with contextlib.ExitStack() as stack:
+        device = stack.enter_context(Scanner(cable("tcp")))
+        host = Host(stack)
+        told("the scanner is opened", "ok", host.ask(f"scanner s1 {device.path} pause 10"))
+        host.lines("new s Scanner", "open s s1", "claim s 0", "set s PowerNotify 1", "set s DeviceEnabled true",
+                   "set s DataEventEnabled true")
+        told("it is on", "event StatusUpdateEvent 2001", host.line("deliver s"))
+        device.scan(b"4006381")
+        told("a code is sent", True, device.wait(lambda: not device._sends))
+        device.pull_plug()
+        told("it comes", "true", host.ask("run 10"))
+        told("the scanner is lost", "offline 0", host.ask("state s1"))
+        told("the events", ["event DataEvent 0", "event StatusUpdateEvent 2004", "none"],
+             host.lines("deliver s", "deliver s", "deliver s"))
+        told("the code", "ok " + b"4006381".hex(), host.line("get s ScanData"))
+
+
+SPARES = """
+[[spare]]
+category = "CashDrawer"
+[[spare]]
+category = "POSPrinter"
+chars = 42
+lines = 30
+near = 20
+"""
+
+
+def try_exchanged():
+    """A printer and its drawer: one goes on while the other is detached, and a spare has the driver of its device."""
+    if WORDS.name != "Rust":
+        return
+    with contextlib.ExitStack() as stack:
+        device = stack.enter_context(Printer(cable()))
+        host = Host(stack, PROFILE + SPARES)
+        told("both are opened", "ok", host.ask(f"printer r1 {device.path} timeout {AMPLE} pause 10 lines 1000 drawer d1"))
+        told("the drawer is detached", ["ok"] * 5,
+             host.lines("detach d1", "new r POSPrinter", "open r r1", "claim r 0", "set r DeviceEnabled true"))
+        told("an order of the printer", "ok", host.line("call r printNormal 2 410a"))
+        told("the drawer is a spare", ["ok"] * 4,
+             host.lines("attach d1 1", "new d CashDrawer", "open d d1", "set d DeviceEnabled true"))
+        told("its order", "ok", host.line("call d openDrawer"))
+        told("its pulse", [(2, 25, 250)], device.pulses)
+        told("the printer is detached", ["ok"] * 2, host.lines("close r", "detach r1"))
+        told("an order of the drawer", "ok", host.line("call d openDrawer"))
+        told("its second pulse", 2, len(device.pulses))
+        told("the printer is a spare", ["ok"] * 4,
+             host.lines("attach r1 2", "open r r1", "claim r 0", "set r DeviceEnabled true"))
+        told("it has the paper of its sensors", "1000", host.line("show r1").split()[2])
+        told("a long order of it", "ok", host.line("call r printNormal 2 " + "420a" * 40))
+        told("all is printed", [b"A"] + [b"B"] * 40, [item.characters for item in device.receipt()])
+
+
+def try_refused():
+    """Output that waits and is refused is tried again only now and then."""
+    if WORDS.name != "Rust":
+        return
+    with contextlib.ExitStack() as stack:
+        shop = Shop(stack, timeout=AMPLE)
+        shop.device.cover(True)
+        told("the cover is open", True,
+             until(lambda: shop.host.ask("run 10") and shop.host.line("get r CoverOpen") == "ok true"))
+        told("output waits", ["ok", "ok"], shop.host.lines("set r AsyncMode true", "call r printNormal 2 410a"))
+        count, end = 0, time.monotonic() + 0.5
+        while time.monotonic() < end:
+            shop.host.ask("run 1000")
+            count += len(events_of(shop.host))
+        told("it is tried again, and not all the time", True, 1 <= count <= 7)
+        shop.device.cover(False)
+        told("it is printed", True, until(lambda: shop.host.ask("run 10") and len(shop.device.receipt()) == 1))
+
+
+def try_counted_down():
+    """Lines that are counted down begin again while the sensors see enough paper, so that no receipt is refused."""
+    if WORDS.name != "Rust":
+        return
+    with contextlib.ExitStack() as stack:
+        device = stack.enter_context(Printer(cable()))
+        host = Host(stack)
+        told("a printer", "ok", host.ask(f"printer r1 {device.path} timeout {AMPLE} pause 10 lines 120"))
+        host.lines("new r POSPrinter", "open r r1", "claim r 0", "set r DeviceEnabled true")
+        for count in (60, 35, 30, 60, 100):
+            told(f"{count} lines", "ok", host.line("call r printNormal 2 " + "410a" * count))
+        told("all are printed", 285, len(device.receipt()))
+        told("the count", "120", host.line("show r1").split()[2])
 
 
 def try_refusals():
@@ -759,12 +952,298 @@ def try_memory_while():
         told("want of memory for a while: what was printed last", wanted, found)
 
 
+def try_memory_scans():
+    """Want of memory at each allocation of a scan in turn: each code comes once, and each failed scan."""
+    if not WORDS.name.startswith("Rust"):
+        return
+    for opened in ("no other driver", "own d2 0"):
+        with contextlib.ExitStack() as stack:
+            device = stack.enter_context(Scanner(cable()))
+            host = Host(stack)
+            if host.ask("memory 0") != "ok":
+                return
+            host.ask(opened)
+            host.ask(f"scanner s1 {device.path} pause 10")
+            host.lines("new s Scanner", "open s s1", "claim s 0", "set s DeviceEnabled true",
+                       "set s DataEventEnabled true")
+
+            def comes(data, number):
+                """What comes of a scan for which memory is refused at first."""
+                device.garbage(data)
+                device.wait(lambda: not device._sends)
+                host.ask(f"memory {number}")
+                host.ask("run 10")
+                host.ask("memory 0")
+                events = []
+
+                def is_any():
+                    host.ask("run 10")
+                    events.append(host.line("deliver s"))
+                    return events[-1] != "none"
+                until(is_any, 2)
+                host.line("set s DataEventEnabled true")
+                return host.line("get s ScanData")[3:] if events[-1] == "event DataEvent 0" else events[-1]
+            numbers = range(1, 16)
+            told(f"want of memory, {opened}: scans", [(b"%d" % number).hex() for number in numbers],
+                 [comes(b"%d\r" % number, number) for number in numbers])
+            told(f"want of memory, {opened}: failed scans", ["event ErrorEvent 111 0 2"] * 15,
+                 [comes(b"x" * 5000 + b"\r", number) for number in numbers])
+            told(f"want of memory, {opened}: nothing else", "none", host.line("deliver s"))
+
+
+def try_memory_inputs():
+    """Want of memory at each allocation of what happens at a printer in turn: the till knows all of it in the end."""
+    if not WORDS.name.startswith("Rust"):
+        return
+    papers, powers, refused = [], [], 0
+    for number in range(1, 40):
+        with contextlib.ExitStack() as stack:
+            device = stack.enter_context(Printer(cable()))
+            host = Host(stack)
+            opened = f"printer r1 {device.path} timeout {TIMEOUT} pause 10 lines 900"
+            if host.ask(f"memory {number}") != "ok":
+                return
+            is_refused = host.ask(opened) != "ok"
+            host.ask("memory 0")
+            refused += is_refused and host.ask(opened) == "ok"
+            papers.append(until(lambda: host.ask("run 10") and host.line("show r1").split()[2] == "900", 3))
+            host.lines("new r POSPrinter", "open r r1", "claim r 0", "set r DeviceEnabled true")
+            device.pull_plug()
+            host.ask(f"memory {number}")
+            host.ask("lines call r printNormal 2 410a")
+            host.ask("memory 0")
+            host.ask("run 10")
+            powers.append(host.line("call r printNormal 2 410a"))
+    told("want of memory: it may be refused", True, 0 < refused < 39)
+    told("want of memory: the paper of the sensors", [True] * 39, papers)
+    told("want of memory: the printer is off", ["err 108"] * 39, powers)
+
+
+# ---- what the layer of C alone is tried at here
+
+SPARE = """
+[[spare]]
+category = "POSPrinter"
+chars = 42
+lines = 1000
+near = 20
+"""
+
+
+def try_stays():
+    """A port that stays while its printer is off, as a print server's: what was lost then isn't told as printed."""
+    if WORDS.name == "Rust":
+        return
+    for kind in ("stays", "stays asked"):
+        with contextlib.ExitStack() as stack:
+            shop = Shop(stack, kind)
+            shop.device.pull_plug()
+            told(f"an order of a printer that is off, {kind}", "err 111", shop.print(b"First\n"))
+            shop.device.plug_in()
+            told(f"it is on, {kind}", True, shop.settle())
+            told(f"the order again, {kind}", True, until(lambda: shop.print(b"First\n") == "ok"))
+            told(f"its paper, {kind}", [("left", b"First")], shop.paper())
+            shop.device.after(30, shop.device.pull_plug)
+            told(f"an order midway, {kind}", "err 111", shop.print(TEXT))
+            shop.device.plug_in()
+            told(f"it is on again, {kind}", True, shop.settle())
+            told(f"the rest, {kind}", True, until(lambda: shop.print(TEXT) == "ok"))
+            told(f"the whole paper, {kind}", [("left", b"First"), *PRINTED], shop.paper())
+            told(f"another order, {kind}", "ok", shop.print(b"Last\n"))
+            shop.device.cover(True)
+            told(f"it says its status again, {kind}", True,
+                 until(lambda: shop.host.ask("run 10") and shop.host.line("get r CoverOpen") == "ok true"))
+
+
+def try_silent():
+    """A printer that is silent counts as off, however often its order is tried again."""
+    if WORDS.name == "Rust":
+        return
+    for kind in ("usb", "serial", "asked"):
+        with contextlib.ExitStack() as stack:
+            shop, answers = Shop(stack, kind), []
+            shop.device.hang()
+            for _ in range(4):
+                answers.append(shop.print(b"Once\n"))
+                shop.host.ask("run 50")
+            told(f"orders of a silent printer over {kind}", ["err 111", "err 108"], [answers[0], answers[-1]])
+            told(f"it is off over {kind}", "offline 0", shop.host.ask("state r1"))
+            shop.device.hang(False)
+            told(f"it is back over {kind}", True, shop.settle())
+            told(f"the order over {kind}", True, until(lambda: shop.print(b"Once\n") == "ok"))
+
+
+def try_unheard():
+    """A network printer that says nothing any more is connected to again, unless something is due."""
+    with contextlib.ExitStack() as stack:
+        shop = Shop(stack, "tcp")
+        told("an order over a network", "ok", shop.print(b"First\n"))
+        before = shop.device.cable._host
+        shop.device.hang()
+        told("it is off", True, until(lambda: shop.host.ask("run 10") and shop.host.ask("state r1") == "offline 0"))
+        told("it is connected to again", True,
+             until(lambda: shop.host.ask("run 10") and shop.device.cable._host not in (before, None)))
+        shop.device.hang(False)
+        told("it is back", True, shop.settle())
+        told("another order over a network", "ok", shop.print(b"Last\n"))
+        told("the paper over a network", [("left", b"First"), ("left", b"Last")], shop.paper())
+
+
+def try_switched():
+    """A serial printer that is switched off and on: it isn't told as off later, and its status is what it is then."""
+    if WORDS.name == "Rust":
+        return
+
+    def is_open(wanted):
+        """Whether the cover is told as open in time."""
+        return until(lambda: shop.host.ask("run 10") and shop.host.line("get r CoverOpen") == wanted, 15)
+    with contextlib.ExitStack() as stack:
+        shop = Shop(stack, "serial")
+        shop.device.pull_plug()
+        told("an order while it is off", "err 111", shop.print(b"Once\n"))
+        shop.device.plug_in()
+        time.sleep(2 * TIMEOUT / 1000)
+        told("nothing has happened", "false", shop.host.ask("run 300"))
+        told("the order again", "ok", shop.print(b"Once\n"))
+        told("the paper", [("left", b"Once")], shop.paper())
+    with contextlib.ExitStack() as stack:
+        shop = Shop(stack, "serial", timeout=2000)
+        shop.device.cover(True)
+        told("the cover is open", True, is_open("ok true"))
+        shop.host.ask("run 100")
+        shop.device.pull_plug()
+        shop.device.cover(False)
+        # What is asked meanwhile is lost.
+        shop.host.ask("run 100")
+        shop.device.plug_in()
+        told("it is closed", True, is_open("ok false"))
+        told("an order then", "ok", shop.print(b"Once\n"))
+    with contextlib.ExitStack() as stack:
+        shop = Shop(stack, "serial", timeout=2000)
+        until(lambda: shop.host.ask("run 100") == "false")
+        shop.device.pull_plug()
+        shop.device.plug_in()
+        end = time.monotonic() + 3
+        until(lambda: shop.host.ask("run 100") and time.monotonic() > end)
+        shop.device.cover(True)
+        told("a cover is told of later", True, is_open("ok true"))
+
+
+def try_exchange():
+    """A printer and a drawer whose devices are detached and attached again."""
+    if WORDS.name == "Rust":
+        return
+    with contextlib.ExitStack() as stack:
+        device = stack.enter_context(Printer(cable()))
+        host = Host(stack, PROFILE + SPARE + SPARE)
+        begun = ["new r POSPrinter", "open r r1", "claim r 0", "set r DeviceEnabled true"]
+        told("a printer and a drawer", "ok", host.ask(f"printer r1 {device.path} drawer d1 timeout {AMPLE} pause 10"))
+        told("the drawer is enabled", ["ok"] * 3,
+             host.lines("new d CashDrawer", "open d d1", "set d DeviceEnabled true"))
+        told("the drawer is opened", "ok", host.line("call d openDrawer"))
+        told("the printer is detached", "ok", host.ask("detach r1"))
+        told("the drawer is opened again", "ok", host.line("call d openDrawer"))
+        told("by the printer", 2, len(device.pulses))
+        host.ask("run 100")
+        told("both are there", ["online 0"] * 2, [host.ask("state r1"), host.ask("state d1")])
+        told("a spare is attached", "ok", host.ask("attach r1 1"))
+        told("it is enabled", ["ok"] * 4, host.lines(*begun))
+        told("its order", "ok", host.line("call r printNormal 2 410a"))
+        told("it is printed", 1, len(device.receipt()))
+        told("another spare is attached", ["ok"] * 3, host.lines("close r", "detach r1", "attach r1 2"))
+        told("that is enabled", ["ok"] * 3, host.lines(*begun[1:]))
+        told("its order too", "ok", host.line("call r printNormal 2 420a"))
+        told("that is printed too", 2, len(device.receipt()))
+        device.cover(True)
+        told("its cover is open", True,
+             until(lambda: host.ask("run 10") and host.line("get r CoverOpen") == "ok true"))
+
+
+def try_detached_codes():
+    """A code of a device that is detached is lost, and nothing else is."""
+    if WORDS.name == "Rust":
+        return
+    with contextlib.ExitStack() as stack:
+        device = stack.enter_context(Scanner(cable()))
+        shop = Shop(stack, timeout=AMPLE)
+        told("another device", "ok", shop.host.ask(f"scanner s1 {device.path} pause 10"))
+        told("it is detached", "ok", shop.host.ask("detach s1"))
+        told("output waits", ["ok", "ok"], shop.host.lines("set r AsyncMode true", "call r printNormal 2 410a"))
+        device.scan(b"4006381333931")
+        time.sleep(0.1)
+        told("the devices run", "true", shop.host.ask("run 10"))
+        told("the output is printed", 1, len(shop.device.receipt()))
+
+
+def try_refused_output():
+    """Output that is refused again and again leaves time for other things."""
+    if WORDS.name == "Rust":
+        return
+    with contextlib.ExitStack() as stack:
+        shop, events, runs = Shop(stack), [], 0
+        told("accepted", ["ok", "ok"],
+             shop.host.lines("set r AsyncMode true", f"call r printNormal 2 {TEXT.hex()}"))
+        shop.device.after(30, lambda: shop.device.cover(True))
+        end = time.monotonic() + 2
+        while time.monotonic() < end:
+            shop.host.ask("run 100")
+            events += events_of(shop.host)
+            runs += 1
+        told("some tries, and not many", True, 2 <= len(events) <= 21)
+        told("no more runs than a few", True, runs <= 45)
+        shop.device.cover(False)
+        told("a try is complete", True,
+             until(lambda: shop.host.ask("run 10") and "event OutputCompleteEvent 1" in events_of(shop.host)))
+        told("the paper", PRINTED, shop.paper())
+
+
+def try_roll():
+    """A roll whose lines are counted down while the printer still sees enough paper."""
+    if WORDS.name == "Rust":
+        return
+    with contextlib.ExitStack() as stack:
+        shop = Shop(stack, lines=100_000, timeout=AMPLE)
+        text = b"".join(b"Line %d\n" % number for number in range(60))
+        answers = [shop.print(text) for _ in range(40)]
+        told("receipts on a long roll", ["ok"] * 40, answers)
+        told("their paper", 2400, len(shop.paper()))
+        told("no event of the paper", ["ok false", "none"],
+             shop.host.lines("get r RecNearEnd", "deliver r"))
+
+
+def try_keys():
+    """The keys of a keypad, a separator, a key that is held down, and keys that have no character."""
+
+    def events(*keys):
+        """The events of keys: each is pressed and let go, or what comes is given by a pair."""
+        pairs = [pair for key in keys for pair in ([key] if isinstance(key, tuple) else [(key, 1), (key, 0)])]
+        return b"".join(struct.pack("@llHHi", 0, 0, 1, *pair) for pair in [*pairs, (28, 1), (28, 0)])
+    with contextlib.ExitStack() as stack:
+        device = stack.enter_context(Scanner(cable()))
+        host = Host(stack)
+        told("opened for keys", "ok", host.ask(f"scanner s1 {device.path} keys pause 10"))
+        host.lines("new s Scanner", "open s s1", "claim s 0", "set s DeviceEnabled true")
+
+        def comes(name, wanted, *keys):
+            device.garbage(events(*keys))
+            told(f"{name} comes", True, until(lambda: host.ask("run 10") == "true"))
+            event = host.lines("set s DataEventEnabled true", "deliver s")[1]
+            told(name, wanted, host.line("get s ScanData") if event == "event DataEvent 0" else event)
+        comes("a keypad", "ok " + b"789-456+1230".hex(), *range(71, 83))
+        comes("a separator", "ok 301d31", 11, (29, 1), 27, (29, 0), 2)
+        comes("a separator by the other key", "ok 301d31", 11, (97, 1), 27, (97, 0), 2)
+        comes("a key that is held", "ok 313232", 2, (3, 1), (3, 2), (3, 2), (3, 0), 3)
+        comes("a key without a character", "event ErrorEvent 111 0 2", 2, 59, 3)
+        comes("a code after it", "ok 3132", 2, 3)
+        comes("another control", "event ErrorEvent 111 0 2", (29, 1), 30, (29, 0))
+        comes("Enter that is held", "ok 33", 4, (28, 1), (28, 2), (28, 0))
+
+
 # ---- random faults
 
-# The kinds of printers, and what they must not meet: answers that are asked for have no number, and on a serial line
-# nobody can tell an answer that was lost from bytes that were.
-KINDS = {"usb": (), "tcp": (), "serial": ("lost answers",), "asked": ("lost answers", "garbage"),
-         "asked serial": ("lost answers", "garbage")}
+# The kinds of printers, and what they must not meet: answers that are asked for have no number.
+KINDS = {"usb": (), "tcp": (), "serial": (), "usb stays": (), "tcp stays": (), "asked": ("garbage",),
+         "asked serial": ("garbage",), "asked stays": ("garbage",)}
 
 
 def random_trouble(device, chance, unless):
@@ -814,7 +1293,7 @@ def random_round(shop, chance, number, unless):
 def try_random():
     """Random trouble: each order that was answered ok is on the paper once, in order, and nothing else is."""
     for kind, unless in KINDS.items():
-        chance, counts, wanted = random.Random(WORDS.seed), {}, []
+        chance, counts, wanted = random.Random(f"{WORDS.seed} {kind}"), {}, []
         with contextlib.ExitStack() as stack:
             shop = Shop(stack, kind, lines=100_000)
             for number in range(WORDS.faults // len(KINDS)):

@@ -2,8 +2,8 @@
 # Tries the drivers of the typed layers of C and Rust over an emulated printer, drawer, display and scanner
 # (tests/native.py says what): the layer of C as it is, and under the address and the undefined behaviour sanitizer;
 # the crate of Rust. valgrind looks for what the layer of C forgets, tests/native/system.c tries what only the system
-# can do, and tests/native/cost.c says what an order costs. It installs nothing, and a missing tool is a failure that
-# names its package.
+# can do, tests/native/memory.c what the library says without memory, and tests/native/cost.c says what an order costs.
+# It installs nothing, and a missing tool is a failure that names its package.
 # Usage: tests/native.sh [WORD ..]. The words are those of tests/native.py: --faults N (100 random faults by default),
 # --seed N, --only WORD. KIJOLVAR_ARCHIVE names a library in place of the one that rt lib builds. Its last line is
 # 'N passed, M failed'.
@@ -98,8 +98,11 @@ runs "what measures the cost is built" gcc -std=c99 "${strict[@]}" -O2 -o "$work
   "$work/libkijolvar.a"
 runs "what tries the system is built" gcc -std=c99 "${strict[@]}" -O1 -g -fsanitize=address,undefined \
   -fno-sanitize-recover -o "$work/system" "$here/system.c" "$abi"/c/kij_*.c "${bare[@]}" \
-  -Wl,--wrap=getaddrinfo,--wrap=pread,--wrap=pwrite
+  -Wl,--wrap=getaddrinfo,--wrap=fsync,--wrap=pread,--wrap=pwrite
 runs "ports and files where the system does less" "$work/system" "$work"
+runs "what tries want of memory is built" gcc -std=c99 "${strict[@]}" -O1 -g -fsanitize=address,undefined \
+  -fno-sanitize-recover -o "$work/memory" "$here/memory.c" "$abi"/c/kij_*.c -Wl,--wrap=malloc,--wrap=realloc
+runs "lines that are held where memory runs out" "$work/memory"
 runs "the host in C++17 is built" g++ -std=c++17 "${strict[@]}" -O1 -x c++ "$here/host.c" "$abi"/c/kij_*.c -x none \
   -o "$work/plus" "${bare[@]}"
 cat > "$work/watched" <<END
@@ -111,6 +114,11 @@ chmod +x "$work/watched"
 export KIJOLVAR_LIB=$work CARGO_TARGET_DIR=$work/target CARGO_NET_OFFLINE=true
 runs "clippy, the host in Rust" cargo clippy -q --offline --manifest-path "$here/rust/Cargo.toml" -- -D warnings
 runs "the host in Rust is built" cargo build -q --offline --release --manifest-path "$here/rust/Cargo.toml"
+runs "the heap of the library is built" gcc -std=c99 "${strict[@]}" -O1 -DHEAP_OF_LIBRARY -c -o "$work/scarce.o" \
+  "$here/scarce_heap.c"
+runs "the host in Rust is built with a heap" env CARGO_TARGET_DIR="$work/heaped" cargo rustc -q --offline --release \
+  --features heap --manifest-path "$here/rust/Cargo.toml" -- -C link-arg="$work/scarce.o" \
+  -C link-arg=-Wl,--wrap=rattle_alloc,--wrap=rattle_realloc
 
 tries "C" "$work/host" "$@"
 tries "C with sanitizers" "$work/checked" "$@"
@@ -120,6 +128,7 @@ done
 tries "C, want of memory" "$work/heap" "$@" --only memory
 tries "C++" "$work/plus" "$@" --only plain
 tries "Rust" "$work/target/release/host" "$@"
+tries "Rust, want of memory" "$work/heaped/release/host" "$@" --only memory
 collects
 
 # nothing else of this runs meanwhile

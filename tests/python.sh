@@ -109,7 +109,7 @@ planted "a range of the definitions" crates/pos_printer/specs/PrinterCalls.antt 
   describe.py "isn't what the definitions say"
 planted "a property of the definitions" $specs/Properties.antt 's/codes "AutoDisable"/codes "Auto"/' \
   describe.py 'properties.Auto has no entry'
-planted "a method of the definitions" crates/pos_script/specs/Methods.antt 's/codes "cutPaper"/codes "cut"/' \
+planted "a method of the definitions" $specs/Calls.antt 's/codes "cutPaper"/codes "cut"/' \
   describe.py 'methods.cut has no entry'
 planted "what a call asks" $specs/Calls.antt '/^row_of call.OpenDrawer/s/claim_need.NoOther/claim_need.Own/' \
   describe.py "isn't what the definitions say"

@@ -195,6 +195,35 @@ def try_threads():
     told("tills in threads of their own", [True] * 4, found)
 
 
+def try_fork():
+    """A process that is forked can't use the till, and nothing that it does or has changes the till's."""
+    path = WORK / "forked"
+    said, says = os.pipe()
+    waits, ends = os.pipe()
+    with opened(totals=path, create=True) as till:
+        drawer = till.drawer("d1")
+        child = os.fork()
+        if child == 0:
+            try:
+                os.close(ends)
+                found = name_of(drawer.open_drawer), till.is_closed, str(raised(drawer.open_drawer)).split(":")[0]
+                os.write(says, repr(found).encode())
+                os.read(waits, 1)
+                with till:
+                    pass
+                os._exit(name_of(till.close) is not None)
+            finally:
+                os._exit(2)
+        why = "a till can be used only in the thread that opened it"
+        told("a till in a forked process", repr(("ThreadError", True, why)), os.read(said, 1000).decode())
+        drawer.open_drawer()
+        told("the till goes on", (True, "BlockingIOError"), (drawer.drawer_opened, name_of(opened, totals=path)))
+    told("its lock ends with it", None, raised(lambda: opened(totals=path).close()))
+    for end in (ends, waits, said, says):
+        os.close(end)
+    told("it is closed there", 0, os.waitpid(child, 0)[1])
+
+
 ARGUMENTS = {"number": 0, "bytes": b"", "truth": False, "device": "d1"}
 KINDS = {"d1": kijolvar.CashDrawer, "s1": kijolvar.Scanner, "p1": kijolvar.LineDisplay, "r1": kijolvar.Printer,
          "t1": kijolvar.Totals}
@@ -530,17 +559,22 @@ def try_many_controls():
 # ---- totals
 
 class Interrupted:
-    """A library whose call for the next errand an interrupt follows at once."""
+    """A library of which an interrupt follows a call at once."""
 
-    def __init__(self, library):
-        self.library = library
+    def __init__(self, library, name):
+        self.library, self.name, self.calls = library, name, 0
 
     def __getattr__(self, name):
-        return getattr(self.library, name)
+        return self.interrupts if name == self.name else getattr(self.library, name)
 
-    def kijolvar_next_errand(self, *words):
-        self.library.kijolvar_next_errand(*words)
+    def interrupts(self, *words):
+        self.calls += 1
+        getattr(self.library, self.name)(*words)
         raise KeyboardInterrupt
+
+
+def interrupt():
+    raise KeyboardInterrupt
 
 
 def interrupted(call, *words):
@@ -601,6 +635,19 @@ def try_totals():
             told("a claim of a file", f"<kijolvar.FileClaim of {sales!r}>", repr(claim))
             told("keeps others away", "TimeoutError", name_of(other["SALES"].claim))
         told("and ends", b"\x07" * 4, other["SALES"].read())
+
+        def ends(how):
+            totals.create("SHORT", 1)
+            with totals["SHORT"].claim():
+                how(totals["SHORT"])
+        told("a claim that was released before the end", None, name_of(ends, lambda file: file.release()))
+        totals["SHORT"].delete()
+        told("a claim of a file that is deleted", None, name_of(ends, lambda file: file.delete()))
+        told("an exception of the block", "KeyError", name_of(ends, lambda file: (file.delete(), {}["SHORT"])))
+        begins = totals.begin_trans
+        with mock.patch.object(kijolvar.Totals, "begin_trans", lambda self: (begins(), interrupt())):
+            told("an interrupt as a transaction begins", "KeyboardInterrupt", interrupted(totals.transaction().__enter__))
+        told("ends it", False, totals.transaction_in_progress)
         sales.rename("TOTAL")
         told("another name", ([b"TOTAL", b"COUNT"], b"TOTAL"), ([file.name for file in totals.files()], sales.name))
         del totals["COUNT"]
@@ -643,15 +690,25 @@ def try_totals():
         totals["DAY"].delete()
         totals["OLD"].delete()
         session = till._session
-        session._library = Interrupted(session._library)
+        session._library = Interrupted(session._library, "kijolvar_next_errand")
         told("an interrupt as an errand is taken out", "KeyboardInterrupt", interrupted(totals.create, "A", 1))
         session._library = session._library.library
         told("ends the till", "DiskError", name_of(lambda: totals.state))
     with opened(totals=path) as till:
         told("and leaves the files before it", 0, len(till.totals("t1")))
+        till._session._library = ended = Interrupted(till._session._library, "kijolvar_close")
+        told("an interrupt as the till ends", ("KeyboardInterrupt", True), (interrupted(till.close), till.is_closed))
+        told("its file is free", None, raised(lambda: opened(totals=path).close()))
+        told("closing it again ends nothing twice", (None, 1), (raised(till.close), ended.calls))
     with mock.patch("kijolvar._files.open_totals", side_effect=[FileNotFoundError, kijolvar.open_totals(path)]):
         with opened(totals=path, create=True) as till:
             told("a file that another till has just created", 0, len(till.totals("t1")))
+    till = opened(totals=WORK / "closed", create=True)
+    totals = till.totals("t1")
+    with mock.patch("kijolvar._session.os.fsync", side_effect=lambda file: till.close()):
+        told("a till that is closed while its file is written", "TillClosedError", name_of(totals.create, "A", 1))
+    with opened(totals=WORK / "closed") as till:
+        told("leaves totals behind", True, len(till.totals("t1")) <= 1)
     with open(path, "rb") as unwritable, opened(totals=unwritable) as till:
         totals = till.totals("t1")
         told("a file that can't be written", "DiskError", name_of(totals.create, "A", 1))
@@ -835,6 +892,9 @@ def try_library():
     found = in_python(tells)
     told("no library", True, found.startswith("libkijolvar.so not found: pass library=.., set KIJOLVAR_LIBRARY"))
     told("a library that isn't one", True, "can't be loaded" in in_python(tells, WORK / "totals"))
+    shutil.copy(LIBRARY, WORK / "libkijolvar.so")
+    told("a library here, by its name alone", "False", in_python(shows, "libkijolvar.so"))
+    (WORK / "libkijolvar.so").unlink()
     folder = WORK / "package"
     shutil.copytree(TOP / "abi/python/kijolvar", folder / "kijolvar", ignore=shutil.ignore_patterns("__pycache__"))
     for place in (folder / "kijolvar", folder):
@@ -1002,7 +1062,7 @@ def try_reply_lines():
 
 def main():
     try:
-        for try_it in (try_scripts, try_threads, try_closed, try_replies, try_events, try_listeners, try_claims,
+        for try_it in (try_scripts, try_threads, try_fork, try_closed, try_replies, try_events, try_listeners, try_claims,
                        try_misuse, try_many_controls, try_totals, try_files, try_any_event, try_profiles, try_library,
                        try_help, try_devices, try_order_bytes, try_reply_lines):
             try_it()

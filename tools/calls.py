@@ -28,6 +28,7 @@ this page from [abi/description.json](../../abi/description.json). [model.md](mo
 - **Set**: the property is writable, in this range. A value of another type is E_ILLEGAL.
 - **Meaning**: what reading the property answers, if it isn't refused.
 """
+NO_REPLY = "Keeps the output, which the next work tries again; at EL_INPUT_DATA it continues, and at EL_INPUT it clears"
 CLAIMS = {"any": "", "own": "own", "no_other": "no other's"}
 COMMON = {"E_CLOSED", "E_CLAIMED", "E_NOTCLAIMED", "E_DISABLED"}
 
@@ -114,7 +115,7 @@ def parts(known):
         [it["name"], ", ".join(field["name"] for field in it["fields"]), ", ".join(it["categories"]),
          cell(f"{it['summary']} {it['detail']}")] for it in known["events"]])
     found["Replies to an ErrorEvent"] = table(["Reply", "Word", "Does"], [
-        [it["name"], f"`{it['word']}`", cell(it["summary"])] for it in known["replies"]])
+        ["none", "", NO_REPLY], *([it["name"], f"`{it['word']}`", cell(it["summary"])] for it in known["replies"])])
     found["Result codes"] = table(["Code", "Name", "Meaning"], [
         [str(it["number"]), it["name"], cell(it["summary"])] for it in known["result_codes"]]
         + [[f"114 {it['number']}", f"E_EXTENDED, {it['name']}", cell(it["summary"])] for it in known["extended_codes"]])

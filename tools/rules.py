@@ -15,10 +15,10 @@ After a group come lines of it, in their order. Words of a line will do: the too
 the script's `.stdout`, as in
   [totals.claims: claimFile](..): "claim b 0" => `err 112`, "call a releaseFile 1" => `ok`
 Of two groups with the same front of a comment it takes the one that has the lines. A cell may have several tests, with
-`; ` between them. After the function `; body` may come, and the function whose body decides; it must if the first has
-no body. The contract of the first has to lead to the definition, by the names that it uses and those that their
-definitions use in turn. With --check it also plants a wrong cell of each kind in a row, which has to be found. Its last
-line is 'N passed, M failed', a row or a planted cell each.
+`; ` between them. After the function `; body` may come, and the function whose body decides, or several, each after its
+own; it must if the first has no body. The contract of the first has to lead to the definition, by the names that it uses
+and those that their definitions use in turn. With --check it also plants a wrong cell of each kind in a row, which has
+to be found. Its last line is 'N passed, M failed', a row or a planted cell each.
 """
 import glob
 import os
@@ -115,13 +115,13 @@ def function(tree, text):
 
 
 def functions(tree, cell):
-    """The cell of a function, and of the one whose body decides."""
-    first, _, second = cell.partition("; body ")
-    names = [parsed(part)[0] for part in (first, second) if part]
-    found = [function(tree, name) for name in names]
-    if found[-1].contract.rstrip().endswith(";"):
-        raise Fault(f"{names[-1]} has no body")
-    return "; body ".join(f"[`{name}`](../../{at.path}#L{at.line})" for name, at in zip(names, found))
+    """The cell of a function, and of those whose bodies decide."""
+    names = [parsed(part)[0] for part in cell.split("; body ")]
+    found = [(name, function(tree, name)) for name in names]
+    for name, at in found[1:] or found:
+        if at.contract.rstrip().endswith(";"):
+            raise Fault(f"{name} has no body")
+    return "; body ".join(f"[`{name}`](../../{at.path}#L{at.line})" for name, at in found)
 
 
 def quoted_lines(group, quotes):

@@ -191,7 +191,8 @@ void kij_close(kij_till *till);
  * @param size   how many bytes, or KIJ_ZERO_ENDED
  * @param answer lent: the answers, a line each, with a 0 byte at the end
  * @return KIJ_NO_ANSWER if memory ran out within the answers: lines up to one were carried out, and a front is in
- * answer
+ * answer. With a driven device the lines behind that one may be carried out by the next call, but for their orders,
+ * which fail. The same holds of all lines after KIJ_NO_MEMORY
  */
 kij_result kij_carry_out(kij_till *till, const char *lines, size_t size, const char **answer);
 
@@ -283,7 +284,7 @@ kij_result kij_new(kij_till *till, kij_category category, const char *name, kij_
 kij_result kij_start(kij_till *till, kij_category category, const char *device, int claiming, kij_control **control);
 
 /** Closes a control if it is open, and gives it back to its till, which may hand it out again. Don't use it afterwards.
- */
+ * One that can't be closed, as without memory, stays as it is, and isn't handed out. */
 void kij_discard(kij_control *control);
 
 /** Returns the control's name in lines of the text interface. It stays as long as the control. */
@@ -456,7 +457,8 @@ kij_result kij_show_printer(kij_till *till, const char *device, kij_printer_view
 /** Takes the next line or cut out of a view, the oldest first, and returns whether there was one. */
 bool kij_next_printed(kij_printer_view *view, kij_printed *printed);
 
-/** A spare of the profile, by its number from 1 on, serves the device from now on. */
+/** A spare of the profile, by its number from 1 on, serves the device from now on. If the device has a driver, that
+ * carries out the spare's orders. Lines behind an `attach` line in the same kij_carry_out are run before it does. */
 kij_result kij_attach(kij_till *till, const char *device, int64_t spare);
 
 /** The device has no peripheral from now on. */
@@ -559,7 +561,8 @@ typedef struct kij_escpos_settings {
     /** Whether the drawer is open when pin 3 of the connector is high. */
     bool is_open_high;
     /** How many lines the till counts with when the sensors see enough paper: more than where its device is near the
-     * end, at most 100,000. */
+     * end, at most 100,000. If they still see enough when it has counted down to the near end, it begins again. With
+     * 100 lines or more it begins when a quarter of them is left, or 4,096, so that no long request is refused. */
     int lines;
     /** Whether the printer says nothing by itself, and doesn't know GS ( H. Then it is asked for its status (DLE EOT),
      * and whether an order is printed (GS r). */
@@ -613,12 +616,13 @@ typedef struct kij_scanner_settings {
  * An order counts as done once the printer has acknowledged it (GS ( H). Otherwise the call that ordered it is refused
  * within the timeout: KIJ_E_EXTENDED with KIJ_EPTR_COVER_OPEN or KIJ_EPTR_REC_EMPTY, KIJ_E_OFFLINE, or KIJ_E_FAILURE if
  * the printer gives no reason. If an order failed and the next one is the same, as a retry is, only the lines and cuts
- * that the printer hasn't acknowledged are sent again.
+ * that the printer hasn't acknowledged are sent again. A printer counts as off once it was asked whether it is there,
+ * and has answered nothing for the timeout. Over TCP the port is opened again then.
  *
  * @param device   the name of a printer of the profile
  * @param port     /dev/usb/lp0, /dev/ttyUSB0, tcp:HOST or tcp:HOST:PORT (9100 if there is none). HOST had better be an
- * address in numbers, as 192.0.2.7: the timeout doesn't limit how long the system looks a name up. Once a name is
- * found, its addresses are kept. It is looked up again at most once a minute, if none of them can be reached
+ * address in numbers, as 192.0.2.7: the timeout doesn't limit how long the system looks a name up. It is looked up at
+ * most once a minute. Once it is found, its addresses are kept, and it is looked up again if none can be reached
  * @param settings null is KIJ_ESCPOS_SETTINGS
  * @return KIJ_BAD_DEVICE, KIJ_KIND_DIFFERS, KIJ_DRIVEN, KIJ_NO_DEVICE (it can't be driven, as one with `flaky`),
  * KIJ_BAD_SETTINGS, KIJ_NO_MEMORY or KIJ_BAD_ARGUMENT on failure; then no device has a driver of this call. If only the
@@ -647,7 +651,8 @@ kij_result kij_serial_display_open(kij_till *till, const char *device, const cha
  * such as ]E0, says which type it has; ScanDataLabel is the code without it.
  *
  * While a call waits for a printer, the system keeps fewer key events than a code of 13 digits has. If it drops some,
- * the scan has failed (kij_input_scan_fault).
+ * the scan has failed (kij_input_scan_fault). So has one of more than 4,096 bytes, and one with a key that is neither a
+ * character of the layout nor of its keypad. The control key and ] are the separator GS.
  *
  * @param device   the name of a scanner of the profile
  * @param port     /dev/input/.. for a keyboard wedge; else as kij_escpos_printer_open takes it
@@ -659,7 +664,8 @@ kij_result kij_wedge_scanner_open(kij_till *till, const char *device, const char
 
 /**
  * Does what the driven devices need: tells the till what they say of themselves and what was scanned, opens lost ports
- * again, and prints output that waits (AsyncMode). Call it regularly, and then deliver events.
+ * again, and prints output that waits (AsyncMode). Call it regularly, and then deliver events. Output that failed is
+ * tried again at the earliest 100 ms later.
  *
  * @param timeout how long to wait until there is something to do, in milliseconds. Printing may take longer. Without
  * driven devices the call waits the whole time.

@@ -18,6 +18,8 @@ static kij_result ask(kij_till *till, kij_verb verb, const char *device, const k
     if (code != KIJ_OK) return plain(code);
     code = kij_internal_run(till, verb, &name, word, arguments, count);
     kij_result result = code == KIJ_OK ? kij_internal_answer(till, KIJ_NO_CATEGORY, &value) : plain(code);
+    if (verb == KIJ_VERB_ATTACH && (result.code == KIJ_OK || result.code == KIJ_NO_ANSWER))
+        kij_internal_drive_again(till, name.text + 1, name.size - 1);
     kij_internal_leave(till);
     return result;
 }
@@ -195,7 +197,9 @@ kij_result kij_next_order(kij_till *till, kij_order *order) {
     if (code != KIJ_OK) return plain(code);
     kij_order found;
     memset(&found, 0, sizeof found);
-    switch (take_order(till)) {
+    /* A line that is held has the order of a driven device, which is no order of the host's. */
+    if (till->is_holding) kij_internal_give_up(till);
+    switch (till->is_holding ? (uint32_t)KIJOLVAR_NO_MEMORY : take_order(till)) {
     case KIJOLVAR_OK: break;
     case KIJOLVAR_ORDER: code = is_order(till->text, &found) ? KIJ_OK : KIJ_BAD_ANSWER; break;
     case KIJOLVAR_NO_MEMORY: code = KIJ_NO_MEMORY; break;

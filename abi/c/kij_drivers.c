@@ -9,13 +9,13 @@
 
 static kij_result plain(int code) { return kij_internal_result(code, 0, KIJ_NO_CATEGORY); }
 
-/* How long a lost port may take to open while other devices wait, how long a drawer may take to open, and a time before
-   all others, in milliseconds. */
-static const int64_t quickly = 250, settle = 1000, never = -1000000000;
+/* How long a lost port may take to open while other devices wait, how long a drawer may take to open, how long output
+   that has failed waits, and a time before all others, in milliseconds. */
+static const int64_t quickly = 250, settle = 1000, rest = 100, never = -1000000000;
 
-/* The longest code of a scanner, how many ports are waited for at once, and of how many orders of a printer the till
-   keeps the paper. */
-enum { LONGEST_CODE = 4096, MOST_PORTS = 64, KEPT_ORDERS = 500 };
+/* The longest code of a scanner, how many ports are waited for at once, of how many orders of a printer the till keeps
+   the paper, and from how many lines on a roll is long; as many as a request of line feeds alone feeds. */
+enum { LONGEST_CODE = 4096, MOST_PORTS = 64, KEPT_ORDERS = 500, LONG_ROLL = 100, MOST_FEEDS = 4096 };
 
 /* The drive of the device of a name, which is written behind a space; or null. */
 static kij_drive *drive_of(const kij_drives *drives, const char *name, size_t size) {
@@ -78,6 +78,30 @@ static void settle_drawer(kij_drive *drive, kij_buffer *lines, size_t from) {
     else if (is_closed) lines->size -= size;
 }
 
+/* Whether so many lines of a long roll are counted down that the till might refuse the next order, though the sensors
+   may still see enough paper. */
+static bool is_counted_down(const kij_drive *drive) {
+    uint64_t lines = drive->wire.lines, left = lines / 4;
+    if (left > MOST_FEEDS) left = MOST_FEEDS;
+    return lines >= LONG_ROLL && drive->link->lines - drive->belief.counted_from >= lines - left;
+}
+
+/* Adds what the till has to know of a printer's paper. Whether there is memory. */
+static bool add_paper(kij_drive *drive, kij_buffer *lines, size_t from) {
+    char text[40];
+    size_t front = (size_t)snprintf(text, sizeof text, "input%s paper ", drive->name.text);
+    bool is_due = !drive->belief.is_known || is_counted_down(drive);
+    bool is_told = has_input(lines, from, text, front);
+    if (!is_told && is_due && drive->link->signs.paper == KIJ_PAPER_GOOD) {
+        snprintf(text, sizeof text, " paper %u", (unsigned)drive->wire.lines);
+        if (!add_line(lines, drive, text)) return false;
+        is_told = true;
+    }
+    if (is_told) drive->belief.counted_from = drive->link->lines;
+    drive->belief.is_known = true;
+    return true;
+}
+
 /* Adds what a printer's line has heard last of a printer or its drawer. Whether there is memory. */
 static bool add_told(kij_till *till, kij_drive *drive, kij_buffer *lines) {
     char text[256];
@@ -88,34 +112,38 @@ static bool add_told(kij_till *till, kij_drive *drive, kij_buffer *lines) {
             !add_inputs(lines, from, text))
             return false;
     if (drive->category == KIJ_CASH_DRAWER) settle_drawer(drive, lines, from);
-    if (drive->category == KIJ_POS_PRINTER && !drive->is_known && link->told_count > 0) {
-        drive->is_known = true;
-        snprintf(text, sizeof text, " paper %u", (unsigned)drive->wire.lines);
-        if (link->signs.paper == KIJ_PAPER_GOOD) return add_line(lines, drive, text);
-    }
-    return true;
+    return drive->category != KIJ_POS_PRINTER || link->told_count == 0 || add_paper(drive, lines, from);
 }
 
-/* Writes what has happened at a device as lines of inputs: one that is back is on first. Whether there is memory. */
-static bool write_inputs(kij_till *till, kij_drive *drive, kij_buffer *lines) {
+/* Adds what has happened at a device: one that is back is on first. Whether there is memory. */
+static bool add_all(kij_till *till, kij_drive *drive, kij_buffer *lines) {
     char on[40];
+    kij_power before = drive->belief.power;
     lines->size = 0;
-    if (!is_online(drive)) {
-        bool was_on = drive->is_on;
-        drive->is_on = false;
-        return !was_on || add_line(lines, drive, " power off");
+    /* A device that is off has no scans any more. */
+    if (!is_online(drive) && !drive->is_untold) {
+        drive->belief.power = KIJ_POWER_OFF;
+        return before == KIJ_POWER_OFF || add_line(lines, drive, " power off");
     }
-    if (!drive->is_on && drive->link == NULL && !add_line(lines, drive, " power on")) return false;
     if (drive->link != NULL && !add_told(till, drive, lines)) return false;
     size_t size = (size_t)snprintf(on, sizeof on, "input%s power on\n", drive->name.text);
-    if (!drive->is_on && !has_input(lines, 0, on, size - 1)) {
+    if (before != KIJ_POWER_ON && !has_input(lines, 0, on, size - 1)) {
         /* No status has come yet, or it was the paper's alone. */
         if (!kij_internal_buffer_add(lines, on, size)) return false;
         memmove(lines->bytes + size, lines->bytes, lines->size - size);
         memcpy(lines->bytes, on, size);
     }
-    drive->is_on = true;
+    drive->belief.power = KIJ_POWER_ON;
     return true;
+}
+
+/* Writes what has happened at a device as lines of inputs. Whether there is memory; if not, it is written another time.
+   */
+static bool write_inputs(kij_till *till, kij_drive *drive, kij_buffer *lines) {
+    const kij_belief before = drive->belief;
+    bool is_written = add_all(till, drive, lines);
+    if (!is_written) drive->belief = before;
+    return is_written;
 }
 
 /* Swaps the till's room for answers with the spare one. */
@@ -145,7 +173,7 @@ static int inputs_code(const char *answers) {
 
 static int hand_in_of(kij_till *till, kij_drive *drive, bool *is_any) {
     kij_buffer *inputs = &till->drives->inputs;
-    bool was_on = drive->is_on, was_known = drive->is_known;
+    const kij_belief before = drive->belief;
     /* Without memory it is taken away the next time. */
     if (drive->orders >= KEPT_ORDERS &&
         kijolvar_tear_off(till->inner, &till->inner.at, (const uint8_t *)drive->name.text + 1, drive->name.size - 1) ==
@@ -156,10 +184,7 @@ static int hand_in_of(kij_till *till, kij_drive *drive, bool *is_any) {
     int code = kij_internal_carry_out(till, inputs->bytes, inputs->size);
     if (code == KIJ_OK) code = inputs_code(till->text);
     if (code == KIJ_OK) *is_any = true;
-    if (code == KIJ_NO_MEMORY) {
-        drive->is_on = was_on;
-        drive->is_known = was_known;
-    }
+    if (code == KIJ_NO_MEMORY) drive->belief = before;
     return code;
 }
 
@@ -179,6 +204,18 @@ int kij_internal_hand_in(kij_till *till, bool *is_any) {
 
 /* ---- Orders ---- */
 
+/* Reads what a display says, which is of no use: false if its port was lost. */
+static bool listen_to(kij_drive *drive) {
+    size_t count = 1;
+    while (count > 0) {
+        bool can_read, can_write;
+        kij_internal_port_wait(&drive->port, false, 0, &can_read, &can_write);
+        if (!can_read) return true;
+        if (!kij_internal_port_read(&drive->port, drive->got, sizeof drive->got, &count)) return false;
+    }
+    return true;
+}
+
 /* Shows an order: whether its bytes are out. */
 static bool show(kij_till *till, kij_drive *drive) {
     kij_buffer *bytes = &till->drives->order;
@@ -186,6 +223,8 @@ static bool show(kij_till *till, kij_drive *drive) {
     int64_t end = kij_internal_now() + drive->timeout;
     size_t sent = 0, count = 0;
     bool can_read, can_write;
+    /* An order may have no bytes. It isn't done either if the display is gone. */
+    if (!listen_to(drive)) return false;
     if (kij_internal_order_bytes(till, &drive->wire, drive->is_new, 65538, bytes) != KIJOLVAR_OK) return false;
     while (sent < bytes->size) {
         int64_t left = end - kij_internal_now();
@@ -253,21 +292,23 @@ bool kij_internal_kept_order(kij_till *till) {
 
 /* ---- Lines that wait ---- */
 
-/* Does the errands, and makes a longer room, until the answer is in the till. Without memory for it, it is lost. */
+/* Does the errands, and makes a longer room, until the answer is in the till. Without memory for it, it is lost. Of one
+   that is cut a front is there. */
 static uint32_t settled(kij_till *till, uint32_t code, size_t *needed, bool *is_lost) {
     while (code == KIJOLVAR_ERRANDS || code == KIJOLVAR_SHORT) {
         if (code == KIJOLVAR_ERRANDS) {
             if ((code = kij_internal_settle(till)) != KIJOLVAR_OK) return code;
         } else if (!kij_internal_text(till, *needed + 1)) {
-            /* The front of the answer stays; the code of the answer is known without it. */
+            /* SHORT doesn't tell whether lines are held. A call with no lines does, and needs no memory. */
+            size_t none = 0;
             *is_lost = true;
             *needed = 0;
-            size_t all = 0;
-            code = kijolvar_answer(till->inner, &till->inner.at, (uint8_t *)till->text, till->text_room - 1, &all);
-            return code == KIJOLVAR_SHORT ? (uint32_t)KIJOLVAR_CUT : code;
+            return kijolvar_carry_out(till->inner, &till->inner.at, NULL, 0, (uint8_t *)till->text, till->text_room - 1,
+                                      &none);
         }
         code = kijolvar_answer(till->inner, &till->inner.at, (uint8_t *)till->text, till->text_room - 1, needed);
     }
+    if (*needed >= till->text_room) *needed = till->text_room - 1;
     return code;
 }
 
@@ -283,8 +324,11 @@ static uint32_t serve(kij_till *till, bool is_wanted, kij_report *made) {
     if (drive == NULL || !is_wanted) return KIJOLVAR_ORDER;
     till->drives->has_served = true;
     made->is_done = carry_out(till, drive);
+    if (made->is_done) return KIJOLVAR_ORDER;
+    made->drive = drive;
+    made->before = drive->belief;
     /* Without memory for the inputs nobody knows why it isn't done. */
-    made->has_inputs = !made->is_done && write_inputs(till, drive, &till->drives->inputs);
+    made->has_inputs = write_inputs(till, drive, &till->drives->inputs);
     return KIJOLVAR_ORDER;
 }
 
@@ -294,8 +338,9 @@ static uint32_t tell(kij_till *till, const kij_report *made, size_t *needed) {
                                made->has_inputs ? inputs->size : 0, (uint8_t *)till->text, till->text_room - 1, needed);
 }
 
-/* Keeps a part of the answer, without the answers to the inputs of a report, which are first. */
-static bool keep(kij_till *till, const kij_report *made, size_t needed) {
+/* Keeps a part of the answer, without the answers to the inputs of a report, which are first: whether there is memory.
+   Whether it answers any line is written. */
+static bool keep(kij_till *till, const kij_report *made, size_t needed, bool *is_any) {
     const kij_buffer *inputs = &till->drives->inputs;
     size_t from = 0;
     for (size_t at = 0; made->has_inputs && at < inputs->size; at++) {
@@ -303,15 +348,17 @@ static bool keep(kij_till *till, const kij_report *made, size_t needed) {
         const char *end = (const char *)memchr(till->text + from, '\n', needed - from);
         if (end != NULL) from = (size_t)(end - till->text) + 1;
     }
+    if (needed > from) *is_any = true;
     return kij_internal_buffer_add(&till->drives->answer, till->text + from, needed - from);
 }
 
-/* Ends without memory: some lines are held, or none is. What was printed is reported the next time, and the call has no
-   answer; if nothing was, nothing was done. */
-static uint32_t run_out(kij_till *till, bool is_holding, const kij_report *made, bool is_any_done) {
+/* Ends without memory: some lines are held, or none is. What was printed is reported the next time, and what happened
+   at the device is told again. The call has no answer if anything was done. */
+static uint32_t run_out(kij_till *till, bool is_holding, const kij_report *made, bool is_any) {
     till->is_holding = is_holding;
-    if (is_holding && made->is_made && made->is_done) till->drives->unreported = *made;
-    return is_any_done ? KIJOLVAR_CUT : KIJOLVAR_NO_MEMORY;
+    if (made->is_made && made->is_done) till->drives->unreported = *made;
+    if (made->is_made && made->drive != NULL) made->drive->belief = made->before;
+    return is_any ? KIJOLVAR_CUT : KIJOLVAR_NO_MEMORY;
 }
 
 /* Has the orders carried out for which lines wait, until none is left: the library's code. The answer is in the
@@ -319,33 +366,36 @@ static uint32_t run_out(kij_till *till, bool is_holding, const kij_report *made,
 static uint32_t finish(kij_till *till, uint32_t code, size_t *needed, bool is_wanted, bool *is_lost) {
     kij_report made = till->drives->unreported;
     int tries = 0;
-    bool is_any_done = made.is_done, is_told = false;
+    /* Whether anything was done: an order, or a line. */
+    bool is_any = made.is_done, is_told = false;
     memset(&till->drives->unreported, 0, sizeof made);
     for (;;) {
         bool is_taken = true;
         code = settled(till, code, needed, is_lost);
-        if (code == KIJOLVAR_NO_MEMORY) {
-            /* Lines are held. If they wait, the report wasn't taken. If this is said again, it was, and they go on. */
+        bool has_memory = code != KIJOLVAR_NO_MEMORY;
+        if (!has_memory) {
             code = kijolvar_answer(till->inner, &till->inner.at, (uint8_t *)till->text, till->text_room - 1, needed);
             code = settled(till, code, needed, is_lost);
+            /* If no line is held, this is the answer to an earlier call: no line of this one was taken. */
+            if (code == KIJOLVAR_OK || code == KIJOLVAR_CUT) return run_out(till, false, &made, is_any);
+            /* Lines are held. If they wait, the report wasn't taken. If this is said again, it was, and they go on. */
             is_taken = code == KIJOLVAR_NO_MEMORY;
-            if (is_taken) memset(&made, 0, sizeof made);
-            if (code == KIJOLVAR_OK || ++tries == 3) return run_out(till, code != KIJOLVAR_OK, &made, is_any_done);
         }
         if (code != KIJOLVAR_OK && code != KIJOLVAR_WAITS && code != KIJOLVAR_NO_MEMORY) {
-            if (code == KIJOLVAR_CUT && !keep(till, &made, *needed)) *is_lost = true;
+            if (code == KIJOLVAR_CUT && !keep(till, &made, *needed, &is_any)) *is_lost = true;
             return code;
         }
         if (is_taken) {
-            if (!keep(till, &made, *needed)) *is_lost = true;
+            if (!keep(till, &made, *needed, &is_any)) *is_lost = true;
             if (is_told) memset(&made, 0, sizeof made);
         }
+        if (!has_memory && ++tries == 3) return run_out(till, true, &made, is_any);
         if (code == KIJOLVAR_OK) return code;
         if (code == KIJOLVAR_WAITS && !made.is_made) {
             uint32_t served = serve(till, is_wanted, &made);
-            if (served == KIJOLVAR_NO_MEMORY) return run_out(till, true, &made, is_any_done);
+            if (served == KIJOLVAR_NO_MEMORY) return run_out(till, true, &made, is_any);
             if (served != KIJOLVAR_ORDER) return served;
-            is_any_done |= made.is_done;
+            is_any |= made.is_done;
         }
         code = tell(till, &made, needed);
         is_told = true;
@@ -423,25 +473,37 @@ static int tell_scan(kij_till *till, const kij_drive *drive, const kij_word *wor
                      size_t count) {
     char *value;
     int code = kij_internal_run(till, KIJ_VERB_INPUT, &drive->name, word, arguments, count);
-    return code == KIJ_OK ? kij_internal_answer(till, KIJ_NO_CATEGORY, &value).code : code;
+    if (code == KIJ_OK) code = kij_internal_answer(till, KIJ_NO_CATEGORY, &value).code;
+    /* Nothing happens at a device that is detached. */
+    return code == KIJ_BAD_DEVICE ? KIJ_OK : code;
 }
 
-/* Tells the till of the code that has come, or that a scan failed if a part of it was lost: a code of enum kij_code. */
+/* Tells the till of the code that has come, or that a scan failed if a part of it was lost or it is longer than any: a
+   code of enum kij_code. What can't be told for want of memory stays. */
 static int scan(kij_till *till, kij_drive *drive, bool *is_any) {
     static const kij_word fault = KIJ_WORD(" fault"), word = KIJ_WORD(" scan");
     kij_argument arguments[3];
     size_t size = drive->begun_size;
-    bool has_name = size > 3 && drive->begun[0] == ']', is_torn = drive->is_torn;
+    bool is_failed = drive->is_torn || size > LONGEST_CODE, has_name = size > 3 && drive->begun[0] == ']';
+    int code = KIJ_OK;
+    /* Lines that are held from here on have the scan in them. */
+    if (till->is_holding) kij_internal_give_up(till);
+    drive->is_untold = till->is_holding;
+    if (drive->is_untold) return KIJ_NO_MEMORY;
+    if (is_failed) {
+        code = tell_scan(till, drive, &fault, NULL, 0);
+    } else if (size > 0) {
+        arguments[0] = kij_internal_number(has_name ? type_of(drive->begun + 1) : drive->type);
+        arguments[1] = kij_internal_bytes(drive->begun, size);
+        arguments[2] = kij_internal_bytes(drive->begun + (has_name ? 3 : 0), size - (has_name ? 3 : 0));
+        code = tell_scan(till, drive, &word, arguments, 3);
+    }
+    drive->is_untold = code == KIJ_NO_MEMORY && !till->is_holding;
+    if (drive->is_untold) return code;
+    *is_any |= is_failed || size > 0;
     drive->begun_size = 0;
     drive->is_torn = false;
-    /* What is longer than any code is noise. */
-    if (!is_torn && (size == 0 || size > LONGEST_CODE)) return KIJ_OK;
-    *is_any = true;
-    if (is_torn) return tell_scan(till, drive, &fault, NULL, 0);
-    arguments[0] = kij_internal_number(has_name ? type_of(drive->begun + 1) : drive->type);
-    arguments[1] = kij_internal_bytes(drive->begun, size);
-    arguments[2] = kij_internal_bytes(drive->begun + (has_name ? 3 : 0), size - (has_name ? 3 : 0));
-    return tell_scan(till, drive, &word, arguments, 3);
+    return code;
 }
 
 static void add_byte(kij_drive *drive, uint8_t byte) {
@@ -450,13 +512,32 @@ static void add_byte(kij_drive *drive, uint8_t byte) {
 }
 
 /* The type of a key event, and the code of an event of type 0 that says that events were lost. */
-enum { KEY_EVENT = 1, EVENTS_LOST = 3, FIRST_KEY = 2, KEY_COUNT = 56, EVENT_SIZE = 24 };
+enum { KEY_EVENT = 1, EVENTS_LOST = 3, EVENT_SIZE = 24 };
+
+/* The first key with a character and how many there are, and those of the keypad. */
+enum { FIRST_KEY = 2, KEY_COUNT = 56, FIRST_OF_PAD = 71, PAD_COUNT = 13, DIVIDE_KEY = 98 };
+
+/* What separates the fields of a code. Scanners type it as the control key and ]. */
+enum { SEPARATOR = 0x1d };
 
 /* The characters of the keys of the layout US from number 2 on, without and with shift; a 0 byte is no character. */
 static const char key_characters[2][KEY_COUNT + 1] = {
-    "1234567890-=\0\0qwertyuiop[]\0\0asdfghjkl;'`\0\\zxcvbnm,./\0\0\0 ",
-    "!@#$%^&*()_+\0\0QWERTYUIOP{}\0\0ASDFGHJKL:\"~\0|ZXCVBNM<>?\0\0\0 ",
+    "1234567890-=\0\0qwertyuiop[]\0\0asdfghjkl;'`\0\\zxcvbnm,./\0*\0 ",
+    "!@#$%^&*()_+\0\0QWERTYUIOP{}\0\0ASDFGHJKL:\"~\0|ZXCVBNM<>?\0*\0 ",
 };
+
+/* Those of the keypad. */
+static const char pad_characters[PAD_COUNT + 1] = "789-456+1230.";
+
+/* The character of a key, or a 0 byte. */
+static char character_of(const kij_drive *drive, uint16_t key) {
+    char found = 0;
+    if (key >= FIRST_KEY && key < FIRST_KEY + KEY_COUNT) found = key_characters[drive->is_shifted][key - FIRST_KEY];
+    if (key >= FIRST_OF_PAD && key < FIRST_OF_PAD + PAD_COUNT) found = pad_characters[key - FIRST_OF_PAD];
+    if (key == DIVIDE_KEY) found = '/';
+    if (drive->is_control) found = found == ']' ? SEPARATOR : 0;
+    return found;
+}
 
 /* A key event of Linux: the time, a type, the key and whether it is down. Whether a code has ended. */
 static bool take_key(kij_drive *drive, const uint8_t *event) {
@@ -468,77 +549,84 @@ static bool take_key(kij_drive *drive, const uint8_t *event) {
     if (type == 0 && key == EVENTS_LOST) {
         /* Nobody has read for so long that the system had no room left for events. */
         drive->is_torn = true;
-        drive->is_shifted = false;
+        drive->is_shifted = drive->is_control = false;
     }
     if (type != KEY_EVENT) return false;
     if (key == 42 || key == 54) drive->is_shifted = value != 0;
+    else if (key == 29 || key == 97) drive->is_control = value != 0;
     /* A code that was lost up to its end ends where the key goes up. */
-    else if ((key == 28 || key == 96) && (value != 0 || drive->is_torn)) return true;
-    else if (key >= FIRST_KEY && key < FIRST_KEY + KEY_COUNT && value != 0) {
-        char found = key_characters[drive->is_shifted][key - FIRST_KEY];
+    else if (key == 28 || key == 96) return value == 1 || (value == 0 && drive->is_torn);
+    else if (value == 1) {
+        /* A key that is held down repeats by the value 2, and types its character once all the same. */
+        char found = character_of(drive, key);
         if (found != 0) add_byte(drive, (uint8_t)found);
+        /* A code without one of its characters is another code. */
+        else drive->is_torn = true;
     }
     return false;
+}
+
+/* Takes what has come of a scanner, up to a code that can't be told: a code of enum kij_code. */
+static int take_scans(kij_till *till, kij_drive *drive, bool *is_any) {
+    bool has_keys = drive->port.kind == KIJ_PORT_KEYS;
+    size_t step = has_keys ? EVENT_SIZE : 1, at = 0;
+    int code = KIJ_OK;
+    for (; code == KIJ_OK && at + step <= drive->got_size; at += step) {
+        uint8_t byte = drive->got[at];
+        bool is_end = has_keys ? take_key(drive, drive->got + at) : byte == '\r' || byte == '\n';
+        if (is_end) code = scan(till, drive, is_any);
+        else if (!has_keys) add_byte(drive, byte);
+        /* Its end is taken again. */
+        if (is_end && drive->is_untold) break;
+    }
+    drive->got_size -= at;
+    memmove(drive->got, drive->got + at, drive->got_size);
+    return code;
 }
 
 /* Reads what a scanner has sent: a code of enum kij_code. */
 static int scans(kij_till *till, kij_drive *drive, bool *is_any) {
     kij_port *port = &drive->port;
     bool can_read, can_write;
-    int code = KIJ_OK;
+    int code = take_scans(till, drive, is_any);
     while (code == KIJ_OK && kij_internal_port_is_open(port)) {
-        size_t room = sizeof drive->got - drive->got_size, count = 0, at = 0;
+        size_t room = sizeof drive->got - drive->got_size, count = 0;
         kij_internal_port_wait(port, false, 0, &can_read, &can_write);
         if (!can_read || !kij_internal_port_read(port, drive->got + drive->got_size, room, &count) || count == 0) break;
         drive->got_size += count;
-        if (port->kind == KIJ_PORT_KEYS) {
-            for (; code == KIJ_OK && at + EVENT_SIZE <= drive->got_size; at += EVENT_SIZE)
-                if (take_key(drive, drive->got + at)) code = scan(till, drive, is_any);
-        } else {
-            for (; code == KIJ_OK && at < drive->got_size; at++) {
-                if (drive->got[at] == '\r' || drive->got[at] == '\n') code = scan(till, drive, is_any);
-                else add_byte(drive, drive->got[at]);
-            }
-        }
-        drive->got_size -= at;
-        memmove(drive->got, drive->got + at, drive->got_size);
+        code = take_scans(till, drive, is_any);
     }
     return code;
 }
 
 /* ---- The loop ---- */
 
-/* Opens the port of a display or a scanner, unless that was tried just now. */
+/* Opens the port of a display or a scanner, unless that was tried just now. A code that waits to be told is first. */
 static void connect_port(kij_drive *drive, int64_t time) {
-    if (kij_internal_port_is_open(&drive->port) || kij_internal_now() - drive->tried_at < drive->pause) return;
+    if (kij_internal_port_is_open(&drive->port) || drive->is_untold) return;
+    if (kij_internal_now() - drive->tried_at < drive->pause) return;
     kij_internal_port_open(&drive->port, time);
     drive->tried_at = kij_internal_now();
     drive->is_new = true;
     drive->begun_size = drive->got_size = 0;
-    drive->is_shifted = drive->is_torn = false;
+    drive->is_shifted = drive->is_control = drive->is_torn = false;
 }
 
 /* Reads what a device has said, and looks for one that was lost, without waiting. */
 static void look(kij_drive *drive) {
-    size_t count = 0;
-    bool can_read = true, can_write, is_kept = true;
     if (drive->link != NULL) {
         if (drive->has_link) kij_internal_link_poll(drive->link);
         return;
     }
     connect_port(drive, quickly);
-    /* What a display says is of no use. */
-    while (drive->category == KIJ_LINE_DISPLAY && is_kept && kij_internal_port_is_open(&drive->port)) {
-        kij_internal_port_wait(&drive->port, false, 0, &can_read, &can_write);
-        if (!can_read) return;
-        is_kept = kij_internal_port_read(&drive->port, drive->got, sizeof drive->got, &count);
-        if (count == 0) return;
-    }
+    if (drive->category == KIJ_LINE_DISPLAY && kij_internal_port_is_open(&drive->port)) (void)listen_to(drive);
 }
 
-/* Works off the output that waits for a printer, until nothing waits or a request fails: a code of enum kij_code. */
+/* Works off the output that waits for a printer, until nothing waits or a request fails: a code of enum kij_code. One
+   that has failed waits a while, since the default reply to its ErrorEvent tries it again at once. */
 static int work(kij_till *till, kij_drive *drive, bool *is_any) {
     char *value;
+    if (kij_internal_now() - drive->failed_at < rest) return KIJ_OK;
     for (;;) {
         int code = kij_internal_run(till, KIJ_VERB_WORK, &drive->name, NULL, NULL, 0);
         if (code != KIJ_OK) return code;
@@ -550,7 +638,9 @@ static int work(kij_till *till, kij_drive *drive, bool *is_any) {
             return code == KIJ_BAD_DEVICE ? KIJ_OK : code;
         }
         *is_any = true;
-        if (!is_done) return KIJ_OK;
+        if (is_done) continue;
+        drive->failed_at = kij_internal_now();
+        return KIJ_OK;
     }
 }
 
@@ -558,8 +648,11 @@ static int run_round(kij_till *till, bool *is_any) {
     kij_drive *first = till->drives->first;
     for (kij_drive *drive = first; drive != NULL; drive = drive->next) look(drive);
     int code = kij_internal_hand_in(till, is_any);
-    for (kij_drive *drive = first; drive != NULL && code == KIJ_OK; drive = drive->next)
-        if (drive->category == KIJ_SCANNER) code = scans(till, drive, is_any);
+    /* The system keeps few key events, so each scanner is read whatever the others came to. */
+    for (kij_drive *drive = first; drive != NULL; drive = drive->next) {
+        int found = drive->category == KIJ_SCANNER ? scans(till, drive, is_any) : KIJ_OK;
+        if (code == KIJ_OK) code = found;
+    }
     for (kij_drive *drive = first; drive != NULL && code == KIJ_OK; drive = drive->next)
         if (drive->category == KIJ_POS_PRINTER) code = work(till, drive, is_any);
     return code;
@@ -573,7 +666,8 @@ static void wait_for_any(const kij_drives *drives, int64_t time) {
     for (kij_drive *drive = first; drive != NULL && count < MOST_PORTS; drive = drive->next) {
         const kij_port *port = port_of(drive);
         if (drive->link != NULL && !drive->has_link) continue;
-        if (!kij_internal_port_is_open(port)) continue;
+        /* One that gives nothing may be readable all the time. */
+        if (!kij_internal_port_is_open(port) || port->was_empty) continue;
         waiting[count].fd = port->file;
         waiting[count].events = POLLIN;
         waiting[count++].revents = 0;
@@ -652,9 +746,9 @@ static int make_drive(kij_till *till, const char *device, kij_category category,
     if (made == NULL) return KIJ_NO_MEMORY;
     made->category = category;
     made->name = name;
-    made->is_on = true;
+    made->belief.power = KIJ_POWER_ON;
     made->kicked_at = -1;
-    made->tried_at = never;
+    made->tried_at = made->failed_at = never;
     made->port.file = -1;
     *drive = made;
     return KIJ_OK;
@@ -679,6 +773,16 @@ static int begin_drive(kij_till *till, const kij_drive *drive) {
     case KIJOLVAR_NO_MEMORY: return KIJ_NO_MEMORY;
     default: return KIJ_NO_DEVICE;
     }
+}
+
+void kij_internal_drive_again(kij_till *till, const char *name, size_t size) {
+    kij_drive *drive = drive_of(till->drives, name, size);
+    if (drive == NULL) return;
+    /* One that isn't attached after all can't be driven. */
+    if (drive->category != KIJ_SCANNER) (void)begin_drive(till, drive);
+    memset(&drive->belief, 0, sizeof drive->belief);
+    drive->kicked_at = -1;
+    drive->is_new = true;
 }
 
 /* Adds a drive behind the others. */
@@ -768,7 +872,11 @@ static int take_drives(kij_till *till, kij_drive **printer, kij_drive **drawer) 
     kij_link *link = (*printer)->link;
     int code = take_drive(till, printer);
     if (code != KIJ_OK) return code;
-    if (*drawer != NULL) code = take_drive(till, drawer);
+    if (*drawer != NULL) {
+        link->drawer = &(*drawer)->name;
+        code = take_drive(till, drawer);
+        if (code != KIJ_OK) link->drawer = NULL;
+    }
     kij_internal_link_start(link);
     return code;
 }

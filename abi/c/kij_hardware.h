@@ -32,8 +32,9 @@ typedef struct kij_port {
     int file;
     /* How often it was opened. */
     unsigned turns;
-    /* Whether reading no bytes means that it is lost. */
+    /* Whether reading no bytes means that it is lost, and whether the last reading gave none. */
     bool ends_empty;
+    bool was_empty;
     /* Why it couldn't be opened or was lost the last time. */
     int error;
     /* Of a TCP port: the addresses that its name had the last time, and when it may be looked up again. */
@@ -104,8 +105,9 @@ typedef struct kij_link {
     int64_t pause;
     /* Whether it says nothing by itself: it is asked. Its acknowledgements have no number. */
     bool is_asked;
-    /* The device and the settings by which its replies are read. */
+    /* The device and the settings by which its replies are read; and the drawer, or null. */
     const kij_word *name;
+    const kij_word *drawer;
     const kijolvar_wire_settings *wire;
     /* The order that failed last, or is out; a pulse for the drawer; the bytes of an order; and what is sent now. */
     kij_job paper;
@@ -133,11 +135,16 @@ typedef struct kij_link {
     kij_signs signs;
     uint64_t statuses;
     uint64_t late;
+    /* How many lines the orders had that were done. */
+    uint64_t lines;
     bool is_there;
-    bool has_answered;
+    /* Whether nothing says that what begins a connection is lost. */
+    bool is_started;
     bool was_silent;
     bool is_refreshing;
+    /* Whether it was asked whether it is there, that is sent, and since when. */
     bool was_asked;
+    bool was_sent;
     int64_t asked_at;
     int64_t heard_at;
     int64_t tried_at;
@@ -151,20 +158,29 @@ typedef struct kij_link {
     unsigned rounds;
 } kij_link;
 
+typedef enum kij_power { KIJ_POWER_UNKNOWN, KIJ_POWER_OFF, KIJ_POWER_ON } kij_power;
+
+/* What the till was told of a device. */
+typedef struct kij_belief {
+    kij_power power;
+    /* A printer: whether its first status has come, and how many lines its orders had when its paper was told last. */
+    bool is_known;
+    uint64_t counted_from;
+} kij_belief;
+
 /* A driven device. */
 typedef struct kij_drive {
     struct kij_drive *next;
     kij_category category;
     kij_word name;
     kijolvar_wire_settings wire;
-    /* Whether the till takes it as switched on. */
-    bool is_on;
+    kij_belief belief;
     /* A printer, and its drawer: the line, and whether this device has it. */
     kij_link *link;
     bool has_link;
-    /* A printer: whether its first status has come, and how many orders it has done since its paper was taken away. */
-    bool is_known;
+    /* A printer: how many orders it has done since its paper was taken away, and when output that waited failed. */
     unsigned orders;
+    int64_t failed_at;
     /* A drawer: when it got its pulse, or -1, and how many statuses had come. */
     int64_t kicked_at;
     uint64_t statuses;
@@ -174,11 +190,13 @@ typedef struct kij_drive {
     int64_t pause;
     int64_t tried_at;
     bool is_new;
-    /* A scanner: what of a code has come, of key events, whether the shift key is down, and whether events of the code
-       were lost. */
+    /* A scanner: what of a code has come, of key events, whether a shift and a control key are down, whether a part of
+       the code was lost, and whether a whole code couldn't be told for want of memory. */
     int type;
     bool is_shifted;
+    bool is_control;
     bool is_torn;
+    bool is_untold;
     uint8_t *begun;
     size_t begun_size;
     uint8_t got[64];
@@ -191,6 +209,9 @@ typedef struct kij_report {
     bool is_done;
     /* Its inputs are in the till's drives, unless there are none. */
     bool has_inputs;
+    /* The device of an order that isn't done, or null, and what the till was told of it before. */
+    kij_drive *drive;
+    kij_belief before;
 } kij_report;
 
 /* The driven devices of a till. */
@@ -232,9 +253,6 @@ bool kij_internal_is_serial(const kij_serial_settings *serial);
 
 /* Makes a port of a name, which isn't open. */
 void kij_internal_port(kij_port *port, const char *name, const kij_serial_settings *serial, bool has_keys);
-
-/* Whether bytes are lost only if the port is lost too. A serial line stays when the device goes off. */
-static inline bool kij_internal_is_reliable(const kij_port *port) { return port->kind != KIJ_PORT_SERIAL; }
 
 static inline bool kij_internal_port_is_open(const kij_port *port) { return port->file >= 0; }
 
@@ -294,6 +312,9 @@ int kij_internal_hand_in(kij_till *till, bool *is_any);
 /* Takes the oldest order of a hosted device that came before one of a driven device into the till's text: whether there
    was one. */
 bool kij_internal_kept_order(kij_till *till);
+
+/* Drives the device of a name again, if it has a driver, since another peripheral serves it now. */
+void kij_internal_drive_again(kij_till *till, const char *name, size_t size);
 
 /* Frees the drivers of a till, and closes their ports. */
 void kij_internal_end_drives(kij_till *till);

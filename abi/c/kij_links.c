@@ -1,6 +1,7 @@
 /* The line to a receipt printer: what is sent, what has been acknowledged, and what the printer says of itself. The
    bytes of orders and the meaning of replies are the library's. */
 #include "kij_hardware.h"
+#include <errno.h>
 #include <stdio.h>
 #include <stdlib.h>
 #include <string.h>
@@ -77,12 +78,18 @@ static void ask_on(kij_link *link) {
     put_question(link, 1);
 }
 
-/* Asks whether the printer is there. */
+/* Asks whether the printer is there. It may have been off meanwhile, and have forgotten that it is to say how it is: it
+   is told again. One that has stopped isn't, since it would keep that until it goes on. */
 static void ask(kij_link *link) {
     link->asked_at = kij_internal_now();
     link->was_asked = true;
-    if (link->is_asked) ask_on(link);
-    else put_question(link, ASKED_NOW);
+    if (link->is_asked) {
+        ask_on(link);
+    } else {
+        put_question(link, ASKED_NOW);
+        if (link->is_there && !is_stopped(link)) put_refresh(link);
+    }
+    link->was_sent = is_idle(link);
 }
 
 /* ---- Jobs and parcels ---- */
@@ -221,17 +228,15 @@ static void print(kij_link *link, const kij_parcel *parcel) {
     } else if (parcel->is_last && parcel->is_once) link->late++;
 }
 
-/* Everything up to the parcel at this place is printed or lost. */
+/* The parcel at this place is printed. Those before it are printed or lost, and nothing says which: any port may stay
+   while the printer is off, as that of a print server does. */
 static void acknowledge(kij_link *link, size_t last) {
-    unsigned turn = link->due[last].turn;
     for (size_t left = last + 1; left > 0; left--) {
         kij_parcel parcel = link->due[0];
         kij_job *job = job_of(link, parcel.job);
-        /* Bytes are lost only together with the port, if it is a reliable one. */
-        bool is_sure = left == 1 || (kij_internal_is_reliable(&link->port) && parcel.turn == turn);
         remove_due(link, 0);
         if (parcel.job == 0) continue;
-        if (is_sure && !parcel.is_torn && (job == NULL || !job->is_torn)) print(link, &parcel);
+        if (left == 1 && !parcel.is_torn && (job == NULL || !job->is_torn)) print(link, &parcel);
         else tear(link, &parcel);
     }
 }
@@ -247,6 +252,20 @@ static void acknowledge_number(kij_link *link, uint32_t number) {
 }
 
 /* ---- What comes ---- */
+
+/* Has the library read bytes by the printer's name; by that of its drawer while the printer is detached, which prints
+   nothing then, but has the drawer's connector still. */
+static uint32_t read_reply(kij_link *link, uint32_t asked, const uint8_t *bytes, size_t size, size_t *used,
+                           size_t *skipped, char *text, size_t room, size_t *needed) {
+    kij_till *till = link->till;
+    const kij_word *name = link->name;
+    uint32_t code = kijolvar_replies(till->inner, &till->inner.at, (const uint8_t *)name->text + 1, name->size - 1,
+                                     link->wire, asked, bytes, size, used, skipped, (uint8_t *)text, room, needed);
+    if (code != KIJOLVAR_NO_DEVICE || link->drawer == NULL) return code;
+    name = link->drawer;
+    return kijolvar_replies(till->inner, &till->inner.at, (const uint8_t *)name->text + 1, name->size - 1, link->wire,
+                            asked, bytes, size, used, skipped, (uint8_t *)text, room, needed);
+}
 
 bool kij_internal_reply(kij_till *till, const kij_word *name, const kijolvar_wire_settings *wire, const kij_told *told,
                         char *text, size_t room) {
@@ -295,12 +314,13 @@ static void hear(kij_signs *signs, const char *line) {
     if (says(line, "paper", "empty")) signs->paper = KIJ_PAPER_EMPTY;
 }
 
-/* The printer answers again. It may have been off, if the port stays then, and says no status by itself. */
+/* The printer answers again. It may have been off, and then it says no status by itself. A serial line always stays,
+   so that its printer may have a part of a command. */
 static void come_back(kij_link *link) {
-    if (!kij_internal_is_reliable(&link->port)) put_start(link);
-    else if (link->has_answered) put_refresh(link);
-    link->is_there = link->has_answered = true;
-    link->was_silent = false;
+    if (link->port.kind == KIJ_PORT_SERIAL) put_start(link);
+    else if (!link->is_started) put_refresh(link);
+    link->is_there = true;
+    link->is_started = link->was_silent = link->is_refreshing = false;
 }
 
 /* The printer has answered something. */
@@ -330,6 +350,9 @@ static void take_reply(kij_link *link, const char *text, const kij_told *told) {
         link->told_count = 1;
         link->is_refreshing = false;
         link->statuses++;
+    } else if (is_stopped(link) && says(line, "offline", "no")) {
+        /* It prints again, and hasn't said so: it was off, and has lost that it was asked. */
+        put_refresh(link);
     }
 }
 
@@ -366,29 +389,27 @@ static void take_answer(kij_link *link, const char *text, const kij_told *told) 
 static void take_byte(kij_link *link, uint8_t byte) {
     char text[256];
     for (int round = link->is_asking ? 0 : 1; round < 2; round++) {
+        size_t used = 0, skipped = 0, needed = 0;
         kij_told told;
         memset(&told, 0, sizeof told);
         if (round == 1 && link->due_count == 0) return;
         told.bytes[0] = byte;
         told.size = 1;
         told.asked = round == 0 ? link->question : (uint32_t)ASKED_PAPER;
-        if (kij_internal_reply(link->till, link->name, link->wire, &told, text, sizeof text) && *text != 0) {
-            take_answer(link, text, &told);
-            return;
-        }
+        uint32_t code = read_reply(link, told.asked, &byte, 1, &used, &skipped, text, sizeof text - 1, &needed);
+        if (code != KIJOLVAR_OK || needed == 0) continue;
+        text[needed] = 0;
+        take_answer(link, text, &told);
+        return;
     }
 }
 
 /* Reads the first reply in what has come, and forgets the bytes that it used: whether any were used. */
 static bool take_first(kij_link *link) {
     char text[256];
-    kij_till *till = link->till;
     size_t used = 0, skipped = 0, needed = 0;
-    const uint8_t *device = (const uint8_t *)link->name->text + 1;
     uint32_t asked = link->was_asked ? ASKED_NOW : 0;
-    uint32_t code =
-        kijolvar_replies(till->inner, &till->inner.at, device, link->name->size - 1, link->wire, asked, link->got,
-                         link->got_size, &used, &skipped, (uint8_t *)text, sizeof text - 1, &needed);
+    uint32_t code = read_reply(link, asked, link->got, link->got_size, &used, &skipped, text, sizeof text - 1, &needed);
     if (code != KIJOLVAR_OK || used == 0) return false;
     text[needed] = 0;
     if (needed > 0) {
@@ -442,7 +463,21 @@ static bool write_some(kij_link *link) {
     const char *bytes = link->out.bytes + link->out_sent;
     bool is_kept = kij_internal_port_write(&link->port, bytes, link->out.size - link->out_sent, &count);
     link->out_sent += count;
+    if (!link->was_sent && is_idle(link)) {
+        /* A question counts from here. Nobody can answer what wasn't sent. */
+        link->was_sent = true;
+        link->asked_at = kij_internal_now();
+    }
     return is_kept;
+}
+
+/* Sends what comes next, as far as there is room for it now: false if the port was lost. */
+static bool send_now(kij_link *link) {
+    bool can_read, can_write;
+    fill(link);
+    if (link->out_sent == link->out.size) return true;
+    kij_internal_port_wait(&link->port, true, 0, &can_read, &can_write);
+    return !can_write || write_some(link);
 }
 
 /* What is waited for. */
@@ -497,7 +532,7 @@ static void lose_due(kij_link *link) {
 static void forget(kij_link *link) {
     drop(link);
     link->out.size = link->out_sent = link->control_size = link->got_size = 0;
-    link->is_there = link->has_answered = link->was_silent = link->is_refreshing = link->was_asked = false;
+    link->is_there = link->is_started = link->was_silent = link->is_refreshing = link->was_asked = false;
     link->told_count = 0;
     memset(&link->signs, 0, sizeof link->signs);
     if (!link->is_asked) return;
@@ -520,6 +555,7 @@ static void connect_port(kij_link *link, int64_t time) {
     if (!is_open) return;
     forget(link);
     put_start(link);
+    link->is_started = true;
     ask(link);
 }
 
@@ -533,14 +569,20 @@ void kij_internal_link_start(kij_link *link) {
     if (kij_internal_port_is_open(&link->port) && !pump(link, is_known, NULL, end)) lose(link);
 }
 
-/* Asks a printer that has said nothing for a time, and one that says that it can't print, for more. */
-static void look_after(kij_link *link) {
+/* Asks a printer that has said nothing for a time, and one that says that it can't print, for more. False if the port
+   is to be opened again: a network printer that lost its power has closed nothing, and the system would send it what
+   comes next for minutes. What is due may still be acknowledged. */
+static bool look_after(kij_link *link) {
     int64_t now = kij_internal_now();
     bool is_late = link->was_asked && now - link->asked_at > link->timeout;
     if (is_late) {
-        link->is_there = false;
+        link->is_there = link->is_started = false;
         link->told_count = 0;
         memset(&link->signs, 0, sizeof link->signs);
+        if (link->port.kind == KIJ_PORT_TCP && link->due_count == 0) {
+            link->port.error = ETIMEDOUT;
+            return false;
+        }
     }
     bool is_heard = link->is_there && now - link->heard_at <= link->timeout;
     if (!is_heard && (!link->was_asked || is_late) && is_idle(link)) ask(link);
@@ -550,35 +592,26 @@ static void look_after(kij_link *link) {
         put_refresh(link);
     }
     ask_on(link);
+    return true;
 }
 
 void kij_internal_link_poll(kij_link *link) {
-    bool can_read, can_write;
     if (!kij_internal_port_is_open(&link->port)) {
         if (kij_internal_now() - link->tried_at >= link->pause)
             connect_port(link, least(link->timeout, quickly));
         return;
     }
-    bool is_kept = receive(link);
-    if (is_kept) {
-        look_after(link);
-        fill(link);
-        if (link->out_sent < link->out.size) {
-            kij_internal_port_wait(&link->port, true, 0, &can_read, &can_write);
-            if (can_write) is_kept = write_some(link);
-        }
-    }
-    if (!is_kept) lose(link);
+    if (!(receive(link) && send_now(link) && look_after(link) && send_now(link))) lose(link);
 }
 
 /* ---- Orders ---- */
 
-/* Waits for acknowledgements that are late, where they can be lost. They are if none comes for the whole time, although
-   the printer says that it can print. False if the port was lost. */
+/* Waits for acknowledgements that are late, where they have no number. They are lost if none comes for the whole time,
+   although the printer says that it can print. False if the port was lost. */
 static bool give_up(kij_link *link, int64_t end) {
     size_t count = link->due_count;
     unsigned rounds = link->rounds;
-    if (!link->is_asked || kij_internal_is_reliable(&link->port) || count == 0) return true;
+    if (!link->is_asked || count == 0) return true;
     if (!pump(link, is_none_due, NULL, end)) return false;
     if (link->due_count == count && link->rounds > rounds + 1 && !is_stopped(link)) lose_due(link);
     return true;
@@ -644,6 +677,13 @@ static bool post(kij_link *link, kij_job *job, int64_t end) {
     return is_kept;
 }
 
+/* How many lines an order has, or more: its commands may have the same byte. */
+static size_t lines_of(const kij_buffer *data) {
+    size_t count = 0;
+    for (size_t place = 0; place < data->size; place++) count += data->bytes[place] == '\n';
+    return count;
+}
+
 bool kij_internal_link_carry_out(kij_link *link, const kijolvar_wire_settings *wire, bool is_once) {
     int64_t end = kij_internal_now() + link->timeout;
     if (!kij_internal_link_is_online(link)) return false;
@@ -658,13 +698,17 @@ bool kij_internal_link_carry_out(kij_link *link, const kijolvar_wire_settings *w
         return false;
     }
     if (job->is_done) {
-        if (is_once) link->has_job = false;
+        if (!is_once) return true;
+        link->lines += lines_of(&job->data);
+        link->has_job = false;
         return true;
     }
     drop(link);
     if (!is_stopped(link)) {
         link->was_silent = true;
-        ask(link);
+        /* The next look asks, and sends that. A question that is out stays, with its time: if each order that fails
+           asked again, a printer that is off would never count as off. */
+        link->heard_at = never;
     }
     return false;
 }

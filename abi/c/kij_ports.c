@@ -22,9 +22,8 @@
 #include <time.h>
 #include <unistd.h>
 
-/* How long looking a name up may take until it counts as long, and how long a name isn't looked up again then, in
-   milliseconds. */
-static const int64_t quickly = 250, rarely = 60000;
+/* How long a name isn't looked up again, in milliseconds. */
+static const int64_t rarely = 60000;
 
 bool kij_internal_buffer_room(kij_buffer *buffer, size_t room) {
     if (room <= buffer->room) return true;
@@ -200,20 +199,18 @@ static void keep_addresses(kij_port *port, const struct addrinfo *found) {
     }
 }
 
-/* Looks the name of a TCP port up: 0 or errno. The addresses that are kept stay if there are no others. A name that was
-   found, or took long, isn't looked up again for a while. */
+/* Looks the name of a TCP port up: 0 or errno. The addresses that are kept stay if there are no others. It isn't looked
+   up again for a while, whether it was found or not: without a network that takes long. */
 static int resolve(kij_port *port) {
     char host[256], service[16];
     struct addrinfo wanted, *found = NULL;
-    int64_t began = kij_internal_now();
     if (!is_address(port->name, host, sizeof host, service, sizeof service)) return EINVAL;
-    if (began < port->resolve_at) return EHOSTUNREACH;
+    if (kij_internal_now() < port->resolve_at) return EHOSTUNREACH;
     memset(&wanted, 0, sizeof wanted);
     wanted.ai_socktype = SOCK_STREAM;
     wanted.ai_flags = AI_NUMERICSERV;
     bool is_found = getaddrinfo(host, service, &wanted, &found) == 0;
-    int64_t now = kij_internal_now();
-    if (is_found || now - began > quickly) port->resolve_at = now + rarely;
+    port->resolve_at = kij_internal_now() + rarely;
     if (!is_found) return EHOSTUNREACH;
     keep_addresses(port, found);
     freeaddrinfo(found);
@@ -226,8 +223,11 @@ static int open_tcp(kij_port *port, int64_t time, int *file) {
     if (why != 0) return why;
     why = EHOSTUNREACH;
     int64_t end = kij_internal_now() + time;
-    for (size_t place = 0; place < port->address_count && why != 0; place++)
-        why = join(&port->addresses[place], end, file);
+    for (size_t place = 0; place < port->address_count && why != 0; place++) {
+        /* Each of those that are left has the same time, so that one that says nothing leaves some to the others. */
+        int64_t now = kij_internal_now(), left = (int64_t)(port->address_count - place);
+        why = join(&port->addresses[place], now + (end - now) / left, file);
+    }
     /* The name may have others by now, for the next time. */
     if (why != 0) (void)resolve(port);
     port->ends_empty = true;
@@ -245,6 +245,7 @@ bool kij_internal_port_open(kij_port *port, int64_t time) {
         return false;
     }
     port->file = file;
+    port->was_empty = false;
     port->turns++;
     return true;
 }
@@ -287,7 +288,9 @@ static bool is_kept(kij_port *port, ssize_t found, bool is_end, size_t *count) {
 }
 
 bool kij_internal_port_read(kij_port *port, void *bytes, size_t room, size_t *count) {
-    return is_kept(port, read(port->file, bytes, room), port->ends_empty, count);
+    ssize_t found = read(port->file, bytes, room);
+    port->was_empty = found == 0;
+    return is_kept(port, found, port->ends_empty, count);
 }
 
 bool kij_internal_port_write(kij_port *port, const void *bytes, size_t size, size_t *count) {

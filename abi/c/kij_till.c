@@ -60,12 +60,30 @@ void kij_close(kij_till *till) {
     free_till(till);
 }
 
+/* Drives the devices again that lines may have attached a peripheral to. One that was driven stays so. */
+static void drive_attached(kij_till *till, const char *lines, size_t size) {
+    static const char verb[] = "attach ";
+    const char *end = lines + size;
+    while (lines < end) {
+        const char *feed = (const char *)memchr(lines, '\n', (size_t)(end - lines));
+        const char *last = feed == NULL ? end : feed, *name;
+        while (lines < last && *lines == ' ') lines++;
+        if ((size_t)(last - lines) >= sizeof verb && memcmp(lines, verb, sizeof verb - 1) == 0) {
+            for (lines += sizeof verb - 1; lines < last && *lines == ' ';) lines++;
+            for (name = lines; lines < last && *lines != ' ';) lines++;
+            kij_internal_drive_again(till, name, (size_t)(lines - name));
+        }
+        lines = feed == NULL ? end : feed + 1;
+    }
+}
+
 kij_result kij_carry_out(kij_till *till, const char *lines, size_t size, const char **answer) {
     if (answer == NULL || (lines == NULL && size != 0)) return plain(KIJ_BAD_ARGUMENT);
     int code = kij_internal_enter(till);
     if (code != KIJ_OK) return plain(code);
     if (size == KIJ_ZERO_ENDED) size = strlen(lines);
     code = kij_internal_carry_out(till, lines, size);
+    if (till->drives != NULL && size > 0) drive_attached(till, lines, size);
     if (code == KIJ_OK || code == KIJ_NO_ANSWER) *answer = till->text;
     kij_internal_leave(till);
     return plain(code);
@@ -161,8 +179,9 @@ kij_result kij_start(kij_till *till, kij_category category, const char *device, 
 
 void kij_discard(kij_control *control) {
     if (control == NULL) return;
-    kij_control_close(control);
-    control->is_free = true;
+    /* One that can't be closed, as without memory, is open and may be claimed still: nobody else may get it. */
+    int code = kij_control_close(control).code;
+    control->is_free = code == KIJ_OK || code == KIJ_E_CLOSED;
 }
 
 const char *kij_name(const kij_control *control) { return control->name.text + 1; }

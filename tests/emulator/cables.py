@@ -75,9 +75,11 @@ class PtyCable:
 
 
 class TcpCable:
-    """A TCP port of this machine, as a network printer's 9100. One host is connected at a time."""
+    """A TCP port of this machine, as a network printer's 9100. One host is connected at a time. With `hangs_up` false it
+    is that of a print server: it stays when the device goes off, and nothing answers."""
 
-    def __init__(self, port=0):
+    def __init__(self, port=0, hangs_up=True):
+        self.hangs_up = hangs_up
         self._port, self._listener, self._host = port, None, None
 
     @property
@@ -91,6 +93,8 @@ class TcpCable:
             self._port = self._listener.getsockname()[1]
 
     def pull_out(self, is_forever=False):
+        if not (self.hangs_up or is_forever):
+            return
         self.drop()
         if self._listener is not None:
             # The device's thread may be waiting for it. A close alone would then keep the port until that thread goes on.
@@ -107,6 +111,9 @@ class TcpCable:
     def drop(self):
         """Ends the connection; the device goes on."""
         if self._host is not None:
+            # As with the listener, a close alone might come later.
+            with contextlib.suppress(OSError):
+                self._host.shutdown(socket.SHUT_RDWR)
             self._host.close()
             self._host = None
 

@@ -87,6 +87,7 @@ class Device:
     def mute(self, is_mute=True):
         """Loses what the device answers, while it works. Or ends that."""
         with self.lock:
+            self._flush()
             self.is_mute = is_mute
             self._sends.clear()
 

@@ -39,8 +39,9 @@ class Printer(Device):
         lines_left: How many lines of paper are left. The sensors see the end of the paper at 0, and that it is near
             from `near` on. Printing stops when a line is needed and none is left.
         pulses: The pulses at the drawer's connector: pin, time on, time off.
-        doubts: The places in `paper` of what was printed when the plug was pulled before its end was acknowledged. No
-            driver can know whether it was printed.
+        doubts: The places in `paper` of what was printed and whose acknowledgement the host didn't get: the plug was pulled
+            before it was sent, or it was lost. No driver can know whether that was printed, and it is printed again.
+        runs: The doubts in the order in which they came: the places of each time.
     """
 
     def __init__(self, cable, columns=42, lines=1000, near=20, is_simple=False):
@@ -49,7 +50,9 @@ class Printer(Device):
         self.is_simple = is_simple
         self.columns, self.near, self.lines_left = columns, near, lines
         self.is_cover_open = self.is_drawer_open = self.is_drawer_stuck = self.is_broken = False
-        self.paper, self.pulses, self.doubts, self._known = [], [], set(), 0
+        self.paper, self.pulses, self.doubts, self.runs = [], [], set(), []
+        # Up to which place the host knows what is printed, and up to which the last acknowledgement was that was lost.
+        self._known = self._lost = 0
         self.is_short = False
         self.forget()
 
@@ -91,10 +94,25 @@ class Printer(Device):
     # How it works.
 
     def forget(self):
-        self.doubts.update(range(self._known, len(self.paper)))
-        self._known = len(self.paper)
+        self._doubt_up_to(len(self.paper))
         self._line, self._begun, self._held = [], bytearray(), bytearray()
         self._alignment, self._is_bold, self._is_automatic, self._told = 0, False, False, None
+
+    def _doubt_up_to(self, end):
+        """The host can't know of what was printed up to here."""
+        if end > self._known:
+            self.runs.append(range(self._known, end))
+            self.doubts.update(self.runs[-1])
+            self._known = end
+
+    def _acknowledges(self, answer):
+        """Answers that all before is printed, unless the answer is lost."""
+        if self.is_mute:
+            self._lost = len(self.paper)
+            return
+        self._doubt_up_to(self._lost)
+        self.send(answer)
+        self._known = len(self.paper)
 
     def is_offline(self):
         return self.is_cover_open or self.is_short or self.is_broken
@@ -223,11 +241,9 @@ class Printer(Device):
             self._changed()
         elif command[1] == 0x72:
             paper = (0x03 if self.lines_left <= self.near else 0) | (0x0C if self.lines_left == 0 else 0)
-            self.send(bytes([paper if command[2] in (1, 0x31) else self.is_drawer_open]))
-            self._known = len(self.paper)
+            self._acknowledges(bytes([paper if command[2] in (1, 0x31) else self.is_drawer_open]))
         elif not self.is_simple and command[1] == 0x28 and command[2] == 0x48 and command[3:7] == b"\x06\x00\x30\x30":
-            self.send(b"\x37\x22" + command[7:11] + b"\0")
-            self._known = len(self.paper)
+            self._acknowledges(b"\x37\x22" + command[7:11] + b"\0")
 
     def _ends_line(self):
         characters = bytes(byte for byte, _ in self._line)

@@ -11,6 +11,8 @@
    host DEVICE       kij_host
    order             kij_next_order: its device, or `none`
    tear DEVICE       kij_tear_off
+   attach DEVICE N   kij_attach
+   detach DEVICE     kij_detach
    totals PATH       kij_open of another till over a file of totals that has to be there
    migrate PATH      kij_migrate
    memory N [COUNT]  refuses the allocation of this number and all behind it, or so many, and gives all again if N is 0
@@ -133,6 +135,11 @@ static void order(void) {
     answer(result, result.code == KIJ_OK && found.kind != KIJ_NO_ORDER ? found.device : "none");
 }
 
+static kij_result attach(void) {
+    const char *device = word();
+    return kij_attach(till, device, number());
+}
+
 /* Opens a till over a file that has to be there, and closes it. */
 static kij_result open_totals(void) {
     kij_till *other = NULL;
@@ -159,6 +166,8 @@ static void obey(char *line) {
     else if (strcmp(verb, "print") == 0) print();
     else if (strcmp(verb, "host") == 0) answer(kij_host(till, word()), "ok");
     else if (strcmp(verb, "tear") == 0) answer(kij_tear_off(till, word()), "ok");
+    else if (strcmp(verb, "attach") == 0) answer(attach(), "ok");
+    else if (strcmp(verb, "detach") == 0) answer(kij_detach(till, word()), "ok");
     else if (strcmp(verb, "order") == 0) order();
     else if (strcmp(verb, "totals") == 0) answer(open_totals(), "ok");
     else if (strcmp(verb, "migrate") == 0) answer(kij_migrate(word()), "ok");

@@ -1,6 +1,6 @@
 /* Tries the layer of C where the system does something that no emulated device can bring about: a serial line that is
    pulled out before its bytes are out, names that are looked up, signals, and files that are read and written in parts.
-   What is linked with it has -Wl,--wrap=getaddrinfo,--wrap=pread,--wrap=pwrite.
+   What is linked with it has -Wl,--wrap=getaddrinfo,--wrap=fsync,--wrap=pread,--wrap=pwrite.
 
    Usage: system FOLDER. It makes files in the folder, and prints what fails. Its status is 0 if nothing does. */
 #define _GNU_SOURCE
@@ -16,22 +16,29 @@
 #include <string.h>
 #include <sys/time.h>
 #include <termios.h>
+#include <time.h>
 #include <unistd.h>
 
-static int failed, lookups, lookup_time, lookup_fault, calls, read_fault, write_fault;
+static int failed, lookups, lookup_fault, calls, read_fault, write_fault, syncs;
 static bool is_partial;
 
 int __real_getaddrinfo(const char *host, const char *service, const struct addrinfo *wanted, struct addrinfo **found);
+int __real_fsync(int file);
 ssize_t __real_pread(int file, void *bytes, size_t size, off_t at);
 ssize_t __real_pwrite(int file, const void *bytes, size_t size, off_t at);
 int __wrap_getaddrinfo(const char *host, const char *service, const struct addrinfo *wanted, struct addrinfo **found);
+int __wrap_fsync(int file);
 ssize_t __wrap_pread(int file, void *bytes, size_t size, off_t at);
 ssize_t __wrap_pwrite(int file, const void *bytes, size_t size, off_t at);
 
 int __wrap_getaddrinfo(const char *host, const char *service, const struct addrinfo *wanted, struct addrinfo **found) {
     lookups++;
-    kij_internal_sleep(lookup_time);
     return lookup_fault != 0 ? lookup_fault : __real_getaddrinfo(host, service, wanted, found);
+}
+
+int __wrap_fsync(int file) {
+    syncs++;
+    return __real_fsync(file);
 }
 
 /* How many of so many bytes are read or written: none, and errno, if there is a fault or a signal. */
@@ -127,8 +134,9 @@ static void try_names(void) {
     lookup_fault = EAI_AGAIN;
     told("a name that isn't found", false, kij_internal_port_open(&port, 1000));
     told("a second time", false, kij_internal_port_open(&port, 1000));
-    told("it is looked up each time", 2, lookups);
+    told("it isn't looked up again at once", 1, lookups);
     lookup_fault = 0;
+    port.resolve_at = 0;
     told("a name that is found", true, kij_internal_port_open(&port, 1000));
     kij_internal_port_close(&port);
     told("it is opened again", true, kij_internal_port_open(&port, 1000));
@@ -136,16 +144,57 @@ static void try_names(void) {
     close(listener);
     told("nobody is there", false, kij_internal_port_open(&port, 1000));
     told("why", ECONNREFUSED, port.error);
-    told("it was looked up once", 3, lookups);
+    told("it was looked up once", 2, lookups);
     port.resolve_at = 0;
     told("nobody is there later", false, kij_internal_port_open(&port, 1000));
-    told("it is looked up again", 4, lookups);
-    make_tcp(&port, name, sizeof name, number);
-    lookup_fault = EAI_AGAIN;
-    lookup_time = 300;
-    told("a name that takes long", false, kij_internal_port_open(&port, 1000));
-    told("it isn't looked up at once", false, kij_internal_port_open(&port, 1000) || lookups != 5);
-    lookup_fault = lookup_time = 0;
+    told("it is looked up again", 3, lookups);
+}
+
+/* The address of a listener that takes no more connections: it says nothing. */
+static void keep_address(kij_port *port, size_t place, int number) {
+    struct sockaddr_in address;
+    memset(&address, 0, sizeof address);
+    address.sin_family = AF_INET;
+    address.sin_addr.s_addr = htonl(INADDR_LOOPBACK);
+    address.sin_port = htons((uint16_t)number);
+    memcpy(&port->addresses[place].place, &address, sizeof address);
+    port->addresses[place].size = sizeof address;
+    port->address_count = place + 1;
+}
+
+/* An address that says nothing leaves time to the next one, and a host that acknowledges nothing is lost soon. */
+static void try_addresses(void) {
+    kij_port port;
+    char name[64];
+    int silent = 0, number = 0, full = listen_here(0, &silent), listener = listen_here(8, &number), waiting[8];
+    make_tcp(&port, name, sizeof name, silent);
+    keep_address(&port, 0, silent);
+    for (size_t place = 0; place < 8; place++) {
+        waiting[place] = socket(AF_INET, SOCK_STREAM | SOCK_NONBLOCK | SOCK_CLOEXEC, 0);
+        (void)connect(waiting[place], (struct sockaddr *)&port.addresses[0].place, port.addresses[0].size);
+    }
+    keep_address(&port, 1, number);
+    int64_t began = kij_internal_now();
+    told("the second address", true, kij_internal_port_open(&port, 1000));
+    told("after half of the time", true, kij_internal_now() - began < 900);
+    kij_internal_port_close(&port);
+    for (size_t place = 0; place < 8; place++) close(waiting[place]);
+    close(full);
+    close(listener);
+}
+
+/* A device that is readable all the time, and gives nothing, doesn't keep the loop busy. */
+static void try_empty(void) {
+    kij_till *till = NULL;
+    struct timespec before, after;
+    told("a till", KIJ_OK, kij_open(NULL, NULL, KIJ_EXISTING, &till).code);
+    told("a device that gives nothing", KIJ_OK, kij_wedge_scanner_open(till, "s1", "/dev/null", NULL).code);
+    clock_gettime(CLOCK_PROCESS_CPUTIME_ID, &before);
+    told("the devices run", KIJ_OK, kij_run_devices(till, 500, NULL).code);
+    clock_gettime(CLOCK_PROCESS_CPUTIME_ID, &after);
+    long used = (long)(after.tv_sec - before.tv_sec) * 1000 + (after.tv_nsec - before.tv_nsec) / 1000000;
+    told("they wait meanwhile", true, used < 100);
+    kij_close(till);
 }
 
 static void ignore(int number) { (void)number; }
@@ -199,6 +248,11 @@ static void try_totals(const char *path) {
     open_totals("a file that is read in parts", path, KIJ_EXISTING, KIJ_OK, 0);
     told("one that is moved in parts", KIJ_OK, kij_migrate(path).code);
     is_partial = false;
+    size_t needed = 0;
+    uint64_t place = 0;
+    syncs = 0;
+    told("what it holds", KIJ_OK, kij_files(path, NULL, 0, &needed, &place).code);
+    told("that is synced", 1, syncs);
     read_fault = EIO;
     open_totals("a file that can't be read", path, KIJ_EXISTING, KIJ_SYSTEM, EIO);
     told("nor moved", KIJ_SYSTEM, kij_migrate(path).code);
@@ -216,6 +270,8 @@ int main(int count, char **words) {
     try_closing();
     try_names();
     try_signal();
+    try_addresses();
+    try_empty();
     try_totals(path);
     return failed != 0;
 }

@@ -225,12 +225,13 @@ class Device:
         return read_view(answer[3:])
 
     def attach(self, spare: SupportsIndex) -> None:
-        """Attaches the spare peripheral with this number, counted from 1.
+        """Attaches the spare peripheral with this number, counted from 1. If the device has a driver, that drives it.
 
         Raises:
             ExchangeError: No spare has the number, or the device is unknown, has its peripheral, or is of another kind.
         """
         self._exchanged(b"attach %b %d" % (self._name, index(spare)))
+        self._till._drives.attached(self.name)
 
     def detach(self) -> None:
         """Detaches the device's peripheral, which ends.

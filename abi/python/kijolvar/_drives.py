@@ -4,15 +4,16 @@ from __future__ import annotations
 import contextlib
 import select
 import time
+from collections import deque
 from typing import TYPE_CHECKING
 
 from ._constants import KIJOLVAR_NO_MEMORY
 from ._control import device_word
-from ._devices import Device, Order, WorkDone, read_order
-from ._faults import DriverError, InputError, LineError, NoDeviceError, library_fault
+from ._devices import Device, Order, WorkFailed, read_order
+from ._faults import DriverError, InputError, LineError, NoDeviceError, NoMemoryError, library_fault
 from ._questions import ProfileDevice
 from ._session import Session
-from .drivers import Driver
+from .drivers import Driver, Scan
 
 if TYPE_CHECKING:
     from .till import Till
@@ -20,6 +21,8 @@ if TYPE_CHECKING:
 
 # How many orders of a printer the till keeps the paper of.
 _KEPT_ORDERS = 500
+# How long the loop waits at most until it looks again, and at least until refused output is tried again, in seconds.
+_OFTEN = 0.1
 
 
 class Drive:
@@ -30,27 +33,34 @@ class Drive:
         self.word = device_word(device.name)
         # What a driver gets that doesn't look at its orders.
         self.order = Order(device.name, "", ())
-        # Whether the till takes the device as switched on.
+        # Whether the device is on, by what the till was told or is to be told.
         self.is_on = True
+        # What has happened and the till hasn't taken yet: lines of inputs, and codes that were read.
+        self.left = b""
+        self.scans: deque[Scan] = deque()
         # How many orders it has done since its paper was taken away.
         self.orders = 0
-
-    def power_off(self) -> bytes:
-        """The input that says that the device isn't there, the first time."""
-        if not self.is_on:
-            return b""
-        self.is_on = False
-        return b"input %b power off\n" % self.word
+        # When a request of its output was refused last.
+        self.refused_at = -1e9
 
     def inputs(self) -> bytes:
-        """What has happened at the device, as lines of inputs. One that is back is on first."""
-        if not self.driver.is_online:
-            return self.power_off()
-        happened = self.driver.happened()
-        if not (self.is_on or "power on" in happened):
-            happened = ["power on", *happened]
-        self.is_on = True
-        return b"".join([b"input %b %b\n" % (self.word, words.encode()) for words in happened])
+        """What has happened at the device and the till hasn't taken yet, as lines of inputs. One that is back is on
+        first, and one that has gone off is off after all that it has read: the till takes nothing of one that is off."""
+        if self.driver.is_online:
+            happened = self.driver.happened()
+            if not (self.is_on or "power on" in happened):
+                happened = ["power on", *happened]
+            self.is_on = True
+        else:
+            happened = ["power off"] if self.is_on and not self.has_scans() else []
+            self.is_on = self.is_on and not happened
+        self.left += b"".join([b"input %b %b\n" % (self.word, words.encode()) for words in happened])
+        return self.left
+
+    def has_scans(self) -> bool:
+        """Whether there are codes that the till hasn't taken yet."""
+        self.scans += self.driver.scans()
+        return bool(self.scans)
 
 
 class Drives:
@@ -75,28 +85,51 @@ class Drives:
 
     def add(self, device: ProfileDevice, driver: Driver) -> None:
         """Has a driver carry out the orders of a device from now on."""
+        drive = Drive(device, driver)
         try:
             driver.begin(self._till, device)
             if device.category != "Scanner":
-                self._session.drive(device_word(device.name))
+                self._session.drive(drive.word)
+            self._drives[device.name] = self._by_word[drive.word] = drive
+            self._hand_in(drive)
         except BaseException:
+            self.remove(drive.name)
             driver.close()
             raise
-        drive = self._drives[device.name] = Drive(device, driver)
-        self._by_word[drive.word] = drive
+
+    def remove(self, name: str) -> None:
+        """Takes the driver of a device away, if it has one, and closes that. Orders of the device fail then."""
+        drive = self._drives.pop(name, None)
+        if drive is not None:
+            del self._by_word[drive.word]
+            drive.driver.close()
+
+    def attached(self, name: str) -> None:
+        """Has the driver of a device, if it has one, go on with another peripheral that was attached. It is driven as the
+        one before was; the till takes it as switched on."""
+        drive = self._drives.get(name)
+        if drive is None:
+            return
+        if drive.category != "Scanner":
+            self._session.drive(drive.word)
+        drive.is_on, drive.left = True, b""
+        drive.driver.attached()
         self.hand_in()
 
     # Orders.
 
     def serve(self, line: bytes) -> tuple[bool, bytes]:
         """Carries out an order: whether the device has done it, and what happened at the device if it hasn't."""
-        drive = self._by_word[line[:line.find(b" ")]]
+        drive = self._by_word.get(line[:line.find(b" ")])
+        if drive is None:
+            return False, b""
         driver = drive.driver
         order = read_order(line.decode()) if driver.reads_orders else drive.order
         if driver.is_online and driver.carry_out(order):
             drive.orders += 1
             return True, b""
-        return False, drive.inputs()
+        lines, drive.left = drive.inputs(), b""
+        return False, lines
 
     def served(self) -> None:
         """Is called once orders were carried out. It is most often all that there is to do."""
@@ -124,27 +157,40 @@ class Drives:
     def _hand_in(self, drive: Drive) -> bool:
         if drive.orders >= _KEPT_ORDERS and drive.category == "POSPrinter":
             drive.orders = 0
-            self._session.tear_off(drive.word)
-        was_on = drive.is_on
-        lines = drive.inputs()
-        if lines:
-            try:
-                self._happens(lines)
-            except BaseException:
-                # What wasn't taken is said again.
-                drive.is_on = was_on
-                raise
-        return lines != b""
-
-    def _happens(self, lines: bytes) -> None:
-        for answer in self._session.carry_out(lines).decode().splitlines():
+            with contextlib.suppress(NoDeviceError):
+                self._session.tear_off(drive.word)
+        lines = b""
+        # A device that is detached shows nothing that could be compared.
+        with contextlib.suppress(NoDeviceError):
+            lines = drive.inputs()
+        if not lines:
+            return False
+        answers = self._session.carry_out(lines).decode().splitlines()
+        # What found no memory is told again, and so is all if the call raised something.
+        drive.left = b"".join(line for line, answer in zip(lines.splitlines(True), answers) if answer == "memory")
+        for answer in answers:
             if answer == "bad input":
                 raise InputError("that can't happen at the device")
-            if answer == "memory":
-                raise library_fault(KIJOLVAR_NO_MEMORY)
             # Nothing happens at one that is detached.
-            if answer not in ("ok", "bad device"):
+            if answer not in ("ok", "bad device", "memory"):
                 raise LineError(answer)
+        if drive.left:
+            raise library_fault(KIJOLVAR_NO_MEMORY)
+        return True
+
+    def _tells_scans(self, drive: Drive) -> bool:
+        """Tells the codes that were read, each once, and returns whether there were any."""
+        is_any = drive.has_scans()
+        while drive.scans:
+            scan = drive.scans.popleft()
+            try:
+                with contextlib.suppress(NoDeviceError):
+                    Device(self._till, drive.name).scan(scan.kind, scan.data, scan.label)
+            except NoMemoryError as fault:
+                if fault.library_code == KIJOLVAR_NO_MEMORY:
+                    drive.scans.appendleft(scan)
+                raise
+        return is_any
 
     # The loop.
 
@@ -161,32 +207,44 @@ class Drives:
             left = end - time.monotonic()
             if left <= 0:
                 return False
-            self._wait(min(left, 0.1))
+            self._wait(min(left, _OFTEN))
 
     def _round(self) -> bool:
         is_any = False
         for drive in self._drives.values():
-            drive.driver.poll()
+            # The replies of one that is detached can't be read.
+            with contextlib.suppress(NoDeviceError):
+                drive.driver.poll()
         is_any |= self.hand_in()
         for drive in self._drives.values():
-            for scan in drive.driver.scans():
-                with contextlib.suppress(NoDeviceError):
-                    Device(self._till, drive.name).scan(scan.kind, scan.data, scan.label)
+            if self._tells_scans(drive):
+                # What came behind the codes, such as that the device has gone off.
+                self._hand_in(drive)
                 is_any = True
         for drive in self._drives.values():
-            if drive.category == "POSPrinter":
+            if drive.category == "POSPrinter" and time.monotonic() - drive.refused_at >= _OFTEN:
                 # Nothing waits for one that is detached.
                 with contextlib.suppress(NoDeviceError):
-                    is_any |= self._works(Device(self._till, drive.name))
+                    is_any |= self._works(drive)
         return is_any
 
-    def _works(self, device: Device) -> bool:
-        """Works off the output that waits, until nothing waits or a request fails."""
-        done = device.work()
-        is_any = done is not None
-        while isinstance(done, WorkDone):
-            done = device.work()
+    def _works(self, drive: Drive) -> bool:
+        """Works off the output that waits, until nothing waits or a request is refused. That is tried again a little
+        later: what refused it, such as an open cover, may last."""
+        device, is_any = Device(self._till, drive.name), False
+        while (done := device.work()) is not None:
+            is_any = True
+            if isinstance(done, WorkFailed):
+                drive.refused_at = time.monotonic()
+                break
+            self._reads_scanners()
         return is_any
+
+    def _reads_scanners(self) -> None:
+        """Reads what scanners have read, between requests that take long: the system keeps few keys of one."""
+        for drive in self._drives.values():
+            if drive.category == "Scanner":
+                drive.driver.poll()
 
     def _wait(self, seconds: float) -> None:
         """Waits until a device says something."""

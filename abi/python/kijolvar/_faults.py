@@ -128,15 +128,24 @@ class TillClosedError(Error):
     """The till is closed."""
 
 
+# What stands for the thread of a till in a process that was forked from the till's. No thread has this number.
+NO_THREAD = 0
+
+
 class ThreadError(Error):
-    """The till was used in another thread than the one that opened it."""
+    """The till was used in another thread than the one that opened it, or in a process that was forked.
+
+    Attributes:
+        owner, caller: The numbers of the threads; the owner is 0 in a process that was forked.
+    """
 
     def __init__(self, owner: int, caller: int) -> None:
         super().__init__(owner, caller)
         self.owner, self.caller = owner, caller
 
     def __str__(self) -> str:
-        return (f"a till can be used only in the thread that opened it: it was opened in thread {self.owner}, "
+        where = f"in thread {self.owner}" if self.owner != NO_THREAD else "before this process was forked"
+        return (f"a till can be used only in the thread that opened it: it was opened {where}, "
                 f"and this is thread {self.caller}")
 
 

@@ -80,8 +80,9 @@ def carrier(library: ctypes.CDLL) -> Any:
 
 
 def load(path: Path) -> ctypes.CDLL:
-    """Loads the library at a path. Raises OSError if there is none, and AttributeError if it is another one."""
-    return declare(ctypes.CDLL(os.fspath(path)))
+    """Loads the library at a path. A name without a slash that is no file here is looked for where the system has its
+    libraries. Raises OSError if there is none, and AttributeError if it is another one."""
+    return declare(ctypes.CDLL(os.path.abspath(path) if os.path.exists(path) else os.fspath(path)))
 
 
 def places() -> list[pathlib.Path]:

@@ -1,6 +1,7 @@
 """The line to a receipt printer: what is sent, what has been acknowledged, and what the printer says of itself."""
 from __future__ import annotations
 
+import contextlib
 import random
 import re
 import time
@@ -10,6 +11,7 @@ from dataclasses import dataclass
 from typing import TYPE_CHECKING
 
 from ._control import device_word
+from ._faults import NoDeviceError
 from ._wire import JOB_PAPER, Asked, WireSettings
 from .ports import Port, PortError
 
@@ -31,6 +33,8 @@ _READ_AT_ONCE = 64
 _PRINTER, _PAPER_IN_ORDER = int(Asked.PRINTER), int(Asked.PAPER_IN_ORDER)
 # How long a lost port may take to open while other devices wait, and how often a printer is asked, in seconds.
 _QUICKLY, _OFTEN = 0.25, 0.1
+# How long late answers may be apart, in seconds.
+_APART = 0.5
 # What ends a piece: a line feed, a pulse, a feed, or a cut.
 _PIECE = re.compile(rb"(?:\x1b[^pd].|[^\n\x1b\x1d]++)*+(?:\n|\x1bp...|\x1bd.|\x1dV(?:[AB].|[^AB])|\Z)", re.S)
 
@@ -45,6 +49,11 @@ class Wire:
 
     def __init__(self, till: Till, device: str, settings: WireSettings) -> None:
         self._session, self._device, self._settings = till._session, device_word(device), settings.raw
+
+    @property
+    def reports(self) -> tuple[object, int]:
+        """The till, and how many orders it was told as done. It changes before an order that is done is reported."""
+        return self._session, self._session.reports
 
     def order(self, job: int) -> bytes:
         """The bytes of the order that is out. Behind them stands what asks for an acknowledgement."""
@@ -78,8 +87,8 @@ class Job:
         pieces: Its lines, cuts and pulses; an order without any is one empty piece, so that the printer is asked.
         sent: How many pieces were sent.
         done: How many pieces are printed, as far as is known.
-        is_done: Whether all of it is printed.
         is_torn: Pieces were lost, and later ones may have been printed.
+        told_at: The till's reports (`Wire.reports`) when it was told as done. Until they change, it isn't reported.
         is_once: Whether it is for the paper, where the same order must not be twice.
     """
 
@@ -89,12 +98,13 @@ class Job:
         is_line = data.find(b"\n") == len(data) - 1 and b"\x1dV" not in data
         self.pieces = [data] if is_line else pieces_of(data) or [b""]
         self.sent = self.done = 0
-        self.is_done = self.is_torn = False
+        self.is_torn = False
+        self.told_at: tuple[object, int] | None = None
 
-    def has_done(self, count: int) -> None:
-        """So many of its pieces are printed, or more."""
-        self.done = max(self.done, count)
-        self.is_done = self.done == len(self.pieces)
+    @property
+    def is_done(self) -> bool:
+        """Whether all of it is printed."""
+        return self.done == len(self.pieces)
 
     def is_late(self, now: Job | None) -> bool:
         """Whether it puts something on the paper that isn't asked for any more."""
@@ -104,19 +114,26 @@ class Job:
 class _Parcel:
     """Bytes that go out whole. Once their number is acknowledged, so many pieces of the job are printed."""
 
-    __slots__ = ("rest", "number", "job", "done", "turn", "is_begun")
+    __slots__ = ("rest", "number", "job", "done", "is_begun")
 
-    def __init__(self, rest: bytes, number: int | None = None, job: Job | None = None, done: int = 0,
-                 turn: int = 0) -> None:
-        self.rest, self.number, self.job, self.done, self.turn = rest, number, job, done, turn
+    def __init__(self, rest: bytes, number: int | None = None, job: Job | None = None, done: int = 0) -> None:
+        self.rest, self.number, self.job, self.done = rest, number, job, done
         self.is_begun = False
 
 
 class PrinterLink:
     """The line to a printer, which acknowledges in order what it has printed.
 
+    Any port may stay open while the printer is off, and lose what is sent: a serial line does, and so do a cable with a
+    chip of its own and a print server. So a piece is printed only if its own acknowledgement comes. One that comes for a
+    later piece says that the earlier ones are printed or lost, and they are sent again.
+
+    An interrupt, which a signal's handler may raise between any two steps, costs at most what a lost acknowledgement
+    costs. So each step stands for itself: what is to be acknowledged is noted before it may go out, and a reply is
+    forgotten after what it says is noted.
+
     Attributes:
-        wire: The library's calls for what the printer sends.
+        wires: The library's calls for what the printer sends: by the printer's device, and by that of its drawer.
         is_begun: Whether the port was opened, or that was tried.
         statuses: How many statuses have come.
         told: The replies that tell how the printer is; none before the first one.
@@ -133,12 +150,12 @@ class PrinterLink:
 
     def __init__(self, port: Port, timeout: float, pause: float) -> None:
         self.port, self.timeout, self._pause = port, timeout, pause
-        self.wire: Wire | None = None
+        self.wires: list[Wire] = []
         self.is_begun = self.is_stopped = False
         self.told: list[Told] = []
         self.statuses = self.late = self.lines = 0
         self.signs: dict[str, str] = {}
-        # What was begun last for the paper, if it isn't done.
+        # What was begun last for the paper, and isn't reported as done.
         self._failed: Job | None = None
         # A printer may still acknowledge jobs of a host that has ended. Those shouldn't have the numbers of these.
         self._number = random.randrange(_NUMBERS)
@@ -147,7 +164,9 @@ class PrinterLink:
         self._outbox: deque[_Parcel] = deque()
         self._due: deque[_Parcel] = deque()
         self._got = bytearray()
-        self._is_there = self._has_answered = self._was_silent = self._is_refreshing = False
+        self._is_there = self._was_silent = self._is_refreshing = False
+        # Whether bytes of the outbox may have gone out that are still in it.
+        self._is_unsure = False
         self._tried_at = self._refreshed_at = self._heard_at = -1e9
         self._asked_at: float | None = None
 
@@ -173,32 +192,41 @@ class PrinterLink:
     def carry_out(self, wire: Wire, is_once: bool = True) -> bool:
         """Sends the order that is out, and returns whether the printer acknowledged it within the timeout.
 
-        If an order failed and the next one is the same, only what wasn't printed is sent again. With is_once false it
-        is sent whole.
+        If an order failed and the next one is the same, only what wasn't printed is sent again. An order that is done has
+        failed, too, if an interrupt comes before its report. With is_once false it is sent whole.
         """
         end = time.monotonic() + self.timeout
         if not self.is_online:
             return False
+        self._takes_as_sent()
         data = wire.order(self._job)
         self._question = data[-self._end_size:]
         try:
             self._receive()
+            if self._failed is not None and self._failed.told_at not in (None, wire.reports):
+                self._failed = None
             job = self._taken_up(data[:-self._end_size], is_once, end)
-            if not (job.is_done or self.is_stopped or self._is_due(job)):
+            if not (job.is_done or self.is_stopped or self._is_due(job)) and time.monotonic() < end:
                 self._post(job)
                 self._writes()
                 self._pump(lambda: job.is_done or job.is_torn or self.is_stopped, end)
         except PortError:
             self._lose()
             return False
+        except BaseException:
+            # Such as an interrupt: the order has failed.
+            self._takes_as_sent()
+            self._drop()
+            raise
         if job.is_done:
-            self._failed = self._failed if job is not self._failed else None
             self.lines += job.data.count(b"\n")
+            job.told_at = wire.reports
             return True
         self._drop()
         if not self.is_stopped:
             self._was_silent = True
             self._ask()
+            self._notes_silence()
         return False
 
     def _taken_up(self, data: bytes, is_once: bool, end: float) -> Job:
@@ -240,9 +268,9 @@ class PrinterLink:
     def _send(self, piece: bytes, job: Job | None, done: int) -> None:
         """Puts a piece and the question for its acknowledgement into the outbox."""
         self._number = (self._number + 1) % _NUMBERS
-        parcel = _Parcel(piece + self._end(self._number), self._number, job, done, self.port.turns)
-        self._outbox.append(parcel)
+        parcel = _Parcel(piece + self._end(self._number), self._number, job, done)
         self._due.append(parcel)
+        self._outbox.append(parcel)
 
     def _end(self, number: int) -> bytes:
         """What asks the printer to acknowledge that everything before it is printed: the library's question, with
@@ -251,30 +279,43 @@ class PrinterLink:
             0x40 | number >> 12, 0x40 | number >> 8 & 0x0F, 0x40 | number >> 4 & 0x0F, 0x40 | number & 0x0F))
 
     def _drop(self) -> None:
-        """Takes back what hasn't begun to go out."""
-        for parcel in [parcel for parcel in self._outbox if not parcel.is_begun]:
+        """Takes back the pieces that haven't begun to go out."""
+        for parcel in [parcel for parcel in self._outbox if not parcel.is_begun and parcel.number is not None]:
             self._outbox.remove(parcel)
-            if parcel.number is not None:
-                self._due.remove(parcel)
+            self._due.remove(parcel)
             if parcel.job is not None:
                 parcel.job.sent -= 1
 
+    def _takes_as_sent(self) -> None:
+        """After an interrupt of `_writes` nobody knows what went out. All counts as sent: what wasn't is found out as what
+        was lost is. The zero bytes end a command that has begun."""
+        if self._is_unsure:
+            self._outbox.clear()
+            self._puts(_ZEROS)
+            self._is_unsure = False
+
     # What comes.
+
+    def _reply(self, data: bytes, asked: int) -> tuple[int, bytes]:
+        """The first reply in what the printer has sent, as `Wire.reply`. Without a device, nobody reads any."""
+        for wire in self.wires:
+            with contextlib.suppress(NoDeviceError):
+                return wire.reply(data, asked)
+        return len(data), b""
 
     def _takes(self, data: bytes) -> None:
         """Reads replies. The bytes of one that has only begun are kept."""
-        assert self.wire is not None
         self._got += data
         while self._got:
             found = bytes(self._got[:_READ_AT_ONCE])
             asked = 0 if self._asked_at is None else _PRINTER
-            used, text = self.wire.reply(found, asked)
+            used, text = self._reply(found, asked)
             if not used:
                 return
-            del self._got[:used]
             if text:
                 self._answers()
                 self._hears(text, found[:used], asked)
+            del self._got[:used]
 
     def _answers(self) -> None:
         """The printer has answered something."""
@@ -286,36 +327,31 @@ class PrinterLink:
         """What a reply says. Only an automatic status tells of the cover."""
         if text.startswith(b"job "):
             self._acknowledged(int(text[4:]))
-        elif "cover" in (signs := signs_of(text)):
+            return
+        signs = signs_of(text)
+        if "cover" in signs:
             self._is_told(signs, [Told(data, asked)])
-            self._is_refreshing = False
+        # One that is online again has sent the status that it was asked for, or has lost the question.
+        self._is_refreshing = self._is_refreshing and "cover" not in signs and signs.get("offline") != "no"
 
     def _comes_back(self) -> None:
-        """The printer answers again. It may have been off, if the port stays then, and tells no status by itself."""
-        if not self.port.is_reliable:
-            self._puts(self._start)
-        elif self._has_answered:
-            self._puts(self._refresh)
-        self._is_there, self._has_answered, self._was_silent = True, True, False
+        """The printer answers, for the first time or again. It may have been off: then it tells no status by itself."""
+        self._puts(self._start)
+        self._is_there, self._was_silent = True, False
 
     def _acknowledged(self, number: int) -> None:
-        """Everything up to the parcel with this number is printed or lost."""
-        if self._due and self._due[0].number == number:
-            turn: int | None = self._due[0].turn
-        else:
-            turn = next((parcel.turn for parcel in self._due if parcel.number == number), None)
-        while turn is not None:
-            parcel = self._due.popleft()
-            job, is_last = parcel.job, parcel.number == number
+        """The parcel with this number is printed, and those before it are printed or lost."""
+        is_due = any(parcel.number == number for parcel in self._due)
+        while is_due:
+            parcel = self._due[0]
+            job, is_due = parcel.job, parcel.number != number
             if job is not None:
-                # Bytes are lost only together with the port, if it is a reliable one.
-                if (is_last or self.port.is_reliable and parcel.turn == turn) and not job.is_torn:
-                    job.has_done(parcel.done)
-                    self.late += job.is_done and job.is_late(self._failed)
-                else:
+                if is_due or job.is_torn:
                     job.is_torn = True
-            if is_last:
-                return
+                elif parcel.done > job.done:
+                    job.done = parcel.done
+                    self.late += job.is_done and job.is_late(self._failed)
+            self._due.popleft()
 
     def _puts(self, data: bytes) -> None:
         """Puts bytes that nothing acknowledges into the outbox."""
@@ -324,7 +360,7 @@ class PrinterLink:
 
     def _receive(self) -> None:
         """Reads what has come."""
-        while self.port.ready(False, 0)[0] and (data := self.port.read_some()):
+        for data in self.port.waiting():
             self._takes(data)
 
     def _pump(self, until: Callable[[], bool], end: float) -> bool:
@@ -351,15 +387,19 @@ class PrinterLink:
         """Sends of the outbox what there is room for."""
         outbox = self._outbox
         is_one = len(outbox) == 1
-        count = self.port.write_some(outbox[0].rest if is_one else b"".join([parcel.rest for parcel in outbox]))
-        while count:
+        self._is_unsure = True
+        try:
+            count = self.port.write_some(outbox[0].rest if is_one else b"".join([parcel.rest for parcel in outbox]))
+        except PortError:
+            # Nothing of it went out.
+            self._is_unsure = False
+            raise
+        while outbox and count >= len(outbox[0].rest):
+            count -= len(outbox.popleft().rest)
+        if count:
             parcel = outbox[0]
-            parcel.is_begun = True
-            if count < len(parcel.rest):
-                parcel.rest = parcel.rest[count:]
-                return
-            count -= len(parcel.rest)
-            outbox.popleft()
+            parcel.is_begun, parcel.rest = True, parcel.rest[count:]
+        self._is_unsure = False
 
     # The port.
 
@@ -382,6 +422,7 @@ class PrinterLink:
                 self._connect(min(self.timeout, _QUICKLY))
             return
         try:
+            self._takes_as_sent()
             self._receive()
             self._look_after(now)
             if self._outbox and self.port.ready(True, 0)[1]:
@@ -391,21 +432,36 @@ class PrinterLink:
 
     def _look_after(self, now: float) -> None:
         """Asks a printer that has said nothing for a time, and one that says that it can't print, for more."""
-        if self._asked_at is not None and now - self._asked_at > self.timeout:
-            self._is_there = False
-            self._is_told({}, [])
+        self._notes_silence()
         is_asking = self._asked_at is not None and now - self._asked_at <= self.timeout
         is_heard = self._is_there and now - self._heard_at <= self.timeout
-        if not (is_heard or is_asking or self._outbox):
+        if self._outbox:
+            return
+        if not (is_heard or is_asking):
+            self._asked_at = None
             self._ask()
-        if self.is_stopped and not self._is_refreshing and now - self._refreshed_at > self._pause and not self._outbox:
-            self._is_refreshing, self._refreshed_at = True, now
-            self._puts(self._refresh)
+            self._refreshes(now)
+        elif self.is_stopped and now - self._refreshed_at > self._pause:
+            self._refreshes(now)
+
+    def _notes_silence(self) -> None:
+        """A printer that hasn't answered for the timeout counts as off, also while orders are tried again and again."""
+        if self._asked_at is not None and time.monotonic() - self._asked_at > self.timeout:
+            self._is_there = False
+            self._is_told({}, [])
 
     def _ask(self) -> None:
-        """Asks whether the printer is there."""
-        self._asked_at = time.monotonic()
+        """Asks whether the printer is there. A question that isn't answered yet counts from when it was asked first."""
+        if self._asked_at is None:
+            self._asked_at = time.monotonic()
         self._puts(_STATUS_NOW + b"\1")
+
+    def _refreshes(self, now: float) -> None:
+        """Asks for the whole status, which the printer then tells at each change, also if it was off and on again. While
+        it can't print, it may keep the question for later, so that it is asked once."""
+        if not self._is_refreshing:
+            self._is_refreshing, self._refreshed_at = True, now
+            self._puts(self._refresh)
 
     def _connect(self, seconds: float) -> None:
         try:
@@ -424,10 +480,11 @@ class PrinterLink:
         self._forget()
 
     def _forget(self) -> None:
+        self._takes_as_sent()
         self._drop()
         self._outbox.clear()
         self._got.clear()
-        self._is_there = self._has_answered = self._was_silent = self._is_refreshing = False
+        self._is_there = self._was_silent = self._is_refreshing = False
         self._is_told({}, [])
         self._asked_at = None
 
@@ -435,11 +492,13 @@ class PrinterLink:
         """Closes the port."""
         self._lose()
         self.is_begun = False
+        self.wires.clear()
 
 
 class AskedLink(PrinterLink):
     """The line to a printer that says nothing by itself, and doesn't know the end of a job: it is asked. GS r is
-    answered once everything before it is printed. Its replies have no number, so they are counted."""
+    answered once everything before it is printed. Its replies have no number, so they are counted. So are those to DLE
+    EOT, which don't say what was asked: a line may hold questions back, which were asked again meanwhile."""
 
     _job = JOB_PAPER
     _start, _refresh = _ZEROS + _INITIALIZE + _STATUS_OFF, b""
@@ -447,8 +506,10 @@ class AskedLink(PrinterLink):
 
     def __init__(self, port: Port, timeout: float, pause: float) -> None:
         super().__init__(port, timeout, pause)
-        self._asked_last, self._questioned_at = 1, -1e9
-        self._is_asking = False
+        # The last question of DLE EOT, how many aren't answered, and when it was asked or a late answer came.
+        self._asked_last, self._unanswered, self._questioned_at = 1, 0, -1e9
+        # Whether late answers come, as far as is known.
+        self._is_late = False
         self._heard: dict[int, tuple[Told, dict[str, str]]] = {}
         self._rounds = 0
 
@@ -456,19 +517,26 @@ class AskedLink(PrinterLink):
         return self._question
 
     def _asks_on(self) -> None:
-        """Asks the questions of DLE EOT, one after the other: the printer, why it is offline, the paper."""
-        now = time.monotonic()
-        if self._outbox or now - self._questioned_at < (self.timeout if self._is_asking else _OFTEN):
+        """Asks the questions of DLE EOT, one after the other: the printer, why it is offline, the paper. It begins again if
+        one isn't answered in time."""
+        pause = self.timeout if self._unanswered else _OFTEN
+        if self._is_late:
+            pause = min(pause, _APART)
+        if self._outbox or time.monotonic() - self._questioned_at < pause:
             return
-        self._questioned_at = now
+        if self._is_late:
+            # The answers that haven't come are lost.
+            self._unanswered, self._is_late = 0, False
         self._asks(1)
 
     def _asks(self, question: int) -> None:
-        self._asked_last, self._is_asking = question, True
+        self._asked_last, self._questioned_at = question, time.monotonic()
+        self._unanswered += 1
         self._puts(_STATUS_NOW + bytes([question]))
 
     def _ask(self) -> None:
-        self._asked_at = time.monotonic()
+        if self._asked_at is None:
+            self._asked_at = time.monotonic()
         self._asks_on()
 
     def _look_after(self, now: float) -> None:
@@ -476,16 +544,19 @@ class AskedLink(PrinterLink):
         self._asks_on()
 
     def _takes(self, data: bytes) -> None:
-        """Reads replies, each of which is a byte: to DLE EOT, or to GS r."""
-        assert self.wire is not None
-        for byte in data:
-            one = bytes([byte])
-            for asked in [self._asked_last] * self._is_asking + [_PAPER_IN_ORDER] * bool(self._due):
-                _, text = self.wire.reply(one, asked)
+        """Reads replies, each of which is a byte: to DLE EOT, or to GS r. One is forgotten before it counts, since it
+        must count for one piece alone."""
+        self._got += data
+        while self._got:
+            one, text = bytes(self._got[:1]), b""
+            for asked in [self._asked_last] * bool(self._unanswered) + [_PAPER_IN_ORDER] * bool(self._due):
+                _, text = self._reply(one, asked)
                 if text:
                     self._answers()
-                    self._hears(text, one, asked)
                     break
+            del self._got[:1]
+            if text:
+                self._hears(text, one, asked)
 
     def _hears(self, text: bytes, data: bytes, asked: int) -> None:
         if asked == _PAPER_IN_ORDER:
@@ -493,7 +564,12 @@ class AskedLink(PrinterLink):
             assert number is not None
             self._acknowledged(number)
             return
-        self._is_asking = False
+        self._unanswered -= 1
+        self._is_late = self._unanswered > 0
+        if self._is_late:
+            # It is to an earlier question.
+            self._questioned_at = time.monotonic()
+            return
         self._heard[asked] = Told(data, asked), signs_of(text)
         if asked != 4:
             self._asks(2 * asked)
@@ -512,12 +588,16 @@ class AskedLink(PrinterLink):
         self._gives_up(end)
         return super()._taken_up(data, is_once, end)
 
+    def _is_due(self, job: Job) -> bool:
+        """Whether any acknowledgement may still come. It wouldn't say which job it is for."""
+        return bool(self._due)
+
     def _gives_up(self, end: float) -> None:
-        """Waits for acknowledgements that are late, where they can be lost. They are if none comes for the whole time,
-        although the printer says that it can print."""
-        count, rounds = len(self._due), self._rounds
-        if self.port.is_reliable or not self._due:
+        """Waits for acknowledgements that are late. They are lost if none comes for the whole time, although the printer
+        says that it can print."""
+        if not self._due:
             return
+        count, rounds = len(self._due), self._rounds
         self._pump(lambda: not self._due or self.is_stopped, end)
         if len(self._due) == count and self._rounds > rounds + 1 and not self.is_stopped:
             self._lost_due()
@@ -531,4 +611,4 @@ class AskedLink(PrinterLink):
     def _forget(self) -> None:
         super()._forget()
         self._lost_due()
-        self._is_asking, self._questioned_at = False, -1e9
+        self._unanswered, self._is_late, self._questioned_at = 0, False, -1e9

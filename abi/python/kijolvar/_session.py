@@ -5,6 +5,7 @@ import ctypes
 import errno
 import os
 import threading
+import weakref
 from collections import deque
 from collections.abc import Callable, Iterator
 from typing import Any, BinaryIO, NoReturn
@@ -12,6 +13,7 @@ from typing import Any, BinaryIO, NoReturn
 from ._constants import (KIJOLVAR_CUT, KIJOLVAR_DISK_FAILED, KIJOLVAR_DISK_LENGTH, KIJOLVAR_ERRANDS, KIJOLVAR_EVENT,
                          KIJOLVAR_NO_MEMORY, KIJOLVAR_NO_ORDER, KIJOLVAR_OK, KIJOLVAR_ORDER, KIJOLVAR_SHORT,
                          KIJOLVAR_SYNC, KIJOLVAR_UNDONE, KIJOLVAR_WAITS, KIJOLVAR_WRITE)
+from ._faults import NO_THREAD
 from ._library import Raw, by_addresses, carrier, check
 from ._wire import RawSettings, Reply
 from .errors import DriverError, ThreadError, TillClosedError, library_fault
@@ -40,7 +42,7 @@ def _write_whole(file: int, data: bytes, at: int) -> None:
 class Session:
     """A till over a profile's text and an open file of totals, or totals in memory if there is none.
 
-    Only the thread that made it may use it. A file that isn't formatted opens too: enabling its totals is E_NOHARDWARE.
+    Only the thread that made it may use it, in its own process: one that is forked has the till as a closed one. A file that isn't formatted opens too: enabling its totals is E_NOHARDWARE.
     `begin` is the export that makes the till over a file: another one formats the file first, or moves it to layout 2.
     """
 
@@ -68,6 +70,8 @@ class Session:
         # Whether the library holds lines for which memory ran out, and what was printed of them and isn't reported yet.
         self._is_holding = False
         self._unreported: tuple[int, bytes] | None = None
+        #: How many orders were reported as done, or a report was begun.
+        self.reports = 0
         # The devices that are driven, and the orders of hosted devices that came before one of these.
         self._driven: set[bytes] = set()
         self._hosted: deque[bytes] = deque()
@@ -92,6 +96,7 @@ class Session:
         except BaseException:
             self.close()
             raise
+        _sessions.add(self)
 
     @property
     def is_closed(self) -> bool:
@@ -102,14 +107,20 @@ class Session:
         """Whether this is the thread that may use the till."""
         return _identity() == self._thread
 
+    def forked(self) -> None:
+        """This process was forked from the till's: nothing of the till can be used or has to be ended in it."""
+        self._thread, self._raw.at = NO_THREAD, None
+        self._disown_calls()
+
     def close(self) -> None:
         """Ends the till, once. The file stays open."""
         if self._raw.at is None:
             return
         self._check_thread()
-        self._library.kijolvar_close(self._raw)
-        self._raw.at = None
+        # An interrupt comes as the library's call returns. It mustn't end the till again.
+        ended, self._raw.at = Raw(self._raw.at), None
         self._refuse_calls()
+        self._library.kijolvar_close(ended)
 
     def _check_thread(self) -> None:
         if _identity() != self._thread:
@@ -146,6 +157,8 @@ class Session:
         next_errand, failed = self._library.kijolvar_next_errand, self._library.kijolvar_errand_failed
         at, count, file = ctypes.c_uint64(), ctypes.c_size_t(), self._totals.fileno()
         while True:
+            # A signal's handler may have closed the till meanwhile.
+            self.check()
             try:
                 # An interrupt in this call has taken an errand out, too.
                 code = next_errand(self._raw, self._out, ctypes.byref(at), self._errand, KIJOLVAR_DISK_LENGTH,
@@ -159,7 +172,8 @@ class Session:
                 else:
                     raise library_fault(KIJOLVAR_DISK_FAILED)
             except BaseException:
-                failed(self._raw, self._out)
+                if self._raw.at is not None:
+                    failed(self._raw, self._out)
                 raise
 
     def _settle_call(self) -> None:
@@ -191,6 +205,10 @@ class Session:
             nonlocal call
             call = self._refuse_closed
 
+        def disown() -> None:
+            nonlocal owner
+            owner = NO_THREAD
+
         def mark() -> None:
             nonlocal call
             export = call
@@ -202,7 +220,7 @@ class Session:
 
             call = marked
 
-        self._refuse_calls, self._mark_calls = refuse, mark
+        self._refuse_calls, self._disown_calls, self._mark_calls = refuse, disown, mark
         return carry_out
 
     def _carry_on(self, code: int, lines: bytes) -> bytes:
@@ -263,12 +281,14 @@ class Session:
             outcome, inputs = report
             is_told, is_any_done = True, is_any_done or outcome == _DONE
             room_at = self._room_at if room is self._room else ctypes.addressof(room)
+            self.reports += outcome == _DONE
             code = self._order_done(self._raw, self._raw_at, outcome, inputs, len(inputs), room_at, len(room),
                                     self._has_at)
         raise library_fault(code)
 
     def _answer_into(self, room: Any) -> int:
         """Writes the answer that is kept, and returns its code."""
+        self.check()
         code: int = self._library.kijolvar_answer(self._raw, self._out, room, len(room), self._needed_at)
         return code
 
@@ -292,11 +312,17 @@ class Session:
             order = self._driven_order()
         if order is None or self.serve is None:
             raise library_fault(KIJOLVAR_NO_ORDER)
-        self._has_served = self._is_serving = True
         try:
+            self._has_served = self._is_serving = True
             is_done, inputs = self.serve(order)
+        except Exception:
+            # It may be because the till is closed.
+            self.check()
+            raise
         finally:
             self._is_serving = False
+        # The driver, or a signal's handler, may have closed the till meanwhile.
+        self.check()
         return (_DONE, b"") if is_done else (_NOT_DONE, inputs)
 
     def _refused(self) -> tuple[int, bytes]:
@@ -425,3 +451,15 @@ class Session:
                 yield self._bytes[:self._count.value]
             else:
                 self._lengthen(code, self._count.value)
+
+
+# The tills of this process, and of those from which it was forked.
+_sessions: weakref.WeakSet[Session] = weakref.WeakSet()
+
+
+def _disown() -> None:
+    for session in _sessions:
+        session.forked()
+
+
+os.register_at_fork(after_in_child=_disown)

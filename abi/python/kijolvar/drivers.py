@@ -55,7 +55,7 @@ class Driver:
 
     @property
     def is_online(self) -> bool:
-        """Whether the device is there. If not, the till takes it as switched off."""
+        """Whether the device is there. If not, the till takes it as switched off, once it has taken what `scans` returns."""
         return True
 
     @property
@@ -93,6 +93,10 @@ class Driver:
     def files(self) -> list[int]:
         """The file descriptors at which something may come."""
         return []
+
+    def attached(self) -> None:
+        """The device has another peripheral now (`attach`), which shows nothing yet of what this driver has said before.
+        The orders are the driver's again."""
 
     def close(self) -> None:
         """Ends, and closes the port."""
@@ -138,6 +142,8 @@ class EscPosPrinter(Driver):
             raise ValueError("feed and the times of the pulse are 0 to 255, and the pin is 2 or 5")
         if not 1 <= lines <= _MOST_LINES:
             raise ValueError(f"a roll has 1 to {_MOST_LINES} lines")
+        # As given, and as they are for a device.
+        self._given_width, self._given_lines = width, lines
         self._width, self._lines = width, lines
         self._cutter, self._feed, self._pin, self._pulse = _CUTTERS.index(cutter), feed, pin, pulse
         self._is_open_high = is_open_high
@@ -163,20 +169,22 @@ class EscPosPrinter(Driver):
 
     def begin(self, till: Till, device: ProfileDevice) -> None:
         chars, near = device.chars or 0, device.near or 0
-        if self._width is not None and self._width < chars:
-            raise ValueError(f"{device.name} has lines of {chars}, and the printer prints {self._width}")
+        if self._given_width is not None and self._given_width < chars:
+            raise ValueError(f"{device.name} has lines of {chars}, and the printer prints {self._given_width}")
         if near >= _MOST_LINES:
             raise ValueError(f"{device.name} is near its end with {near} lines, and a roll has {_MOST_LINES} at most")
-        self._width, self._lines, self._near = self._width or chars, max(self._lines, near + 1), near
-        self._wire = self.link.wire = self._wire_of(till, device)
+        self._width, self._lines, self._near = self._given_width or chars, max(self._given_lines, near + 1), near
+        self._wire = self._wire_of(till, device)
         self._open()
 
     def _wire_of(self, till: Till, device: ProfileDevice) -> Wire:
-        """The library's calls for the printer or for its drawer."""
+        """The library's calls for the printer or for its drawer. The link reads replies by either."""
         on, off = self._pulse
-        return Wire(till, device.name, WireSettings(
+        wire = Wire(till, device.name, WireSettings(
             width=self._width or 0, cutter=self._cutter, feed=self._feed, lines=self._lines, pin=self._pin, on=on,
             off=off, open_is_high=self._is_open_high))
+        self.link.wires.append(wire)
+        return wire
 
     def _open(self) -> None:
         """Opens the port, unless that was tried already."""
@@ -226,6 +234,9 @@ class EscPosPrinter(Driver):
     def files(self) -> list[int]:
         return [self.link.port.fileno()] if self.link.port.is_open else []
 
+    def attached(self) -> None:
+        self._is_known, self._compared = False, -1
+
     def close(self) -> None:
         self.link.close()
         self._is_known = False
@@ -262,8 +273,6 @@ class EscPosDrawer(Driver):
 
     def begin(self, till: Till, device: ProfileDevice) -> None:
         self._wire = self._printer._wire_of(till, device)
-        if self._printer.link.wire is None:
-            self._printer.link.wire = self._wire
         self._printer._open()
 
     def carry_out(self, order: Order) -> bool:
@@ -295,6 +304,9 @@ class EscPosDrawer(Driver):
 
     def files(self) -> list[int]:
         return self._printer.files()
+
+    def attached(self) -> None:
+        self._kicked_at, self._compared = None, -1
 
     def close(self) -> None:
         self._printer.close()
@@ -360,16 +372,16 @@ class SerialDisplay(Driver):
         self._listen()
         if not self.port.is_open:
             return False
-        data = self._till.order_bytes(self._settings, self._is_new)
+        data, is_done = self._till.order_bytes(self._settings, self._is_new), False
         try:
-            is_done = self.port.write(data, self._timeout)
-        except PortError:
-            return False
-        if is_done:
-            self._is_new = False
-        else:
-            # The display has a part of it.
-            self.port.close()
+            with contextlib.suppress(PortError):
+                is_done = self.port.write(data, self._timeout)
+        finally:
+            if is_done:
+                self._is_new = False
+            else:
+                # The display may have a part of it.
+                self.port.close()
         return is_done
 
     def poll(self) -> None:
@@ -382,8 +394,11 @@ class SerialDisplay(Driver):
     def _listen(self) -> None:
         """Finds out whether the port was lost. What a display says means nothing."""
         with contextlib.suppress(PortError):
-            while self.port.ready(False, 0)[0]:
-                self.port.read_some()
+            for _ in self.port.waiting():
+                pass
+
+    def attached(self) -> None:
+        self._is_new = True
 
     def _connect(self, seconds: float) -> None:
         self._is_new = True
@@ -421,12 +436,18 @@ _LONGEST = 4096
 
 # Linux input events: the time, type, code and value.
 _EVENT = struct.Struct("@llHHi")
-_KEY, _DROPPED, _GRAB, _ENTER, _SHIFTS = 1, (0, 3), 0x40044590, (28, 96), (42, 54)
-_KEYS: dict[int, str] = {57: "  "}
+_KEY, _DROPPED, _GRAB = 1, (0, 3), 0x40044590
+_ENTER, _SHIFTS, _CONTROLS, _NUM_LOCK, _DOWN = (28, 96), (42, 54), (29, 97), 69, 1
+_KEYS: dict[int, str] = {57: "  ", 55: "**", 98: "//"}
 _KEYS.update(zip(range(2, 14), ["1!", "2@", "3#", "4$", "5%", "6^", "7&", "8*", "9(", "0)", "-_", "=+"]))
 _KEYS.update(zip(range(16, 28), ["qQ", "wW", "eE", "rR", "tT", "yY", "uU", "iI", "oO", "pP", "[{", "]}"]))
 _KEYS.update(zip(range(30, 42), ["aA", "sS", "dD", "fF", "gG", "hH", "jJ", "kK", "lL", ";:", "'\"", "`~"]))
 _KEYS.update(zip(range(43, 54), ["\\|", "zZ", "xX", "cC", "vV", "bB", "nN", "mM", ",<", ".>", "/?"]))
+# The keypad.
+_KEYS.update(zip(range(71, 84), [2 * key for key in "789-456+1230."]))
+# What keys give: alone, with Shift, and with Ctrl. Ctrl and ] is GS, which ends a field of a GS1 code.
+_ALONE, _SHIFTED = ({key: both[place] for key, both in _KEYS.items()} for place in (0, 1))
+_CONTROLLED = {27: "\x1d"}
 
 
 class _Lines:
@@ -453,11 +474,11 @@ class _Lines:
 
 class _Keys:
     """Codes that a scanner types as a keyboard of the layout US, each with Enter behind it. A code that isn't whole is
-    None: the system drops keys that nobody reads in time."""
+    None: the system drops keys that nobody reads in time, and a key may be one that gives nothing."""
 
     def __init__(self) -> None:
         self._bytes, self._begun = bytearray(), bytearray()
-        self._is_shifted = self._is_noise = False
+        self._is_shifted = self._is_controlled = self._is_noise = False
 
     def take(self, data: bytes) -> list[bytes | None]:
         self._bytes += data
@@ -466,18 +487,26 @@ class _Keys:
             *_, kind, key, value = _EVENT.unpack_from(self._bytes)
             del self._bytes[:_EVENT.size]
             if (kind, key) == _DROPPED:
-                self._is_noise, self._is_shifted = True, False
+                self._is_noise, self._is_shifted, self._is_controlled = True, False, False
             if kind != _KEY:
                 continue
             if key in _SHIFTS:
                 self._is_shifted = value != 0
-            elif key in _ENTER and (value or self._is_noise):
+            elif key in _CONTROLS:
+                self._is_controlled = value != 0
+            elif key in _ENTER:
                 # A code that was lost up to its end ends where Enter goes up.
-                codes += self._ended()
-            elif key in _KEYS and value and not self._is_noise:
-                self._begun += _KEYS[key][self._is_shifted].encode()
-                self._is_noise = len(self._begun) > _LONGEST
+                codes += self._ended() if value == _DOWN or self._is_noise else []
+            elif value == _DOWN and key != _NUM_LOCK:
+                self._types(key)
         return codes
+
+    def _types(self, key: int) -> None:
+        """A key goes down. One that gives nothing is a character that would be missing."""
+        keys = _CONTROLLED if self._is_controlled else _SHIFTED if self._is_shifted else _ALONE
+        if not self._is_noise:
+            self._begun += keys.get(key, "").encode()
+            self._is_noise = key not in keys or len(self._begun) > _LONGEST
 
     def _ended(self) -> list[bytes | None]:
         """The code that Enter ends; none if nothing came."""
@@ -508,8 +537,9 @@ class WedgeScanner(Driver):
     A code may have an AIM identifier in front, such as `]E0`. It says which type the code has; ScanDataLabel is the
     code without it. Switch identifiers on at the scanner if you need ScanDataType.
 
-    While a call waits for a printer, the system keeps fewer key events than a code of 13 digits has. If it drops some,
-    the scan has failed: the scanner gets an ErrorEvent.
+    A keyboard wedge types as a keyboard of the layout US: characters, the keypad, and Ctrl and ] for GS. A code with
+    any other key is a failed scan: the scanner gets an ErrorEvent. So is one of which the system drops key events. While
+    a call waits for a printer, it keeps fewer of them than a code of 13 digits has.
 
     Args:
         device: /dev/input/.. for a keyboard wedge, whose keys no other program gets meanwhile. Any other name is that
@@ -537,7 +567,8 @@ class WedgeScanner(Driver):
 
     @property
     def is_online(self) -> bool:
-        return self.port.is_open
+        # What came before the port was lost is told first.
+        return self.port.is_open or bool(self._found)
 
     def start(self, device: ProfileDevice) -> None:
         self.poll()
@@ -549,8 +580,8 @@ class WedgeScanner(Driver):
             self._reader = self._new_reader()
         with contextlib.suppress(PortError):
             self._open()
-            while self.port.ready(False, 0)[0]:
-                self._found += self._reader.take(self.port.read_some())
+            for data in self.port.waiting():
+                self._found += self._reader.take(data)
 
     def _new_reader(self) -> _Keys | _Lines:
         return _Keys() if self._has_keys else _Lines()
@@ -576,9 +607,12 @@ class WedgeScanner(Driver):
 
     def scans(self) -> list[Scan]:
         found = []
-        # What came behind a code that isn't whole waits for that.
-        while self._found and (code := self._found[0]) is not None:
+        for code in self._found:
+            # What came behind a code that isn't whole waits for that.
+            if code is None:
+                break
             found.append(self._scan(code))
+        for _ in found:
             self._found.popleft()
         return found
 

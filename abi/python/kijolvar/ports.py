@@ -7,12 +7,15 @@ from __future__ import annotations
 import contextlib
 import errno
 import fcntl
+import ipaddress
 import os
+import re
 import select
 import socket
 import stat
 import termios
 import time
+from collections.abc import Iterator
 from typing import Any, Literal, Union
 
 from ._library import Path
@@ -20,8 +23,15 @@ from ._library import Path
 Parity = Literal["none", "even", "odd"]
 Flow = Literal["none", "rts-cts", "xon-xoff"]
 _AT_ONCE = 65_536
-# For how long the addresses of a name are kept though nothing answers there, in seconds.
-_LOOKED_UP_FOR = 60.0
+# In how many parts is read what has come.
+_MOST_PARTS = 16
+# For how long the addresses of a name are kept though nothing answers there, and for how long a name isn't looked up
+# again whose look-up took longer than this and found nothing, in seconds.
+_LOOKED_UP_FOR, _QUICKLY = 60.0, 0.25
+# How long the other end may take to acknowledge what was sent, in milliseconds. Else a printer that was off for long is
+# noticed only minutes after it is back. A shorter time would cut off one that takes nothing while its cover is open.
+_ACKNOWLEDGED_WITHIN = 60_000
+_TCP = re.compile(r"tcp:(?://)?(?:\[(?P<address>.+)\]|(?P<name>[^:\[\]]*))(?::(?P<port>[0-9]+))?")
 _READABLE = select.POLLIN | select.POLLHUP | select.POLLERR | select.POLLNVAL
 
 
@@ -34,16 +44,13 @@ class Port:
 
     Attributes:
         name: The port's name.
-        turns: How often it was opened.
-        is_reliable: Whether bytes that were written are lost only if the port is lost too. A serial line is not: it
-            stays when the device goes off.
     """
 
-    is_reliable = True
-
     def __init__(self, name: str) -> None:
-        self.name, self.turns = name, 0
+        self.name = name
         self._file: int | None = None
+        # The process that has opened it.
+        self._process = 0
         # What waits until bytes can be read, and until they can be read or written.
         self._waits = select.poll(), select.poll()
         # Whether reading no bytes means that the port is lost.
@@ -51,6 +58,10 @@ class Port:
 
     def __repr__(self) -> str:
         return f"<kijolvar.{type(self).__name__} {self.name!r}, {'open' if self.is_open else 'closed'}>"
+
+    def __del__(self) -> None:
+        if getattr(self, "_file", None) is not None:
+            self.close()
 
     @property
     def is_open(self) -> bool:
@@ -79,24 +90,28 @@ class Port:
         if self._file is not None:
             return
         try:
-            self._file = self._opened(seconds)
+            file = self._opened(seconds)
         except PortError:
             raise
         except (OSError, termios.error) as fault:
             code = fault.args[0] if fault.args else errno.EIO
             raise PortError(code, f"{self.name} can't be opened: {fault}") from fault
         self._waits = select.poll(), select.poll()
-        self._waits[False].register(self._file, select.POLLIN)
-        self._waits[True].register(self._file, select.POLLIN | select.POLLOUT)
-        self.turns += 1
+        self._waits[False].register(file, select.POLLIN)
+        self._waits[True].register(file, select.POLLIN | select.POLLOUT)
+        self._process, self._file = os.getpid(), file
 
     def close(self) -> None:
-        """Closes the port, if it is open. What isn't sent yet is dropped."""
+        """Closes the port, if it is open. What isn't sent yet is dropped, but not in a process that was forked: there the
+        port is still that of the process that has opened it."""
         if self._file is not None:
             file, self._file = self._file, None
-            with contextlib.suppress(OSError, termios.error):
-                _drop_unsent(file)
-            os.close(file)
+            try:
+                if self._process == os.getpid():
+                    with contextlib.suppress(OSError, termios.error):
+                        _drop_unsent(file)
+            finally:
+                os.close(file)
 
     def ready(self, is_writing: bool, seconds: float) -> tuple[bool, bool]:
         """Waits until bytes can be read, or written if that is asked. Returns which of both is possible.
@@ -126,6 +141,17 @@ class Port:
         if not found and self._ends_empty:
             self._loses(PortError(errno.EPIPE, f"{self.name} was closed by the device"))
         return found
+
+    def waiting(self) -> Iterator[bytes]:
+        """What has come, part by part. It ends after a while, also if the device sends on and on.
+
+        Raises:
+            PortError: The port isn't open, or it was lost. It is closed then.
+        """
+        for _ in range(_MOST_PARTS):
+            if not (self.ready(False, 0)[0] and (data := self.read_some())):
+                break
+            yield data
 
     def write_some(self, data: bytes) -> int:
         """Writes what there is room for, and returns how many bytes that was.
@@ -202,7 +228,6 @@ class FilePort(Port):
     def _opened(self, seconds: float) -> int:
         if self._may_be_line:
             self._line = SerialPort(self.name) if _is_line(self.name) else None
-            self.is_reliable = self._line is None
         file = os.open(self.name, os.O_RDWR | os.O_NONBLOCK | os.O_NOCTTY | os.O_CLOEXEC)
         try:
             if stat.S_ISREG(os.fstat(file).st_mode):
@@ -242,8 +267,6 @@ class SerialPort(FilePort):
         ValueError: No line has such a setting.
     """
 
-    is_reliable = False
-
     def __init__(self, path: Path, speed: int = 9600, *, bits: int = 8, parity: Parity = "none", stops: int = 1,
                  flow: Flow = "rts-cts") -> None:
         super().__init__(path)
@@ -276,20 +299,29 @@ class TcpPort(Port):
     """A TCP port, as network printers have at 9100.
 
     A name is looked up when the port is opened first, and again a minute after that if nothing answers at its
-    addresses. That may take longer than opening is told to: a number, such as 192.168.1.9, needs no look-up.
+    addresses. That may take longer than opening is told to: a number, such as 192.168.1.9, needs no look-up. If a
+    look-up takes long and finds nothing, the next one is a minute later.
+
+    Args:
+        host: A name or an address, also one of IPv6.
+        port: The number of the port, 1 to 65,535.
+
+    Raises:
+        ValueError: There is no such host or port.
     """
 
     def __init__(self, host: str, port: int = 9100) -> None:
-        super().__init__(f"tcp://{host}:{port}")
+        if not (_is_host(host) and 1 <= port <= 65_535):
+            raise ValueError(f"not a host and a TCP port: {host!r}, {port}")
+        super().__init__(f"tcp://[{host}]:{port}" if ":" in host else f"tcp://{host}:{port}")
         self._where = host, port
         self._addresses: list[tuple[str, int]] = []
-        self._looked_up_at = 0.0
+        # When the addresses were found, and until when the name isn't looked up.
+        self._looked_up_at, self._looks_up_from = 0.0, 0.0
 
     def _opened(self, seconds: float) -> int:
         if not self._addresses:
-            found = socket.getaddrinfo(*self._where, type=socket.SOCK_STREAM)
-            self._addresses = [(str(address[0]), int(address[1])) for *_, address in found]
-            self._looked_up_at = time.monotonic()
+            self._look_up()
         try:
             return self._connected(time.monotonic() + max(seconds, 0.001))
         except OSError:
@@ -297,22 +329,51 @@ class TcpPort(Port):
                 self._addresses = []
             raise
 
+    def _look_up(self) -> None:
+        """Finds the addresses of the name."""
+        began = time.monotonic()
+        if began < self._looks_up_from:
+            raise OSError(errno.EAGAIN, "its name wasn't found, and is looked up later")
+        try:
+            found = socket.getaddrinfo(*self._where, type=socket.SOCK_STREAM)
+        except UnicodeError as fault:
+            raise OSError(errno.EINVAL, f"no host has such a name: {fault}") from fault
+        except OSError:
+            ended = time.monotonic()
+            if ended - began > _QUICKLY:
+                self._looks_up_from = ended + _LOOKED_UP_FOR
+            raise
+        self._addresses = [(str(address[0]), int(address[1])) for *_, address in found]
+        self._looked_up_at = time.monotonic()
+
     def _connected(self, end: float) -> int:
-        """Connects to the first of the addresses that answers before a time."""
+        """Connects to the first of the addresses that answers before a time, of which each one gets its part."""
         fault: OSError = TimeoutError(errno.ETIMEDOUT, "timed out")
-        for address in self._addresses:
-            left = end - time.monotonic()
+        for place, address in enumerate(self._addresses):
+            left = (end - time.monotonic()) / (len(self._addresses) - place)
             if left <= 0:
                 break
             try:
                 with socket.create_connection(address, timeout=left) as made:
                     made.setsockopt(socket.IPPROTO_TCP, socket.TCP_NODELAY, 1)
                     made.setsockopt(socket.SOL_SOCKET, socket.SO_KEEPALIVE, 1)
+                    made.setsockopt(socket.IPPROTO_TCP, socket.TCP_USER_TIMEOUT, _ACKNOWLEDGED_WITHIN)
                     made.setblocking(False)
                     return made.detach()
             except OSError as found:
                 fault = found
         raise fault
+
+
+def _is_host(host: str) -> bool:
+    """Whether it is a name or an address. Only an address of IPv6 has colons."""
+    if ":" not in host:
+        return host != ""
+    try:
+        ipaddress.IPv6Address(host)
+    except ValueError:
+        return False
+    return True
 
 
 def _is_line(path: str) -> bool:
@@ -347,17 +408,22 @@ def _raw(file: int) -> list[Any]:
 
 def port_of(name: Union[Port, Path]) -> Port:
     """Returns the port of a name: `tcp:HOST` or `tcp:HOST:PORT`, also with `//` before HOST, or the path of a device
-    file.
+    file. An address of IPv6 is in brackets: `tcp:[::1]:9100`.
 
     A path of /dev/tty.. or /dev/serial/.., or a link to one, is a serial line of 9,600 bits per second with RTS/CTS.
     A link that leads nowhere yet is looked at again when the port is opened. For other settings use SerialPort.
+
+    Raises:
+        ValueError: A name that begins with `tcp:` goes on otherwise.
     """
     if isinstance(name, Port):
         return name
     text = os.fspath(name)
     if text.startswith("tcp:"):
-        host, colon, port = text[len("tcp:"):].removeprefix("//").rpartition(":")
-        return TcpPort(host, int(port)) if colon else TcpPort(port)
+        found = _TCP.fullmatch(text)
+        if found is None:
+            raise ValueError(f"not a host and a TCP port: {text!r}")
+        return TcpPort(found["address"] or found["name"], int(found["port"] or 9100))
     if _is_line(text):
         return SerialPort(text)
     port = FilePort(text)

@@ -4,6 +4,7 @@ from __future__ import annotations
 import contextlib
 import ctypes
 import functools
+import io
 import os
 import warnings
 import weakref
@@ -45,7 +46,8 @@ class Till:
 
     `till.drawer("d1")`, `till.scanner("s1")`, `till.display("p1")`, `till.printer("r1")` and `till.totals("t1")` are
     controls; `till.device("s1")` says what happens at a device. A till can be used only in the thread that opened it,
-    and it closes at the end of a `with` block.
+    and it closes at the end of a `with` block. To a process that is forked it is closed. Its calls raise ThreadError
+    there, and closing it changes nothing for the process that has it.
     """
 
     def __init__(self, session: Session, totals: BinaryIO | None = None, *, where: str = "in memory",
@@ -85,11 +87,13 @@ class Till:
 
     def close(self) -> None:
         """Ends the till, and closes the file of totals if the till has opened it. Closing it again does nothing."""
-        self._session.close()
+        if not self.is_closed:
+            self._session.check()
         with contextlib.ExitStack() as ends:
             if self._owns_file and self._file is not None:
                 ends.callback(self._file.close)
             ends.callback(self._drives.close)
+            self._session.close()
 
     # Controls.
 
@@ -200,7 +204,8 @@ class Till:
     def next_event(self) -> Event | None:
         """Delivers the next event of any control, or returns None if none can be delivered now.
 
-        Of several controls with an event, it is the one that was made first. `event.control` says whose event it is.
+        Of several controls with an event, it is the one with the lowest number: they are numbered as they are made, and
+        a new one may take the place of one that nothing refers to any more. `event.control` says whose event it is.
         """
         found = self._find(0)
         return None if found is None else found[1].next_event()
@@ -267,9 +272,13 @@ class Till:
 
         Hardware that isn't there is no error: the device is off until it is. The till closes the port at its end.
 
+        A spare that is attached to the device later (`Device.attach`, or a line) has the driver then.
+
         Raises:
             NoDeviceError: The profile has no device of the name, or it can't be driven, as one with `flaky`.
             DriverError: The driver is for another category, or the device has one already.
+
+        If it raises something, the device has no driver, and neither has the drawer that is on a printer.
         """
         known = {one.name: one for one in self._devices()}
         drivers = {device: driver, **driver.others()}
@@ -278,8 +287,11 @@ class Till:
                 raise NoDeviceError(KIJOLVAR_NO_DEVICE, f"the profile has no device {name!r}")
         for name, one in drivers.items():
             self._drives.check(known[name], one)
-        for name, one in drivers.items():
-            self._drives.add(known[name], one)
+        with contextlib.ExitStack() as undo:
+            for name, one in drivers.items():
+                self._drives.add(known[name], one)
+                undo.callback(self._drives.remove, name)
+            undo.pop_all()
 
     def order_bytes(self, settings: WireSettings, is_new: bool = False, job: int | None = None) -> bytes:
         """The bytes by which hardware does the order that its driver is carrying out: those of an ESC/POS printer, a
@@ -341,7 +353,17 @@ class Till:
 
     def carry_out(self, lines: str) -> str:
         """Carries out lines of the text layer (docs/reference/console.md), and returns what they print."""
-        return self._carry_out(lines.encode()).decode()
+        if "attach" not in lines:
+            return self._carry_out(lines.encode()).decode()
+        return "".join([self._carry_out_line(line) for line in io.StringIO(lines, newline="\n")])
+
+    def _carry_out_line(self, line: str) -> str:
+        """Carries out a line. A device to which it attaches a peripheral goes on with its driver at once, before the next
+        line can order something of it."""
+        answer, words = self._carry_out(line.encode()).decode(), line.split()
+        if words[:1] == ["attach"] and answer == "ok\n":
+            self._drives.attached(words[1])
+        return answer
 
 
 def _end_control(till: weakref.ref[Till], category: str, name: str) -> None:

@@ -9,7 +9,7 @@ from typing import SupportsIndex
 from ._constants import E_NOEXIST
 from ._control import Text
 from ._controls import HardTotals
-from .errors import NoExistError
+from .errors import IllegalError, NoExistError
 
 
 class Totals(HardTotals):
@@ -68,11 +68,12 @@ class Totals(HardTotals):
             NoRoomError: Its changes are more than the totals have room for.
             FailureError: The totals are off, or the disk failed.
         """
-        self.begin_trans()
+        was_in_transaction = self.transaction_in_progress
         try:
+            self.begin_trans()
             yield self
         except BaseException:
-            if self._is_in_transaction():
+            if not was_in_transaction and self._is_in_transaction():
                 self.rollback()
             raise
         self._commit()
@@ -177,7 +178,9 @@ class FileClaim:
     def __exit__(self, kind: type[BaseException] | None, value: BaseException | None,
                  trace: TracebackType | None) -> None:
         if self._file._totals.device is not None and not self._file._totals.till.is_closed:
-            self._file.release()
+            # The block may have released it, or deleted the file.
+            with contextlib.suppress(IllegalError):
+                self._file.release()
 
 
 def _name(name: Text) -> bytes:

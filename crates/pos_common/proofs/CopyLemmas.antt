@@ -1,61 +1,49 @@
--- Copies of a scan, counted over the controls that listen.
-use Rattle.pos_common.proofs.Common.{All, All-push, AreCopies, Control, KeptControl, List, Scan, [], arith, cond}
-use Rattle.pos_common.proofs.Common.{controls_of, count_by, drop, drop-set-lt, drop_more, false, get_or, length}
-use Rattle.pos_common.proofs.Common.{length-append, length-map, listens, map-set, set, take, true, ℕ, ◌++◌, ◌+◌, ◌<◌}
-use Rattle.pos_common.proofs.Common.{◌∷◌, ◌≡◌, ◌≤◌}
-use Rattle.std.proofs.lemmas.List.Sums.{count_by_more_no, count_by_more_yes, sum_by-append}
-use Rattle.pos_common.proofs.KeptLemmas.{control_at}
+-- What reading the copies of a scan comes to.
+use Rattle.pos_common.proofs.Common.{All, All-head, All-tail, Control, HasRoom, KeptControl, List, Scan, ScanCopy, []}
+use Rattle.pos_common.proofs.Common.{all_listening, arith, controls_of, copies_from, get_or, length, length-append}
+use Rattle.pos_common.proofs.Common.{listens, read, refl, scan_events, set, ℕ, ◌++◌, ◌+◌, ◌<◌, ◌∷◌, ◌≡◌, ◌≤◌}
+use Rattle.std.proofs.Common.{⊎_elim}
+use Rattle.std.proofs.lemmas.Bool.{cases_Bool}
+use Rattle.std.proofs.lemmas.List.{append_assoc, get_or_at, length_push, map-append, set_at}
 
--- one more copy is enough for one more control that listens
-pub copies_more : (scan copy : Scan) (place : ℕ) (cs : List Control) (copies : List Scan) (i : ℕ) (d : Control)
-    → i < length cs
-    → listens place (get_or cs i d) ≡ true → copy ≡ scan → AreCopies scan place (take i cs) copies
-    → AreCopies scan place (take (i + 1) cs) (copies ++ copy ∷ [])
-copies_more scan copy place cs copies i d lt yes' same are =
-    grind (
-      arith,
-      count_by_more_yes (listens place) cs i d lt yes',
-      length-append,
-      All-push (λ c. c ≡ scan) copies copy are.each,
+-- A copy is for one of the held controls, which has room for its event. Once it has read the copy, this holds of all.
+pub record ReadsFirst (copy : ScanCopy) (hs : List KeptControl) (After : List KeptControl → Type 0) : Type 0 where
+  pub within : copy.control < length hs
+  pub room : (d : KeptControl) → scan_events ≤ (get_or hs copy.control d).spare
+  pub after : (d g : KeptControl) → g.control ≡ read copy.scan (get_or hs copy.control d).control
+      → After (set hs copy.control g)
+
+-- so it is for each of the copies in turn, and once all have been read, the machine's controls are these
+abbrev pub Reads : List Control → List ScanCopy → List KeptControl → Type 0
+Reads cs [] hs = controls_of hs ≡ cs
+Reads cs (copy ∷ copies) hs = ReadsFirst copy hs (Reads cs copies)
+
+-- the copies for held controls, which have others before them, can be read, and then each that listens has read it
+pub all_read : (scan : Scan) (place n : ℕ) (front hs : List KeptControl) → length front ≡ n
+    → All (HasRoom place scan_events) hs
+    → Reads (controls_of front ++ all_listening place (read scan) (controls_of hs))
+    (copies_from n scan place (controls_of hs)) (front ++ hs)
+all_read scan place n front [] is room = map-append (λ (h : KeptControl). h.control) front []
+all_read scan place n front (h ∷ hs) is room =
+    let P = HasRoom place scan_events in
+    let behind = all_listening place (read scan) (controls_of hs) in
+    let copies = copies_from (n + 1) scan place (controls_of hs) in
+    let next : (g : KeptControl) (c : Control) → g.control ≡ c
+    → Reads (controls_of front ++ c ∷ behind) copies (front ++ g ∷ hs) = λ g c same.
+    rw (← same)
+    (rw (
+      map-append (λ (x : KeptControl). x.control) front (g ∷ []),
+      append_assoc front (g ∷ []) hs,
+      append_assoc (controls_of front) (g.control ∷ []) behind,
     )
-
--- the copies are enough for one more control that doesn't listen
-pub copies_same : (scan : Scan) (place : ℕ) (cs : List Control) (copies : List Scan) (i : ℕ) (d : Control)
-    → i < length cs
-    → listens place (get_or cs i d) ≡ false → AreCopies scan place (take i cs) copies
-    → AreCopies scan place (take (i + 1) cs) copies
-copies_same scan place cs copies i d lt no' are = grind (arith, count_by_more_no (listens place) cs i d lt no')
-
--- how many of the controls from a place on listen: the one there, and those behind it
-counted_next : (place : ℕ) (cs : List Control) (i : ℕ) (d : Control) → i < length cs
-    → count_by (listens place) (drop i cs) ≡ count_by (listens place) (get_or cs i d ∷ []) + count_by (listens place)
-    (drop (i + 1) cs)
-counted_next place cs i d lt =
-    rw (drop_more cs i d lt) (sum_by-append (λ c. cond (listens place c) 1 0) (get_or cs i d ∷ []) (drop (i + 1) cs))
-
--- copies for the held controls from a place on are copies for the one there
-pub copies_at : (scan : Scan) (place : ℕ) (hs : List KeptControl) (copies : List Scan) (i : ℕ) (d : KeptControl)
-    → i < length hs
-    → AreCopies scan place (drop i (controls_of hs)) copies → AreCopies scan place ((get_or hs i d).control ∷ []) copies
-copies_at scan place hs copies i d lt are =
-    grind (
-      arith,
-      control_at hs i d d.control,
-      counted_next place (controls_of hs) i d.control,
-      length-map hs (λ (h : KeptControl). h.control),
-    )
-
--- those that it leaves are copies for the held controls behind it, once it has changed
-pub copies_behind : (scan : Scan) (place : ℕ) (hs : List KeptControl) (copies left : List Scan) (i : ℕ)
-    (d g : KeptControl) → i < length hs
-    → length copies ≤ length left + count_by (listens place) ((get_or hs i d).control ∷ []) → All (λ c. c ≡ scan) left
-    → AreCopies scan place (drop i (controls_of hs)) copies
-    → AreCopies scan place (drop (i + 1) (controls_of (set hs i g))) left
-copies_behind scan place hs copies left i d g lt few all are =
-    rw (map-set (λ (h : KeptControl). h.control) hs i g, drop-set-lt (i + 1) (controls_of hs) i g.control (omega arith))
-    (grind (
-      arith,
-      control_at hs i d d.control,
-      counted_next place (controls_of hs) i d.control,
-      length-map hs (λ (h : KeptControl). h.control),
-    ))
+    at (all_read scan place (n + 1) (front ++ g ∷ []) hs (omega (arith, length_push front g)) (All-tail P h hs room)))
+    in
+    ⊎_elim (λ yes.
+    rw yes (record {
+      within = omega (arith, length-append front (h ∷ hs));
+      room = λ d. rw (get_or_at front h hs d n is) (All-head P h hs room yes);
+      after = λ d g same. rw (set_at front h hs g n is)
+          (next g (read scan h.control) (rw (get_or_at front h hs d n is) at same));
+    }))
+    (λ no. rw no (next h h.control refl))
+    (cases_Bool (listens place h.control))

@@ -1,6 +1,7 @@
 -- What comes of a scan that a peripheral has taken.
-use Rattle.pos_common.proofs.Common.{AreCopies, Control, Fed, HasCopies, List, Ok, PeripheralState, Scan, Takes}
-use Rattle.pos_common.proofs.Common.{TakesIn, all_listening, arith, hardware_of, input_fits, read, refl, true, ℕ, ◌≡◌}
+use Rattle.pos_common.proofs.Common.{Control, Fed, HasCopies, List, Ok, PeripheralState, Scan, ScanCopy, Takes}
+use Rattle.pos_common.proofs.Common.{TakesIn, all_listening, arith, copies_from, hardware_of, input_fits, read, refl}
+use Rattle.pos_common.proofs.Common.{true, ℕ, ◌≡◌}
 use Rattle.pos_service.specs.declared.input.Input.{Input}
 use Rattle.pos_service.specs.declared.plant.Plant.{Plant}
 use Rattle.pos_service.specs.declared.input.Input.TheVariants as input
@@ -14,9 +15,9 @@ scans other p q h = absurd (grind arith)
 
 -- each control that listens has read it
 pub scan_taken : (before after : PeripheralState) (i : Input) (place : ℕ) (old mid new : List Control)
-    (copies : List Scan)
+    (copies : List ScanCopy)
     → input_fits before.kind i ≡ true → Fed before i (Ok taken.Scan) after → mid ≡ old → HasCopies i place mid copies
-    → ((scan : Scan) → AreCopies scan place mid copies → new ≡ all_listening place (read scan) mid)
+    → ((scan : Scan) → copies ≡ copies_from 0 scan place mid → new ≡ all_listening place (read scan) mid)
     → TakesIn i place old (hardware_of before) new (hardware_of after)
 scan_taken before after i place old mid new copies fits fed same has all =
     let (scan, is) = scans i before.plant after.plant fed.answer in

@@ -1,6 +1,6 @@
 -- A control as the code holds it.
-use Rattle.std.specs.Prelude.{◌≡◌, ℕ, ◌≤◌, ◌+◌, Bool, List, [], ◌∷◌, None, Result, MatchResult, IsTrue, ⊤, count_by}
-use Rattle.std.specs.Prelude.{length, map, All}
+use Rattle.std.specs.Prelude.{◌≡◌, ℕ, ◌≤◌, ◌+◌, Bool, List, [], ◌∷◌, None, Result, MatchResult, IsTrue, ⊤}
+use Rattle.std.specs.Prelude.{map, All, if◌then◌else◌}
 use Rattle.pos_service.specs.declared.answer.Answer.{Answer}
 use Rattle.pos_service.specs.declared.answer.Answer.TheVariants as answer
 use Rattle.pos_service.specs.declared.answer.Value.{Value}
@@ -11,8 +11,9 @@ use Rattle.pos_service.specs.declared.faults.NoMemory.{NoMemory}
 use Rattle.pos_service.specs.declared.property.Property.{Property}
 use Rattle.pos_service.specs.declared.input.Scan.{Scan}
 use Rattle.pos_service.specs.Properties.{is_of_bytes}
-use Rattle.pos_service.specs.Controls.{Control, listens, if_listening, read as read_by}
+use Rattle.pos_service.specs.Controls.{Control, listens}
 use Rattle.pos_service.specs.Refusals.{Row, Decided, first_refusal}
+use Rattle.pos_common.specs.declared.controls.ScanCopy.{ScanCopy}
 
 -- the machine's control, and how many events there is room for
 pub record KeptControl : Type 0 where
@@ -26,6 +27,10 @@ controls_of helds = map (λ held. held.control) helds
 -- a change of a device's signs has at most this many events: drawer, cover, paper, power
 abbrev pub sign_events : ℕ
 sign_events = 4
+
+-- an input has at most this many events: those of a change of signs
+abbrev pub input_events : ℕ
+input_events = sign_events
 
 -- a scan has at most this many events: a DataEvent
 abbrev pub scan_events : ℕ
@@ -43,23 +48,24 @@ work_events = 5
 abbrev pub HasRoom : ℕ → ℕ → KeptControl → Type 0
 HasRoom place count held = IsTrue (listens place held.control) → count ≤ held.spare
 
--- There is a copy of a scan for each control that has the device at a place open and enabled.
-pub record AreCopies (scan : Scan) (place : ℕ) (controls : List Control) (copies : List Scan) : Type 0 where
-  pub enough : count_by (listens place) controls ≤ length copies
-  pub each : All (λ copy. copy ≡ scan) copies
+-- the copies of a scan for controls, numbered from a number on: one for each that has the device at a place open and
+-- enabled
+abbrev pub copies_from : ℕ → Scan → ℕ → List Control → List ScanCopy
+copies_from number scan place [] = []
+copies_from number scan place (control ∷ controls) =
+    let others = copies_from (number + 1) scan place controls in
+    if listens place control then record { control = number; scan = scan } ∷ others else others
 
--- there are such copies of what is scanned; another input needs none
-abbrev pub HasCopies : Input → ℕ → List Control → List Scan → Type 0
+-- the copies of what is scanned for all controls; another input needs none
+abbrev pub HasCopies : Input → ℕ → List Control → List ScanCopy → Type 0
 HasCopies (input.Scan number bytes label) place controls copies =
-    AreCopies (record { kind = number; bytes = bytes; label = label }) place controls copies
+    copies ≡ copies_from 0 (record { kind = number; bytes = bytes; label = label }) place controls
 HasCopies other place controls copies = ⊤
 
--- A control has read one of the copies of a scan, if it has the device at a place open and enabled. The others are
--- left.
-pub record ReadsCopy (scan : Scan) (place : ℕ) (old new : KeptControl) (copies left : List Scan) : Type 0 where
-  pub read : new.control ≡ if_listening place (read_by scan) old.control
-  pub each : All (λ copy. copy ≡ scan) left
-  pub most : length copies ≤ length left + count_by (listens place) (old.control ∷ [])
+-- These are the copies of a scan for the held controls, and each control that gets one has room for its event.
+pub record AreCopies (scan : Scan) (place : ℕ) (helds : List KeptControl) (copies : List ScanCopy) : Type 0 where
+  pub each : copies ≡ copies_from 0 scan place (controls_of helds)
+  pub room : All (HasRoom place scan_events) helds
 
 -- A call on a control is answered by its table, which changes nothing. If no row refuses it, it succeeds, and the
 -- control is this one.

@@ -1,11 +1,11 @@
 //! What comes to all controls of a device at once.
-ghost use Rattle.std.specs.Prelude.{◌≡◌, [], ◌∷◌, ℕ, ◌+◌, All, OnOk, OnErr, IfOk};
+ghost use Rattle.std.specs.Prelude.{◌≡◌, ℕ, ◌+◌, All, OnOk, OnErr, IfOk};
 ghost use Rattle.pos_service.specs.declared.input.Scan.{Scan};
 ghost use Rattle.pos_service.specs.Controls.{all_listening, read, failed};
 ghost use Rattle.pos_service.specs.Statuses.{heard_signs};
-ghost use Rattle.pos_common.specs.KeptControls.{HasRoom, AreCopies, ReadsCopy, controls_of, sign_events, scan_events, fault_events};
+ghost use Rattle.pos_common.specs.KeptControls.{HasRoom, AreCopies, copies_from, controls_of, input_events, sign_events, fault_events};
 
-use crate::control::Control;
+use crate::control::{Control, INPUT_EVENTS};
 use pos_service::{Bytes, NoMemory, Scan, Signs};
 use std::alloc::Global;
 
@@ -40,28 +40,45 @@ pub fn hear_all(controls: &mut [Control], place: usize, old: Signs, new: Signs)
     }
 }
 
+/// A copy of a scan, for one of the controls.
+#[derive(Drop)]
+pub(crate) struct ScanCopy {
+    /// The control's number in the list of controls.
+    pub(crate) control: usize,
+    /// The copy.
+    pub(crate) scan: Scan,
+}
+
 /// Returns copies of a scan, which has a type, all that was read, and the label. There is one for each control that has
-/// the device at a place open and enabled.
+/// the device at a place open and enabled, and the control has room for the events of an input.
 ///
 /// # Errors
 ///
-/// [`NoMemory`] if memory ran out.
+/// [`NoMemory`] if memory ran out. Then nothing but such room has changed.
+#[tactic(auto, using(crate::proofs::KeptLemmas::same_control))]
 pub(crate) fn copy_for_all(
     alloc: Global,
-    controls: &[Control],
+    controls: &mut [Control],
     place: usize,
     kind: u32,
     bytes: &Bytes,
     label: &Bytes,
-) -> Result<Vec<Scan>, NoMemory>
-    ensures { let scan : Scan = record { kind = kind; bytes = bytes.now; label = label.now } in
-        IfOk result (λ copies. AreCopies scan place (controls_of controls.now) copies.items) }
+) -> Result<Vec<ScanCopy>, NoMemory>
+    ensures room { OnOk result (All (HasRoom place input_events) controls.new) }
+    ensures copies { let scan : Scan = record { kind = kind; bytes = bytes.now; label = label.now } in
+        IfOk result (λ copies. copies.items ≡ copies_from 0 scan place (controls_of controls.new)) }
+    ensures same { controls_of controls.new ≡ controls_of controls.old }
 {
     let mut copies = Vec::new(alloc);
-    for control in controls {
+    for number in 0..controls.len() {
+        let control = &mut controls[number];
         if control.listens(place) {
+            control.room(INPUT_EVENTS)?;
             copies.reserve(1)?;
-            copies.push_reserved(copy_of(alloc, kind, bytes, label)?);
+            copies.push_reserved(ScanCopy {
+                control: number,
+                scan: copy_of(alloc, kind, bytes, label)?,
+            });
         }
     }
     Ok(copies)
@@ -83,30 +100,14 @@ fn copy_of(alloc: Global, kind: u32, bytes: &Bytes, label: &Bytes) -> Result<Sca
     })
 }
 
-/// Gives one of the copies of a scan to each control that has the device at a place open and enabled (see
-/// `Control::read`).
-pub(crate) fn read_all(controls: &mut [Control], place: usize, copies: Vec<Scan>)
-    requires { All (HasRoom place scan_events) controls.old }
-    ensures { (scan : Scan) → AreCopies scan place (controls_of controls.old) copies.items →
+/// Gives each of the copies of a scan to its control (see `Control::read`).
+pub(crate) fn read_all(controls: &mut [Control], copies: Vec<ScanCopy>)
+    requires { (place : ℕ) × (scan : Scan) × AreCopies scan place controls.old copies.items }
+    ensures { (place : ℕ) (scan : Scan) → AreCopies scan place controls.old copies.items →
         controls_of controls.new ≡ all_listening place (read scan) (controls_of controls.old) }
 {
-    let mut copies = copies;
-    for control in controls.iter_mut() {
-        read_copy(control, place, &mut copies);
-    }
-}
-
-/// Gives one of the copies of a scan to a control, if it has the device at a place open and enabled.
-fn read_copy(control: &mut Control, place: usize, copies: &mut Vec<Scan>)
-    requires { HasRoom place scan_events control.old }
-    ensures { (scan : Scan) → AreCopies scan place (control.old.control ∷ []) copies.old.items →
-        ReadsCopy scan place control.old control.new copies.old.items copies.new.items }
-{
-    if !control.listens(place) {
-        return;
-    }
-    if let Some(copy) = copies.pop() {
-        control.read(place, copy);
+    for ScanCopy { control, scan } in copies {
+        controls[control].read(scan);
     }
 }
 

@@ -1,12 +1,12 @@
 //! What happens at a device from outside.
-ghost use Rattle.std.specs.Prelude.{◌≡◌, false, true, IfOk};
+ghost use Rattle.std.specs.Prelude.{◌≡◌, false, true, All, OnOk, IfOk};
 ghost use Rattle.pos_service.specs.Peripherals.{input_fits};
 ghost use Rattle.pos_service.specs.Hardware.{StaysInService, TakenAt, hardware_of};
-ghost use Rattle.pos_common.specs.KeptControls.{HasCopies, controls_of};
+ghost use Rattle.pos_common.specs.KeptControls.{HasCopies, HasRoom, controls_of, input_events};
 
 use crate::control::{Control, INPUT_EVENTS};
-use crate::controls::{copy_for_all, fail_all, hear_all, read_all, room_all};
-use pos_service::{Input, NoMemory, Peripheral, Scan, Taken};
+use crate::controls::{ScanCopy, copy_for_all, fail_all, hear_all, read_all, room_all};
+use pos_service::{Input, NoMemory, Peripheral, Taken};
 use std::alloc::Global;
 
 /// Passes an input that fits on to the peripheral of the device at a place. Each control that has the device open and
@@ -36,35 +36,35 @@ pub fn take_input<P: Peripheral>(
     ensures in_service { let state = P.Peripheral.state in
         StaysInService (state peripheral.old) (state peripheral.new) }
 {
-    room_all(controls, place, INPUT_EVENTS)?;
-    let copies = copies_of(alloc, controls, place, input)?;
+    let copies = prepare_all(alloc, controls, place, input)?;
     let old = peripheral.signs();
     match peripheral.feed(input)? {
         Taken::Quiet => hear_all(controls, place, old, peripheral.signs()),
-        Taken::Scan => read_all(controls, place, copies),
+        Taken::Scan => read_all(controls, copies),
         Taken::Fault => fail_all(controls, place),
     }
     Ok(())
 }
 
-/// Returns copies of a scan, one for each control that has the device at a place open and enabled. Another input needs
-/// none.
+/// Makes room for the events of an input in each control that has the device at a place open and enabled. For a scan it
+/// also returns a copy for each of these controls.
 ///
 /// # Errors
 ///
-/// [`NoMemory`] if memory ran out.
-fn copies_of(
+/// [`NoMemory`] if memory ran out. Then nothing but that room has changed.
+fn prepare_all(
     alloc: Global,
-    controls: &[Control],
+    controls: &mut [Control],
     place: usize,
     input: &Input,
-) -> Result<Vec<Scan>, NoMemory>
-    ensures { IfOk result (λ copies. HasCopies input.now place (controls_of controls.now) copies.items) }
+) -> Result<Vec<ScanCopy>, NoMemory>
+    ensures room { OnOk result (All (HasRoom place input_events) controls.new) }
+    ensures copies { IfOk result (λ copies. HasCopies input.now place (controls_of controls.new) copies.items) }
+    ensures same { controls_of controls.new ≡ controls_of controls.old }
 {
-    match input {
-        Input::Scan { kind, bytes, label } => {
-            copy_for_all(alloc, controls, place, *kind, bytes, label)
-        }
-        _ => Ok(Vec::new(alloc)),
+    if let Input::Scan { kind, bytes, label } = input {
+        return copy_for_all(alloc, controls, place, *kind, bytes, label);
     }
+    room_all(controls, place, INPUT_EVENTS)?;
+    Ok(Vec::new(alloc))
 }

@@ -73,9 +73,9 @@ pub fn changes() -> [Row; 6] {
         ),
         Row {
             first: (
-                "set t DeviceEnabled true\ncall t beginTrans\ncall t write 1 1 0809\ncall t write 1 3 0506\n\
-                call t setAll 2 7\ncall t setAll 2 256\n",
-                "ok\nok\nok\nerr 106\nok\nerr 106\n",
+                "set t DeviceEnabled true\ncall t create 41 4 false\ncall t write 1 3 0506\ncall t beginTrans\n\
+                call t write 1 1 0809\ncall t write 1 3 0506\ncall t setAll 2 7\ncall t setAll 2 256\n",
+                "ok\nerr 110\nerr 106\nok\nok\nerr 106\nok\nerr 106\n",
             ),
             ..changing(
                 ("call t commitTrans\n", "ok\n"),

@@ -353,6 +353,11 @@ impl StoppedCall {
     pub fn stop_at_each(&self, counts: &mut Counts) -> Result<(), Fail> {
         let row = &self.row;
         let begin = self.fused((0, 0), &[OPENING, row.first.0])?.1.calls();
+        // The enabling alone reads the disk: what is refused or buffered after it doesn't.
+        let enabling = if row.first.0.is_empty() { "" } else { ENABLING };
+        if begin != self.fused((0, 0), &[OPENING, enabling])?.1.calls() {
+            return Err(Fail::new("what is refused or buffered asks the disk"));
+        }
         let end = self
             .fused((0, 0), &[OPENING, row.first.0, row.line.0])?
             .1

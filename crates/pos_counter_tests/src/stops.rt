@@ -3,7 +3,7 @@
 use crate::counters::told;
 use crate::rows::{ENABLING, changes};
 use crate::stopped_call::{Counts, StoppedCall};
-use pos_disk::MemDisk;
+use pos_disk::{FuseDisk, MemDisk};
 use pos_image::new_disk;
 use pos_profile::Profile;
 use std::alloc::Global;
@@ -77,5 +77,36 @@ fn a_change_is_stopped(rt: HostRuntime) -> Result<(), Fail> {
         println!(rt; "a change by {by}: {counts}")?;
         assert_eq!(rt; counts.stops, stops);
     }
+    Ok(())
+}
+
+/// Two enabled controls, of which u holds the area of the totals.
+const HELD: &str =
+    "new t HardTotals\nopen t t1\nset t DeviceEnabled true\nnew u HardTotals\nopen u t1\n\
+    set u DeviceEnabled true\nclaim u 0\n";
+
+/// A change in which the disk fails, so that the totals are off. Then the calls of t that u's claim refuses, and last
+/// what it doesn't refuse, which is looked at neither for a bad timeout nor for u's claim.
+const BEHIND: &str = "call u delete 41\n\
+    call t create 44 1 false\ncall t delete 41\ncall t find 41\ncall t findByIndex 0\ncall t read 1 0 4\n\
+    call t write 1 0 05\ncall t setAll 1 5\ncall t rename 1 44\ncall t commitTrans\n\
+    call t claimFile 1 0\ncall t claimFile 1 -2\ncall t releaseFile 1\ncall t beginTrans\ncall t rollback\n\
+    get t FreeData\nget t NumberOfFiles\n";
+
+const TOLD: &[u8] = b"ok\nok\nok\nok\nok\nok\nok\nerr 111\n\
+    err 102\nerr 102\nerr 102\nerr 102\nerr 102\nerr 102\nerr 102\nerr 102\nerr 102\n\
+    err 111\nerr 111\nerr 111\nerr 111\nerr 111\nerr 111\nerr 111\n";
+
+#[test]
+fn a_claimed_area_comes_before_a_fault(rt: HostRuntime) -> Result<(), Fail> {
+    let alloc = rt.alloc();
+    let profile = Profile::built(alloc)?;
+    let fuse = FuseDisk::new(with_room(alloc)?, 0, 0);
+    let (_, fuse) = told(alloc, &profile, fuse, HELD.as_bytes())?;
+    let fuse = FuseDisk::new(with_room(alloc)?, fuse.calls(), u64::MAX);
+    let mut lines = String::from_str(alloc, HELD)?;
+    lines.push_str(BEHIND)?;
+    let (text, _) = told(alloc, &profile, fuse, lines.as_bytes())?;
+    assert!(rt; text.as_slice() == TOLD);
     Ok(())
 }

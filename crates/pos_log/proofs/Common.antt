@@ -3,7 +3,7 @@ pub use Rattle.std.proofs.Common.{Bool, Err, Global, List, Ok, Result, Vec, [], 
 pub use Rattle.std.proofs.Common.{drop-cons, false, get_or, inl, inr, length, length-append, length-drop, map, nat_eq}
 pub use Rattle.std.proofs.Common.{not, refl, rules, subst, suc, sym, take, true, zero, ℕ, ⊎_elim, ◌++◌, ◌+◌, ◌-◌, ◌<◌}
 pub use Rattle.std.proofs.Common.{◌^◌, ◌∙◌, ◌∷◌, ◌≡◌, ◌≤◌, ◌⊎◌}
-pub use Rattle.std.proofs.lemmas.Bool.{cases_Bool, cases_lt, leb-true}
+pub use Rattle.std.proofs.lemmas.Bool.{cases_Bool, cases_lt}
 pub use Rattle.std.proofs.lemmas.Bool.Decides.{nat_tests, not_from_Decides}
 pub use Rattle.std.proofs.lemmas.List.{append-nil, drop-drop, drop_at, get_or-append-add, get_or-drop, map-append}
 pub use Rattle.std.proofs.lemmas.List.{take-append-drop, take_at}
@@ -24,6 +24,6 @@ pub use Rattle.pos_image.specs.Images.{next_image, next_of}
 pub use Rattle.pos_image.specs.Layout.{is_open, layout_of, log_place, log_size, slot_size}
 pub use Rattle.pos_image.specs.Standing.{HasNewImage, ShowsImage, log_of}
 pub use Rattle.pos_log.specs.Logs.{Appends, HasNoRecords, HasOldOrNew, IsLogReady, KeepsRecords, Renews, log_over}
-pub use Rattle.pos_log.specs.Records.{BeginsWith, HasLength, HoldsMore, HoldsRecords, HoldsSome, IsShort, end_of}
+pub use Rattle.pos_log.specs.Records.{BeginsWith, HasLength, HoldsMore, HoldsRecords, HoldsSome, IsShort}
 pub use Rattle.pos_log.specs.Records.{record_spelling, spelling, text_behind_gate}
 pub use Rattle.pos_log.specs.Writing.{KeepsSpan, PutsBytes}

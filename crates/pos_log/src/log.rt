@@ -1,5 +1,5 @@
 //! A log of records after the current image of a disk.
-ghost use Rattle.std.specs.Prelude.{◌≢◌, map, ◌≡◌, ◌⊎◌, ◌+◌, length, nat_le, IfErr, IfOk};
+ghost use Rattle.std.specs.Prelude.{◌≢◌, map, ◌≡◌, ◌⊎◌, ◌≤◌, ◌+◌, length, nat_le, IfErr, IfOk};
 ghost use Rattle.pos_disk.specs.State.{Rises, Watches};
 ghost use Rattle.pos_disk.specs.Keeps.{KeepsDisk};
 ghost use Rattle.pos_image.specs.DiskCalls.{KeepsBeside};
@@ -139,6 +139,21 @@ impl<D: Disk> Log<D> {
         if !self.fits(group.len()) {
             return Err(LogFault::Full);
         }
+        self.append_fitting(group)
+    }
+
+    /// Appends a record with this group as `append` does, without asking whether it fits. The caller knows that it
+    /// does, by `fits`.
+    ///
+    /// # Errors
+    ///
+    /// `Device` if the disk failed: the log has to be opened again.
+    pub fn append_fitting(&mut self, group: &[u8]) -> Result<(), LogFault>
+        requires ready { IsLogReady D.Disk self.old }
+        requires fits { end_of self.old.tail (length group.now) ≤ slot_size (layout_of self.old.images.slot) }
+        ensures appends { Appends D.Disk self.old group.now result self.new }
+        ensures faults { IfErr result (λ e. e ≡ LogFault.Device) }
+    {
         lay_out_record(&mut self.buffer, group);
         let behind = &self.buffer[..REST + group.len()];
         let Ok(()) = write_through(&mut self.images, self.tail + 1, behind) else {

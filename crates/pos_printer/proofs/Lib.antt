@@ -1,3 +1,2 @@
 pub mod OrderLemmas
-pub mod ReplyLemmas
 pub mod WorkLemmas

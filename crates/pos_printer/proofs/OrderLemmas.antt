@@ -4,13 +4,13 @@ use Rattle.std.specs.Prelude.{ℕ}
 use Rattle.pos_service.specs.declared.order.Order.{Order}
 use Rattle.pos_service.specs.declared.order.Reply.{Reply}
 use Rattle.pos_service.specs.declared.order.Reply.TheVariants as reply
+use Rattle.pos_service.specs.declared.plant.Plant.{Plant}
 use Rattle.pos_service.specs.declared.signs.Signs.{Signs}
 use Rattle.pos_service.specs.Controls.{Control, all_listening}
 use Rattle.pos_service.specs.Actions.{Ordered}
-use Rattle.pos_service.specs.Peripherals.{PeripheralState, Asked, signs_of}
+use Rattle.pos_service.specs.Peripherals.{Asked, Performs, PeripheralState, signs_of}
 use Rattle.pos_service.specs.Hardware.{hardware_of}
 use Rattle.pos_service.specs.Statuses.{heard_signs}
-use Rattle.pos_printer.proofs.ReplyLemmas.{same_covered, same_ended}
 
 -- the controls once they have heard what has changed at a place
 abbrev pub heard_at : ℕ → PeripheralState → PeripheralState → List Control → List Control
@@ -34,8 +34,14 @@ ordered_done given place s t old new asked heard = record {
   controls = heard;
 }
 
+-- a printer that doesn't do an order is as it was
+same_undone : (said : Reply) → (said ≡ reply.Done → ⊥) → (given : Order) (p q : Plant) → Performs given p said q
+    → q ≡ p
+same_undone reply.Done undone given p q h = absurd (undone refl)
+same_undone other undone given p q h = grind arith
+
 -- it has not done it: its cover is open, its paper doesn't suffice, its line has failed, or it is off
 pub ordered_undone : (said : Reply) → (said ≡ reply.Done → ⊥)
     → (given : Order) (place : ℕ) (s t : PeripheralState) (old : List Control)
     → Asked s given (Ok said) t → Ordered given place said old (hardware_of s) old (hardware_of t)
-ordered_undone said undone given place s t old asked = grind (arith, same_covered, same_ended)
+ordered_undone said undone given place s t old asked = grind (arith, same_undone)

@@ -56,10 +56,8 @@ pub record LineFailed (old : List Control) (before : Hardware) (new : List Contr
 -- What comes of an order that the peripheral says this to.
 abbrev pub Ordered : Order → ℕ → Reply → Effect
 Ordered given place reply.Done old before new after = CarriedOut given place old before new after
-Ordered given place reply.CoverOpen old before new after = Hindered given reply.CoverOpen old before new after
-Ordered given place reply.PaperEnd old before new after = Hindered given reply.PaperEnd old before new after
 Ordered given place reply.LineFault old before new after = LineFailed old before new after
-Ordered given place reply.Offline old before new after = Hindered given reply.Offline old before new after
+Ordered given place said old before new after = Hindered given said old before new after
 
 -- what a call answers, once the peripheral has said this to its order
 abbrev pub answer_by : Reply → Answer
@@ -82,10 +80,7 @@ ChangesOne change number old new = MatchOption (slice_get old number) ⊥ (λ co
 -- The control with a number changes, once the peripheral has done an order; else none does.
 abbrev pub Follows : Reply → ControlUpdate → ℕ → List Control → List Control → Type 0
 Follows reply.Done what number old new = ChangesOne (changed what) number old new
-Follows reply.CoverOpen what number old new = new ≡ old
-Follows reply.PaperEnd what number old new = new ≡ old
-Follows reply.LineFault what number old new = new ≡ old
-Follows reply.Offline what number old new = new ≡ old
+Follows said what number old new = new ≡ old
 
 -- The peripheral is given an order; it says something to it, and the controls that listen hear what has changed; then
 -- the control with the number changes, where the order was done.

@@ -1,5 +1,5 @@
--- What is known of each call beforehand, and the refusals of open and close.
-use Rattle.std.specs.Prelude.{Bool, true, false, List, [], ◌∷◌, Option, Some, None, is_some, is_none}
+-- The methods and their calls, what is known of each call beforehand, and the refusals of open and close.
+use Rattle.std.specs.Prelude.{ℕ, ℤ, Bool, true, false, List, [], ◌∷◌, Option, Some, None, is_some, is_none, codes}
 use Rattle.pos_service.specs.declared.category.Category.{Category}
 use Rattle.pos_service.specs.declared.category.Category.TheVariants as category
 use Rattle.pos_service.specs.declared.call.Call.{Call}
@@ -15,6 +15,53 @@ use Rattle.pos_service.specs.declared.context.OpenTarget.TheVariants as finding
 use Rattle.pos_service.specs.Categories.{is_category}
 use Rattle.pos_service.specs.Controls.{Control}
 use Rattle.pos_service.specs.Refusals.{Row, when}
+
+-- the kinds of arguments
+pub data ArgumentKind : Type 0 where
+  Number Truth Bytes : ArgumentKind
+
+-- an argument of a kind
+abbrev pub argument_of : ArgumentKind → Type 0
+argument_of Number = ℤ
+argument_of Truth = Bool
+argument_of Bytes = List ℕ
+
+-- the kinds of a method's arguments, and the call that is made of them
+pub data Signature : Type 0 where
+  OfNone : Call → Signature
+  OfOne : (a : ArgumentKind) → (argument_of a → Call) → Signature
+  OfTwo : (a b : ArgumentKind) → (argument_of a → argument_of b → Call) → Signature
+  OfThree : (a b c : ArgumentKind) → (argument_of a → argument_of b → argument_of c → Call) → Signature
+  OfFour : (a b c d : ArgumentKind) → (argument_of a → argument_of b → argument_of c → argument_of d → Call)
+      → Signature
+
+-- the methods that belong to a category: the standard's word of each, and its signature
+abbrev pub methods : List (List ℕ × Signature)
+methods =
+    (codes "openDrawer", OfNone call.OpenDrawer)
+    ∷ (codes "clearInput", OfNone call.ClearInput)
+    ∷ (codes "clearInputProperties", OfNone call.ClearInputProperties)
+    ∷ (codes "displayText", OfTwo Bytes Number call.DisplayText)
+    ∷ (codes "displayTextAt", OfFour Number Number Bytes Number call.DisplayTextAt)
+    ∷ (codes "clearText", OfNone call.ClearText)
+    ∷ (codes "scrollText", OfTwo Number Number call.ScrollText)
+    ∷ (codes "printNormal", OfTwo Number Bytes call.PrintNormal)
+    ∷ (codes "printImmediate", OfTwo Number Bytes call.PrintImmediate)
+    ∷ (codes "cutPaper", OfOne Number call.CutPaper)
+    ∷ (codes "clearOutput", OfNone call.ClearOutput)
+    ∷ (codes "create", OfThree Bytes Number Truth call.Create)
+    ∷ (codes "delete", OfOne Bytes call.Delete)
+    ∷ (codes "find", OfOne Bytes call.Find)
+    ∷ (codes "findByIndex", OfOne Number call.FindByIndex)
+    ∷ (codes "read", OfThree Number Number Number call.Read)
+    ∷ (codes "write", OfThree Number Number Bytes call.Write)
+    ∷ (codes "setAll", OfTwo Number Number call.SetAll)
+    ∷ (codes "rename", OfTwo Number Bytes call.Rename)
+    ∷ (codes "claimFile", OfTwo Number Number call.ClaimFile)
+    ∷ (codes "releaseFile", OfOne Number call.ReleaseFile)
+    ∷ (codes "beginTrans", OfNone call.BeginTrans)
+    ∷ (codes "commitTrans", OfNone call.CommitTrans)
+    ∷ (codes "rollback", OfNone call.Rollback) ∷ []
 
 -- what is known of a call that every category has
 abbrev pub common_row : CallRow

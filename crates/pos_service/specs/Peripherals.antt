@@ -189,9 +189,7 @@ Moves direction units old new = ⊥
 
 -- a printer prints a request of these pieces then, or says why it prints nothing of it
 abbrev pub PrintsOut : List Piece → Mechanism → Reply → Mechanism → Type 0
-PrintsOut ps (mechanism.Printer old) reply.Done (mechanism.Printer new) = Prints old ps reply.Done new
-PrintsOut ps (mechanism.Printer old) reply.CoverOpen (mechanism.Printer new) = Prints old ps reply.CoverOpen new
-PrintsOut ps (mechanism.Printer old) reply.PaperEnd (mechanism.Printer new) = Prints old ps reply.PaperEnd new
+PrintsOut ps (mechanism.Printer old) said (mechanism.Printer new) = Prints old ps said new
 PrintsOut ps old said new = ⊥
 
 -- From the old mechanism, an order that reaches a peripheral that is on may get this reply and leave the new: a drawer
@@ -242,14 +240,7 @@ Takes given old taken new = TakesWhile old.powered given old taken new
 -- the line has not failed.
 abbrev pub Replies : PeripheralState → Order → Reply → PeripheralState → Type 0
 Replies old order reply.LineFault new = (new.plant ≡ old.plant) × Rose old.failures new.failures
-Replies old order reply.Done new =
-    Performs order old.plant reply.Done new.plant × (new.failures ≡ old.failures)
-Replies old order reply.CoverOpen new =
-    Performs order old.plant reply.CoverOpen new.plant × (new.failures ≡ old.failures)
-Replies old order reply.PaperEnd new =
-    Performs order old.plant reply.PaperEnd new.plant × (new.failures ≡ old.failures)
-Replies old order reply.Offline new =
-    Performs order old.plant reply.Offline new.plant × (new.failures ≡ old.failures)
+Replies old order said new = Performs order old.plant said new.plant × (new.failures ≡ old.failures)
 
 -- the plant and the count of failures are as they were
 abbrev pub IsUntouched : PeripheralState → PeripheralState → Type 0

@@ -1,17 +1,26 @@
 // Crashes of a disk in memory, behind writes of which one fails.
 ghost use Rattle.std.specs.Prelude.{◌≡◌, ◌≤◌};
 
-use crate::shared_disks::{bytes_of, disk_of, has};
+use crate::shared_disks::{SIZE, bytes_of, disk_of, has};
 use pos_disk::{Disk, DiskFault, Fill, FuseDisk, MemDisk};
 use std::alloc::Global;
 use std::test::Fail;
 
-// Whether crashes leave these bytes at the start, one of each fill: old, new and the byte 9.
+// Whether crashes leave these bytes at the start, one of each fill: old, new and the byte 9; and a 1 everywhere else.
 fn leave(alloc: Global, disk: &MemDisk, wanted: [[u8; 6]; 3]) -> Result<bool, Fail> {
-    let old = bytes_of(alloc, &mut disk.crash(Fill::Old)?)?;
-    let new = bytes_of(alloc, &mut disk.crash(Fill::New)?)?;
-    let nines = bytes_of(alloc, &mut disk.crash(Fill::Byte(9))?)?;
-    Ok(has(&old, 0, &wanted[0]) && has(&new, 0, &wanted[1]) && has(&nines, 0, &wanted[2]))
+    for (fill, start) in [
+        (Fill::Old, wanted[0]),
+        (Fill::New, wanted[1]),
+        (Fill::Byte(9), wanted[2]),
+    ] {
+        let bytes = bytes_of(alloc, &mut disk.crash(fill)?)?;
+        let others = start.iter().filter(|byte| **byte != 1).count();
+        let ones = bytes.iter().filter(|byte| **byte == 1).count();
+        if !has(&bytes, 0, &start) || ones.saturating_add(others) != SIZE {
+            return Ok(false);
+        }
+    }
+    Ok(true)
 }
 
 // Two writes, with a sync behind the first.

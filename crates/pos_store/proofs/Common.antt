@@ -45,6 +45,6 @@ pub use Rattle.pos_store.specs.StoreViews.{view_of}
 pub use Rattle.pos_store.specs.declared.fault.StoreFault.{StoreFault}
 pub use Rattle.std.proofs.Common.{Bool, Err, Global, IsErr, IsErrOf, IsOk, List, None, Ok, OnOk, Option, Result, Some}
 pub use Rattle.std.proofs.Common.{Vec, [], add-one, ap, arith, cond, drop, drop-cons, drop_at, false, get_or, inl, inr}
-pub use Rattle.std.proofs.Common.{leb-true, length, map, refl, rules, subst, sym, take_at, true, ℕ, ⊎_elim, ◌++◌, ◌+◌}
+pub use Rattle.std.proofs.Common.{length, map, refl, rules, subst, sym, take_at, true, ℕ, ⊎_elim, ◌++◌, ◌+◌}
 pub use Rattle.std.proofs.Common.{◌<◌, ◌↔◌, ◌∙◌, ◌∷◌, ◌≡◌, ◌≢◌, ◌≤◌, ◌⊎◌}
 pub use Rattle.std.specs.List.{AllByRecursion}

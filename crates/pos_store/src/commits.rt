@@ -83,7 +83,7 @@ pub(crate) fn commit_group<D: Disk>(
         StoreMedium::Ready(log, directory) => (log, directory),
     };
     match make_draft(alloc, log, directory, text, changes) {
-        Ok(Draft::Record) => match log.append(text) {
+        Ok(Draft::Record) => match log.append_fitting(text) {
             Ok(()) => Ok(()),
             Err(_) => Err(fail(medium)),
         },
@@ -98,7 +98,7 @@ pub(crate) fn commit_group<D: Disk>(
 /// What goes to the disk for a group.
 #[derive(Drop)]
 pub(crate) enum Draft {
-    /// A record after the current image. Its text is in the buffer.
+    /// A record after the current image, which fits there. Its text is in the buffer.
     Record,
     /// The files after the group, as the body of a new image.
     Image(Vec<u8>),

@@ -97,3 +97,22 @@ fn a_claim_and_a_rollback(rt: HostRuntime) -> Result<(), Fail> {
     assert!(rt; !totals.in_transaction(0) && text.as_slice() == BEFORE.as_slice());
     Ok(())
 }
+
+#[test]
+fn a_foreign_area_comes_before_a_fault(rt: HostRuntime) -> Result<(), Fail> {
+    let mut totals = over(rt.alloc(), disk_with_files(rt.alloc())?)?;
+    assert!(rt; totals.claim_area(0).is_ok());
+    assert!(rt; matches!(totals.find(1, b"A"), Answer::Refused(Code::Claimed, 0)));
+    let named = totals.find_by_index(1, 0)?;
+    assert!(rt; matches!(named, Answer::Refused(Code::Claimed, 0)));
+    let read = totals.read(1, 1, 0, 1)?;
+    assert!(rt; matches!(read, Answer::Refused(Code::Claimed, 0)));
+    let written = totals.write(1, 1, 1, &[8, 9])?;
+    assert!(rt; matches!(written, Answer::Refused(Code::Claimed, 0)));
+    let claimed = totals.claim_file(1, 1, 0);
+    assert!(rt; matches!(claimed, Answer::Refused(Code::Failure, 0)));
+    let timed = totals.claim_file(1, 1, -2);
+    assert!(rt; matches!(timed, Answer::Refused(Code::Failure, 0)));
+    assert!(rt; matches!(totals.find(0, b"A"), Answer::Refused(Code::Failure, 0)));
+    Ok(())
+}

@@ -2,7 +2,7 @@
 use crate::error::{Cause, Error};
 use crate::till::Till;
 use std::sync::mpsc::{channel, Sender};
-use std::thread::{spawn, JoinHandle};
+use std::thread::{current, spawn, JoinHandle, ThreadId};
 
 /// What the till's thread does next.
 type Job = Box<dyn FnOnce(&Till) + Send>;
@@ -30,6 +30,7 @@ type Job = Box<dyn FnOnce(&Till) + Send>;
 #[derive(Clone)]
 pub struct Actor {
     jobs: Sender<Job>,
+    thread: ThreadId,
 }
 
 impl Actor {
@@ -41,20 +42,24 @@ impl Actor {
                 job(&till);
             }
         });
-        (Actor { jobs }, thread)
+        (Actor { jobs, thread: thread.thread().id() }, thread)
     }
 
     /// Does work on the till, waits for it, and returns what it returns.
     ///
     /// # Errors
     ///
-    /// The error that the work returns, or [`Cause::ActorEnded`] if work panicked, this one or an earlier one.
+    /// The error that the work returns; [`Cause::ActorEnded`] if work panicked, this one or an earlier one;
+    /// [`Cause::InsideActor`] if the call is made by work of the actor, which has the till already.
     pub fn run<R, F>(&self, work: F) -> Result<R, Error>
     where
         R: Send + 'static,
         F: FnOnce(&Till) -> Result<R, Error> + Send + 'static,
     {
         let ended = || Error::new("Actor::run", Cause::ActorEnded);
+        if current().id() == self.thread {
+            return Err(Error::new("Actor::run", Cause::InsideActor));
+        }
         let (give, answer) = channel();
         // Who waits no more has no use for the answer.
         let job: Job = Box::new(move |till| drop(give.send(work(till))));

@@ -1,8 +1,8 @@
 //! Drivers: they move bytes between a till and the devices on its ports. A driver of your own implements [`Driver`].
 use crate::devices::Order;
 use crate::error::{Cause, Error};
-use crate::links::{is_over, Link, Told, QUICKLY};
-use crate::ports::{end_after, Cable, Port};
+use crate::links::{is_over, Link, Told};
+use crate::ports::{end_after, Cable, Port, QUICKLY};
 use crate::standard::Category;
 use crate::till::Inner;
 use crate::wire::{Asked, PrinterReply, WireSettings};
@@ -14,8 +14,11 @@ use std::time::{Duration, Instant};
 const SETTLE: Duration = Duration::from_secs(1);
 /// The most lines that a printer's device counts.
 const MOST_LINES: u32 = 100_000;
-/// The longest code of a scanner.
+/// From how many lines on they are counted again before their end.
+const LONG: u64 = 100;
+/// The longest code of a scanner, and the highest type (ScanDataType) that a till takes.
 const LONGEST_CODE: usize = 4096;
+const HIGHEST_KIND: u64 = 999;
 
 /// What a printer is asked behind the bytes of an order.
 #[derive(Debug, Clone, Copy, PartialEq, Eq)]
@@ -123,7 +126,8 @@ pub trait Driver: Send {
         true
     }
 
-    /// Carries out an order, and returns whether the device has done it. It must return in a bounded time.
+    /// Carries out an order, and returns whether the device has done it. It must return in a bounded time. If it
+    /// panics, the order counts as not done, and the till may still be used.
     fn carry_out(&mut self, till: &mut DriverTill<'_>, order: &Order) -> bool {
         let _ = (till, order);
         false
@@ -141,7 +145,8 @@ pub trait Driver: Send {
         let _ = till;
     }
 
-    /// Returns the codes that were read since the last call.
+    /// Returns the codes that were read since the last call. The till takes them even if the device isn't there any
+    /// more.
     fn scans(&mut self) -> Vec<Scan> {
         Vec::new()
     }
@@ -155,6 +160,15 @@ pub trait Driver: Send {
     fn late_orders(&self) -> u64 {
         0
     }
+
+    /// Returns why the port couldn't be opened or was lost the last time, as the system's number (errno).
+    fn port_error(&self) -> Option<i32> {
+        None
+    }
+
+    /// A spare serves the device from now on ([`Till::attach`](crate::Till::attach)), and this driver goes on. The
+    /// spare knows nothing of what `happened` said before, or of what a display shows.
+    fn attached(&mut self) {}
 }
 
 /// What a printer's cutter does.
@@ -187,7 +201,9 @@ pub struct EscPosSettings {
     /// Whether the drawer is open when pin 3 of its connector is high.
     pub is_open_high: bool,
     /// How many lines the till counts with when the sensors see enough paper: more than where its device is near the
-    /// end, at most 100,000.
+    /// end, at most 100,000. The till refuses what is longer than what is left of them (EPTR_REC_EMPTY). So if the
+    /// sensors still see enough once three quarters are counted, or at the near end if there are fewer than 100 lines,
+    /// the count begins again.
     pub lines: u32,
     /// Whether the printer says nothing by itself, and doesn't know GS ( H. Then it is asked for its status (DLE
     /// EOT), and whether an order is printed (GS r).
@@ -282,7 +298,8 @@ pub struct EscPosPrinter {
     link: SharedLink,
     device: String,
     settings: WireSettings,
-    is_known: bool,
+    /// From which line of the link on the till counts them, once the printer has said how it is.
+    counted_from: Option<u64>,
 }
 
 impl EscPosPrinter {
@@ -290,7 +307,7 @@ impl EscPosPrinter {
     pub fn open(port: impl Into<Port>, settings: EscPosSettings) -> EscPosPrinter {
         let link = Link::new(port.into(), settings.timeout, settings.pause, settings.is_asked);
         let link = Arc::new(Mutex::new(link));
-        EscPosPrinter { link, device: String::new(), settings: settings.wire(), is_known: false }
+        EscPosPrinter { link, device: String::new(), settings: settings.wire(), counted_from: None }
     }
 
     /// Returns a driver for the drawer on the printer's connector, whether or not the till drives the printer too.
@@ -298,15 +315,19 @@ impl EscPosPrinter {
         let link = Arc::clone(&self.link);
         EscPosDrawer { link, device: String::new(), settings: self.settings, kicked: None }
     }
+
+    /// Whether the till has to be told how many lines there are, where the sensors see enough paper.
+    fn is_count_due(&self, lines: u64) -> bool {
+        let all = u64::from(self.settings.lines);
+        self.counted_from.is_none_or(|from| all >= LONG && lines - from >= all - all / 4)
+    }
 }
 
 /// Begins a printer's line for one of its devices.
 fn start(link: &SharedLink, till: &mut DriverTill<'_>, device: &str, settings: &WireSettings) -> Result<(), Error> {
     let mut link = lock(link);
     check(till, device, settings, &link.cable.port)?;
-    if !link.is_begun {
-        (link.device, link.settings) = (device.to_string(), *settings);
-    }
+    link.devices.push((device.to_string(), *settings));
     link.start(till);
     Ok(())
 }
@@ -332,11 +353,13 @@ impl Driver for EscPosPrinter {
     fn happened(&mut self, till: &mut DriverTill<'_>) -> Vec<String> {
         let link = lock(&self.link);
         let mut words = words_of(&link.told, till, &self.device, &self.settings);
-        if !self.is_known && !link.told.is_empty() {
-            self.is_known = true;
-            if link.has_paper() {
-                words.push(format!("paper {}", self.settings.lines));
-            }
+        let mut is_told = words.iter().any(|words| words.starts_with("paper "));
+        if !is_told && link.has_paper() && self.is_count_due(link.lines) {
+            words.push(format!("paper {}", self.settings.lines));
+            is_told = true;
+        }
+        if is_told || self.counted_from.is_none() && !link.told.is_empty() {
+            self.counted_from = Some(link.lines);
         }
         words
     }
@@ -351,6 +374,14 @@ impl Driver for EscPosPrinter {
 
     fn late_orders(&self) -> u64 {
         lock(&self.link).late
+    }
+
+    fn port_error(&self) -> Option<i32> {
+        lock(&self.link).cable.fault
+    }
+
+    fn attached(&mut self) {
+        self.counted_from = None;
     }
 }
 
@@ -409,6 +440,10 @@ impl Driver for EscPosDrawer {
 
     fn file(&self) -> Option<RawFd> {
         lock(&self.link).cable.file()
+    }
+
+    fn port_error(&self) -> Option<i32> {
+        lock(&self.link).cable.fault
     }
 }
 
@@ -558,6 +593,14 @@ impl Driver for SerialDisplay {
     fn file(&self) -> Option<RawFd> {
         self.port.cable.file()
     }
+
+    fn port_error(&self) -> Option<i32> {
+        self.port.cable.fault
+    }
+
+    fn attached(&mut self) {
+        self.is_new = true;
+    }
 }
 
 /// A scanner that sends each code with a terminator (CR, LF or both), or types it as a keyboard of the layout US.
@@ -565,19 +608,21 @@ impl Driver for SerialDisplay {
 /// An AIM identifier in front of a code, such as `]E0`, says which type it has; ScanDataLabel is the code without it.
 ///
 /// Linux keeps about ten characters of a keyboard, and drops them if more come before the till reads. Such a scan has
-/// failed: the scanner's control gets an ErrorEvent.
+/// failed, as has a code of more than 4,096 bytes, or with a key that has no character: the scanner's control gets an
+/// ErrorEvent.
 #[derive(Debug)]
 pub struct WedgeScanner {
     port: Reopened,
     kind: u64,
     begun: Vec<u8>,
-    /// What of a key event has come, and whether the shift key is down.
+    /// What of a key event has come, and whether the shift and control keys are down.
     events: Vec<u8>,
     is_shifted: bool,
-    /// Whether events of the code that has begun were dropped.
+    is_control: bool,
+    /// Whether the code that has begun lacks a character: its event was dropped, or its key has none here.
     has_gap: bool,
     found: Vec<Scan>,
-    /// Whether a code had a gap, and whether that is said next.
+    /// Whether a code had a gap or was too long, and whether that is said next.
     has_failed: bool,
     is_failing: bool,
 }
@@ -593,6 +638,7 @@ impl WedgeScanner {
             begun: Vec::new(),
             events: Vec::new(),
             is_shifted: false,
+            is_control: false,
             has_gap: false,
             found: Vec::new(),
             has_failed: false,
@@ -600,7 +646,8 @@ impl WedgeScanner {
         }
     }
 
-    /// Makes this the type of a code without an identifier (ScanDataType), which is 0 (SCAN_SDT_UNKNOWN) otherwise.
+    /// Makes this the type of a code without an identifier (ScanDataType, 0 to 999), which is 0 (SCAN_SDT_UNKNOWN)
+    /// otherwise.
     pub fn with_kind(self, kind: u64) -> WedgeScanner {
         WedgeScanner { kind, ..self }
     }
@@ -613,12 +660,12 @@ impl WedgeScanner {
 
     fn end_code(&mut self) {
         let data = std::mem::take(&mut self.begun);
-        if std::mem::take(&mut self.has_gap) {
+        // What is longer than any code is noise.
+        if std::mem::take(&mut self.has_gap) || data.len() > LONGEST_CODE {
             self.has_failed = true;
             return;
         }
-        // What is longer than any code is noise.
-        if !(1..=LONGEST_CODE).contains(&data.len()) {
+        if data.is_empty() {
             return;
         }
         let (kind, front) = match &data[..] {
@@ -646,28 +693,55 @@ impl WedgeScanner {
         for event in events.chunks(SIZE) {
             let kind = u16::from_ne_bytes([event[16], event[17]]);
             let key = usize::from(u16::from_ne_bytes([event[18], event[19]]));
-            let is_down = event[20..] != [0; 4];
+            let value = i32::from_ne_bytes([event[20], event[21], event[22], event[23]]);
             match key {
-                DROPPED if kind == 0 => (self.has_gap, self.is_shifted) = (true, false),
+                DROPPED if kind == 0 => (self.has_gap, self.is_shifted, self.is_control) = (true, false, false),
                 _ if kind != 1 => {}
-                42 | 54 => self.is_shifted = is_down,
+                42 | 54 => self.is_shifted = value != 0,
+                29 | 97 => self.is_control = value != 0,
                 // The event of Enter going down may be among those that were dropped.
-                28 | 96 if is_down || self.has_gap => self.end_code(),
-                _ if is_down => {
-                    let keys = if self.is_shifted { SHIFT_KEYS } else { PLAIN_KEYS };
-                    if let Some(byte) = key.checked_sub(2).and_then(|key| keys.get(key)).filter(|byte| **byte != 0) {
-                        self.add(*byte);
-                    }
-                }
+                28 | 96 if value == DOWN || value == 0 && self.has_gap => self.end_code(),
+                28 | 96 => {}
+                // A key that is held repeats by another value, and types its character once all the same.
+                _ if value == DOWN => match self.character_of(key) {
+                    Some(byte) => self.add(byte),
+                    // A code without one of its characters is another code.
+                    None => self.has_gap = true,
+                },
                 _ => {}
             }
         }
     }
+
+    /// The character of a key of the layout US.
+    fn character_of(&self, key: usize) -> Option<u8> {
+        let keys = if self.is_shifted { SHIFT_KEYS } else { PLAIN_KEYS };
+        let found = match key {
+            2..=57 => Some(keys[key - 2]).filter(|byte| *byte != 0),
+            71..=83 => Some(PAD_KEYS[key - 71]),
+            98 => Some(b'/'),
+            _ => None,
+        };
+        match found {
+            Some(b']') if self.is_control => Some(SEPARATOR),
+            _ if self.is_control => None,
+            found => found,
+        }
+    }
 }
 
+/// The value of the event of a key that goes down.
+const DOWN: i32 = 1;
+
+/// What separates the fields of a code (GS). Scanners type it as the control key and ].
+const SEPARATOR: u8 = 0x1d;
+
 /// The characters of the keys of the layout US from number 2 on, without and with shift; 0 is no character.
-const PLAIN_KEYS: &[u8] = b"1234567890-=\0\0qwertyuiop[]\0\0asdfghjkl;'`\0\\zxcvbnm,./\0\0\0 ";
-const SHIFT_KEYS: &[u8] = b"!@#$%^&*()_+\0\0QWERTYUIOP{}\0\0ASDFGHJKL:\"~\0|ZXCVBNM<>?\0\0\0 ";
+const PLAIN_KEYS: &[u8; 56] = b"1234567890-=\0\0qwertyuiop[]\0\0asdfghjkl;'`\0\\zxcvbnm,./\0*\0 ";
+const SHIFT_KEYS: &[u8; 56] = b"!@#$%^&*()_+\0\0QWERTYUIOP{}\0\0ASDFGHJKL:\"~\0|ZXCVBNM<>?\0*\0 ";
+
+/// Those of the keypad from number 71 on.
+const PAD_KEYS: &[u8; 13] = b"789-456+1230.";
 
 /// The type of a code by its AIM identifier; 501 is SCAN_SDT_OTHER.
 fn kind_of(letter: u8, digit: u8) -> u64 {
@@ -698,7 +772,7 @@ impl Driver for WedgeScanner {
     }
 
     fn start(&mut self, till: &mut DriverTill<'_>, _: &str) -> Result<(), Error> {
-        if !self.port.cable.port.is_sound() {
+        if !self.port.cable.port.is_sound() || self.kind > HIGHEST_KIND {
             return Err(Error::new("drive", Cause::BadSettings));
         }
         self.poll(till);
@@ -712,7 +786,7 @@ impl Driver for WedgeScanner {
     fn poll(&mut self, _: &mut DriverTill<'_>) {
         if self.port.open(QUICKLY) {
             (self.begun, self.events) = (Vec::new(), Vec::new());
-            (self.is_shifted, self.has_gap) = (false, false);
+            (self.is_shifted, self.is_control, self.has_gap) = (false, false, false);
         }
         let bytes = self.port.read();
         if matches!(self.port.cable.port, Port::Keys(_)) {
@@ -739,5 +813,9 @@ impl Driver for WedgeScanner {
 
     fn file(&self) -> Option<RawFd> {
         self.port.cable.file()
+    }
+
+    fn port_error(&self) -> Option<i32> {
+        self.port.cable.fault
     }
 }

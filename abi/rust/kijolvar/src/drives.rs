@@ -3,6 +3,7 @@ use crate::devices::{Order, Work};
 use crate::drivers::{Driver, DriverTill, Scan};
 use crate::error::Cause;
 use crate::line::{is_name, value_of, Line};
+use crate::links::is_over;
 use crate::ports::{end_after, wait_for_any};
 use crate::raw::*;
 use crate::standard::{library, Category};
@@ -16,6 +17,9 @@ use std::time::{Duration, Instant};
 pub struct DriverState {
     /// Whether its port is open, and a printer answers.
     pub is_online: bool,
+    /// Why the port couldn't be opened or was lost the last time, as the system's number (errno), which
+    /// [`std::io::Error::from_raw_os_error`] explains. There is none if neither ever happened.
+    pub port_error: Option<i32>,
     /// How many orders a printer has printed after they had failed, and weren't asked for again. It had got them
     /// before it stopped, and there is no command that takes them back.
     pub late_orders: u64,
@@ -29,14 +33,18 @@ struct Drive {
     is_on: bool,
     /// How many orders it has done since its paper was taken away.
     orders: u32,
+    /// When output that waits was refused.
+    refused_at: Option<Instant>,
     driver: Box<dyn Driver>,
 }
 
 impl Drive {
-    /// What has happened at the device, as lines of inputs. One that is back is on first.
+    /// What has happened at the device, as lines of inputs. One that is back is on first. One that was lost is off once
+    /// its scans are handed in, since the till takes none of a device that is off.
     fn inputs(&mut self, inner: &mut Inner) -> Vec<String> {
         let line = |words: &str| format!("input {} {words}", self.name);
-        if !self.driver.is_online() {
+        let has_scans = inner.drives.scans.iter().any(|(device, _)| *device == self.name);
+        if !self.driver.is_online() && !has_scans {
             let was_on = std::mem::replace(&mut self.is_on, false);
             return if was_on { vec![line("power off")] } else { Vec::new() };
         }
@@ -61,6 +69,8 @@ pub(crate) struct Drives {
     pub(crate) is_holding: bool,
     /// What was printed, and couldn't be reported for want of memory.
     unreported: Option<Report>,
+    /// What has happened, as lines of inputs, and isn't handed in yet.
+    inputs: VecDeque<String>,
     /// What was scanned, with its device, and isn't handed in yet.
     scans: VecDeque<(String, Scan)>,
     has_served: bool,
@@ -83,6 +93,9 @@ const KEPT_ORDERS: u32 = 500;
 /// How often a call that found no memory is made again.
 const TRIES: u32 = 3;
 
+/// How long output that was refused isn't tried again.
+const REFUSED: Duration = Duration::from_millis(100);
+
 /// A report of an order: whether it is done, and what happened at the device if it isn't.
 struct Report {
     is_done: bool,
@@ -96,12 +109,21 @@ impl Report {
 }
 
 impl Inner {
-    /// Does something with the drives, which aren't in the till meanwhile.
+    /// Does something with the drives, which aren't in the till meanwhile. They come back even if a driver panics.
     fn with_drives<R>(&mut self, deed: impl FnOnce(&mut Inner, &mut Vec<Drive>) -> R) -> R {
-        let mut list = std::mem::take(&mut self.drives.list);
-        let done = deed(self, &mut list);
-        self.drives.list = list;
-        done
+        struct Lent<'i> {
+            inner: &'i mut Inner,
+            list: Vec<Drive>,
+        }
+
+        impl Drop for Lent<'_> {
+            fn drop(&mut self) {
+                self.inner.drives.list = std::mem::take(&mut self.list);
+            }
+        }
+
+        let mut lent = Lent { list: std::mem::take(&mut self.drives.list), inner: self };
+        deed(lent.inner, &mut lent.list)
     }
 
     /// The bytes of the order that is out.
@@ -161,29 +183,27 @@ impl Inner {
                 code = self.settled(code, &mut needed)?;
                 tries += 1;
                 is_taken = code == library::NO_MEMORY;
-                if is_taken {
-                    report = None;
-                }
                 if code == library::OK || tries == TRIES {
                     self.drives.is_holding = code != library::OK;
-                    // What was printed is reported the next time, and the call has no answer.
-                    self.drives.unreported = report.filter(|report| report.is_done);
-                    return Err(if is_any_done { Cause::NoAnswer } else { Cause::NoMemory });
+                    self.keep(report.filter(|_| !is_taken));
+                    return Err(if is_any_done || !parts.is_empty() { Cause::NoAnswer } else { Cause::NoMemory });
                 }
             }
             match code {
                 library::OK | library::WAITS | library::NO_MEMORY => {}
                 library::CUT => return Err(Cause::NoAnswer),
-                _ => return Err(Cause::DiskFailed),
+                _ => return Err(Cause::DiskFailed(None)),
             }
             if is_taken {
-                let count = report.as_ref().map_or(0, |report| report.inputs.len());
-                if is_told {
-                    report = None;
-                }
+                let told = if is_told { report.take() } else { None };
+                let mut answers = self.text[..needed].split_inclusive(|byte| *byte == b'\n');
                 // The answers of the inputs are first.
-                let text = self.text[..needed].split_inclusive(|byte| *byte == b'\n').skip(count);
-                parts.extend(text.flatten());
+                for (input, answer) in told.into_iter().flat_map(|told| told.inputs).zip(&mut answers) {
+                    if answer == b"memory\n" {
+                        self.drives.inputs.push_back(input);
+                    }
+                }
+                parts.extend(answers.flatten());
             }
             if code == library::OK {
                 return Ok(parts);
@@ -199,6 +219,16 @@ impl Inner {
             code = self.tell(&made, &mut needed);
             is_told = true;
             report = Some(made);
+        }
+    }
+
+    /// Keeps a report that wasn't taken. What was printed is reported the next time. Of an order that failed, what
+    /// happened at the device is handed in.
+    fn keep(&mut self, report: Option<Report>) {
+        match report {
+            Some(report) if report.is_done => self.drives.unreported = Some(report),
+            Some(report) => self.drives.inputs.extend(report.inputs),
+            None => {}
         }
     }
 
@@ -233,14 +263,18 @@ impl Inner {
         self.drives.has_served = true;
         let Some(order) = Order::read(&line) else { return Ok(Report::not_done()) };
         let name = line.split(' ').next().unwrap_or("").to_string();
-        Ok(self.with_drives(|inner, list| {
+        // If a driver panics, the next call gives the lines up.
+        self.drives.is_holding = true;
+        let report = self.with_drives(|inner, list| {
             let Some(drive) = list.iter_mut().find(|drive| drive.name == name) else { return Report::not_done() };
             if drive.driver.is_online() && drive.driver.carry_out(&mut DriverTill { inner }, &order) {
                 drive.orders += 1;
                 return Report { is_done: true, inputs: Vec::new() };
             }
             Report { is_done: false, inputs: drive.inputs(inner) }
-        }))
+        });
+        self.drives.is_holding = false;
+        Ok(report)
     }
 
     /// What is left to do where a driven till's call isn't done: the whole answer.
@@ -268,52 +302,62 @@ impl Inner {
         Ok(())
     }
 
-    /// Tells the till what has happened at the devices, and returns whether anything has.
+    /// Tells the till what has happened at the devices, and returns whether anything has. What it has no memory for is
+    /// kept, and comes first the next time.
     pub(crate) fn hand_in(&mut self) -> Result<bool, Cause> {
-        if std::mem::replace(&mut self.drives.is_handing_in, true) {
+        if self.drives.is_handing_in {
             return Ok(false);
         }
-        let found = self.hand_in_all();
+        let left = self.hand_in_inputs();
+        if !self.drives.inputs.is_empty() {
+            return left;
+        }
+        self.with_drives(|inner, list| {
+            for drive in list {
+                // One that is detached has no paper.
+                let is_long = drive.category == Category::PosPrinter && drive.orders >= KEPT_ORDERS;
+                if is_long && inner.tear_off(&drive.name).is_ok() {
+                    drive.orders = 0;
+                }
+                let inputs = drive.inputs(inner);
+                inner.drives.inputs.extend(inputs);
+            }
+        });
+        let found = self.hand_in_inputs();
+        Ok(left? | found?)
+    }
+
+    /// Tells the till the inputs that wait. If one is refused, the others are told.
+    fn hand_in_inputs(&mut self) -> Result<bool, Cause> {
+        let is_any = !self.drives.inputs.is_empty();
+        let mut found = Ok(is_any);
+        self.drives.is_handing_in = true;
+        while let Some(line) = self.drives.inputs.pop_front() {
+            let told = self.hand_in_line(&line);
+            if matches!(told, Err(Cause::NoMemory)) {
+                self.drives.inputs.push_front(line);
+                found = Err(Cause::NoMemory);
+                break;
+            }
+            found = found.and_then(|_| told.map(|()| is_any));
+        }
         self.drives.is_handing_in = false;
         found
     }
 
-    fn hand_in_all(&mut self) -> Result<bool, Cause> {
-        let mut is_any = false;
-        for place in 0..self.drives.list.len() {
-            let drive = &self.drives.list[place];
-            if drive.category == Category::PosPrinter && drive.orders >= KEPT_ORDERS {
-                let name = drive.name.clone();
-                // One that is detached has no paper.
-                if self.tear_off(&name).is_ok() {
-                    self.drives.list[place].orders = 0;
-                }
-            }
-            let was_on = self.drives.list[place].is_on;
-            let inputs = self.with_drives(|inner, list| list[place].inputs(inner));
-            if inputs.is_empty() {
-                continue;
-            }
-            let lines: String = inputs.iter().flat_map(|line| [line, "\n"]).collect();
-            if let Err(cause) = self.hand_in_lines(lines.as_bytes()) {
-                // Its power is said again.
-                self.drives.list[place].is_on = was_on;
-                return Err(cause);
-            }
-            is_any = true;
+    /// Tells the till a line of an input. Nothing happens at a device that is detached. Without memory nothing was
+    /// done.
+    fn hand_in_line(&mut self, line: &str) -> Result<(), Cause> {
+        self.give_up_held()?;
+        match self.carry_out(line.as_bytes()) {
+            // The line is held: the next call does it.
+            Err(Cause::NoMemory) if self.drives.is_holding => Err(Cause::NoAnswer),
+            Err(cause) => Err(cause),
+            Ok(answer) => match value_of(answer.trim_end_matches('\n'), None) {
+                Ok(_) | Err(Cause::BadDevice) => Ok(()),
+                Err(cause) => Err(cause),
+            },
         }
-        Ok(is_any)
-    }
-
-    /// Tells the till lines of inputs. Nothing happens at a device that is detached.
-    fn hand_in_lines(&mut self, lines: &[u8]) -> Result<(), Cause> {
-        for answer in self.carry_out(lines)?.lines() {
-            match value_of(answer, None) {
-                Ok(_) | Err(Cause::BadDevice) => {}
-                Err(cause) => return Err(cause),
-            }
-        }
-        Ok(())
     }
 
     /// Takes the printed paper of a device away.
@@ -351,26 +395,62 @@ impl Inner {
         if category != driver.category() {
             return Err(Cause::KindDiffers);
         }
-        let mut drive = Drive { name: device.to_string(), category, is_on: true, orders: 0, driver };
+        let name = device.to_string();
+        let mut drive = Drive { name, category, is_on: true, orders: 0, refused_at: None, driver };
         drive.driver.start(&mut DriverTill { inner: self }, device).map_err(|error| error.into_cause())?;
-        if category != Category::Scanner {
-            let till = self.at;
-            // SAFETY: the pointer is the one that was written last, and the name is lent for the call.
-            match unsafe { kijolvar_drive(till, &mut self.at.0, device.as_ptr(), device.len()) } {
-                library::OK => {}
-                library::NO_MEMORY => return Err(Cause::NoMemory),
-                _ => return Err(Cause::NoDevice),
-            }
-        }
+        self.make_wait(device, category)?;
         self.drives.list.push(drive);
         // What isn't handed in now is the next time.
         let _ = self.hand_in();
         Ok(())
     }
 
+    /// Makes the orders of a device wait for its driver. A scanner has none.
+    fn make_wait(&mut self, device: &str, category: Category) -> Result<(), Cause> {
+        if category == Category::Scanner {
+            return Ok(());
+        }
+        let till = self.at;
+        // SAFETY: the pointer is the one that was written last, and the name is lent for the call.
+        match unsafe { kijolvar_drive(till, &mut self.at.0, device.as_ptr(), device.len()) } {
+            library::OK => Ok(()),
+            library::NO_MEMORY => Err(Cause::NoMemory),
+            _ => Err(Cause::NoDevice),
+        }
+    }
+
+    /// Drives the devices again to which lines have attached a spare: nobody drives that yet.
+    pub(crate) fn drive_attached(&mut self, lines: &[u8]) {
+        if self.drives.is_empty() {
+            return;
+        }
+        for line in lines.split(|byte| *byte == b'\n') {
+            let mut words = line.split(|byte| *byte == b' ').filter(|word| !word.is_empty());
+            let (Some(b"attach"), Some(device)) = (words.next(), words.next()) else { continue };
+            if let Some(place) = self.drives.list.iter().position(|drive| drive.name.as_bytes() == device) {
+                self.drive_again(place);
+            }
+        }
+    }
+
+    fn drive_again(&mut self, place: usize) {
+        let (name, category) = (self.drives.list[place].name.clone(), self.drives.list[place].category);
+        // One that is detached has nothing to drive.
+        if self.make_wait(&name, category).is_err() {
+            return;
+        }
+        let drive = &mut self.drives.list[place];
+        (drive.is_on, drive.orders, drive.refused_at) = (true, 0, None);
+        drive.driver.attached();
+        // What isn't handed in now is the next time.
+        let _ = self.hand_in();
+    }
+
     pub(crate) fn driver_state(&self, device: &str) -> Result<DriverState, Cause> {
         let drive = self.drives.list.iter().find(|drive| drive.name == device).ok_or(Cause::NoDevice)?;
-        Ok(DriverState { is_online: drive.driver.is_online(), late_orders: drive.driver.late_orders() })
+        let driver = &drive.driver;
+        let (is_online, port_error, late_orders) = (driver.is_online(), driver.port_error(), driver.late_orders());
+        Ok(DriverState { is_online, port_error, late_orders })
     }
 
     /// Does what the devices need, and waits for something to do as long as it may. Returns whether anything was done.
@@ -403,45 +483,54 @@ impl Inner {
             }
         });
         let handed_in = self.hand_in();
-        // Scans are handed in even if something else can't be.
+        // Scans are handed in even if an input is refused, but none before the device is on.
+        if !self.drives.inputs.is_empty() {
+            return handed_in;
+        }
         let is_any_scan = self.hand_in_scans()?;
         let mut is_any = handed_in? || is_any_scan;
+        if is_any_scan {
+            // A scanner that was lost behind its scans is off now.
+            self.hand_in()?;
+        }
         for place in 0..self.drives.list.len() {
             let drive = &self.drives.list[place];
-            if drive.category == Category::PosPrinter {
-                let line = Line::new("work").name(&drive.name);
-                is_any |= self.work_off(&line)?;
+            if drive.category == Category::PosPrinter && is_over(drive.refused_at, REFUSED) {
+                is_any |= self.work_off(place)?;
             }
         }
         Ok(is_any)
     }
 
-    /// Tells the till what was scanned, and returns whether anything was. Scans behind one that fails are kept.
+    /// Tells the till what was scanned, and returns whether anything was. Scans behind one that fails are kept, and it
+    /// too if there was no memory for it.
     fn hand_in_scans(&mut self) -> Result<bool, Cause> {
         let is_any = !self.drives.scans.is_empty();
-        while !self.drives.scans.is_empty() {
-            self.give_up_held()?;
-            let Some((device, scan)) = self.drives.scans.pop_front() else { break };
-            let line = Line::new("input").name(&device).word("scan").number(scan.kind);
-            let answer = self.ask(&line.bytes(&scan.data).bytes(&scan.label));
-            // Unless its line is held, nothing was done.
-            if matches!(answer, Err(Cause::NoMemory)) && !self.drives.is_holding {
-                self.drives.scans.push_front((device, scan));
+        while let Some((device, scan)) = self.drives.scans.front() {
+            let line = Line::new("input").name(device).word("scan").number(scan.kind);
+            let line = line.bytes(&scan.data).bytes(&scan.label);
+            let told = line.text().map(str::to_string).and_then(|text| self.hand_in_line(&text));
+            if !matches!(told, Err(Cause::NoMemory)) {
+                self.drives.scans.pop_front();
             }
-            value_of(&answer?, None)?;
+            told?;
         }
         Ok(is_any)
     }
 
     /// Works off the output that waits, until nothing waits or a request fails. Returns whether there was any.
-    fn work_off(&mut self, line: &Line) -> Result<bool, Cause> {
+    fn work_off(&mut self, place: usize) -> Result<bool, Cause> {
+        let line = Line::new("work").name(&self.drives.list[place].name);
         let mut is_any = false;
         loop {
-            match Work::read(&self.ask(line)?) {
+            match Work::read(&self.ask(&line)?) {
                 // Nothing waits for one that is detached.
                 Ok(Work::Idle) | Err(Cause::BadDevice) => return Ok(is_any),
                 Ok(Work::Done { .. }) => is_any = true,
-                Ok(Work::Failed { .. }) => return Ok(true),
+                Ok(Work::Failed { .. }) => {
+                    self.drives.list[place].refused_at = Some(Instant::now());
+                    return Ok(true);
+                }
                 Err(cause) => return Err(cause),
             }
         }

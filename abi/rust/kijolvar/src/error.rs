@@ -35,9 +35,10 @@ pub enum Cause {
     /// The totals in the file have layout 2 already.
     Moved,
     /// The file of the totals couldn't be written. The last call may be in it or not, and the till can only be dropped.
-    DiskFailed,
+    /// The first call that fails has the system's reason, if there is one.
+    DiskFailed(Option<io::Error>),
     /// The system refused the file of the totals: `NotFound` if it is missing, `AlreadyExists` if it is there already,
-    /// `WouldBlock` if another till has it.
+    /// `WouldBlock` if another till has it. Or it refused the thread that reads a profile.
     System(io::Error),
     /// The library is of another version than this crate.
     WrongVersion,
@@ -78,6 +79,18 @@ pub enum Cause {
     Vacant,
     /// The thread of the actor has ended.
     ActorEnded,
+    /// Work of the actor gave the actor work, for which it would wait for ever.
+    InsideActor,
+}
+
+impl Cause {
+    /// What it means of a file that no till has.
+    pub(crate) fn of_file(self) -> Cause {
+        match self {
+            Cause::DiskFailed(Some(fault)) => Cause::System(fault),
+            other => other,
+        }
+    }
 }
 
 impl Error {
@@ -135,7 +148,7 @@ impl fmt::Display for Cause {
             Cause::NoMemory => "there was no memory",
             Cause::NoAnswer => "there was no memory for the answer",
             Cause::TooSmall => "the file is shorter than a disk of totals",
-            Cause::DiskFailed => "the file of the totals couldn't be written",
+            Cause::DiskFailed(_) => "the file of the totals couldn't be written",
             Cause::WrongVersion => "the library is of another version",
             Cause::BadArgument => "an argument can't be passed on",
             Cause::NameInUse => "a control has the name already",
@@ -154,6 +167,7 @@ impl fmt::Display for Cause {
             Cause::KindDiffers => "the spare, or the driver, is of another kind than the device",
             Cause::Vacant => "no peripheral is attached to the device",
             Cause::ActorEnded => "the thread of the actor has ended",
+            Cause::InsideActor => "work of an actor can't wait for other work of it",
         };
         out.write_str(text)
     }
@@ -168,7 +182,7 @@ impl fmt::Display for Error {
 impl std::error::Error for Error {
     fn source(&self) -> Option<&(dyn std::error::Error + 'static)> {
         match &self.cause {
-            Cause::System(cause) => Some(cause),
+            Cause::System(cause) | Cause::DiskFailed(Some(cause)) => Some(cause),
             _ => None,
         }
     }

@@ -51,7 +51,8 @@
 //! # Threads
 //!
 //! A till may be moved to another thread, and is used by one thread at a time. An [`Actor`] has a till for several
-//! threads.
+//! threads. A call takes up to 128 KiB of the thread's stack. A profile is read on a thread of its own, which has as
+//! much as any profile takes.
 
 mod actor;
 mod control;
@@ -69,6 +70,7 @@ mod ports;
 mod property;
 mod questions;
 mod raw;
+mod stack;
 #[rustfmt::skip]
 pub mod standard;
 mod till;

@@ -1,8 +1,8 @@
 //! The line to a receipt printer: what is sent, what has been acknowledged, and what the printer says of itself. The
 //! bytes of orders and the meaning of replies are the library's.
 use crate::drivers::{DriverTill, OrderEnd};
-use crate::ports::{end_after, Cable, Lost, Port};
-use crate::wire::{Asked, WireSettings};
+use crate::ports::{end_after, Cable, Lost, Port, ETIMEDOUT, QUICKLY};
+use crate::wire::{Asked, PrinterReply, WireSettings};
 use std::collections::VecDeque;
 use std::time::{Duration, Instant, SystemTime, UNIX_EPOCH};
 
@@ -17,8 +17,7 @@ const QUESTION_SIZE: usize = 3;
 const ENOUGH: usize = 2048;
 const DUE_OF_JOB: usize = 32;
 const MOST_KEPT: usize = 1024;
-/// How long a lost port may take to open while other devices wait, and how often a printer is asked.
-pub(crate) const QUICKLY: Duration = Duration::from_millis(250);
+/// How often a printer is asked.
 const OFTEN: Duration = Duration::from_millis(100);
 
 /// The questions of DLE EOT that are asked one after the other: the printer, why it is offline, its paper.
@@ -90,8 +89,6 @@ struct Job {
 #[derive(Debug)]
 struct Parcel {
     number: u16,
-    /// The port's turn in which they were sent.
-    turn: u32,
     /// The job, or 0, and which of its bytes they are.
     job: u64,
     from: usize,
@@ -118,6 +115,10 @@ enum Until {
 }
 
 /// The line to a printer, which acknowledges in order what it has printed.
+///
+/// Any port may stay open while the printer is off, and lose what is sent: a serial line does, and so do a cable with a
+/// chip of its own and a print server. So a piece is printed only if its own acknowledgement comes. One that comes for a
+/// later piece says that the earlier ones are printed or lost, and they are sent again.
 #[derive(Debug)]
 pub(crate) struct Link {
     pub(crate) cable: Cable,
@@ -125,10 +126,9 @@ pub(crate) struct Link {
     pause: Duration,
     /// Whether it says nothing by itself: it is asked. Its acknowledgements have no number.
     is_asked: bool,
-    /// The device and the settings by which its replies are read.
-    pub(crate) device: String,
-    pub(crate) settings: WireSettings,
-    pub(crate) is_begun: bool,
+    /// The devices on it, each with its settings. Its replies are read by the first one that isn't detached.
+    pub(crate) devices: Vec<(String, WireSettings)>,
+    is_begun: bool,
     /// The order that failed last, or is out; and a pulse for the drawer.
     paper: Option<Job>,
     pulse: Option<Job>,
@@ -147,8 +147,9 @@ pub(crate) struct Link {
     signs: Signs,
     pub(crate) statuses: u64,
     pub(crate) late: u64,
+    /// How many lines the orders for the paper had that were done.
+    pub(crate) lines: u64,
     is_there: bool,
-    has_answered: bool,
     was_silent: bool,
     is_refreshing: bool,
     asked_at: Option<Instant>,
@@ -183,8 +184,7 @@ impl Link {
             timeout,
             pause,
             is_asked,
-            device: String::new(),
-            settings: WireSettings::default(),
+            devices: Vec::new(),
             is_begun: false,
             paper: None,
             pulse: None,
@@ -201,8 +201,8 @@ impl Link {
             signs: Signs::default(),
             statuses: 0,
             late: 0,
+            lines: 0,
             is_there: false,
-            has_answered: false,
             was_silent: false,
             is_refreshing: false,
             asked_at: None,
@@ -265,9 +265,9 @@ impl Link {
         }
     }
 
-    /// Asks whether the printer is there.
+    /// Asks whether the printer is there. While a question is unanswered, its time goes on.
     fn ask(&mut self) {
-        self.asked_at = Some(Instant::now());
+        self.asked_at.get_or_insert_with(Instant::now);
         if self.is_asked {
             self.ask_on();
         } else {
@@ -282,8 +282,10 @@ impl Link {
         [&mut self.paper, &mut self.pulse].into_iter().flatten().find(|job| job.number == number)
     }
 
-    fn due_of(&self, number: u64) -> usize {
-        self.due.iter().filter(|parcel| parcel.job == number).count()
+    /// Whether something of a job may still be acknowledged. Acknowledgements without a number don't say of which job
+    /// they are, so any that may still come counts.
+    fn is_due(&self, number: u64) -> bool {
+        self.due.iter().any(|parcel| self.is_asked || parcel.job == number)
     }
 
     /// The job of the order that is out.
@@ -295,7 +297,7 @@ impl Link {
     /// Puts bytes and the question for their acknowledgement out.
     fn send(&mut self, bytes: &[u8], mut parcel: Parcel) {
         self.number = self.number.wrapping_add(1);
-        (parcel.number, parcel.turn, parcel.place) = (self.number, self.cable.turns, self.put_out);
+        (parcel.number, parcel.place) = (self.number, self.put_out);
         let begun = self.out.len();
         self.out.extend_from_slice(bytes);
         self.out.extend_from_slice(&self.end);
@@ -323,7 +325,8 @@ impl Link {
         let Some(is_once) = posting else { return };
         while self.out.len() < ENOUGH {
             let number = self.current(is_once).number;
-            if self.current(is_once).is_all_sent || self.due_of(number) >= DUE_OF_JOB {
+            let count = self.due.iter().filter(|parcel| parcel.job == number).count();
+            if self.current(is_once).is_all_sent || count >= DUE_OF_JOB {
                 return;
             }
             let job = self.current(is_once);
@@ -331,8 +334,7 @@ impl Link {
             let piece = job.bytes[from..to].to_vec();
             (job.sent, job.is_all_sent) = (to, to == job.bytes.len());
             let (is_last, is_once) = (job.is_all_sent, job.is_once && !job.bytes.is_empty());
-            let parcel =
-                Parcel { number: 0, turn: 0, job: number, from, to, is_last, is_torn: false, is_once, place: 0 };
+            let parcel = Parcel { number: 0, job: number, from, to, is_last, is_torn: false, is_once, place: 0 };
             self.send(&piece, parcel);
         }
     }
@@ -341,7 +343,7 @@ impl Link {
     fn take_back(&mut self) {
         let begun = self.put_out - (self.out.len() - self.out_sent) as u64;
         while let Some(last) = self.due.back() {
-            if last.place < begun || last.turn != self.cable.turns {
+            if last.place < begun {
                 return;
             }
             let (job, from, place) = (last.job, last.from, last.place);
@@ -354,20 +356,17 @@ impl Link {
         }
     }
 
-    /// Everything up to the parcel at this place is printed or lost.
+    /// The parcel at this place is printed, and those before it are printed or lost.
     fn acknowledge(&mut self, last: usize) {
-        let turn = self.due[last].turn;
         for place in 0..=last {
             let Some(parcel) = self.due.pop_front() else { return };
             if parcel.job == 0 {
                 continue;
             }
-            // Bytes are lost only together with the port, if it is a reliable one.
-            let is_sure = place == last || self.cable.port.is_reliable() && parcel.turn == turn;
-            if is_sure && !parcel.is_torn && !self.job_of(parcel.job).is_some_and(|job| job.is_torn) {
-                self.print(&parcel);
-            } else {
+            if place < last || parcel.is_torn || self.job_of(parcel.job).is_some_and(|job| job.is_torn) {
                 self.tear(parcel.job);
+            } else {
+                self.print(&parcel);
             }
         }
     }
@@ -394,28 +393,29 @@ impl Link {
 
     // What comes.
 
-    /// The printer answers again. It may have been off, if the port stays then, and says no status by itself.
+    /// The printer answers, for the first time or again. It may have been off: then it says no status by itself.
     fn come_back(&mut self) {
-        if !self.cable.port.is_reliable() {
-            self.put_start();
-        } else if self.has_answered {
-            self.put_refresh();
-        }
-        (self.is_there, self.has_answered, self.was_silent) = (true, true, false);
+        self.put_start();
+        (self.is_there, self.was_silent) = (true, false);
     }
 
     /// The printer has answered something.
-    fn answered(&mut self) {
+    fn answered(&mut self, line: &str) {
+        let was_quiet = is_over(self.heard_at, self.timeout);
         self.asked_at = None;
         self.heard_at = Some(Instant::now());
         if self.was_silent || !self.is_there {
             self.come_back();
+        } else if was_quiet && !line.contains(" offline yes") {
+            // It may have been off for a moment, after which it says no status by itself. One that is offline would
+            // keep what it is sent until it goes on.
+            self.put_refresh();
         }
     }
 
     /// A reply of a printer that says by itself how it is. Its automatic status alone tells of cover and paper at once.
     fn take_reply(&mut self, line: &str, told: Told) {
-        self.answered();
+        self.answered(line);
         if let Some(number) = line.strip_prefix("job ") {
             let number = number.parse().ok();
             if let Some(place) = self.due.iter().position(|parcel| Some(parcel.number) == number) {
@@ -431,7 +431,7 @@ impl Link {
 
     /// A reply of a printer that is asked, which is a byte.
     fn take_answer(&mut self, line: &str, told: Told) {
-        self.answered();
+        self.answered(line);
         if told.asked == Asked::PaperInOrder {
             self.acknowledge(0);
             return;
@@ -455,12 +455,17 @@ impl Link {
         }
     }
 
+    /// Reads the first reply in bytes that have come.
+    fn reply(&self, till: &mut DriverTill<'_>, asked: Asked, bytes: &[u8]) -> Option<PrinterReply> {
+        self.devices.iter().find_map(|(device, settings)| till.reply(device, settings, asked, bytes).ok())
+    }
+
     /// Reads a byte as the answer to the question that is out, or as an acknowledgement.
     fn take_byte(&mut self, till: &mut DriverTill<'_>, byte: u8) {
         let question = self.is_asking.then_some(QUESTIONS[self.question]);
         let due = (!self.due.is_empty()).then_some(Asked::PaperInOrder);
         for asked in [question, due].into_iter().flatten() {
-            let Ok(reply) = till.reply(&self.device, &self.settings, asked, &[byte]) else { return };
+            let Some(reply) = self.reply(till, asked, &[byte]) else { return };
             if let Some(line) = reply.lines.last() {
                 self.take_answer(line, Told { bytes: vec![byte], asked });
                 return;
@@ -471,7 +476,7 @@ impl Link {
     /// Reads the first reply in what has come, and forgets the bytes that it used. Returns whether any were used.
     fn take_first(&mut self, till: &mut DriverTill<'_>) -> bool {
         let asked = if self.asked_at.is_some() { Asked::Printer } else { Asked::Nothing };
-        let Ok(reply) = till.reply(&self.device, &self.settings, asked, &self.got) else { return false };
+        let Some(reply) = self.reply(till, asked, &self.got) else { return false };
         if reply.used == 0 || reply.used > self.got.len() {
             return false;
         }
@@ -514,12 +519,21 @@ impl Link {
         Ok(())
     }
 
+    /// Sends what goes out without an order, as far as there is room for it now.
+    fn send_control(&mut self) -> Result<(), Lost> {
+        self.fill(None);
+        if self.out_sent < self.out.len() && self.cable.wait(true, Duration::ZERO).writing {
+            self.write_some()?;
+        }
+        Ok(())
+    }
+
     fn is_reached(&mut self, until: Until) -> bool {
         let is_stopped = self.is_stopped();
         let job = self.paper.as_ref().filter(|job| job.is_once);
         match until {
             Until::Printed => is_stopped || job.is_some_and(|job| job.is_done || job.is_torn),
-            Until::Settled => is_stopped || job.is_some_and(|job| job.is_done || self.due_of(job.number) == 0),
+            Until::Settled => is_stopped || job.is_some_and(|job| job.is_done || !self.is_due(job.number)),
             Until::NoneDue => is_stopped || self.due.is_empty(),
             Until::Known => !self.told.is_empty(),
         }
@@ -573,7 +587,7 @@ impl Link {
         self.out_sent = 0;
         self.control.clear();
         self.got.clear();
-        (self.is_there, self.has_answered, self.was_silent, self.is_refreshing) = (false, false, false, false);
+        (self.is_there, self.was_silent, self.is_refreshing) = (false, false, false);
         self.asked_at = None;
         self.told.clear();
         self.signs = Signs::default();
@@ -614,16 +628,22 @@ impl Link {
         }
     }
 
-    /// Asks a printer that has said nothing for a time, and one that says that it can't print, for more.
-    fn look_after(&mut self) {
+    /// Asks a printer that has said nothing for a time, and one that says that it can't print, for more. One on a network
+    /// that doesn't answer is lost, unless something is due: the system might find that much later.
+    fn look_after(&mut self) -> Result<(), Lost> {
         let is_late = self.asked_at.is_some_and(|asked_at| asked_at.elapsed() > self.timeout);
         if is_late {
             self.is_there = false;
             self.told.clear();
             self.signs = Signs::default();
+            if matches!(self.cable.port, Port::Tcp(..)) && self.due.is_empty() {
+                self.cable.fault = Some(ETIMEDOUT);
+                return Err(Lost);
+            }
         }
         let is_heard = self.is_there && !is_over(self.heard_at, self.timeout);
         if !is_heard && (self.asked_at.is_none() || is_late) && self.is_idle() {
+            self.asked_at = None;
             self.ask();
         }
         if self.is_stopped() && !self.is_refreshing && is_over(self.refreshed_at, self.pause) && self.is_idle() {
@@ -632,16 +652,13 @@ impl Link {
             self.put_refresh();
         }
         self.ask_on();
+        Ok(())
     }
 
     fn look(&mut self, till: &mut DriverTill<'_>) -> Result<(), Lost> {
         self.receive(till)?;
-        self.look_after();
-        self.fill(None);
-        if self.out_sent < self.out.len() && self.cable.wait(true, Duration::ZERO).writing {
-            self.write_some()?;
-        }
-        Ok(())
+        self.look_after()?;
+        self.send_control()
     }
 
     /// Reads what has come and sends what is left, without waiting. A port that was lost is opened again.
@@ -657,11 +674,11 @@ impl Link {
 
     // Orders.
 
-    /// Waits for acknowledgements that are late, where they can be lost. They are if none comes for the whole time,
+    /// Waits for acknowledgements that are late, if they have no number. They are lost if none comes for the whole time,
     /// although the printer says that it can print.
     fn give_up(&mut self, till: &mut DriverTill<'_>, end: Instant) -> Result<(), Lost> {
         let (count, rounds) = (self.due.len(), self.rounds);
-        if !self.is_asked || self.cable.port.is_reliable() || count == 0 {
+        if !self.is_asked || count == 0 {
             return Ok(());
         }
         self.pump(till, Until::NoneDue, None, end)?;
@@ -686,17 +703,8 @@ impl Link {
             // One that nobody has answered yet is of no use any more.
             self.due.pop_back();
         }
-        let parcel = Parcel {
-            number: 0,
-            turn: 0,
-            job: 0,
-            from: 0,
-            to: 0,
-            is_last: false,
-            is_torn: false,
-            is_once: false,
-            place: 0,
-        };
+        let parcel =
+            Parcel { number: 0, job: 0, from: 0, to: 0, is_last: false, is_torn: false, is_once: false, place: 0 };
         self.send(&[], parcel);
     }
 
@@ -716,12 +724,12 @@ impl Link {
                 return Ok(());
             }
         };
-        if self.due_of(number) > 0 {
+        if self.is_due(number) {
             // What was sent before is printed or lost once this is acknowledged.
             self.put_marker();
             self.pump(till, Until::Settled, None, end)?;
         }
-        if self.due_of(number) == 0 {
+        if !self.is_due(number) {
             if self.current(true).sent > self.current(true).done {
                 // Some of it was lost, and the printer may have begun a line.
                 self.put_start();
@@ -735,7 +743,7 @@ impl Link {
     /// Sends the order, as far as it wasn't.
     fn post(&mut self, till: &mut DriverTill<'_>, is_once: bool, end: Instant) -> Result<(), Lost> {
         let (number, is_done) = (self.current(is_once).number, self.current(is_once).is_done);
-        if is_done || self.is_stopped() || self.due_of(number) > 0 {
+        if is_done || self.is_stopped() || self.is_due(number) || Instant::now() >= end {
             return Ok(());
         }
         self.fill(Some(is_once));
@@ -769,6 +777,7 @@ impl Link {
         }
         if self.current(is_once).is_done {
             if is_once {
+                self.lines += self.current(true).bytes.iter().filter(|byte| **byte == b'\n').count() as u64;
                 self.paper = None;
             }
             return true;
@@ -777,6 +786,10 @@ impl Link {
         if !self.is_stopped() {
             self.was_silent = true;
             self.ask();
+            // Nobody may look for a long time, and a question that didn't go out isn't unanswered.
+            if self.send_control().is_err() {
+                self.lose();
+            }
         }
         false
     }

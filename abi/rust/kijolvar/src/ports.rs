@@ -3,7 +3,7 @@
 use std::ffi::{c_int, c_short, c_ulong, c_void};
 use std::fs::{File, OpenOptions};
 use std::io::{self, ErrorKind, Read, Write};
-use std::net::{SocketAddr, TcpStream, ToSocketAddrs};
+use std::net::{Ipv6Addr, SocketAddr, TcpStream, ToSocketAddrs};
 use std::os::fd::{AsRawFd, RawFd};
 use std::os::unix::fs::{FileTypeExt, OpenOptionsExt};
 use std::path::{Path, PathBuf};
@@ -64,8 +64,9 @@ pub enum Port {
     /// A TCP port: the host, and the number.
     ///
     /// A host's name is looked up when the port is opened, until that succeeds, and later if no address that was found
-    /// answers, at most once a minute. The system decides how long this takes, whatever the timeout is: 10 seconds and
-    /// more if no name server answers. An address in numbers, such as 192.168.1.9, isn't looked up.
+    /// answers. After a look-up that succeeded or took long, the next one is a minute later. The system decides how
+    /// long it takes, whatever the timeout is: 10 seconds and more if no name server answers. An address in numbers,
+    /// such as 192.168.1.9, isn't looked up.
     Tcp(String, u16),
     /// The key events of a keyboard, which no other program gets meanwhile.
     Keys(PathBuf),
@@ -75,7 +76,8 @@ impl Port {
     /// Returns the port of a name: `tcp:HOST` or `tcp:HOST:PORT` (9100 if there is none), or the path of a device file.
     ///
     /// A path of /dev/tty.. or /dev/serial/.. is a serial line by [`SerialSettings::default`], as is a link to one. A
-    /// path of /dev/input/.. is a keyboard.
+    /// path of /dev/input/.. is a keyboard. [`Till::drive`](crate::Till::drive) refuses a host that can't be one, such
+    /// as that of `tcp:192.168.1.9:91OO`, whose number is misspelt.
     ///
     /// ```
     /// use kijolvar::Port;
@@ -100,16 +102,16 @@ impl Port {
         }
     }
 
-    /// Returns whether bytes are lost only if the port is lost too. A serial line stays when the device goes off.
-    pub(crate) fn is_reliable(&self) -> bool {
-        !matches!(self, Port::Serial(..))
-    }
-
-    /// Whether the settings of a serial line can be set.
+    /// Whether the settings of a serial line can be set, and a host may be looked up. Only an IPv6 address has colons,
+    /// and it may have a zone behind it.
     pub(crate) fn is_sound(&self) -> bool {
         match self {
             Port::Serial(_, settings) => {
                 speed_of(settings.speed).is_some() && matches!(settings.bits, 7 | 8) && matches!(settings.stops, 1 | 2)
+            }
+            Port::Tcp(host, _) => {
+                let address = host.split_once('%').map_or(&host[..], |(address, _)| address);
+                !host.is_empty() && (!host.contains(':') || address.parse::<Ipv6Addr>().is_ok())
             }
             _ => true,
         }
@@ -130,7 +132,7 @@ impl From<String> for Port {
 
 impl From<&Path> for Port {
     fn from(path: &Path) -> Port {
-        Port::of(&path.to_string_lossy())
+        path.to_str().map_or_else(|| Port::File(path.into()), Port::of)
     }
 }
 
@@ -143,6 +145,9 @@ fn is_line_name(path: &Path) -> bool {
 fn is_line_link(path: &Path) -> bool {
     !is_line_name(path) && std::fs::canonicalize(path).is_ok_and(|path| is_line_name(&path))
 }
+
+/// How long a lost port may take to open while other devices wait.
+pub(crate) const QUICKLY: Duration = Duration::from_millis(250);
 
 /// Returns the instant at which a time that begins now is over.
 pub(crate) fn end_after(time: Duration) -> Instant {
@@ -198,6 +203,9 @@ const SO_KEEPALIVE: c_int = 9;
 const ENODEV: c_int = 19;
 const EINVAL: c_int = 22;
 const ENOTTY: c_int = 25;
+const EPIPE: c_int = 32;
+pub(crate) const ETIMEDOUT: c_int = 110;
+const EHOSTUNREACH: c_int = 113;
 const IXON: u32 = 0o2000;
 const IXOFF: u32 = 0o10000;
 const CSIZE: u32 = 0o60;
@@ -324,12 +332,10 @@ enum Stream {
 pub(crate) struct Cable {
     pub(crate) port: Port,
     stream: Option<Stream>,
-    /// How often it was opened.
-    pub(crate) turns: u32,
     /// Whether reading no bytes means that it is lost.
     ends_empty: bool,
-    /// Why it couldn't be opened or was lost the last time.
-    pub(crate) fault: Option<io::Error>,
+    /// Why it couldn't be opened or was lost the last time, as the system's number (errno).
+    pub(crate) fault: Option<c_int>,
     /// Those of a TCP port's host.
     addresses: Addresses,
 }
@@ -340,7 +346,7 @@ pub(crate) struct Lost;
 
 impl Cable {
     pub(crate) fn new(port: Port) -> Cable {
-        Cable { port, stream: None, turns: 0, ends_empty: true, fault: None, addresses: Addresses::default() }
+        Cable { port, stream: None, ends_empty: true, fault: None, addresses: Addresses::default() }
     }
 
     pub(crate) fn is_open(&self) -> bool {
@@ -363,18 +369,16 @@ impl Cable {
         self.take_up_link();
         let opened = match &self.port {
             Port::Tcp(host, port) => {
-                self.addresses.connect(host, *port, time).map(|stream| (Stream::Tcp(stream), true))
+                let look_up = || (&host[..], *port).to_socket_addrs().map(Vec::from_iter);
+                self.addresses.connect(look_up, time).map(|stream| (Stream::Tcp(stream), true))
             }
             Port::Keys(path) => open_keys(path).map(|file| (Stream::File(file), true)),
             Port::File(path) => open_file(path, None),
             Port::Serial(path, settings) => open_file(path, Some(settings)),
         };
         match opened {
-            Ok((stream, ends_empty)) => {
-                (self.stream, self.ends_empty) = (Some(stream), ends_empty);
-                self.turns += 1;
-            }
-            Err(fault) => self.fault = Some(fault),
+            Ok((stream, ends_empty)) => (self.stream, self.ends_empty) = (Some(stream), ends_empty),
+            Err(fault) => self.fault = Some(number_of(&fault)),
         }
         self.stream.is_some()
     }
@@ -412,7 +416,7 @@ impl Cable {
             Err(fault) if matches!(fault.kind(), ErrorKind::WouldBlock | ErrorKind::Interrupted) => return Ok(0),
             Err(fault) => fault,
         };
-        self.fault = Some(fault);
+        self.fault = Some(number_of(&fault));
         self.close();
         Err(Lost)
     }
@@ -449,7 +453,7 @@ impl Cable {
                 // What is no terminal has no such number, and a lost line has it no more.
                 let is_other = fault.raw_os_error() == Some(ENOTTY);
                 if !is_other {
-                    self.fault = Some(fault);
+                    self.fault = Some(number_of(&fault));
                     self.close();
                 }
                 return is_other;
@@ -469,6 +473,16 @@ impl Drop for Cable {
     fn drop(&mut self) {
         self.close();
     }
+}
+
+/// The system's number of a fault. Some of Rust's have none, and those of looking a host up.
+fn number_of(fault: &io::Error) -> c_int {
+    fault.raw_os_error().unwrap_or(match fault.kind() {
+        ErrorKind::UnexpectedEof => EPIPE,
+        ErrorKind::TimedOut => ETIMEDOUT,
+        ErrorKind::InvalidInput => EINVAL,
+        _ => EHOSTUNREACH,
+    })
 }
 
 /// Opens a device file, and says whether reading no bytes means that it is lost.
@@ -513,15 +527,21 @@ struct Addresses {
 }
 
 impl Addresses {
-    /// Connects to a port of the host. It is looked up first, and again if no known address answers.
-    fn connect(&mut self, host: &str, port: u16, time: Duration) -> io::Result<TcpStream> {
+    /// Connects to a host. It is looked up first, and again if no known address answers.
+    fn connect(
+        &mut self,
+        look_up: impl FnOnce() -> io::Result<Vec<SocketAddr>>,
+        time: Duration,
+    ) -> io::Result<TcpStream> {
         let end = end_after(time);
         let fault = match connect_to_any(&self.known, end) {
             Err(fault) if self.looked_up_at.is_none_or(|at| at.elapsed() >= LOOKED_UP) => fault,
             done => return done,
         };
-        let found = (host, port).to_socket_addrs().map(Vec::from_iter);
-        if found.is_ok() || !self.known.is_empty() {
+        let began = Instant::now();
+        let found = look_up();
+        // One that takes long mustn't hold the till up again and again.
+        if found.is_ok() || !self.known.is_empty() || began.elapsed() > QUICKLY {
             self.looked_up_at = Some(Instant::now());
         }
         let found = found?;
@@ -535,7 +555,7 @@ impl Addresses {
 
 /// Connects to the first address that answers.
 fn connect_to_any(addresses: &[SocketAddr], end: Instant) -> io::Result<TcpStream> {
-    let mut fault: io::Error = ErrorKind::AddrNotAvailable.into();
+    let mut fault: io::Error = ErrorKind::HostUnreachable.into();
     for address in addresses {
         let left = end.saturating_duration_since(Instant::now()).max(Duration::from_millis(1));
         match TcpStream::connect_timeout(address, left) {
@@ -626,6 +646,54 @@ mod tests {
         cable.write(b"unsent").unwrap();
         drop(device);
         assert!(!cable.is_drained(end_after(SOON)) && !cable.is_open());
+    }
+
+    #[test]
+    fn a_slow_look_up_that_fails_is_not_repeated_at_once() {
+        let fails = |time| {
+            std::thread::sleep(time);
+            Err(ErrorKind::NotFound.into())
+        };
+        let (mut quick, mut slow) = (Addresses::default(), Addresses::default());
+        for addresses in [&mut quick, &mut slow] {
+            assert!(addresses.connect(|| fails(Duration::ZERO), SOON).is_err() && addresses.looked_up_at.is_none());
+        }
+        assert!(slow.connect(|| fails(QUICKLY + Duration::from_millis(10)), SOON).is_err());
+        let fault = slow.connect(|| panic!("it is looked up again"), SOON).unwrap_err();
+        assert_eq!(number_of(&fault), EHOSTUNREACH);
+    }
+
+    #[test]
+    fn a_misspelt_host_is_refused() {
+        let is_sound = |name: &str| Port::of(name).is_sound();
+        for name in ["tcp:192.168.1.9", "tcp://printer:9101", "tcp:::1:9100", "tcp:fe80::1%eth0:9100"] {
+            assert!(is_sound(name), "{name}");
+        }
+        for name in ["tcp:", "tcp:192.168.1.9:91OO", "tcp:192.168.1.9:", "tcp:printer:99999", "tcp:[::1]:9100"] {
+            assert!(!is_sound(name), "{name}");
+        }
+    }
+
+    #[test]
+    fn a_path_may_be_any() {
+        use std::os::unix::ffi::OsStrExt;
+        let path = Path::new(std::ffi::OsStr::from_bytes(b"/dev/usb/dr\xfccker"));
+        assert_eq!(Port::from(path), Port::File(path.into()));
+        assert_eq!(Port::from(Path::new("tcp:printer")), Port::Tcp("printer".to_string(), 9100));
+    }
+
+    #[test]
+    fn a_fault_has_a_number() {
+        let mut cable = Cable::new(Port::File("/dev/none".into()));
+        assert!(!cable.open(SOON));
+        assert_eq!(cable.fault, Some(2));
+        let (device, path) = terminal();
+        let mut cable = line(&path);
+        drop(device);
+        let mut room = [0; 16];
+        while cable.read(&mut room).is_ok() {}
+        // A terminal that hangs up ends, or fails to be read.
+        assert!(matches!(cable.fault, Some(5 | EPIPE)), "{:?}", cable.fault);
     }
 
     #[test]

@@ -1,6 +1,7 @@
 //! What the library says of a profile and of a file of totals, without a till.
 use crate::error::{Cause, Error};
 use crate::raw::{kijolvar_devices, kijolvar_migrate_file, kijolvar_profile_mistake, kijolvar_survey};
+use crate::stack::with_stack;
 use crate::standard::{library, Category};
 use crate::till::{opening_cause, Inner};
 use crate::totals_file::{open_existing, read_file};
@@ -63,15 +64,17 @@ pub struct TotalsContents {
 }
 
 /// Asks the library: a call is given room for a text, and the place for how long it is. The code, and the text.
-fn ask(mut call: impl FnMut(*mut u8, usize, &mut usize) -> u32) -> (u32, String) {
-    let mut text = vec![0; 4096];
-    loop {
-        let mut needed = 0;
-        match call(text.as_mut_ptr(), text.len(), &mut needed) {
-            library::SHORT => text.resize(needed, 0),
-            code => return (code, String::from_utf8_lossy(&text[..needed]).into_owned()),
+fn ask(mut call: impl FnMut(*mut u8, usize, &mut usize) -> u32 + Send) -> Result<(u32, String), Cause> {
+    with_stack(move || {
+        let mut text = vec![0; 4096];
+        loop {
+            let mut needed = 0;
+            match call(text.as_mut_ptr(), text.len(), &mut needed) {
+                library::SHORT => text.resize(needed, 0),
+                code => return (code, String::from_utf8_lossy(&text[..needed]).into_owned()),
+            }
         }
-    }
+    })
 }
 
 /// The line and the column of a place in a text.
@@ -85,13 +88,16 @@ fn place_in(text: &str, at: u64) -> (usize, usize) {
 pub(crate) fn explain(profile: &str) -> Cause {
     let mut at = 0;
     // SAFETY: slices and places, lent for the call.
-    let (code, reason) = ask(|text, room, needed| unsafe {
+    let found = ask(|text, room, needed| unsafe {
         kijolvar_profile_mistake(profile.as_ptr(), profile.len(), &mut at, text, room, needed)
     });
-    match code {
-        library::BAD_TEXT => Cause::BadProfile(ProfileMistake { reason, place: Some(place_in(profile, at)) }),
-        library::BAD_PROFILE => Cause::BadProfile(ProfileMistake { reason, place: None }),
-        _ => Cause::NoMemory,
+    match found {
+        Ok((library::BAD_TEXT, reason)) => {
+            Cause::BadProfile(ProfileMistake { reason, place: Some(place_in(profile, at)) })
+        }
+        Ok((library::BAD_PROFILE, reason)) => Cause::BadProfile(ProfileMistake { reason, place: None }),
+        Ok(_) => Cause::NoMemory,
+        Err(cause) => cause,
     }
 }
 
@@ -121,7 +127,7 @@ fn read_device(line: &str) -> Option<ProfileDevice> {
 ///
 /// # Errors
 ///
-/// [`Cause::BadProfile`], [`Cause::NoMemory`].
+/// [`Cause::BadProfile`], [`Cause::NoMemory`]; [`Cause::System`] if there is no thread for it.
 ///
 /// ```
 /// use kijolvar::{devices, standard::Category, BUILT_PROFILE};
@@ -134,8 +140,9 @@ fn read_device(line: &str) -> Option<ProfileDevice> {
 pub fn devices(profile: &str) -> Result<Vec<ProfileDevice>, Error> {
     let failed = |cause| Error::new("devices", cause);
     // SAFETY: slices and a place, lent for the call.
-    let (code, text) =
+    let found =
         ask(|text, room, needed| unsafe { kijolvar_devices(profile.as_ptr(), profile.len(), text, room, needed) });
+    let (code, text) = found.map_err(failed)?;
     match code {
         library::OK => {
             let found: Option<Vec<_>> = text.lines().map(read_device).collect();
@@ -178,8 +185,9 @@ pub fn files(path: impl AsRef<Path>) -> Result<TotalsContents, Error> {
     let bytes = read_file(path.as_ref()).map_err(|cause| failed(Cause::System(cause)))?;
     let mut at = 0;
     // SAFETY: slices and places, lent for the call.
-    let (code, text) =
+    let found =
         ask(|text, room, needed| unsafe { kijolvar_survey(bytes.as_ptr(), bytes.len(), &mut at, text, room, needed) });
+    let (code, text) = found.map_err(failed)?;
     match code {
         library::OK => read_contents(&text).ok_or_else(|| failed(Cause::BadAnswer(text))),
         library::DAMAGED => Err(failed(Cause::Damaged(Some((at, text))))),
@@ -202,11 +210,12 @@ pub fn check(path: impl AsRef<Path>) -> Result<(), Error> {
 /// # Errors
 ///
 /// [`Cause::Moved`] if they have layout 2 already, [`Cause::Damaged`], [`Cause::Unformatted`], [`Cause::TooSmall`],
-/// [`Cause::DiskFailed`], [`Cause::NoMemory`]; [`Cause::System`], with `WouldBlock` if a till has the file.
+/// [`Cause::DiskFailed`], [`Cause::NoMemory`]; [`Cause::System`], with `WouldBlock` if a till has the file, or with why
+/// it couldn't be written.
 pub fn migrate(path: impl AsRef<Path>) -> Result<(), Error> {
     let failed = |cause| Error::new("migrate", cause);
     let file = open_existing(path.as_ref()).map_err(|cause| failed(Cause::System(cause)))?;
     let bytes = Inner::bytes_of(&file).map_err(failed)?;
     let mut till = Inner::over_file("", file, bytes, kijolvar_migrate_file).map_err(failed)?;
-    till.settle().map_err(failed)
+    till.settle().map_err(|cause| failed(cause.of_file()))
 }

@@ -7,6 +7,7 @@ use crate::event::{Event, Events};
 use crate::line::{is_name, value_of, Answer, Line};
 use crate::questions::explain;
 use crate::raw::*;
+use crate::stack::with_stack;
 use crate::standard::{library, Category};
 use crate::totals_file::Totals;
 use crate::views::{self, DisplayView, PrinterView};
@@ -54,21 +55,25 @@ pub(crate) fn opening_cause(code: u32, profile: &str) -> Cause {
         library::UNFORMATTED => Cause::Unformatted,
         library::DAMAGED => Cause::Damaged(None),
         library::MOVED => Cause::Moved,
-        _ => Cause::DiskFailed,
+        _ => Cause::DiskFailed(None),
     }
 }
 
 impl Inner {
-    fn new(at: *mut c_void, totals: Option<File>, errand: Vec<u8>) -> Inner {
+    fn new(at: Raw, totals: Option<File>, errand: Vec<u8>) -> Inner {
         let drives = Drives::default();
-        Inner { at: Raw(at), totals, errand, text: vec![0; 256], controls: Vec::new(), names: 0, drives }
+        Inner { at, totals, errand, text: vec![0; 256], controls: Vec::new(), names: 0, drives }
     }
 
     /// A till with totals in memory.
     fn in_memory(profile: &str) -> Result<Inner, Cause> {
-        let mut at = std::ptr::null_mut();
-        // SAFETY: a slice and a place, lent for the call.
-        match unsafe { kijolvar_open(profile.as_ptr(), profile.len(), &mut at) } {
+        let (code, at) = with_stack(|| {
+            let mut at = std::ptr::null_mut();
+            // SAFETY: a slice and a place, lent for the call.
+            let code = unsafe { kijolvar_open(profile.as_ptr(), profile.len(), &mut at) };
+            (code, Raw(at))
+        })?;
+        match code {
             library::OK => Ok(Inner::new(at, None, Vec::new())),
             code => Err(opening_cause(code, profile)),
         }
@@ -76,9 +81,13 @@ impl Inner {
 
     /// A till over a file's bytes, which are the room for its errands from then on.
     pub(crate) fn over_file(profile: &str, file: File, bytes: Vec<u8>, begin: Begin) -> Result<Inner, Cause> {
-        let mut at = std::ptr::null_mut();
-        // SAFETY: slices and a place, lent for the call.
-        match unsafe { begin(profile.as_ptr(), profile.len(), bytes.as_ptr(), bytes.len(), &mut at) } {
+        let (code, at) = with_stack(|| {
+            let mut at = std::ptr::null_mut();
+            // SAFETY: slices and a place, lent for the call.
+            let code = unsafe { begin(profile.as_ptr(), profile.len(), bytes.as_ptr(), bytes.len(), &mut at) };
+            (code, Raw(at))
+        })?;
+        match code {
             library::OK => Ok(Inner::new(at, Some(file), bytes)),
             code => Err(opening_cause(code, profile)),
         }
@@ -107,16 +116,16 @@ impl Inner {
                 let (till, out) = (self.at, &mut self.at.0);
                 kijolvar_next_errand(till, out, &mut at, self.errand.as_mut_ptr(), self.errand.len(), &mut count)
             };
-            let is_done = match code {
+            let done = match code {
                 library::OK => return Ok(()),
-                library::WRITE => file.write_all_at(&self.errand[..count], at).is_ok(),
-                library::SYNC => file.sync_all().is_ok(),
-                _ => false,
+                library::WRITE => file.write_all_at(&self.errand[..count], at).map_err(Some),
+                library::SYNC => file.sync_all().map_err(Some),
+                _ => Err(None),
             };
-            if !is_done {
+            if let Err(fault) = done {
                 // SAFETY: as above.
                 unsafe { kijolvar_errand_failed(self.at, &mut self.at.0) };
-                return Err(Cause::DiskFailed);
+                return Err(Cause::DiskFailed(fault));
             }
         }
     }
@@ -130,6 +139,12 @@ impl Inner {
 
     /// Carries out lines: the text of their answers, once what they changed is in the file.
     pub(crate) fn carry_out(&mut self, lines: &[u8]) -> Result<String, Cause> {
+        let answers = self.carry_out_lines(lines);
+        self.drive_attached(lines);
+        answers
+    }
+
+    fn carry_out_lines(&mut self, lines: &[u8]) -> Result<String, Cause> {
         let mut needed = 0;
         self.give_up_held()?;
         let (till, out) = (self.at, &mut self.at.0);
@@ -156,7 +171,7 @@ impl Inner {
                 String::from_utf8(text.to_vec()).map_err(|_| Cause::BadAnswer(format!("{text:?}")))
             }
             library::CUT => Err(Cause::NoAnswer),
-            _ => Err(Cause::DiskFailed),
+            _ => Err(Cause::DiskFailed(None)),
         }
     }
 
@@ -209,7 +224,7 @@ impl Inner {
         match unsafe { kijolvar_next_event(till, out, from, &mut number) } {
             library::EVENT => Ok(Some(number)),
             library::OK => Ok(None),
-            _ => Err(Cause::DiskFailed),
+            _ => Err(Cause::DiskFailed(None)),
         }
     }
 
@@ -247,7 +262,7 @@ impl Inner {
                 library::ORDER => return Ok(Some(String::from_utf8_lossy(&self.text[..needed]).into_owned())),
                 library::OK => return Ok(None),
                 library::NO_MEMORY => return Err(Cause::NoMemory),
-                _ => return Err(Cause::DiskFailed),
+                _ => return Err(Cause::DiskFailed(None)),
             }
         }
     }
@@ -590,7 +605,9 @@ impl Till {
         self.view("show_printer", device, PrinterView::read)
     }
 
-    /// Attaches a spare of the profile, by its number from 1 on: it serves the device from now on.
+    /// Attaches a spare of the profile, by its number from 1 on: it serves the device from now on. If the device has a
+    /// driver, that carries out its orders too. The same is so of an `attach` among lines ([`Till::carry_out`]), for
+    /// the orders of later calls.
     ///
     /// # Errors
     ///
@@ -599,7 +616,8 @@ impl Till {
         self.ask_device("attach", Line::new("attach").name(device).number(spare))
     }
 
-    /// Detaches a device's peripheral, which ends.
+    /// Detaches a device's peripheral, which ends. A driver of the device stays, and gets no orders until a spare is
+    /// attached.
     ///
     /// # Errors
     ///
@@ -661,7 +679,9 @@ impl Till {
     /// device has done it. If it hasn't, the call is refused with E_EXTENDED (the cover is open, the paper is at its
     /// end), E_OFFLINE, or E_FAILURE if the device gives no reason.
     ///
-    /// Hardware that isn't there is no error: the device is off until [`Till::run_devices`] finds it.
+    /// Hardware that isn't there is no error: the device is off until [`Till::run_devices`] finds it. So that the till
+    /// knows how a printer is, the call waits for its first status, at most as long as an order may take. A display's
+    /// port may take as long to open. To look a host's name up may take longer ([`Port::Tcp`](crate::Port::Tcp)).
     ///
     /// # Errors
     ///
@@ -674,14 +694,18 @@ impl Till {
 
     /// Does what the driven devices need: tells the till what they say of themselves and what was scanned, opens lost
     /// ports again, and prints output that waits (AsyncMode). Call it regularly, and then deliver events. It waits as
-    /// long as this until there is something to do, also if no device has a driver; printing may take longer. Returns
-    /// whether anything was done.
+    /// long as this until there is something to do, also if no device has a driver; printing may take longer, and
+    /// looking a host's name up ([`Port::Tcp`](crate::Port::Tcp)). Returns whether anything was done.
     ///
-    /// If a call fails, make it again: it keeps the scans that it didn't get to.
+    /// Output that was refused is tried again 100 ms later at the earliest.
+    ///
+    /// If a call fails, make it again: it keeps the inputs and the scans that it didn't get to, and those for which
+    /// there was no memory.
     ///
     /// # Errors
     ///
-    /// [`Cause::BadInput`] if a device can't be as its hardware says, [`Cause::NoMemory`], [`Cause::DiskFailed`].
+    /// [`Cause::BadInput`] and [`Cause::BadArgument`] if a driver says what can't be of its device, or has read what no
+    /// code can be; [`Cause::NoMemory`], [`Cause::NoAnswer`], [`Cause::BadAnswer`], [`Cause::DiskFailed`].
     pub fn run_devices(&self, timeout: Duration) -> Result<bool, Error> {
         let done = self.inner.borrow_mut().run_devices(timeout);
         done.map_err(|cause| Error::new("run_devices", cause))

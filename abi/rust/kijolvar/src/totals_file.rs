@@ -92,8 +92,8 @@ fn create_new(path: &Path, profile: &str) -> Result<File, Cause> {
     let (folder, name) = folder_of(path).map_err(Cause::System)?;
     let file = unnamed(folder).map_err(Cause::System)?;
     let mut till = Inner::over_file(profile, file, vec![0; DISK_LENGTH as usize], kijolvar_format_file)?;
-    till.settle()?;
-    let file = till.into_file().ok_or(Cause::DiskFailed)?;
+    till.settle().map_err(Cause::of_file)?;
+    let file = till.into_file().ok_or(Cause::DiskFailed(None))?;
     give_name(&file, folder, &name).map_err(Cause::System)?;
     Ok(file)
 }

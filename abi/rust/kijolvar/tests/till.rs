@@ -1,12 +1,16 @@
-//! What a till does: files of totals, errors, replies, keys, controls that are handed out again, and threads.
+//! What a till does: files of totals, errors, replies, keys, controls that are handed out again, threads, and drivers.
 use kijolvar::standard::{Category, ScrollDirection, State, PTR_CP_FULLCUT};
 use kijolvar::standard::{DisplayAttribute, ErrorLocus, ErrorReply, ExtendedCode, PrinterStation, ResultCode};
+use kijolvar::standard::{PowerNotify, PowerStatus};
 use kijolvar::{check, files, migrate, StatusUpdate, Till, Totals, Value, Work, BUILT_PROFILE};
 use kijolvar::{Actor, Asked, CashDrawer, Cause, Error, Event, HardTotals, Order, PosPrinter, PrinterReply, Property};
 use kijolvar::{DisplaySettings, Driver, DriverTill, EscPosPrinter, EscPosSettings, Scan, SerialDisplay};
-use kijolvar::{Scanner, WireSettings};
+use kijolvar::{Scanner, WedgeScanner, WireSettings};
 use std::io::ErrorKind;
+use std::panic::{catch_unwind, AssertUnwindSafe};
 use std::path::PathBuf;
+use std::sync::atomic::{AtomicU32, Ordering};
+use std::sync::Arc;
 use std::time::{Duration, Instant};
 
 fn till() -> Till {
@@ -332,6 +336,29 @@ fn an_actor_serves_several_threads() {
     assert!(matches!(actor.run(|_| Ok(())).unwrap_err().cause(), Cause::ActorEnded));
 }
 
+#[test]
+fn an_actor_does_not_wait_for_itself() {
+    let (actor, thread) = Actor::start(till());
+    let inside = actor.clone();
+    let waits = actor.run(move |_| inside.run(|_| Ok(()))).unwrap_err();
+    assert!(matches!(waits.cause(), Cause::InsideActor));
+    actor.run(|till| till.input_drawer("d1", true)).unwrap();
+    drop(actor);
+    thread.join().unwrap();
+}
+
+#[test]
+fn a_profile_may_be_nested_on_any_thread() {
+    let begun = format!("{{a{} = ", ".a".repeat(79));
+    let deep = format!("x = {}1{}", begun.repeat(79), "}".repeat(79));
+    let opens = move || {
+        let refused = Till::open(&deep, Totals::Memory).unwrap_err();
+        matches!(refused.cause(), Cause::BadProfile(_)) && kijolvar::devices(&deep).is_err()
+    };
+    let thread = std::thread::Builder::new().stack_size(256 << 10).spawn(opens).unwrap();
+    assert!(thread.join().unwrap());
+}
+
 /// A scanner that has read codes.
 struct Codes(Vec<Scan>);
 
@@ -389,6 +416,150 @@ fn a_scan_that_is_refused_leaves_the_next() {
     assert!(till.run_devices(Duration::ZERO).unwrap());
     assert_eq!(scanner.events().map(Result::unwrap).collect::<Vec<_>>(), [Event::Data]);
     assert_eq!(scanner.scan_data().unwrap(), b"4006381");
+}
+
+/// A scanner that was lost just after it had read codes.
+struct Lost(Codes);
+
+impl Driver for Lost {
+    fn category(&self) -> Category {
+        Category::Scanner
+    }
+
+    fn is_online(&self) -> bool {
+        false
+    }
+
+    fn scans(&mut self) -> Vec<Scan> {
+        self.0.scans()
+    }
+}
+
+#[test]
+fn scans_are_taken_before_their_scanner_is_off() {
+    let till = till();
+    let scanner = till.scanner("s1").unwrap();
+    scanner.claim(Some(Duration::ZERO)).unwrap();
+    scanner.set_power_notify(PowerNotify::Enabled).unwrap();
+    scanner.set_device_enabled(true).unwrap();
+    scanner.set_data_event_enabled(true).unwrap();
+    let events = || scanner.events().map(Result::unwrap).collect::<Vec<_>>();
+    let power = |status| Event::StatusUpdate(StatusUpdate::Power(status));
+    till.drive("s1", Lost(Codes::of(&["4006381"]))).unwrap();
+    assert_eq!(events(), [power(PowerStatus::Online), power(PowerStatus::OffOffline)]);
+    assert!(till.run_devices(Duration::ZERO).unwrap());
+    assert_eq!(events(), [power(PowerStatus::Online), Event::Data, power(PowerStatus::OffOffline)]);
+    assert_eq!(scanner.scan_data().unwrap(), b"4006381");
+    assert!(!till.run_devices(Duration::ZERO).unwrap());
+}
+
+#[test]
+fn what_no_device_can_have_is_refused() {
+    let till = till();
+    let refused = |driven: Result<(), Error>| assert!(matches!(driven.unwrap_err().cause(), Cause::BadSettings));
+    refused(till.drive("s1", WedgeScanner::open("/dev/input/none").with_kind(1000)));
+    refused(till.drive("p1", SerialDisplay::open("tcp:192.168.1.9:91OO", DisplaySettings::default())));
+    till.drive("s1", WedgeScanner::open("/dev/input/none").with_kind(999)).unwrap();
+    let state = till.driver_state("s1").unwrap();
+    assert_eq!((state.is_online, state.port_error), (false, Some(2)));
+}
+
+/// A drawer that counts how often it is opened, and whose driver fails the first time.
+struct Counted(Arc<AtomicU32>);
+
+impl Driver for Counted {
+    fn category(&self) -> Category {
+        Category::CashDrawer
+    }
+
+    fn carry_out(&mut self, _: &mut DriverTill<'_>, _: &Order) -> bool {
+        assert!(self.0.fetch_add(1, Ordering::Relaxed) > 0, "on purpose");
+        true
+    }
+}
+
+#[test]
+fn a_driver_that_panics_fails_one_order() {
+    let (till, count) = (till(), Arc::new(AtomicU32::new(0)));
+    till.drive("d1", Counted(Arc::clone(&count))).unwrap();
+    let drawer = till.cash_drawer("d1").unwrap().enabled().unwrap();
+    assert!(catch_unwind(AssertUnwindSafe(|| drawer.open_drawer())).is_err());
+    assert!(!drawer.drawer_opened().unwrap());
+    assert!(till.driver_state("d1").unwrap().is_online);
+    drawer.open_drawer().unwrap();
+    assert!(drawer.drawer_opened().unwrap());
+    assert_eq!(count.load(Ordering::Relaxed), 2);
+}
+
+/// A drawer whose driver panics at its second and its fourth call. With the sixth it was opened.
+struct Trips(u32);
+
+impl Trips {
+    fn step(&mut self) -> bool {
+        self.0 += 1;
+        assert!(self.0 != 2 && self.0 != 4, "on purpose");
+        self.0 == 6
+    }
+}
+
+impl Driver for Trips {
+    fn category(&self) -> Category {
+        Category::CashDrawer
+    }
+
+    fn poll(&mut self, _: &mut DriverTill<'_>) {
+        self.step();
+    }
+
+    fn happened(&mut self, _: &mut DriverTill<'_>) -> Vec<String> {
+        Vec::from_iter(self.step().then(|| "open".to_string()))
+    }
+}
+
+#[test]
+fn a_driver_that_panics_stays() {
+    let till = till();
+    till.drive("d1", Trips(0)).unwrap();
+    for _ in 0..2 {
+        assert!(catch_unwind(AssertUnwindSafe(|| till.run_devices(Duration::ZERO))).is_err());
+    }
+    assert!(till.run_devices(Duration::ZERO).unwrap());
+    assert!(till.show_drawer("d1").unwrap());
+}
+
+#[test]
+fn a_spare_has_the_driver_of_its_device() {
+    for is_line in [false, true] {
+        let (till, count) = (till(), Arc::new(AtomicU32::new(1)));
+        till.drive("d1", Counted(Arc::clone(&count))).unwrap();
+        if is_line {
+            assert_eq!(till.carry_out("detach d1\n attach  d1 1\r\n").unwrap(), "ok\nok\n");
+        } else {
+            till.detach("d1").unwrap();
+            till.attach("d1", 1).unwrap();
+        }
+        till.cash_drawer("d1").unwrap().enabled().unwrap().open_drawer().unwrap();
+        assert_eq!(count.load(Ordering::Relaxed), 2);
+    }
+}
+
+#[test]
+fn output_that_is_refused_is_not_tried_all_the_time() {
+    let till = till();
+    till.drive("r1", Paper).unwrap();
+    let printer = till.pos_printer("r1").unwrap().enabled().unwrap();
+    printer.set_async_mode(true).unwrap();
+    printer.print_normal(PrinterStation::Receipt, "a\n").unwrap();
+    till.input_cover("r1", true).unwrap();
+    let (began, mut errors) = (Instant::now(), 0);
+    while began.elapsed() < Duration::from_millis(250) {
+        till.run_devices(Duration::from_secs(1)).unwrap();
+        errors += printer.events().filter(|event| matches!(event, Ok(Event::Error(_)))).count();
+    }
+    assert!((1..=4).contains(&errors), "{errors}");
+    till.input_cover("r1", false).unwrap();
+    assert!(till.run_devices(Duration::from_secs(1)).unwrap());
+    assert!(printer.events().any(|event| matches!(event, Ok(Event::OutputComplete { .. }))));
 }
 
 /// A printer that prints everything.

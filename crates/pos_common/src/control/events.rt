@@ -1,5 +1,5 @@
 //! The events of a control: what enqueues them, deletes them and delivers them.
-ghost use Rattle.std.specs.Prelude.{◌≡◌, ◌≤◌, ◌+◌, OnOk, OnErr, is_some};
+ghost use Rattle.std.specs.Prelude.{◌≡◌, ◌<◌, ◌≤◌, ◌+◌, OnOk, OnErr, is_some};
 ghost use Rattle.pos_service.specs.Controls.{listens, if_listening, heard, read, failed, is_held_back, deliverable, delivered, without_input, without_scan};
 ghost use Rattle.pos_service.specs.Statuses.{changed_status, heard_signs};
 ghost use Rattle.pos_common.specs.KeptControls.{HasRoom, sign_events, scan_events, fault_events};
@@ -38,9 +38,22 @@ impl Control {
         ensures same { self.new.control ≡ self.old.control }
     {
         if self.listens(place) {
-            self.events.room(count)?;
+            self.room(count)?;
         }
         Ok(())
+    }
+
+    /// Makes room for this many events, if it has less.
+    ///
+    /// # Errors
+    ///
+    /// [`NoMemory`] if memory ran out. Then nothing but that room has changed.
+    pub(crate) fn room(&mut self, count: usize) -> Result<(), NoMemory>
+        ensures room { OnOk result (count ≤ self.new.spare) }
+        ensures full { OnErr result (self.old.spare < count) }
+        ensures same { self.new.control ≡ self.old.control }
+    {
+        self.events.room(count)
     }
 
     /// Enqueues a StatusUpdateEvent for each sign that has changed, if it has the device at this place open and
@@ -75,13 +88,13 @@ impl Control {
         }
     }
 
-    /// Enqueues the DataEvent of a scan, if it has the device at this place open and enabled. With AutoDisable the
-    /// control is then disabled. In the input error state the scan is ignored (common chapter, data events).
-    pub fn read(&mut self, place: usize, scan: Scan)
-        requires { HasRoom place scan_events self.old }
-        ensures { self.new.control ≡ if_listening place (read scan) self.old.control }
+    /// Enqueues the DataEvent of a scan at the device, which it has open and enabled. With AutoDisable the control is
+    /// then disabled. In the input error state the scan is ignored (common chapter, data events).
+    pub(crate) fn read(&mut self, scan: Scan)
+        requires { scan_events ≤ self.old.spare }
+        ensures { self.new.control ≡ read scan self.old.control }
     {
-        if !self.listens(place) || self.events.in_error() {
+        if self.events.in_error() {
             return;
         }
         if self.settings.auto_disable {

@@ -84,6 +84,23 @@ impl Driver for Own {
     }
 }
 
+/// Refuses memory to the library, if tests/native/scarce_heap.c is its heap.
+#[cfg(feature = "heap")]
+fn refuse_memory(words: &Words) -> String {
+    extern "C" {
+        fn heap_refuses_some(number: std::ffi::c_long, count: std::ffi::c_long);
+    }
+    let number = |place: usize| words.0.get(place).map_or(-1, |word| word.parse().unwrap());
+    // SAFETY: it takes two numbers.
+    unsafe { heap_refuses_some(number(0), number(1)) };
+    "ok".to_string()
+}
+
+#[cfg(not(feature = "heap"))]
+fn refuse_memory(_: &Words) -> String {
+    "not understood".to_string()
+}
+
 /// Prints bytes by a typed call, over a control that the first one makes.
 fn print<'t>(till: &'t Till, printer: &mut Option<PosPrinter<'t>>, digits: &str) -> Result<String, Error> {
     let digit = |place: usize| u8::from_str_radix(&digits[place..place + 2], 16).unwrap();
@@ -111,6 +128,7 @@ fn obey<'t>(till: &'t Till, printer: &mut Option<PosPrinter<'t>>, line: &str) ->
         "print" => print(till, printer, rest),
         "host" => till.host(rest).map(|()| "ok".to_string()),
         "tear" => till.tear_off(rest).map(|()| "ok".to_string()),
+        "memory" => Ok(refuse_memory(&words)),
         "order" => till.next_order().map(|order| match order {
             Some(Order::OpenDrawer { device }) => device,
             _ => "none".to_string(),
@@ -129,6 +147,8 @@ fn refusal(error: &Error) -> String {
         Cause::BadSettings => "KIJ_BAD_SETTINGS".to_string(),
         Cause::NoDevice => "KIJ_NO_DEVICE".to_string(),
         Cause::Driven => "KIJ_DRIVEN".to_string(),
+        Cause::NoMemory => "KIJ_NO_MEMORY".to_string(),
+        Cause::NoAnswer => "KIJ_NO_ANSWER".to_string(),
         _ => error.to_string(),
     }
 }

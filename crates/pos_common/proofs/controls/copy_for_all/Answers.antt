@@ -1,32 +1,29 @@
-use Rattle.pos_common.proofs.Common.{KeptControl, Scan, arith, controls_of, length-map}
-use Rattle.pos_common.proofs.KeptLemmas.{control_at}
-use Rattle.pos_common.proofs.CopyLemmas.{copies_more, copies_same}
+use Rattle.pos_common.proofs.Common.{HasRoom, KeptControl, arith, controls_of, drop_more, input_events, length-map}
+use Rattle.pos_common.proofs.Common.{take_all}
+use Rattle.std.proofs.lemmas.List.{append-nil, append_assoc, drop_all}
+use Rattle.pos_common.proofs.KeptLemmas.{control_at, front_after_set, same_control}
 use Rattle.pos_common.proofs.controls.copy_for_all.Goals as goal
-use Rattle.pos_common.proofs.controls.copy_for_all.Goals.{then-listens+in_ok-reserve+in_ok-copy_of, else-listens}
+use Rattle.pos_common.proofs.controls.copy_for_all.Goals.{then-listens+in_ok-room+in_ok-reserve+in_ok-copy_of, else-listens}
 
-pub loop-control-preserved : goal.loop-control-preserved
-loop-control-preserved c =
-    let hs = c.args.controls.now in
-    let i = c.loop-control.control-index in
-    let d = c.control-item.result in
-    let scan : Scan = record { kind = c.args.kind; bytes = c.args.bytes.now; label = c.args.label.now } in
+pub loop-number-preserved : goal.loop-number-preserved
+loop-number-preserved c =
+    let hs = c.loop-number.controls in
+    let i = c.loop-number.number in
+    let d = c.index-controls-number.result in
     let at = control_at hs i d d.control in
     let count = length-map hs (λ (h : KeptControl). h.control) in
+    let roomy = front_after_set (HasRoom c.args.place input_events) hs in
+    let next = drop_more (controls_of hs) i d.control in
     elim c.if-listens.branch [
-      | then-listens+in_ok-reserve+in_ok-copy_of w ↦
-          grind (
-            arith,
-            at,
-            count,
-            w,
-            copies_more scan w.in_ok-copy_of.field-0 c.args.place
-                (controls_of hs) c.loop-control.copies.items i d.control,
-          )
-      | else-listens w ↦ grind (
-        arith,
-        at,
-        count,
-        w,
-        copies_same scan c.args.place (controls_of hs) c.loop-control.copies.items i d.control,
-      )
+      | then-listens+in_ok-room+in_ok-reserve+in_ok-copy_of w ↦
+          grind (arith, w, at, count, next, append_assoc, same_control hs, roomy)
+      | else-listens w ↦ grind (arith, w, at, count, next, same_control hs, roomy)
     ]
+
+pub returns-clause-room : goal.returns-clause-room
+returns-clause-room c = grind (arith, take_all)
+
+pub returns-clause-copies : goal.returns-clause-copies
+returns-clause-copies c =
+    let count = length-map c.loop-number.controls (λ (h : KeptControl). h.control) in
+    grind (arith, count, drop_all, append-nil)

@@ -1,23 +1,45 @@
-use Rattle.pos_common.proofs.Common.{HasRoom, arith, if_listening, length, read, scan_events, ◌<◌}
-use Rattle.pos_common.proofs.KeptLemmas.{mapped_more, first_of_rest, rest_after_set}
-use Rattle.pos_common.proofs.CopyLemmas.{copies_at, copies_behind}
+use Rattle.pos_common.proofs.Common.{[], ap, arith, length, refl, ◌≡◌}
+use Rattle.std.proofs.Common.{rules}
+use Rattle.std.proofs.lemmas.List.{nil_from_length}
+use Rattle.std.specs.Vec.Iter.{into_iter_items}
+use Rattle.pos_common.proofs.CopyLemmas.{all_read}
 use Rattle.pos_common.proofs.controls.read_all.Goals as goal
 
-pub read_copy-requires : goal.read_copy-requires
-read_copy-requires c = grind (arith, first_of_rest (HasRoom c.args.place scan_events) c.loop-control.controls)
+pub loop-control-init : goal.loop-control-init
+loop-control-init c =
+    let items = c.into_iter-control-iterator.ensures.into_iter_gives.0 in
+    record {
+      count = omega (arith, c.into_iter-control-iterator.ensures.into_iter_gives.1, c.args.copies.ok, ap length items);
+      reads = λ place scan are. rw (items, are.each) (all_read scan place 0 [] c.args.controls.now refl are.room);
+    }
+
+pub bounds-controls-control : goal.bounds-controls-control
+bounds-controls-control c =
+    let reads = c.loop-control.invariant.reads c.requires.0 c.requires.1 c.requires.2 in
+    (rw c.in-Some.ensures.steps.0 at reads).within
+
+pub offset_bounds-controls-control : goal.offset_bounds-controls-control
+offset_bounds-controls-control c =
+    let reads = c.loop-control.invariant.reads c.requires.0 c.requires.1 c.requires.2 in
+    search (rules, (rw c.in-Some.ensures.steps.0 at reads).within)
+
+pub read-requires : goal.read-requires
+read-requires c =
+    let reads = c.loop-control.invariant.reads c.requires.0 c.requires.1 c.requires.2 in
+    (rw c.in-Some.ensures.steps.0 at reads).room c.index-controls-control.result
 
 pub loop-control-preserved : goal.loop-control-preserved
 loop-control-preserved c =
-    let hs = c.loop-control.controls in
-    let place = c.args.place in
-    let lt : c.loop-control.control-index < length hs = omega arith in
+    let first = c.in-Some.ensures.steps in
     record {
-      room = rest_after_set (HasRoom place scan_events) hs _ _ lt c.loop-control.invariant.room;
-      read = λ scan are.
-          let so_far = c.loop-control.invariant.read scan are in
-          let done = c.read_copy.ensures scan (copies_at scan place hs _ _ _ lt so_far.1) in (
-            mapped_more (if_listening place (read scan)) c.args.controls.now hs _ c.control-item.result _ lt done.read
-                so_far.0 (omega arith),
-            copies_behind scan place hs _ _ _ c.control-item.result _ lt done.most done.each so_far.1,
-          );
+      count = omega (arith, c.loop-control.invariant.count, first.1, ap length first.0);
+      reads = λ place scan are. (rw first.0 at (c.loop-control.invariant.reads place scan are)).after
+          c.index-controls-control.result c.read.new.self c.read.ensures;
     }
+
+pub returns : goal.returns
+returns c =
+    let left = into_iter_items c.loop-control.control-iterator in
+    let none : left ≡ [] = nil_from_length left
+    (omega (arith, c.loop-control.invariant.count, c.in-None.ensures.steps.0)) in
+    λ place scan are. rw none at (c.loop-control.invariant.reads place scan are)

@@ -1,4 +1,4 @@
-use Rattle.pos_store.proofs.Common.{Err, HasItsFiles, ImageFault, IsErrOf, Ok, ap, arith, layout_of, leb-true}
+use Rattle.pos_store.proofs.Common.{Err, HasItsFiles, ImageFault, IsErrOf, Ok, ap, arith, layout_of}
 use Rattle.pos_store.proofs.Common.{limits_of, outcome_of_all, refl, rules, sym, weaker, ⊎_elim, ◌+◌, ◌∙◌, ◌≡◌}
 use Rattle.pos_store.proofs.CommitLemmas.{IsGiven, same_layout, short, appending_stands, renewing_stands}
 use Rattle.pos_store.proofs.CommitLemmas.{failed_commits, appended_holds, appended_commits, renewed_holds}
@@ -36,37 +36,36 @@ returns-in-Ok g c =
     let (fits, spelled) = draft in
     let did = rw (c.deref.ensures.value, spelled) at c.in-Ok.ensures.appends in
     let it = given g here outcome in
-    let kept = same_layout c.in-Ready.log c.append.new.self c.append.new.self.images.disk _ did.appended in
+    let kept = same_layout c.in-Ready.log c.append_fitting.new.self c.append_fitting.new.self.images.disk _
+    did.appended in
     let (ready, holds, limits) = sound g here in
     record {
       sound = (
         did.ready,
-        appended_holds it c.append.new.self fits did,
+        appended_holds it c.append_fitting.new.self fits did,
         c.make_draft.ensures.limits ∙ limits
             ∙ ap limits_of (sym kept),
       );
-      commits = rw c.in-Ready.is (appended_commits it c.append.new.self fits did);
+      commits = rw c.in-Ready.is (appended_commits it c.append_fitting.new.self fits did);
     }
 
-pub returns-in-Err-append-clause-commits : goal.returns-in-Err-append-clause-commits
-returns-in-Err-append-clause-commits g c =
-    let here = (goal.at.returns-in-Err-append-clause-commits g c).After-make_draft in
+pub returns-in-Err-append_fitting-clause-commits : goal.returns-in-Err-append_fitting-clause-commits
+returns-in-Err-append_fitting-clause-commits g c =
+    let here = (goal.at.returns-in-Err-append_fitting-clause-commits g c).After-make_draft in
     let (outcome, draft) = rw c.in-Ok-Record.field-0-is at c.in-Ok-Record.ensures.made in
     let (fits, spelled) = draft in
-    let did = rw (c.deref.ensures.value, spelled) at c.append.ensures.appends in
+    let did = rw (c.deref.ensures.value, spelled) at c.append_fitting.ensures.appends in
     let it = given g here outcome in
-    let inside = leb-true _ _ fits in
-    let device : c.in-Err-append.field-0 ≡ log.Device =
-    ⊎_elim (λ full. absurd (omega (arith, inside, did.full.0 (rw (c.in-Err-append.is, full) refl))))
-    (λ is. is) c.in-Err-append.ensures.faults in
-    let failed : IsErrOf c.append.result log.Device = rw (c.in-Err-append.is, device) refl in
+    let failed : IsErrOf c.append_fitting.result log.Device =
+    rw (c.in-Err-append_fitting.is, c.in-Err-append_fitting.ensures.faults) refl in
     rw (c.in-Ready.is, c.fail.ensures.store, c.fail.ensures.fault)
-    (failed_commits it c.append.new.self.images.disk
-    (layout_of c.append.new.self.images.slot) c.in-Ready.log.images.sequence
-    (same_layout c.in-Ready.log c.append.new.self c.append.new.self.images.disk c.in-Ready.log.tail (did.failed failed))
+    (failed_commits it c.append_fitting.new.self.images.disk
+    (layout_of c.append_fitting.new.self.images.slot) c.in-Ready.log.images.sequence
+    (same_layout c.in-Ready.log c.append_fitting.new.self c.append_fitting.new.self.images.disk c.in-Ready.log.tail
+    (did.failed failed))
     (rw fits refl) (λ exhausted. let over = exhausted.0 in cc)
     (λ h. weaker _ _ _ _ (appending_stands it h) (did.any_moment h))
-    (λ h bytes. g.met.D.Disk.counts_now c.append.new.self.images.disk
+    (λ h bytes. g.met.D.Disk.counts_now c.append_fitting.new.self.images.disk
     (g.D.Disk.state c.in-Ready.log.images.disk).moment bytes (did.keeps.honest.0 h))
     (λ h. did.device h failed) did.keeps)
 

@@ -1,19 +1,16 @@
-use Rattle.pos_log.proofs.Common.{IsLogReady, View, [], ap, arith, end_of, layout_of, leb-true, length, log_over}
+use Rattle.pos_log.proofs.Common.{IsLogReady, View, [], ap, arith, layout_of, length, log_over}
 use Rattle.pos_log.proofs.Common.{log_place, rules, slot_size, take, text_behind_gate, ◌+◌, ◌-◌, ◌∙◌, ◌∷◌, ◌≡◌, ◌≤◌}
 use Rattle.pos_log.proofs.AppendLemmas.{WritesThrough, appended, failed_open, failed_put, never_failed}
-use Rattle.pos_log.proofs.log.Log.append.Given.{Over}
-use Rattle.pos_log.proofs.log.Log.append.Goals.{After-write_through, After-write_through-2}
-use Rattle.pos_log.proofs.log.Log.append.Goals as goal
+use Rattle.pos_log.proofs.log.Log.append_fitting.Given.{Over}
+use Rattle.pos_log.proofs.log.Log.append_fitting.Goals.{After-write_through, After-write_through-2}
+use Rattle.pos_log.proofs.log.Log.append_fitting.Goals as goal
 
 module _ (g : Over) (c : After-write_through g) where
   is_ready : IsLogReady g.D.Disk (log_over c.self.inside.images c.self.inside.tail)
-  is_ready = rw c.self.view_is c.requires
+  is_ready = rw c.self.view_is c.requires.ready
 
   fits : c.self.inside.tail + 6 + length c.args.group.now ≤ slot_size (layout_of c.self.inside.images.slot)
-  fits =
-      let here : end_of c.args.self.now.tail (length c.args.group.now) ≤ slot_size
-      (layout_of c.args.self.now.images.slot) = leb-true _ _ (search rules) in
-      rw (← c.self.view_is) at here
+  fits = rw (← c.self.view_is) at c.requires.fits
 
   at_is : c.self.inside.tail + 1 - log_place (layout_of c.self.inside.images.slot) ≡ c.self.inside.tail - log_place
       (layout_of c.self.inside.images.slot) + 1
