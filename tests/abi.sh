@@ -77,12 +77,13 @@ sells() {
 }
 
 # watched COMMAND ..: runs a command under valgrind, which prints each misuse of the heap, by the library too, and what is
-# left there without a pointer to it. Python's own modules leave something.
+# left there without a pointer to it. Python's own modules leave something. Rust's handle of the first thread has a pointer
+# into its middle alone, which valgrind calls a possible loss: only definite ones are shown.
 watched() {
   local leaks=full
   [ "$1" != "$python" ] || leaks=no
   PYTHONMALLOC=malloc valgrind -q --error-exitcode=99 --undef-value-errors=no --leak-check="$leaks" \
-    --errors-for-leak-kinds=definite "$@"
+    --show-leak-kinds=definite --errors-for-leak-kinds=definite "$@"
 }
 
 # reads NAME COMMAND ..: whether a program of a wrapper, watched, gives an answer that is longer than its first room
@@ -169,8 +170,7 @@ reads "a long answer in Python, watched" "$python" "$abi/python/totals.py" "$wor
 runs "what records calls is built" gcc -std=c11 -Wall -Wextra -Werror -O1 -shared -fPIC -o "$work/calls.so" "$abi/c/calls.c"
 python3 -W error "$top/tests/abi_files.py" "$work/libkijolvar.so" "$work/calls.so" "$work/totals_c" "$work/totals_rust" \
   > "$work/files" 2>&1
-grep -v ' passed, ' "$work/files"
-told "files, and tills that are killed" "166 passed, 0 failed" "$(tail -n 1 "$work/files")"
+told "files, and tills that are killed" "166 passed, 0 failed" "$(cat "$work/files")"
 
 (cd "$top/crates/kijolvar" && rt lib --backend rattle > "$work/lib" 2>&1)
 told "the archive by Rattle's own compiler" 0 "$?"

@@ -31,7 +31,11 @@ class _LockedFile(io.FileIO):
     def __init__(self, file: str | int) -> None:
         self._process = 0
         super().__init__(file, "r+b")
-        fcntl.flock(self, fcntl.LOCK_EX | fcntl.LOCK_NB)
+        try:
+            fcntl.flock(self, fcntl.LOCK_EX | fcntl.LOCK_NB)
+        except OSError:
+            super().close()
+            raise
         self._process = os.getpid()
 
     def close(self) -> None:
