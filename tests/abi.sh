@@ -77,13 +77,12 @@ sells() {
 }
 
 # watched COMMAND ..: runs a command under valgrind, which prints each misuse of the heap, by the library too, and what is
-# left there without a pointer to it. Python's own modules leave something. Rust's handle of the first thread has a pointer
-# into its middle alone, which valgrind calls a possible loss: only definite ones are shown.
+# left there without a pointer to it. Python's own modules leave something.
 watched() {
   local leaks=full
   [ "$1" != "$python" ] || leaks=no
   PYTHONMALLOC=malloc valgrind -q --error-exitcode=99 --undef-value-errors=no --leak-check="$leaks" \
-    --show-leak-kinds=definite --errors-for-leak-kinds=definite "$@"
+    --errors-for-leak-kinds=definite "$@"
 }
 
 # reads NAME COMMAND ..: whether a program of a wrapper, watched, gives an answer that is longer than its first room

@@ -57,7 +57,9 @@ static int sync_by(long call, int descriptor) {
     return is_done("sync %s", kind(descriptor, path, sizeof path)) ? (int)syscall(call, descriptor) : -1;
 }
 
+/* A lock that ends isn't recorded: no file changes by it. */
 int flock(int descriptor, int operation) {
+    if (operation == LOCK_UN) return (int)syscall(SYS_flock, descriptor, operation);
     const char *what = operation == (LOCK_EX | LOCK_NB) ? "lock" : "another lock";
     return is_done("%s", what) ? (int)syscall(SYS_flock, descriptor, operation) : -1;
 }
